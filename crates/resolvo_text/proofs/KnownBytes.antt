@@ -1,0 +1,44 @@
+-- What is known of the bytes that are left, over several steps.
+use Rattle.std.proofs.Common.{◌≡◌, ℕ, ◌+◌, ◌<◌, ◌≤◌, List, [], ◌∷◌, ◌++◌, length, take, drop, get_or, Option, Some, None, refl, sym, ap, ◌∙◌, arith}
+use Rattle.std.specs.Io.KnownBytes.{Consumes, Keeps, prepend_known}
+use Rattle.std.proofs.lemmas.List.{drop_more, length-take, get_or-take, drop_all}
+use Rattle.std.proofs.lemmas.Option.{same_Some}
+use Rattle.resolvo_text.specs.Device.{IfKnown}
+use Rattle.resolvo_text.specs.Lines.{newlines}
+use Rattle.resolvo_text.specs.Reader.{NoLineCame}
+
+-- what known bytes begin with, and what is left of them
+pub consumed : (before after : Option (List ℕ)) (piece : List ℕ) → Consumes before after piece → IfKnown before (λ bytes. (rest : List ℕ) × (after ≡ Some rest) × (bytes ≡ piece ++ rest))
+consumed None after piece h = λ bytes e. absurd cc
+consumed (Some xs) None piece h = λ bytes e. absurd h
+consumed (Some xs) (Some ys) piece h = λ bytes e. (ys, refl, sym (same_Some xs bytes e) ∙ h)
+
+-- one byte of the piece
+pub one_taken : (before told : Option (List ℕ)) (items : List ℕ) (at end b : ℕ) → Keeps before (prepend_known (drop at (take end items)) told)
+    → at < end → end ≤ length items → b ≡ get_or items at b → Consumes before (prepend_known (drop (at + 1) (take end items)) told) (b ∷ [])
+one_taken None told items at end b kept lt le is = tt
+one_taken (Some xs) None items at end b kept lt le is = absurd kept
+one_taken (Some xs) (Some t) items at end b kept lt le is =
+    let one : drop at (take end items) ≡ get_or (take end items) at b ∷ drop (at + 1) (take end items) = drop_more (take end items) at b (omega (arith, length-take end items)) in
+    let read : get_or (take end items) at b ≡ b = get_or-take end items at b lt ∙ sym is in
+    sym kept ∙ ap (λ (x : List ℕ). x ++ t) (one ∙ ap (λ (y : ℕ). y ∷ drop (at + 1) (take end items)) read)
+
+-- nothing came, and nothing was unread
+pub nothing_came : (told after : Option (List ℕ)) (unread : List ℕ) → unread ≡ [] → Keeps told after → NoLineCame (prepend_known unread told) after
+nothing_came None after unread none kept = λ bytes e. absurd cc
+nothing_came (Some t) None unread none kept = λ bytes e. absurd kept
+nothing_came (Some t) (Some a) unread none kept = λ bytes e. ([], a, refl, sym (same_Some (unread ++ t) bytes e) ∙ ap (λ (u : List ℕ). u ++ t) none ∙ sym kept, refl)
+
+-- no room is left, and a byte is
+pub too_long : (before told : Option (List ℕ)) (items : List ℕ) (at end room : ℕ) → Keeps before (prepend_known (drop at (take end items)) told)
+    → at < end → end ≤ length items → room ≡ 0 → IfKnown before (λ bytes. (room < length bytes) × (newlines (take room bytes) ≡ 0))
+too_long None told items at end room kept lt le none = λ bytes e. absurd cc
+too_long (Some xs) None items at end room kept lt le none = λ bytes e. absurd kept
+too_long (Some xs) (Some t) items at end room kept lt le none = λ bytes e.
+    let one : drop at (take end items) ≡ get_or (take end items) at 0 ∷ drop (at + 1) (take end items) = drop_more (take end items) at 0 (omega (arith, length-take end items)) in
+    let whole : bytes ≡ get_or (take end items) at 0 ∷ (drop (at + 1) (take end items) ++ t) = sym (same_Some xs bytes e) ∙ sym kept ∙ ap (λ (x : List ℕ). x ++ t) one in
+    (omega (arith, ap (λ (x : List ℕ). length x) whole), ap (λ (r : ℕ). newlines (take r bytes)) none)
+
+-- a piece that was read to its end has no byte unread
+pub none_unread : (items : List ℕ) (at end : ℕ) → at ≡ end → drop at (take end items) ≡ []
+none_unread items at end same = drop_all at (take end items) (omega (arith, length-take end items))

@@ -1,0 +1,15 @@
+pub mod KnownBytes
+pub mod LineLemmas
+pub mod ReadTo
+pub mod NumberLemmas
+pub mod NameLemmas
+pub mod WordLemmas
+pub mod AlternativeLemmas
+pub mod ConditionLemmas
+pub mod SpanLaws
+pub mod PartLaws
+pub mod ConditionLaws
+pub mod LineLaws
+pub mod TextLaws
+pub mod CaseLaws
+pub mod Mapped

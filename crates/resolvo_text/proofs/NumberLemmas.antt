@@ -1,0 +1,103 @@
+-- The number that a word spells.
+use Rattle.std.proofs.Common.{◌≡◌, ℕ, zero, suc, ◌^◌, ◌<◌, ◌≤◌, true, ltb, ◌&&◌, List, [], ◌∷◌, length, get_or, Option, Some, None, Result, Ok, Err, refl, sym, ap, subst, ◌∙◌, arith, ◌≢◌, slice_get, Bor}
+use Rattle.std.specs.Prelude.{MatchResult}
+use Rattle.std.specs.Option.{option_map, option_map_or}
+use Rattle.std.specs.Fmt.{decimal}
+use Rattle.std.specs.Str.{bytes_eq, IsAscii, IsUtf8}
+use Rattle.std.specs.Result.{result_ok, is_ok}
+use Rattle.std.specs.Str.Parse.{digits_value, AllDigits, IsNumeral, ParsesUnsigned, without_leading_plus}
+use Rattle.std.proofs.lemmas.Bool.{and_parts, lt-ltb, ltb-true, false≢true}
+use Rattle.std.proofs.lemmas.Slice.Eq.{bytes_eq-Decides}
+use Rattle.std.proofs.lemmas.Fmt.{digits_value-decimal, decimal-digits_value, decimal_nonempty, first_decimal, decimal_digit, digits_decimal, parse-decimal, IsAscii-decimal}
+use Rattle.std.proofs.lemmas.Str.Parse.{IsNumeralModel, numerals_by_value, tells_digits, digit_at, without_leading_plus_none}
+use Rattle.std.proofs.lemmas.Option.{cond_some, same_Some, get_or_from_slice_get}
+use Rattle.std.proofs.lemmas.Str.{IsUtf8-from_ascii}
+use Rattle.resolvo_text.specs.Reading.{number_in}
+
+own : IsNumeralModel (AllDigits 10) (digits_value 10)
+own = numerals_by_value _ tells_digits
+
+-- what is spelled is read
+pub number_in-decimal : (n : ℕ) → n < 2 ^ 32 → number_in (decimal n) ≡ Some n
+unfolding number_in
+number_in-decimal n lt =
+    let value : digits_value 10 (decimal n) ≡ n = digits_value-decimal own n (omega arith) in
+    let same : bytes_eq (decimal n) (decimal n) ≡ true = (bytes_eq-Decides (decimal n) (decimal n)).1 refl in
+    rw (value, same, lt-ltb n (2 ^ 32) lt) refl
+
+pub number_in_is : (word : List ℕ) (n : ℕ) → n < 2 ^ 32 → word ≡ decimal n → number_in word ≡ Some n
+number_in_is word n lt is = ap number_in is ∙ number_in-decimal n lt
+
+-- what is read is spelled so
+pub number_in_spells : (word : List ℕ) (n : ℕ) → number_in word ≡ Some n → (word ≡ decimal n) × (n < 2 ^ 32)
+unfolding number_in
+number_in_spells word n e =
+    let value = digits_value 10 word in
+    let g = cond_some (bytes_eq word (decimal value) && ltb value (2 ^ 32)) value n e in
+    let tests = and_parts (bytes_eq word (decimal value)) (ltb value (2 ^ 32)) g.0 in
+    let spelled : word ≡ decimal value = (bytes_eq-Decides word (decimal value)).0 tests.0 in
+    (spelled ∙ ap decimal g.1, subst (λ (m : ℕ). m < 2 ^ 32) g.1 (ltb-true value (2 ^ 32) tests.1))
+
+none_from_no_some : (o : Option ℕ) → ((n : ℕ) → o ≡ Some n → ⊥) → o ≡ None
+none_from_no_some None h = refl
+none_from_no_some (Some n) h = absurd (h n refl)
+
+-- where no number is spelled so, none is read
+pub number_in_none : (word : List ℕ) → ((n : ℕ) → n < 2 ^ 32 → word ≡ decimal n → ⊥) → number_in word ≡ None
+number_in_none word none = none_from_no_some (number_in word) (λ n e. let h = number_in_spells word n e in none n h.1 h.0)
+
+-- ---- why a word spells no number
+
+pub digits : (n : ℕ) → n < 2 ^ 32 → AllDigits 10 (decimal n)
+digits n lt = digits_decimal own n (omega arith)
+
+pub no_number_empty : (word : List ℕ) → slice_get word 0 ≡ None → number_in word ≡ None
+no_number_empty [] h = number_in_none [] (λ n lt e. absurd (omega (arith, decimal_nonempty n (omega arith), ap (λ (xs : List ℕ). length xs) e)))
+no_number_empty (b ∷ bs) h = absurd cc
+
+pub no_number_plus : (word : List ℕ) → slice_get word 0 ≡ Some 43 → number_in word ≡ None
+no_number_plus [] h = absurd cc
+no_number_plus (b ∷ bs) h = number_in_none (b ∷ bs) (λ n lt e. let r = digit_at (decimal n) 0 (digits n lt) (decimal_nonempty n (omega arith)) in omega (arith, r, ap (λ (xs : List ℕ). get_or xs 0 0) e, same_Some b 43 h))
+
+not_after_zero : (b : ℕ) (bs : List ℕ) (n : ℕ) → b ≡ 48 → 1 < length (b ∷ bs) → n < 2 ^ 32 → ◌≡◌ {A = List ℕ} (b ∷ bs) (decimal n) → ⊥
+not_after_zero b bs zero is long lt e = absurd (omega (arith, long, ap (λ (xs : List ℕ). length xs) (e ∙ decimal_digit 0 (omega arith))))
+not_after_zero b bs (suc n) is long lt e = absurd (omega (arith, is, first_decimal (suc n) (omega arith) (omega arith), ap (λ (xs : List ℕ). get_or xs 0 0) e))
+
+pub no_number_zero : (word : List ℕ) → slice_get word 0 ≡ Some 48 → 1 < length word → number_in word ≡ None
+no_number_zero [] h long = absurd cc
+no_number_zero (b ∷ bs) h long = number_in_none (b ∷ bs) (λ n lt e. not_after_zero b bs n (same_Some b 48 h) long lt e)
+
+pub no_number_bytes : (word : List ℕ) → (IsUtf8 word → ⊥) → number_in word ≡ None
+no_number_bytes word not_text = number_in_none word (λ n lt e. not_text (IsUtf8-from_ascii word (subst IsAscii (sym e) (IsAscii-decimal n (omega arith)))))
+
+-- what `parse` gives is the number, where the word begins as a number does
+pub number_from_parse : {E : Type 0} (word : List ℕ) (first : ℕ) (r : Result ℕ E) → slice_get word 0 ≡ Some first → first ≢ 43 → (first ≡ 48 → length word ≤ 1)
+    → ParsesUnsigned 32 10 word r → result_ok r ≡ number_in word
+number_from_parse word first (Ok n) at no_plus no_zero parsed =
+    let head : get_or word 0 0 ≡ first = get_or_from_slice_get word 0 first 0 at in
+    let plain : without_leading_plus word ≡ word = without_leading_plus_none word (λ e. no_plus (sym head ∙ e)) in
+    let value : n ≡ digits_value 10 word = parsed.1 ∙ ap (λ (xs : List ℕ). digits_value 10 xs) plain in
+    let numeral : IsNumeral 10 word = subst (λ (xs : List ℕ). IsNumeral 10 xs) plain parsed.0.0 in
+    let small : n < 2 ^ 32 = omega (arith, parsed.0.1, parsed.1) in
+    let spelled : decimal (digits_value 10 word) ≡ word = decimal-digits_value own word numeral.1 numeral.0 (λ e. omega (arith, numeral.0, no_zero (sym head ∙ e))) (omega (arith, value, small)) in
+    sym (number_in_is word n small (sym spelled ∙ ap decimal (sym value)))
+number_from_parse {E} word first (Err e) at no_plus no_zero parsed =
+    sym (number_in_none word (λ n lt is. false≢true (ap (λ (r : Result ℕ E). is_ok r) (parse-decimal 32 n word (Err e) lt (omega arith) is parsed))))
+
+-- ---- text
+
+-- the text that `from_utf8` gives, and why it gives none
+pub text_is : {E : Type 0} (U : Type 0) (Q : E → Type 0) (word : List ℕ) (r : Result (Bor (List ℕ)) E) (s : Bor (List ℕ))
+    → MatchResult r (λ t. (t.now ≡ word) × U) Q → Some s ≡ result_ok r → s.now ≡ word
+text_is U Q word (Ok t) s h e = ap (λ (o : Option (Bor (List ℕ))). option_map_or (λ x. x.now) o word) e ∙ h.0
+text_is U Q word (Err d) s h e = absurd cc
+
+pub not_text : {E : Type 0} (P : Bor (List ℕ) → Type 0) (U : Type 0) (Q : E → Type 0) (r : Result (Bor (List ℕ)) E)
+    → MatchResult r P (λ e. (U → ⊥) × Q e) → None ≡ result_ok r → U → ⊥
+not_text P U Q (Ok t) h e = absurd cc
+not_text P U Q (Err d) h e = h.0
+
+pub text_given : {E : Type 0} (U : Type 0) (Q : E → Type 0) (word : List ℕ) (r : Result (Bor (List ℕ)) E)
+    → MatchResult r (λ t. (t.now ≡ word) × U) (λ e. (U → ⊥) × Q e) → U → option_map (λ s. s.now) (result_ok r) ≡ Some word
+text_given U Q word (Ok t) h u = ap (λ (x : List ℕ). Some x) h.0
+text_given U Q word (Err d) h u = absurd (h.0 u)

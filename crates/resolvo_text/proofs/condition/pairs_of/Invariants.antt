@@ -1,0 +1,7 @@
+use Rattle.std.proofs.Common.{◌≡◌, take}
+use Rattle.resolvo_text.specs.View.{cases_of}
+use Rattle.resolvo_text.specs.Cases.{pairs}
+use Rattle.resolvo_text.proofs.condition.pairs_of.Given as goal
+
+abbrev pub invariant-loop-case : goal.invariant-loop-case
+invariant-loop-case l = cases_of l.all.items ≡ pairs (cases_of (take l.case-index l.left)) (cases_of l.right)

@@ -1,0 +1,40 @@
+-- A reader of lines, with the device that it reads from.
+use Rattle.std.specs.Prelude.{◌≡◌, ℕ, ◌+◌, ◌<◌, ◌≤◌, ⊤, List, ◌∷◌, ◌++◌, length, take, drop, Option, Some}
+use Rattle.std.specs.Io.KnownBytes.{prepend_known}
+use Rattle.resolvo_text.specs.Device.{IfKnown}
+use Rattle.resolvo_text.specs.Lines.{lines_of, newlines}
+use Rattle.resolvo_text.specs.declared.lines.LineReader.{LineReader}
+use Rattle.resolvo_text.specs.declared.lines.ReadFault.{ReadFault}
+use Rattle.resolvo_text.specs.declared.lines.ReadFault.TheVariants.{Fault, Reader, TooLong, Memory, Ids}
+
+-- the bytes of the piece that were not taken yet
+abbrev pub unread : LineReader → List ℕ
+unread r = drop r.at (take r.end r.piece.items)
+
+-- what is left of the text, where the device tells
+abbrev pub left : LineReader → Option (List ℕ) → Option (List ℕ)
+left r told = prepend_known (unread r) told
+
+-- Of these bytes a piece was taken, which is a line with its newline, or the last line. The rest is left.
+pub record IsLine (bytes line piece rest : List ℕ) : Type 0 where
+  pub parts : bytes ≡ piece ++ rest
+  pub lines : lines_of bytes ≡ line ∷ lines_of rest
+  pub one : newlines piece ≤ 1
+
+-- Of the text that was left this line was taken, and its bytes from the room.
+abbrev pub TakesLine : Option (List ℕ) → ℕ → List ℕ → Option (List ℕ) → ℕ → Type 0
+TakesLine before room line after room_after = IfKnown before (λ bytes. (piece : List ℕ) × (rest : List ℕ)
+    × (after ≡ Some rest) × IsLine bytes line piece rest × (length piece + room_after ≡ room))
+
+-- Some bytes came that had been left, and no line ends among them.
+abbrev pub NoLineCame : Option (List ℕ) → Option (List ℕ) → Type 0
+NoLineCame before after = IfKnown before (λ bytes. (came : List ℕ) × (rest : List ℕ) × (after ≡ Some rest) × (bytes ≡ came ++ rest) × (newlines came ≡ 0))
+
+-- When reading a line may fail so: what was left of the text before, what the device has left after, the room
+-- that there was, and that the device failed.
+abbrev pub IsReadFault : ReadFault → Option (List ℕ) → Option (List ℕ) → ℕ → Type 0 → Type 0
+IsReadFault (Fault n) before after room failed = ⊥
+IsReadFault Reader before after room failed = failed × NoLineCame before after
+IsReadFault TooLong before after room failed = IfKnown before (λ bytes. (room < length bytes) × (newlines (take room bytes) ≡ 0))
+IsReadFault Memory before after room failed = ⊤
+IsReadFault Ids before after room failed = ⊥

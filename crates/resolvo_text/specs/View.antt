@@ -1,0 +1,48 @@
+-- What a version, a SPEC, a condition and a line are, without where they lie in memory.
+use Rattle.std.specs.Prelude.{List, map, Option}
+use Rattle.std.specs.Option.{option_map}
+use Rattle.std.specs.String.{string_bytes}
+use Rattle.std.specs.Global.{Vec}
+use Rattle.resolvo_text.specs.Line as says
+use Rattle.resolvo_text.specs.Matching as meaning
+use Rattle.resolvo_text.specs.declared.spec.Version.{Version}
+use Rattle.resolvo_text.specs.declared.spec.Spec as code
+use Rattle.resolvo_text.specs.declared.condition.Cond.{Cond, Spec, And', Or'}
+use Rattle.resolvo_text.specs.declared.line.Line.{Line}
+use Rattle.resolvo_text.specs.declared.line.Line.TheVariants as line
+
+abbrev pub version_of : Version → says.Version
+version_of v = record { name = string_bytes v.name; number = v.number }
+
+abbrev pub spec_of : code.Spec → says.Spec
+spec_of s = record { name = string_bytes s.name; span = s.span }
+
+abbrev pub specs_of : List code.Spec → List says.Spec
+specs_of ss = map spec_of ss
+
+abbrev pub cond_of : Cond → says.Cond
+cond_of (Spec s) = says.Is (spec_of s)
+cond_of (And' p a q b) = says.And (cond_of a) (cond_of b)
+cond_of (Or' p a q b) = says.Or (cond_of a) (cond_of b)
+
+abbrev pub condition_of : Option Cond → Option says.Cond
+condition_of c = option_map cond_of c
+
+-- a list of versions as a set
+abbrev pub set_of : List Version → meaning.Set
+set_of versions = map version_of versions
+
+-- lists of SPECs
+abbrev pub cases_of : List (Vec code.Spec) → List (List says.Spec)
+cases_of cs = map (λ c. specs_of c.items) cs
+
+abbrev pub view : Line → says.Line
+view line.Skipped = says.Skipped
+view (line.Listed v) = says.Listed (version_of v)
+view (line.Needs alternatives condition) = says.Needs (specs_of alternatives.items) (condition_of condition)
+view (line.Limits s) = says.Limits (spec_of s)
+view (line.Unknown reason) = says.Unknown (string_bytes reason)
+view (line.Lock v) = says.Lock (version_of v)
+view (line.Favour v) = says.Favour (version_of v)
+view (line.Exclude v reason) = says.Exclude (version_of v) (string_bytes reason)
+view (line.Wish v) = says.Wish (version_of v)

@@ -1,0 +1,30 @@
+//! Texts of catalogues and requests: devices that give and take bytes, lines, and what one line says.
+//!
+//! `LineReader` takes the lines of a text out of a `Source`, and `line_in` tells what a line says. Which line may
+//! stand where is told by the readers of whole texts, in the crates above.
+#![tactic(auto)]
+
+mod condition;
+mod device;
+mod line;
+mod lines;
+mod memory;
+mod reading;
+mod spec;
+#[cfg(test)]
+mod tests;
+mod words;
+mod writing;
+
+pub use condition::{Cond, cases_are_exact, cases_in, holds};
+pub use device::{Counted, Sink, Source, Trouble};
+pub use line::{Line, LineFault};
+pub use lines::{LineReader, ReadFault};
+pub use memory::{MemorySink, MemorySource};
+pub use reading::{
+    first_word, line_in, name_of, next_word, no_more, number_of, reason_at, skip, span_at, spec_at,
+    texts_say_one_line, version_at, word_at,
+};
+pub use spec::{Span, Spec, Version, is_in_span, is_member, is_met, is_met_by_one, matches};
+pub use words::{is_name, name_in, number_in, span_in};
+pub use writing::{WriteFault, write_all};

@@ -1,0 +1,61 @@
+//! What a line of a catalogue or a request says.
+//!
+//! A line is seen as the line of specs/Line.antt; the readers of whole texts keep and place it.
+
+use crate::condition::Cond;
+use crate::spec::{Spec, Version};
+use std::alloc::{AllocError, AllocFailed};
+use thiserror::Error;
+
+#[derive(Debug, Drop)]
+pub enum Line {
+    /// An empty line or a comment.
+    Skipped,
+    /// A line `version`.
+    Listed(Version),
+    Needs {
+        alternatives: Vec<Spec>,
+        condition: Option<Cond>,
+    },
+    Limits(Spec),
+    /// Nothing is known of what a version needs, for the reason that the word names.
+    Unknown(String),
+    Lock(Version),
+    Favour(Version),
+    Exclude {
+        version: Version,
+        reason: String,
+    },
+    Wish(Version),
+}
+
+/// Why a line was not read: it says nothing, or memory ran out.
+#[derive(Clone, Copy, Debug, PartialEq, Eq, Error)]
+pub enum LineFault {
+    #[error("the line says nothing")]
+    Fault,
+    #[error("out of memory")]
+    Memory,
+}
+
+impl From<AllocError> for LineFault {
+    ghost use Rattle.resolvo_text.specs.declared.line.LineFault.TheVariants.{Memory};
+    ghost use Rattle.std.specs.Prelude.{◌≡◌};
+
+    ghost from_gives = { λ _ e. e ≡ Memory };
+
+    fn from(_error: AllocError) -> Self {
+        LineFault::Memory
+    }
+}
+
+impl<T: Drop> From<AllocFailed<T>> for LineFault {
+    ghost use Rattle.resolvo_text.specs.declared.line.LineFault.TheVariants.{Memory};
+    ghost use Rattle.std.specs.Prelude.{◌≡◌};
+
+    ghost from_gives = { λ _ e. e ≡ Memory };
+
+    fn from(_error: AllocFailed<T>) -> Self {
+        LineFault::Memory
+    }
+}

@@ -1,0 +1,182 @@
+//! The lines of a text that a device gives in pieces.
+//!
+//! What is left of the text is the unread bytes of the piece and what the device has left. The readers of whole
+//! texts take one line after the other; the room that is kept bounds the bytes that they take.
+
+ghost use Rattle.std.specs.Prelude.{◌≡◌, ℕ, ◌+◌, ◌<◌, ◌≤◌, List, [], ◌∷◌, length, Option, Ok, Err, Some, None, IfOk, OnOk, IfNone, IsTrue, IfErr, vec_len, false};
+ghost use Rattle.std.specs.Option.{option_to_list};
+ghost use Rattle.std.specs.Io.KnownBytes.{Consumes, Keeps, IsAtEnd};
+ghost use Rattle.resolvo_text.specs.Device.{DeviceFailed};
+
+use crate::device::{MOST_INTERRUPTIONS, Source, Trouble};
+use std::alloc::{AllocError, AllocFailed, Global};
+use thiserror::Error;
+
+/// Why a text was not read.
+#[derive(Clone, Copy, Debug, PartialEq, Eq, Error)]
+pub enum ReadFault {
+    /// The line of this number says nothing after the lines above it.
+    #[error("fault at line {0}")]
+    Fault(u32),
+    /// The device failed, or was interrupted too often in a row.
+    #[error("the text could not be read")]
+    Reader,
+    /// The text has more bytes than a text may have.
+    #[error("the text is too long")]
+    TooLong,
+    #[error("out of memory")]
+    Memory,
+    /// A number was refused.
+    #[error("out of numbers")]
+    Ids,
+}
+
+impl From<AllocError> for ReadFault {
+    ghost use Rattle.resolvo_text.specs.declared.lines.ReadFault.TheVariants.{Memory};
+
+    ghost from_gives = { λ _ e. e ≡ Memory };
+
+    fn from(_error: AllocError) -> Self {
+        ReadFault::Memory
+    }
+}
+
+impl<T: Drop> From<AllocFailed<T>> for ReadFault {
+    ghost use Rattle.resolvo_text.specs.declared.lines.ReadFault.TheVariants.{Memory};
+
+    ghost from_gives = { λ _ e. e ≡ Memory };
+
+    fn from(_error: AllocFailed<T>) -> Self {
+        ReadFault::Memory
+    }
+}
+
+/// How many bytes a device is asked for at once.
+const PIECE: usize = 4096;
+
+/// Takes one line after the other, and holds no other bytes than one piece and one line.
+#[derive(Drop)]
+pub struct LineReader {
+    piece: Vec<u8>,
+    at: usize,
+    end: usize,
+    line: Vec<u8>,
+    /// How many bytes may still be taken.
+    room: u32,
+    ghost begun: { at ≤ end },
+    ghost in_piece: { end ≤ vec_len piece },
+    ghost has_piece: { 0 < vec_len piece },
+}
+
+impl LineReader {
+    ghost use Rattle.resolvo_text.specs.Reader.{left, unread, IsReadFault, TakesLine};
+
+    /// A reader that takes at most `limit` bytes.
+    pub fn new(alloc: Global, limit: u32) -> Result<Self, AllocError>
+        ensures fresh { IfOk result (λ reader. unread reader ≡ []) }
+        ensures room { IfOk result (λ reader. reader.room ≡ limit) }
+    {
+        Ok(LineReader {
+            piece: vec![in alloc; 0; PIECE]?,
+            at: 0,
+            end: 0,
+            line: Vec::new(alloc),
+            room: limit,
+        })
+    }
+
+    /// Takes the next line. False at the end of the text.
+    ///
+    /// All whole lines that have come are given before the device is asked again. After a fault the reader is of
+    /// no more use.
+    pub fn next_line<S: Source>(&mut self, source: &mut S) -> Result<bool, ReadFault>
+        ensures taken { IfOk result (λ more. IsTrue more → TakesLine (left self.old (S.left source.old)) self.old.room
+            self.new.line.items (left self.new (S.left source.new)) self.new.room) }
+        ensures progress { IfOk result (λ more. IsTrue more → self.new.room < self.old.room) }
+        ensures end { IfOk result (λ more. more ≡ false → IsAtEnd (left self.old (S.left source.old))) }
+        ensures failures { OnOk result (S.failures source.new ≡ S.failures source.old) }
+        ensures fault { IfErr result (λ e. IsReadFault e (left self.old (S.left source.old)) (S.left source.new)
+            self.old.room (DeviceFailed (S.failures source.old) (S.failures source.new) (S.interruptions source.new))) }
+    {
+        self.line.clear();
+        loop {
+            match self.next_byte(source)? {
+                Some(b'\n') => return Ok(true),
+                Some(byte) => self.line.push(byte)?,
+                None => return Ok(!self.line.is_empty()),
+            }
+        }
+    }
+
+    /// The line that was taken last.
+    pub fn line(&self) -> &[u8]
+        ensures { result.now ≡ self.now.line.items }
+    {
+        &self.line
+    }
+
+    /// Takes the next byte, or none at the end.
+    fn next_byte<S: Source>(&mut self, source: &mut S) -> Result<Option<u8>, ReadFault>
+        ensures taken { IfOk result (λ next. Consumes (left self.old (S.left source.old))
+            (left self.new (S.left source.new)) (option_to_list next)) }
+        ensures end { IfOk result (λ next. IfNone next (IsAtEnd (left self.old (S.left source.old)))) }
+        ensures room { IfOk result (λ next. self.new.room + length (option_to_list next) ≡ self.old.room) }
+        ensures line { self.new.line ≡ self.old.line }
+        ensures failures { OnOk result (S.failures source.new ≡ S.failures source.old) }
+        ensures fault { IfErr result (λ e. IsReadFault e (left self.old (S.left source.old)) (S.left source.new)
+            self.old.room (DeviceFailed (S.failures source.old) (S.failures source.new) (S.interruptions source.new))) }
+    {
+        self.refill(source)?;
+        if self.at == self.end {
+            return Ok(None);
+        }
+        if self.room == 0 {
+            return Err(ReadFault::TooLong);
+        }
+        let byte = self.piece[self.at];
+        self.at += 1;
+        self.room -= 1;
+        Ok(Some(byte))
+    }
+
+    /// Sees to it that a byte of the piece is left, unless the text has ended.
+    fn refill<S: Source>(&mut self, source: &mut S) -> Result<(), ReadFault>
+        ensures kept { OnOk result (Keeps (left self.old (S.left source.old)) (left self.new (S.left source.new))) }
+        ensures end { OnOk result (self.new.at ≡ self.new.end → IsAtEnd (left self.old (S.left source.old))) }
+        ensures line { self.new.line ≡ self.old.line }
+        ensures room { self.new.room ≡ self.old.room }
+        ensures failures { OnOk result (S.failures source.new ≡ S.failures source.old) }
+        ensures fault { IfErr result (λ e. IsReadFault e (left self.old (S.left source.old)) (S.left source.new)
+            self.old.room (DeviceFailed (S.failures source.old) (S.failures source.new) (S.interruptions source.new))) }
+    {
+        if self.at == self.end {
+            self.fill(source)?;
+        }
+        Ok(())
+    }
+
+    /// Gets the next piece.
+    fn fill<S: Source>(&mut self, source: &mut S) -> Result<(), ReadFault>
+        requires { self.old.at ≡ self.old.end }
+        ensures given { OnOk result (Consumes (S.left source.old) (S.left source.new) (unread self.new)) }
+        ensures end { OnOk result (self.new.at ≡ self.new.end → IsAtEnd (S.left source.new)) }
+        ensures line { self.new.line ≡ self.old.line }
+        ensures room { self.new.room ≡ self.old.room }
+        ensures failures { OnOk result (S.failures source.new ≡ S.failures source.old) }
+        ensures fault { IfErr result (λ e. IsReadFault e (left self.old (S.left source.old)) (S.left source.new)
+            self.old.room (DeviceFailed (S.failures source.old) (S.failures source.new) (S.interruptions source.new))) }
+    {
+        for _try in 0..MOST_INTERRUPTIONS + 1 {
+            match source.read(&mut self.piece) {
+                Ok(count) => {
+                    self.at = 0;
+                    self.end = count;
+                    return Ok(());
+                }
+                Err(Trouble::Interrupted) => {}
+                Err(Trouble::Failed) => return Err(ReadFault::Reader),
+            }
+        }
+        Err(ReadFault::Reader)
+    }
+}

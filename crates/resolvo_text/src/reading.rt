@@ -1,0 +1,259 @@
+//! Reading a line from left to right, word by word.
+//!
+//! The words that are left of a line are the bytes behind the last word, so each of them stands behind a space. A
+//! reader of a part answers the part and what is left. Readers of whole texts call `line_in`; the report's reader
+//! calls the readers of parts.
+
+ghost use Rattle.std.specs.Prelude.{◌≡◌, ◌<◌, ◌≤◌, ◌∷◌, List, ℕ, length, Err, IfOk, IfSome};
+ghost use Rattle.std.specs.List.{position, slice_split};
+ghost use Rattle.std.specs.Option.{option_map};
+ghost use Rattle.std.specs.String.{string_bytes};
+ghost use Rattle.resolvo_text.specs.Line as says;
+ghost use Rattle.resolvo_text.specs.Spelling.{SaysLine};
+ghost use Rattle.resolvo_text.specs.declared.line.LineFault.TheVariants.{Fault};
+ghost use Rattle.resolvo_text.specs.View.{version_of, spec_of, specs_of, view};
+ghost use Rattle.resolvo_text.specs.Reading.{Gives, word_at, version_at, reason_at, span_at, spec_at, skip, alternatives_at, name_in, number_in, end_at, version_in, reason_in, spec_in, needs_in, said_by, is_space, words_in, is_skipped, line_in};
+
+use crate::condition::condition_in;
+use crate::line::{Line, LineFault};
+use crate::spec::{Span, Spec, Version};
+use crate::words::{name_in, number_in, span_in};
+use std::alloc::Global;
+
+fn space_in(text: &[u8]) -> Option<usize>
+    ensures { result ≡ position is_space text.now }
+{
+    text.iter().position(|b| *b == b' ')
+}
+
+/// The first word of a text, and what stands after it.
+pub fn first_word(text: &[u8]) -> (&[u8], &[u8])
+    ensures shorter { length result.1.now ≤ length text.now }
+    ensures words { slice_split is_space text.now ≡ result.0.now ∷ words_in result.1.now }
+{
+    match space_in(text) {
+        Some(end) => (&text[..end], &text[end..]),
+        None => (text, &text[text.len()..]),
+    }
+}
+
+/// The next word, which stands behind a space, and what stands after it.
+pub fn next_word(rest: &[u8]) -> Option<(&[u8], &[u8])>
+    ensures shorter { IfSome result (λ x. length x.1.now < length rest.now) }
+    ensures words { option_map (λ x. (x.0.now, words_in x.1.now)) result ≡ word_at (words_in rest.now) }
+{
+    let (_, text) = rest.split_first()?;
+    Some(first_word(text))
+}
+
+pub fn word_at(rest: &[u8]) -> Result<(&[u8], &[u8]), LineFault>
+    ensures shorter { IfOk result (λ x. length x.1.now < length rest.now) }
+    ensures words { Gives (λ x. (x.0.now, words_in x.1.now)) result (word_at (words_in rest.now)) }
+{
+    next_word(rest).ok_or(LineFault::Fault)
+}
+
+pub fn name_of(alloc: Global, word: &[u8]) -> Result<String, LineFault>
+    ensures { Gives (λ s. string_bytes s) result (name_in word.now) }
+{
+    match name_in(word) {
+        Some(name) => Ok(String::from_str(alloc, name)?),
+        None => Err(LineFault::Fault),
+    }
+}
+
+pub fn number_of(word: &[u8]) -> Result<u32, LineFault>
+    ensures { Gives (λ n. n) result (number_in word.now) }
+{
+    number_in(word).ok_or(LineFault::Fault)
+}
+
+#[tactic(auto, unfolding(crate::specs::Reading::version_at))]
+pub fn version_at(alloc: Global, words: &[u8]) -> Result<(Version, &[u8]), LineFault>
+    ensures { Gives (λ x. (version_of x.0, words_in x.1.now)) result (version_at (words_in words.now)) }
+{
+    let (word, words) = word_at(words)?;
+    let name = name_of(alloc, word)?;
+    let (word, words) = word_at(words)?;
+    let number = number_of(word)?;
+    Ok((Version { name, number }, words))
+}
+
+#[tactic(auto, unfolding(crate::specs::Reading::reason_at))]
+pub fn reason_at(alloc: Global, words: &[u8]) -> Result<(String, &[u8]), LineFault>
+    ensures { Gives (λ x. (string_bytes x.0, words_in x.1.now)) result (reason_at (words_in words.now)) }
+{
+    let (word, words) = word_at(words)?;
+    Ok((name_of(alloc, word)?, words))
+}
+
+#[tactic(auto, unfolding(crate::specs::Reading::span_at))]
+pub fn span_at(words: &[u8]) -> (Span, &[u8])
+    ensures shorter { length result.1.now ≤ length words.now }
+    ensures words { (result.0, words_in result.1.now) ≡ span_at (words_in words.now) }
+{
+    if let Some((word, after)) = next_word(words) {
+        if let Some(span) = span_in(word) {
+            return (span, after);
+        }
+    }
+    (Span::Any, words)
+}
+
+#[tactic(auto, unfolding(crate::specs::Reading::spec_at))]
+pub fn spec_at(alloc: Global, words: &[u8]) -> Result<(Spec, &[u8]), LineFault>
+    ensures shorter { IfOk result (λ x. length x.1.now < length words.now) }
+    ensures words { Gives (λ x. (spec_of x.0, words_in x.1.now)) result (spec_at (words_in words.now)) }
+{
+    let (word, words) = word_at(words)?;
+    let name = name_of(alloc, word)?;
+    let (span, words) = span_at(words);
+    Ok((Spec { name, span }, words))
+}
+
+/// Whether this word comes next, and the words after it.
+#[tactic(auto, unfolding(crate::specs::Reading::skip))]
+pub fn skip<'a>(words: &'a [u8], word: &[u8]) -> (bool, &'a [u8])
+    ensures shorter { length result.1.now ≤ length words.now }
+    ensures words { (result.0, words_in result.1.now) ≡ skip word.now (words_in words.now) }
+{
+    if let Some((next, after)) = next_word(words) {
+        if next == word {
+            return (true, after);
+        }
+    }
+    (false, words)
+}
+
+/// One alternative or more.
+fn alternatives_at(alloc: Global, words: &[u8]) -> Result<(Vec<Spec>, &[u8]), LineFault>
+    ensures { Gives (λ x. (specs_of x.0.items, words_in x.1.now)) result (alternatives_at (length (words_in words.now)) (words_in words.now)) }
+{
+    let mut specs = Vec::new(alloc);
+    let mut rest = words;
+    loop {
+        let (spec, after) = spec_at(alloc, rest)?;
+        specs.push(spec)?;
+        let (more, others) = skip(after, b"|");
+        rest = others;
+        if !more {
+            return Ok((specs, rest));
+        }
+    }
+}
+
+pub fn no_more(words: &[u8]) -> Result<(), LineFault>
+    ensures { Gives (λ _. tt) result (end_at (words_in words.now)) }
+{
+    if words.is_empty() {
+        Ok(())
+    } else {
+        Err(LineFault::Fault)
+    }
+}
+
+#[tactic(auto, unfolding(crate::specs::Reading::version_in))]
+fn version_in(alloc: Global, words: &[u8]) -> Result<Version, LineFault>
+    ensures { Gives version_of result (version_in (words_in words.now)) }
+{
+    let (version, words) = version_at(alloc, words)?;
+    no_more(words)?;
+    Ok(version)
+}
+
+#[tactic(auto, unfolding(crate::specs::Reading::reason_in))]
+fn reason_in(alloc: Global, words: &[u8]) -> Result<String, LineFault>
+    ensures { Gives (λ s. string_bytes s) result (reason_in (words_in words.now)) }
+{
+    let (reason, words) = reason_at(alloc, words)?;
+    no_more(words)?;
+    Ok(reason)
+}
+
+#[tactic(auto, unfolding(crate::specs::Reading::spec_in))]
+fn spec_in(alloc: Global, words: &[u8]) -> Result<Spec, LineFault>
+    ensures { Gives spec_of result (spec_in (words_in words.now)) }
+{
+    let (spec, words) = spec_at(alloc, words)?;
+    no_more(words)?;
+    Ok(spec)
+}
+
+#[tactic(auto, unfolding(crate::specs::Reading::needs_in))]
+fn needs_in(alloc: Global, words: &[u8]) -> Result<Line, LineFault>
+    ensures { Gives view result (needs_in (words_in words.now)) }
+{
+    let (alternatives, words) = alternatives_at(alloc, words)?;
+    let condition = condition_in(alloc, words)?;
+    Ok(Line::Needs {
+        alternatives,
+        condition,
+    })
+}
+
+/// What the words after the keyword say.
+#[tactic(auto, unfolding(crate::specs::Reading::said_by))]
+fn said_by(alloc: Global, keyword: &[u8], words: &[u8]) -> Result<Line, LineFault>
+    ensures { Gives (λ line. view line) result (said_by keyword.now (words_in words.now)) }
+{
+    if keyword == b"version".as_slice() {
+        return Ok(Line::Listed(version_in(alloc, words)?));
+    }
+    if keyword == b"needs".as_slice() {
+        return needs_in(alloc, words);
+    }
+    if keyword == b"limits".as_slice() {
+        return Ok(Line::Limits(spec_in(alloc, words)?));
+    }
+    if keyword == b"unknown".as_slice() {
+        return Ok(Line::Unknown(reason_in(alloc, words)?));
+    }
+    if keyword == b"lock".as_slice() {
+        return Ok(Line::Lock(version_in(alloc, words)?));
+    }
+    if keyword == b"favour".as_slice() {
+        return Ok(Line::Favour(version_in(alloc, words)?));
+    }
+    if keyword == b"exclude".as_slice() {
+        let (version, words) = version_at(alloc, words)?;
+        let reason = reason_in(alloc, words)?;
+        return Ok(Line::Exclude { version, reason });
+    }
+    if keyword == b"wish".as_slice() {
+        return Ok(Line::Wish(version_in(alloc, words)?));
+    }
+    Err(LineFault::Fault)
+}
+
+fn is_skipped(text: &[u8]) -> bool
+    ensures { result ≡ is_skipped text.now }
+{
+    match text.split_first() {
+        Some((first, _)) => *first == b'#',
+        None => true,
+    }
+}
+
+/// What the text of a line says, without its newline.
+pub fn line_in(alloc: Global, text: &[u8]) -> Result<Line, LineFault>
+    ensures says { IfOk result (λ line. SaysLine text.now (view line)) }
+    ensures fault { result ≡ Err Fault → (line : says.Line) → SaysLine text.now line → ⊥ }
+{
+    line_read(alloc, text)
+}
+
+#[tactic(auto, unfolding(crate::specs::Reading::line_in))]
+fn line_read(alloc: Global, text: &[u8]) -> Result<Line, LineFault>
+    ensures { Gives view result (line_in text.now) }
+{
+    if is_skipped(text) {
+        return Ok(Line::Skipped);
+    }
+    let (keyword, words) = first_word(text);
+    said_by(alloc, keyword, words)
+}
+
+/// A text says one line at most.
+pub fn texts_say_one_line()
+    ensures { (text : List ℕ) (a b : says.Line) → SaysLine text a → SaysLine text b → a ≡ b }
+{}
