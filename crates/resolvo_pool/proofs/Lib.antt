@@ -1,0 +1,9 @@
+pub mod Conditions
+pub mod Favoured
+pub mod Interned
+pub mod KeptLemmas
+pub mod PassLearns
+pub mod PassNamed
+pub mod PassSound
+pub mod SlotLemmas
+pub mod Texts

@@ -1,0 +1,13 @@
+pub mod ByRequirement
+pub mod Cached
+pub mod Fault
+pub mod Ids
+pub mod Interning
+pub mod Keyed
+pub mod Lends
+pub mod OnePass
+pub mod Provider
+pub mod RuleKeeping
+pub mod Slots
+pub mod Tens
+pub mod Text

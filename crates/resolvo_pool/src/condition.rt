@@ -1,0 +1,20 @@
+//! Conditions on what is chosen, as trees whose nodes are ids. A condition hangs on a requirement
+//! and is read by the encoder.
+
+use crate::id::{ConditionId, VersionSetId};
+
+/// A condition on what is chosen.
+#[derive(Clone, Copy, Debug, PartialEq, Eq, Hash)]
+pub enum Condition {
+    /// Two conditions, joined.
+    Binary(LogicalOperator, ConditionId, ConditionId),
+    /// Some chosen solvable matches the version set.
+    Requirement(VersionSetId),
+}
+
+/// How a condition joins two.
+#[derive(Clone, Copy, Debug, PartialEq, Eq, Hash)]
+pub enum LogicalOperator {
+    And,
+    Or,
+}
