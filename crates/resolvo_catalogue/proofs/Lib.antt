@@ -1,0 +1,9 @@
+pub mod Pushed
+pub mod TableLemmas
+pub mod TableSteps
+pub mod Placing
+pub mod Members
+pub mod CatalogueFacts
+pub mod Barring
+pub mod AskSteps
+pub mod GrammarLaws

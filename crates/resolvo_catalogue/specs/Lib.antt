@@ -1,0 +1,9 @@
+pub mod Grammar
+pub mod Rules
+pub mod Sets
+pub mod Answers
+pub mod Listed
+pub mod Questions
+pub mod Codes
+pub mod Table
+pub mod Asks
