@@ -1,0 +1,76 @@
+//! `resolve solve CATALOGUE REQUEST`, and `resolve` alone for standard input: writes the report, or why there is none.
+#![tactic(auto)]
+
+mod endings;
+mod input;
+mod outcome;
+mod report;
+mod run;
+mod search;
+mod serving;
+#[cfg(test)]
+mod tests;
+
+use endings::run_ending;
+use input::{INPUT_LIMIT, read_input, split_input};
+use outcome::{Outcome, RunFault};
+use resolvo_catalogue::Counted;
+use run::run;
+use std::fs::File;
+use std::process::ExitCode;
+use std::{env, io};
+
+const USAGE: &str =
+    "usage: resolve solve CATALOGUE REQUEST, or resolve judge CATALOGUE REQUEST REPORT";
+
+/// Solves the texts of two files, which are opened before either is read.
+fn solve_files(rt: &HostRuntime, catalogue: &str, request: &str) -> Result<Outcome, RunFault> {
+    let Ok(catalogue) = File::open(rt, catalogue) else {
+        return Err(RunFault::Reader);
+    };
+    let Ok(request) = File::open(rt, request) else {
+        return Err(RunFault::Reader);
+    };
+    let mut catalogue = Counted::new(catalogue);
+    let mut request = Counted::new(request);
+    let mut writer = Counted::new(io::writer(rt));
+    run(rt.alloc(), &mut catalogue, &mut request, &mut writer)
+}
+
+/// Solves standard input: the catalogue above the first line `---`, the request below it.
+fn solve_input(rt: &HostRuntime) -> Result<Outcome, RunFault> {
+    let mut source = Counted::new(rt.stdin());
+    let input = read_input(rt.alloc(), &mut source, INPUT_LIMIT)?;
+    let (catalogue, request) = split_input(&input);
+    let mut writer = Counted::new(io::writer(rt));
+    run(
+        rt.alloc(),
+        &mut Counted::new(catalogue),
+        &mut Counted::new(request),
+        &mut writer,
+    )
+}
+
+/// Prints the last line, if there is one. A failed write prints nothing more.
+fn finish(rt: &HostRuntime, status: u8, line: &str) -> ExitCode {
+    if !line.is_empty() {
+        let _ = println!(rt; "{line}");
+    }
+    ExitCode::from(status)
+}
+
+fn main(rt: HostRuntime) -> ExitCode {
+    let Ok(args) = env::args(&rt) else {
+        return finish(&rt, 2, "no memory");
+    };
+    let Ok(words) = args.skip(1).collect::<Vec<String>>(rt.alloc()) else {
+        return finish(&rt, 2, "no memory");
+    };
+    let ended = match words.len() {
+        0 => solve_input(&rt),
+        3 if words[0].as_str() == "solve" => solve_files(&rt, &words[1], &words[2]),
+        _ => return finish(&rt, 2, USAGE),
+    };
+    let (status, line) = run_ending(&ended);
+    finish(&rt, status, line)
+}
