@@ -1,11 +1,11 @@
 -- Resolution keeps one pass: what it takes to learn a clause.
 use Rattle.std.proofs.Common.{◌≡◌, ◌⊎◌, inl, inr, Bool, true, false, List, [], ◌∷◌, Option, Some, None, refl, sym, ap, subst, ◌∙◌, cond}
-use Rattle.std.specs.Prelude.{not, ◌&&◌, ◌||◌, is_none}
-use Rattle.std.specs.List.{list_any, list_all}
+use Rattle.std.specs.Prelude.{not, ◌||◌, is_none}
+use Rattle.std.specs.List.{list_all}
 use Rattle.std.specs.Bool.{beq}
-use Rattle.std.proofs.lemmas.Bool.{false≢true, cases_Bool, or_cases, or_left, or_right, and_parts, and_from, not-true}
-use Rattle.resolvo_pool.specs.OnePass.Rest.{broken, last, more}
-use Rattle.resolvo_pool.specs.OnePass.{Literal, Rest, negate, is_denied, same_literal, has, assign, deny, rest_of, without_false, reading, is_broken, learn, refutes, nothing, one_pass, IsFalseUnder, RefutesFrom, HasNoOpposites}
+use Rattle.std.proofs.lemmas.Bool.{false≢true, or_cases, or_left, or_right, and_parts, and_from}
+use Rattle.resolvo_pool.specs.OnePass.Rest.{last, more}
+use Rattle.resolvo_pool.specs.OnePass.{Literal, negate, is_denied, same_literal, has, assign, deny, rest_of, without_false, is_broken, learn, refutes, nothing, one_pass, IsFalseUnder, RefutesFrom, HasNoOpposites}
 
 both : (b : Bool) → b ≡ false → b ≡ true → ⊥
 both b f t = false≢true (sym f ∙ t)

@@ -1,5 +1,5 @@
 -- Which sets of solvables keep the rules of a provider and of a problem's root, and what of a set is reached.
-use Rattle.std.specs.Prelude.{◌≡◌, ℕ, zero, suc, ◌⊎◌, Bool, true, false, not, ◌&&◌, ◌||◌, List, [], ◌∷◌, Option, None, Some, Contains}
+use Rattle.std.specs.Prelude.{◌≡◌, ℕ, zero, suc, ◌⊎◌, Bool, true, false, not, ◌&&◌, ◌||◌, List, [], Option, None, Some, Contains}
 use Rattle.std.specs.List.{list_any}
 use Rattle.resolvo_pool.specs.declared.id.ConditionId.{ConditionId}
 use Rattle.resolvo_pool.specs.declared.id.VersionSetId.{VersionSetId}

@@ -1,11 +1,11 @@
 -- What the tests' provider in memory answers.
-use Rattle.std.specs.Prelude.{◌≡◌, ◌==◌, ℕ, ◌+◌, ◌*◌, ◌/◌, ◌%◌, Bool, true, false, List, [], ◌∷◌, Option, None, Some, cond, nat_lt, ⊤, All}
-use Rattle.std.proofs.Common.{ap, arith, refl}
+use Rattle.std.specs.Prelude.{◌≡◌, ◌==◌, ℕ, ◌+◌, ◌*◌, ◌/◌, ◌%◌, Bool, true, false, [], ◌∷◌, Option, None, Some, cond, nat_lt, All}
+use Rattle.std.proofs.Common.{ap, arith}
 use Rattle.std.proofs.lemmas.List.Elements.{All-nil, All-cons}
 use Rattle.resolvo_pool.specs.declared.id.DenseId.{DenseId}
 use Rattle.resolvo_pool.specs.declared.id.NameTag.{NameTag}
 use Rattle.resolvo_pool.specs.declared.id.SolvableTag.{SolvableTag}
-use Rattle.resolvo_pool.specs.Provider.{Listing, Needs, known, unknown, all, AreNamed, AreOf}
+use Rattle.resolvo_pool.specs.Provider.{Listing, Needs, known, unknown, all, AreOf}
 
 abbrev pub Place : Type 0
 Place = DenseId SolvableTag ℕ

@@ -85,12 +85,31 @@ pub trait IdMap<K: Eq, V: Copy + OneDefault> {
         ensures err { OnErr result (Same (value_of self.old) (value_of self.new)) };
 }
 
-/// Scores, which fade.
-pub trait ScoreMap<K: Eq>: IdMap<K, u64> {
+/// Scores by id, which fade: a total map of its own, in which an id that was not set has 0.
+///
+/// It repeats the calls of `IdMap` at `u64` in place of standing on it: a struct with a model over
+/// two types of ids gets no proof at concrete types where each brings one more trait.
+pub trait ScoreMap<K: Eq> {
+    /// The score of an id.
+    ghost score_of: { Self → K → ℕ };
+
+    /// A map in which no id was set.
+    fn new(alloc: Global) -> Self
+        ensures { (k : K) → score_of result k ≡ 0 };
+
+    /// The score of an id.
+    fn get(&self, id: K) -> u64
+        ensures { result ≡ score_of self.now id };
+
+    /// Sets the score of an id.
+    fn set(&mut self, id: K, score: u64) -> R<()>
+        ensures put { OnOk result (Puts K.eq (score_of self.old) (score_of self.new) id score) }
+        ensures err { OnErr result (Same (score_of self.old) (score_of self.new)) };
+
     /// Scales each score by `per_million` millionths, rounding down.
     fn scale(&mut self, per_million: u64)
         requires { per_million ≤ 1000000 }
-        ensures { (k : K) → Self.value_of self.new k ≡ (Self.value_of self.old k * per_million) / 1000000 };
+        ensures { (k : K) → score_of self.new k ≡ (score_of self.old k * per_million) / 1000000 };
 }
 
 impl<K: DenseIndex, V: Copy + OneDefault> IdMap<K, V> for Vec<V> {
@@ -141,6 +160,20 @@ impl<K: Copy + Eq + Hash, V: Copy + OneDefault, S: BuildHasher + Default> IdMap<
 }
 
 impl<K: DenseIndex> ScoreMap<K> for Vec<u64> {
+    ghost score_of = { λ m k. slice_index_or m.items (K.index_of k) 0 };
+
+    fn new(alloc: Global) -> Vec<u64> {
+        Vec::new(alloc)
+    }
+
+    fn get(&self, id: K) -> u64 {
+        <Vec<u64> as IdMap<K, u64>>::get(self, id)
+    }
+
+    fn set(&mut self, id: K, score: u64) -> R<()> {
+        <Vec<u64> as IdMap<K, u64>>::set(self, id, score)
+    }
+
     fn scale(&mut self, per_million: u64) {
         for score in self.iter_mut() {
             *score = scaled(*score, per_million);
@@ -149,6 +182,20 @@ impl<K: DenseIndex> ScoreMap<K> for Vec<u64> {
 }
 
 impl<K: Copy + Eq + Hash, S: BuildHasher + Default> ScoreMap<K> for HashMap<K, u64, S> {
+    ghost score_of = { λ m k. unwrap_or (get K.eq m k) 0 };
+
+    fn new(alloc: Global) -> HashMap<K, u64, S> {
+        HashMap::with_hasher(alloc, S::default())
+    }
+
+    fn get(&self, id: K) -> u64 {
+        <HashMap<K, u64, S> as IdMap<K, u64>>::get(self, id)
+    }
+
+    fn set(&mut self, id: K, score: u64) -> R<()> {
+        <HashMap<K, u64, S> as IdMap<K, u64>>::set(self, id, score)
+    }
+
     fn scale(&mut self, per_million: u64) {
         self.retain(|_, score| {
             *score = scaled(*score, per_million);

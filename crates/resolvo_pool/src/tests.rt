@@ -1,6 +1,7 @@
 //! What no clause says: that each call succeeds with ample memory, the worked examples, and the same
 //! generic code at dense and at sparse ids.
 
+mod caching;
 mod containers;
 mod pooling;
 mod sourcing;

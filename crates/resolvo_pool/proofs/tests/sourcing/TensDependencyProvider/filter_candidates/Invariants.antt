@@ -1,4 +1,4 @@
-use Rattle.std.proofs.Common.{◌≡◌, ◌++◌, drop, ℕ}
+use Rattle.std.proofs.Common.{◌≡◌, ◌++◌, drop}
 use Rattle.std.specs.Prelude.{nat_le}
 use Rattle.resolvo_pool.specs.Provider.{kept}
 use Rattle.resolvo_pool.specs.Tens.{Place}
