@@ -69,7 +69,7 @@ pub data IsAnswerOfLines (catalogue request : List Line) (outcome : Outcome) (ou
   refused : (lines : List ℕ) → AllServed is_served_listing catalogue → AllServed is_served_need request → IsRefusal catalogue request lines → outcome ≡ Refused → output ≡ refused_text [] lines
       → IsAnswerOfLines catalogue request outcome output
 
--- What is written for two texts: the first faulty line, the catalogue's before the request's; where there is none, the
+-- What is written for two texts: the catalogue's first faulty line, else that of the request; where there is none, the
 -- answer of their lines.
 pub data IsAnswer (c r : List ℕ) (outcome : Outcome) (output : List ℕ) : Type 0 where
   catalogue_fault : (n : ℕ) → IsFaultyAt IsCatalogueLine c n → outcome ≡ Faulty → output ≡ fault_text (codes "catalogue") n → IsAnswer c r outcome output

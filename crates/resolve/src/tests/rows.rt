@@ -1,4 +1,4 @@
-//! Worked rows: a catalogue, a request, what is printed, and the status.
+//! A table: a catalogue, a request, what is printed, and the status.
 
 use super::printed;
 use std::test::Fail;
