@@ -1,0 +1,120 @@
+#!/usr/bin/env python3
+"""Runs the program with each allocation, read and write refused in turn, and with small pieces a read and write.
+
+Usage: checks/refusals.py [PATH OF THE PROGRAM]   (default: crates/resolve/out/resolve, which `rt run` leaves)
+Needs a C compiler, for refuse.c, which is preloaded. Status 1 where an answer isn't as promised.
+"""
+import os
+import subprocess
+import sys
+import tempfile
+
+HERE = os.path.dirname(os.path.abspath(__file__))
+TOP = os.path.dirname(HERE)
+PROGRAM = os.path.abspath(sys.argv[1]) if len(sys.argv) > 1 else os.path.join(TOP, "crates/resolve/out/resolve")
+PIECES = ["1", "2", "3", "4096"]
+
+EVERY_KIND = b"""# every kind of line
+
+version a 1
+needs b 1..4 | c if b or ( c 2 and a )
+limits b 2..5
+version b 2
+unknown nometa
+version c 2
+lock a 1
+favour b 2
+exclude c 2 insecure
+"""
+EVERY_ASK = b"needs a 1..4 | b if c or d\nlimits a 1..4\nwish a 1\n"
+
+
+def example(name):
+    with open(os.path.join(TOP, "examples", name), "rb") as text:
+        return text.read()
+
+
+def cases():
+    """Name, catalogue and request."""
+    app = example("app.catalogue")
+    return [
+        ("installed", app, example("app.request")),
+        ("refused", app, example("conflict.request")),
+        ("every kind of line", EVERY_KIND, EVERY_ASK),
+        ("faulty catalogue", app + b"version app 1\n", example("app.request")),
+        ("faulty request", app, b"needs app\nneeds  app\n"),
+        ("empty", b"", b""),
+    ]
+
+
+def run(library, arguments, given, **settings):
+    """Status, output, and whether a call was refused."""
+    environment = {"REFUSE_" + name.upper(): value for name, value in settings.items()}
+    told, tell = os.pipe()
+    # the program's descriptor 9 is the pipe's end
+    ended = subprocess.run(
+        ["sh", "-c", f'exec 9>&{tell}; LD_PRELOAD={library} exec "$@"', "sh", PROGRAM, *arguments],
+        input=given, capture_output=True, env=environment, pass_fds=[tell], timeout=60)
+    os.close(tell)
+    refused = os.read(told, 1) != b""
+    os.close(told)
+    return ended.returncode, ended.stdout, refused
+
+
+def is_as_promised(kind, plain, status, output):
+    """Nothing of a report where memory or a read was refused, a front of it where a write was."""
+    if kind == "alloc":
+        # a refused growth that the program can do without changes nothing
+        return (status, output) in [(2, b"no memory\n"), plain]
+    if kind == "read":
+        return (status, output) == (2, b"cannot read\n")
+    return status == 2 and len(output) < len(plain[1]) and plain[1].startswith(output)
+
+
+def refuse_each(library, name, arguments, given, plain, kind, piece):
+    """The number of calls that were refused, and what went wrong."""
+    faults, number = [], 0
+    while True:
+        number += 1
+        status, output, refused = run(library, arguments, given, kind=kind, number=str(number), piece=piece)
+        if not refused:
+            if (status, output) != plain:
+                faults.append(f"{name}: no call refused, yet status {status}, {output!r}")
+            return number - 1, faults
+        if not is_as_promised(kind, plain, status, output):
+            faults.append(f"{name}: {kind} {number} refused, pieces {piece}: status {status}, {output!r}")
+
+
+def check(library, name, arguments, given):
+    plain = run(library, arguments, given)[:2]
+    faults, counts = [], {}
+    for piece in PIECES:
+        if run(library, arguments, given, piece=piece)[:2] != plain:
+            faults.append(f"{name}: other output with pieces of {piece}")
+        for kind in ["alloc", "read", "write"]:
+            if kind == "alloc" and piece != "4096":
+                continue
+            count, wrong = refuse_each(library, name, arguments, given, plain, kind, piece)
+            counts[kind] = counts.get(kind, 0) + count
+            faults += wrong
+    print(f"{name}: status {plain[0]}, refused in turn: " + ", ".join(f"{n} {k}" for k, n in counts.items()))
+    return faults
+
+
+def main():
+    faults = []
+    with tempfile.TemporaryDirectory() as folder:
+        library = os.path.join(folder, "refuse.so")
+        subprocess.run(["cc", "-O1", "-shared", "-fPIC", "-o", library, os.path.join(HERE, "refuse.c"), "-ldl"], check=True)
+        for name, catalogue, request in cases():
+            paths = [os.path.join(folder, "catalogue"), os.path.join(folder, "request")]
+            for path, text in zip(paths, [catalogue, request]):
+                with open(path, "wb") as out:
+                    out.write(text)
+            faults += check(library, name + ", files", ["solve", *paths], b"")
+            faults += check(library, name + ", standard input", [], catalogue + b"---\n" + request)
+    print("\n".join(faults) if faults else "all as promised")
+    sys.exit(1 if faults else 0)
+
+
+main()
