@@ -1,0 +1,63 @@
+#!/usr/bin/env python3
+"""Runs the crates' tests with each allocation refused in turn: a test then passes, or fails at an assertion or by its result.
+
+Usage: checks/refusals_in_tests.py [MOST]   (MOST allocations of each test, default 400)
+Runs crates/*/out/*_tests, which `rt ci` and `rt test` leave. Needs a C compiler, for refuse.c, which is preloaded.
+Status 1 where a test ended otherwise: by a bad access, an abort of its own, or not at all.
+"""
+import glob
+import os
+import re
+import subprocess
+import sys
+import tempfile
+
+HERE = os.path.dirname(os.path.abspath(__file__))
+MOST = int(sys.argv[1]) if len(sys.argv) > 1 else 400
+FAILED = re.compile(rb"assertion .*failed|assertion failed|the test failed")
+
+
+def run(library, program, test, number):
+    """Status, output, and whether an allocation was refused."""
+    told, tell = os.pipe()
+    ended = subprocess.run(
+        ["sh", "-c", f'exec 9>&{tell}; LD_PRELOAD={library} exec "$@"', "sh", program, test],
+        env={"REFUSE_KIND": "alloc", "REFUSE_NUMBER": str(number)},
+        capture_output=True, pass_fds=[tell], timeout=60)
+    os.close(tell)
+    refused = os.read(told, 1) != b""
+    os.close(told)
+    return ended.returncode, ended.stdout + ended.stderr, refused
+
+
+def check(library, program, test):
+    faults, count = [], 0
+    for number in range(1, MOST + 1):
+        status, output, refused = run(library, program, test, number)
+        if status != 0 and not (refused and FAILED.search(output)):
+            faults.append(f"{test}: allocation {number} refused: status {status}, {output[-200:]!r}")
+        if not refused:
+            break
+        count = number
+    print(f"{os.path.basename(program)} {test}: {count} refused in turn")
+    return faults
+
+
+def main():
+    programs = sorted(glob.glob(os.path.join(HERE, "../crates/*/out/*_tests")))
+    if not programs:
+        sys.exit("no test programs: run rt ci first")
+    faults = []
+    with tempfile.TemporaryDirectory() as folder:
+        library = os.path.join(folder, "refuse.so")
+        subprocess.run(["cc", "-O1", "-shared", "-fPIC", "-o", library, os.path.join(HERE, "refuse.c"), "-ldl"], check=True)
+        for program in programs:
+            listed = subprocess.run([program, "--list"], capture_output=True, text=True, check=True).stdout
+            for line in listed.splitlines():
+                if line.endswith(": test"):
+                    faults += check(library, program, line.removesuffix(": test"))
+    print("\n".join(faults) if faults else "all as promised")
+    sys.exit(1 if faults else 0)
+
+
+main()
