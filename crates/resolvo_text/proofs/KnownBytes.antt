@@ -1,5 +1,5 @@
 -- What is known of the bytes that are left, over several steps.
-use Rattle.std.proofs.Common.{◌≡◌, ℕ, ◌+◌, ◌<◌, ◌≤◌, List, [], ◌∷◌, ◌++◌, length, take, drop, get_or, Option, Some, None, refl, sym, ap, ◌∙◌, arith}
+use Rattle.std.proofs.Common.{◌≡◌, ℕ, ◌+◌, ◌<◌, ◌≤◌, List, [], ◌∷◌, ◌++◌, length, take, drop, get_or, Option, Some, None, append_assoc, refl, sym, ap, ◌∙◌, arith}
 use Rattle.std.specs.Io.KnownBytes.{Consumes, Keeps, prepend_known}
 use Rattle.std.proofs.lemmas.List.{drop_more, length-take, get_or-take, drop_all}
 use Rattle.std.proofs.lemmas.Option.{same_Some}
@@ -12,6 +12,13 @@ pub consumed : (before after : Option (List ℕ)) (piece : List ℕ) → Consume
 consumed None after piece h = λ bytes e. absurd cc
 consumed (Some xs) None piece h = λ bytes e. absurd h
 consumed (Some xs) (Some ys) piece h = λ bytes e. (ys, refl, sym (same_Some xs bytes e) ∙ h)
+
+-- one piece and the next
+pub consumed_both : (before mid after : Option (List ℕ)) (front more : List ℕ) → Consumes before mid front → Consumes mid after more → Consumes before after (front ++ more)
+consumed_both None mid after front more a b = tt
+consumed_both (Some xs) None after front more a b = absurd a
+consumed_both (Some xs) (Some ys) None front more a b = absurd b
+consumed_both (Some xs) (Some ys) (Some zs) front more a b = a ∙ ap (λ (l : List ℕ). front ++ l) b ∙ sym (append_assoc front more zs)
 
 -- one byte of the piece
 pub one_taken : (before told : Option (List ℕ)) (items : List ℕ) (at end b : ℕ) → Keeps before (prepend_known (drop at (take end items)) told)

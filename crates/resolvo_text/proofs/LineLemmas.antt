@@ -9,10 +9,10 @@ use Rattle.std.proofs.lemmas.List.Sums.{sum_by-cons, sum_by-append, sum_by_push}
 use Rattle.std.proofs.Math.Seq.{take-append-add}
 use Rattle.resolvo_text.specs.Lines.{lines_of, newlines, is_newline}
 use Rattle.resolvo_text.specs.Device.{DeviceFailed, one_more, last}
-use Rattle.resolvo_text.specs.Reader.{TakesLine, IsReadFault}
+use Rattle.resolvo_text.specs.Reader.{TakesLine, EndsLine, IsReadFault}
 use Rattle.resolvo_text.specs.declared.lines.ReadFault.{ReadFault}
 use Rattle.resolvo_text.specs.declared.lines.ReadFault.TheVariants.{Fault, Reader, TooLong, Memory, Ids}
-use Rattle.resolvo_text.proofs.KnownBytes.{consumed}
+use Rattle.resolvo_text.proofs.KnownBytes.{consumed, consumed_both}
 
 -- ---- newlines
 
@@ -91,6 +91,23 @@ last_line_taken before mid after next line room mid_room after_room first last i
         lines = ap lines_of whole ∙ lines_of-whole line some none ∙ ap (λ (r : List ℕ). line ∷ lines_of r) (sym nothing);
         one = omega arith;
       },
+      omega arith,
+    )
+
+-- the last line has all that was left
+pub last_line_ended : (before mid after : Option (List ℕ)) (next : Option ℕ) (line : List ℕ) (room mid_room after_room : ℕ)
+    → Consumes before mid line → Consumes mid after (option_to_list next) → next ≡ None → IsAtEnd mid → newlines line ≡ 0
+    → mid_room + length line ≡ room → after_room + length (option_to_list next) ≡ mid_room → EndsLine false before room line after after_room
+last_line_ended before mid after next line room mid_room after_room first last is end none so_far one =
+    let no_byte : length (option_to_list next) ≡ 0 = ap (λ (o : Option ℕ). length (option_to_list o)) is in
+    let both : Consumes before after (line ++ option_to_list next) = consumed_both before mid after line (option_to_list next) first last in
+    let nothing : line ++ option_to_list next ≡ line = ap (λ (o : Option ℕ). line ++ option_to_list o) is ∙ append-nil line in (
+      subst (λ (bs : List ℕ). Consumes before after bs) nothing both,
+      λ bytes e.
+          let h = consumed before mid line first bytes e in
+          let over : h.0 ≡ [] = subst IsAtEnd h.1 end in
+          h.2 ∙ ap (λ (r : List ℕ). line ++ r) over ∙ append-nil line,
+      none,
       omega arith,
     )
 

@@ -1,6 +1,6 @@
 -- A reader of lines, with the device that it reads from.
-use Rattle.std.specs.Prelude.{◌≡◌, ℕ, ◌+◌, ◌<◌, ◌≤◌, ⊤, List, ◌∷◌, ◌++◌, length, take, drop, Option, Some}
-use Rattle.std.specs.Io.KnownBytes.{prepend_known}
+use Rattle.std.specs.Prelude.{◌≡◌, ℕ, ◌+◌, ◌<◌, ◌≤◌, ⊤, Bool, true, false, List, [], ◌∷◌, ◌++◌, length, take, drop, Option, Some}
+use Rattle.std.specs.Io.KnownBytes.{Consumes, prepend_known}
 use Rattle.resolvo_text.specs.Device.{IfKnown}
 use Rattle.resolvo_text.specs.Lines.{lines_of, newlines}
 use Rattle.resolvo_text.specs.declared.lines.LineReader.{LineReader}
@@ -25,6 +25,11 @@ pub record IsLine (bytes line piece rest : List ℕ) : Type 0 where
 abbrev pub TakesLine : Option (List ℕ) → ℕ → List ℕ → Option (List ℕ) → ℕ → Type 0
 TakesLine before room line after room_after = IfKnown before (λ bytes. (piece : List ℕ) × (rest : List ℕ)
     × (after ≡ Some rest) × IsLine bytes line piece rest × (length piece + room_after ≡ room))
+
+-- A line was taken with its newline, or it was the last one and had none; and its bytes from the room.
+abbrev pub EndsLine : Bool → Option (List ℕ) → ℕ → List ℕ → Option (List ℕ) → ℕ → Type 0
+EndsLine true before room line after room_after = Consumes before after (line ++ 10 ∷ []) × (newlines line ≡ 0) × (room_after + (length line + 1) ≡ room)
+EndsLine false before room line after room_after = Consumes before after line × IfKnown before (λ bytes. bytes ≡ line) × (newlines line ≡ 0) × (room_after + length line ≡ room)
 
 -- Some bytes came that had been left, and no line ends among them.
 abbrev pub NoLineCame : Option (List ℕ) → Option (List ℕ) → Type 0

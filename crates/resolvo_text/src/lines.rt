@@ -61,6 +61,8 @@ pub struct LineReader {
     at: usize,
     end: usize,
     line: Vec<u8>,
+    /// Whether the line that was taken last ended with a newline.
+    whole: bool,
     /// How many bytes may still be taken.
     room: u32,
     ghost begun: { at ≤ end },
@@ -69,7 +71,7 @@ pub struct LineReader {
 }
 
 impl LineReader {
-    ghost use Rattle.resolvo_text.specs.Reader.{left, unread, IsReadFault, TakesLine};
+    ghost use Rattle.resolvo_text.specs.Reader.{left, unread, IsReadFault, TakesLine, EndsLine};
 
     /// A reader that takes at most `limit` bytes.
     pub fn new(alloc: Global, limit: u32) -> Result<Self, AllocError>
@@ -81,6 +83,7 @@ impl LineReader {
             at: 0,
             end: 0,
             line: Vec::new(alloc),
+            whole: false,
             room: limit,
         })
     }
@@ -92,6 +95,8 @@ impl LineReader {
     pub fn next_line<S: Source>(&mut self, source: &mut S) -> Result<bool, ReadFault>
         ensures taken { IfOk result (λ more. IsTrue more → TakesLine (left self.old (S.left source.old)) self.old.room
             self.new.line.items (left self.new (S.left source.new)) self.new.room) }
+        ensures ending { IfOk result (λ more. IsTrue more → EndsLine self.new.whole (left self.old (S.left source.old)) self.old.room
+            self.new.line.items (left self.new (S.left source.new)) self.new.room) }
         ensures progress { IfOk result (λ more. IsTrue more → self.new.room < self.old.room) }
         ensures end { IfOk result (λ more. more ≡ false → IsAtEnd (left self.old (S.left source.old))) }
         ensures failures { OnOk result (S.failures source.new ≡ S.failures source.old) }
@@ -101,9 +106,15 @@ impl LineReader {
         self.line.clear();
         loop {
             match self.next_byte(source)? {
-                Some(b'\n') => return Ok(true),
+                Some(b'\n') => {
+                    self.whole = true;
+                    return Ok(true);
+                }
                 Some(byte) => self.line.push(byte)?,
-                None => return Ok(!self.line.is_empty()),
+                None => {
+                    self.whole = false;
+                    return Ok(!self.line.is_empty());
+                }
             }
         }
     }
@@ -113,6 +124,13 @@ impl LineReader {
         ensures { result.now ≡ self.now.line.items }
     {
         &self.line
+    }
+
+    /// Whether the line that was taken last ended with a newline. If not, it is the text's last.
+    pub fn is_whole(&self) -> bool
+        ensures { result ≡ self.now.whole }
+    {
+        self.whole
     }
 
     /// Takes the next byte, or none at the end.

@@ -126,7 +126,7 @@ pub fn skip<'a>(words: &'a [u8], word: &[u8]) -> (bool, &'a [u8])
 }
 
 /// One alternative or more.
-fn alternatives_at(alloc: Global, words: &[u8]) -> Result<(Vec<Spec>, &[u8]), LineFault>
+pub fn alternatives_at(alloc: Global, words: &[u8]) -> Result<(Vec<Spec>, &[u8]), LineFault>
     ensures { Gives (λ x. (specs_of x.0.items, words_in x.1.now)) result (alternatives_at (length (words_in words.now)) (words_in words.now)) }
 {
     let mut specs = Vec::new(alloc);

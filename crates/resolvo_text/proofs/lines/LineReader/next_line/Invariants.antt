@@ -4,11 +4,11 @@ use Rattle.resolvo_text.specs.Lines.{newlines}
 use Rattle.resolvo_text.specs.Reader.{left}
 use Rattle.resolvo_text.proofs.lines.LineReader.next_line.Given as goal
 
-abbrev pub invariant-loop-byte : goal.invariant-loop-byte
-invariant-loop-byte g l = Consumes (left l.fn.self (g.S.Source.left l.fn.source)) (left l.self (g.S.Source.left l.source)) l.self.line.items
+abbrev pub invariant-loop-self : goal.invariant-loop-self
+invariant-loop-self g l = Consumes (left l.fn.self (g.S.Source.left l.fn.source)) (left l.self (g.S.Source.left l.source)) l.self.line.items
     × (l.self.room + length l.self.line.items ≡ l.fn.self.room)
     × (g.S.Source.failures l.source ≡ g.S.Source.failures l.fn.source)
     × (newlines l.self.line.items ≡ 0)
 
-abbrev pub decreases-loop-byte : goal.decreases-loop-byte
-decreases-loop-byte g l = l.self.room
+abbrev pub decreases-loop-self : goal.decreases-loop-self
+decreases-loop-self g l = l.self.room
