@@ -1,4 +1,5 @@
 pub mod Pushed
+pub mod BelongingLemmas
 pub mod TableLemmas
 pub mod TableSteps
 pub mod Placing

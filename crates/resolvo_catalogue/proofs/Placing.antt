@@ -71,6 +71,18 @@ not_found t keeps v name r same is none has =
     let in_name : number_in (get_by_text t.packages name) v.number ≡ number_in (get_by_text t.packages v.name) v.number = rw same refl in
     none_is_some (sym (ap (λ o. option_map number_of o) none) ∙ is ∙ in_name ∙ (((keeps.packages v.name).numbers v.number) h.0).1 at)
 
+-- a version is listed where its package has its number, and only there
+pub listed_by_number : (t : Table) → IsTable t → (v : Version) → is_some (number_in (get_by_text t.packages v.name) v.number) ≡ true → Contains (lines_in t) (Listed v)
+listed_by_number t keeps v is =
+    let some = some_from (number_in (get_by_text t.packages v.name) v.number) is in
+    found_listed t keeps v some.0 ((((keeps.packages v.name).numbers v.number) some.0).0 some.1)
+
+pub unlisted_by_number : (t : Table) → IsTable t → (v : Version) → is_some (number_in (get_by_text t.packages v.name) v.number) ≡ false → Contains (lines_in t) (Listed v) → ⊥
+unlisted_by_number t keeps v is has =
+    let h = listed_has (lines_in t) v has in
+    let at : slice_get (versions_in t) h.0 ≡ Some v = subst (λ (vs : List Version). slice_get vs h.0 ≡ Some v) keeps.listing h.1 in
+    none_is_some (sym (none_from (number_in (get_by_text t.packages v.name) v.number) is) ∙ (((keeps.packages v.name).numbers v.number) h.0).1 at)
+
 -- ---- locks, favours, exclusions
 
 pub lock_placed : (t : Table) → IsTable t → (v : Version) (name : List ℕ) (k : ℕ) → name ≡ v.name → slice_get (versions_in t) k ≡ Some v → is_some (get_by_text t.locks name) ≡ false → MayFollow (lines_in t) (Lock v)

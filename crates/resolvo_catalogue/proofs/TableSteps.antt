@@ -1,9 +1,9 @@
 -- A table with one more line, by the kind of the line.
-use Rattle.std.proofs.Common.{◌≡◌, ◌==◌, if◌then◌else◌, inl, inr, is_some, ℕ, zero, suc, false, not, ◌+◌, List, [], ◌∷◌, ◌++◌, map, length, take, Option, Some, None, refl, sym, ap, subst, ◌∙◌, add-one, arith}
+use Rattle.std.proofs.Common.{◌≡◌, ◌==◌, if◌then◌else◌, inl, inr, is_some, ℕ, zero, suc, Bool, true, false, not, option_map, ◌+◌, List, [], ◌∷◌, ◌++◌, map, length, take, Option, Some, None, refl, sym, ap, subst, ◌∙◌, add-one, arith}
 use Rattle.std.specs.Prelude.{Contains, slice_get, string_bytes, nat_eq, OnOk, Result, Ok, Err}
 use Rattle.resolvo_catalogue.specs.declared.table.Package.{Package}
 use Rattle.resolvo_catalogue.specs.Table.{AddsNumber, AddsVersion, numbers_in}
-use Rattle.resolvo_catalogue.specs.Questions.{IsOfPackage}
+use Rattle.resolvo_catalogue.specs.Questions.{IsOfPackage, number_of}
 use Rattle.std.specs.HashMap.{get, get_by_text}
 use Rattle.std.specs.Map.{update}
 use Rattle.std.specs.Str.{bytes_eq}
@@ -22,7 +22,8 @@ use Rattle.resolvo_text.specs.declared.condition.Cond.{Cond}
 use Rattle.resolvo_text.specs.Line.{Version, Line, Skipped, Listed, Needs, Limits, Unknown, Lock, Favour, Exclude}
 use Rattle.resolvo_catalogue.specs.Grammar.{owner_below}
 use Rattle.resolvo_catalogue.specs.Questions.{IsOnly, AreAll, LineIs, BelongsTo, MarksUnknownOf, Locks, Favours, Excludes, IsFavour}
-use Rattle.resolvo_catalogue.specs.Table.{nth, nowhere, told, Keeps, IsTable, Adds, lines_in, versions_in, number_in, kept_of}
+use Rattle.resolvo_catalogue.specs.Table.{nth, nowhere, told, Keeps, IsTable, Adds, lines_in, versions_in, number_in}
+use Rattle.resolvo_catalogue.specs.Belonging.{kept_of}
 use Rattle.resolvo_catalogue.specs.Questions.{SaysOf, FavoursAt}
 use Rattle.resolvo_catalogue.specs.declared.rule.VersionNo.{VersionNo}
 use Rattle.resolvo_catalogue.specs.declared.rule.Rule.TheVariants as rule
@@ -107,7 +108,7 @@ owner_only t keeps v k at owner j h =
     one_number t (versions_in t) (lines_in t) keeps v k j at (h.1 ∙ ap (λ (x : Version). Some x) same)
 
 pub need : (t u : Table) (line : ℕ) (k : VersionNo) (v : Version) (vec : Vec code.Spec) (condition : Option Cond) → IsTable t → line ≡ length (lines_in t) + 1 → slice_get (versions_in t) k.0 ≡ Some v → owner_below (lines_in t) ≡ Some v
-    → u.said.items ≡ t.said.items ++ said.Rule (rule.Needs (Some k) vec condition) ∷ [] → ((j : ℕ) → kept_of u.belonging.items j ≡ (if k.0 == j then kept_of t.belonging.items j ++ line ∷ [] else kept_of t.belonging.items j)) → length u.belonging.items ≡ length t.belonging.items
+    → u.said.items ≡ t.said.items ++ said.Rule (rule.Needs (Some k) vec condition) ∷ [] → ((j : ℕ) → kept_of u.belonging j ≡ (if k.0 == j then kept_of t.belonging j ++ line ∷ [] else kept_of t.belonging j)) → length u.belonging ≡ length t.belonging
     → Adds t (Needs (specs_of vec.items) (condition_of condition)) (record t { said = u.said; belonging = u.belonging })
 need t u line k v vec condition keeps number at owner more noted as_many =
     let vs = versions_in t in
@@ -121,7 +122,7 @@ need t u line k v vec condition keeps number at owner more noted as_many =
       favoured = λ name. only_other (keeps.favoured name) (line_grows lines l (Favours name)) (λ x. x);
       excluded = λ j. only_other (keeps.excluded j) (says_grows vs lines l j Excludes) (λ x. x.2);
       unknown = λ j. only_other (keeps.unknown j) (says_grows vs lines l j MarksUnknownOf) (λ x. x.2);
-      belonging = keyed_more nat_eq Decides-eqb (kept_of t.belonging.items) (kept_of u.belonging.items) k.0 line (λ j. SaysOf vs lines j BelongsTo) (λ j. SaysOf vs (lines ++ l ∷ []) j BelongsTo) (λ j. (w : Version) × (slice_get vs j ≡ Some w) × (owner_below lines ≡ Some w))
+      belonging = keyed_more nat_eq Decides-eqb (kept_of t.belonging) (kept_of u.belonging) k.0 line (λ j. SaysOf vs lines j BelongsTo) (λ j. SaysOf vs (lines ++ l ∷ []) j BelongsTo) (λ j. (w : Version) × (slice_get vs j ≡ Some w) × (owner_below lines ≡ Some w))
           noted keeps.belonging (λ j. rw number (says_grows vs lines l j BelongsTo)) (λ j n says. rw number (says_within vs lines j BelongsTo n says)) (v, at, owner) (owner_only t keeps v k.0 at owner);
       as_many = as_many ∙ keeps.as_many;
       favour_lines = all_other keeps.favour_lines (line_grows lines l IsFavour) (λ x. x);
@@ -129,7 +130,7 @@ need t u line k v vec condition keeps number at owner more noted as_many =
     })
 
 pub limit : (t u : Table) (line : ℕ) (k : VersionNo) (v : Version) (spec : code.Spec) → IsTable t → line ≡ length (lines_in t) + 1 → slice_get (versions_in t) k.0 ≡ Some v → owner_below (lines_in t) ≡ Some v
-    → u.said.items ≡ t.said.items ++ said.Rule (rule.Limits (Some k) spec) ∷ [] → ((j : ℕ) → kept_of u.belonging.items j ≡ (if k.0 == j then kept_of t.belonging.items j ++ line ∷ [] else kept_of t.belonging.items j)) → length u.belonging.items ≡ length t.belonging.items
+    → u.said.items ≡ t.said.items ++ said.Rule (rule.Limits (Some k) spec) ∷ [] → ((j : ℕ) → kept_of u.belonging j ≡ (if k.0 == j then kept_of t.belonging j ++ line ∷ [] else kept_of t.belonging j)) → length u.belonging ≡ length t.belonging
     → Adds t (Limits (spec_of spec)) (record t { said = u.said; belonging = u.belonging })
 limit t u line k v spec keeps number at owner more noted as_many =
     let vs = versions_in t in
@@ -143,7 +144,7 @@ limit t u line k v spec keeps number at owner more noted as_many =
       favoured = λ name. only_other (keeps.favoured name) (line_grows lines l (Favours name)) (λ x. x);
       excluded = λ j. only_other (keeps.excluded j) (says_grows vs lines l j Excludes) (λ x. x.2);
       unknown = λ j. only_other (keeps.unknown j) (says_grows vs lines l j MarksUnknownOf) (λ x. x.2);
-      belonging = keyed_more nat_eq Decides-eqb (kept_of t.belonging.items) (kept_of u.belonging.items) k.0 line (λ j. SaysOf vs lines j BelongsTo) (λ j. SaysOf vs (lines ++ l ∷ []) j BelongsTo) (λ j. (w : Version) × (slice_get vs j ≡ Some w) × (owner_below lines ≡ Some w))
+      belonging = keyed_more nat_eq Decides-eqb (kept_of t.belonging) (kept_of u.belonging) k.0 line (λ j. SaysOf vs lines j BelongsTo) (λ j. SaysOf vs (lines ++ l ∷ []) j BelongsTo) (λ j. (w : Version) × (slice_get vs j ≡ Some w) × (owner_below lines ≡ Some w))
           noted keeps.belonging (λ j. rw number (says_grows vs lines l j BelongsTo)) (λ j n says. rw number (says_within vs lines j BelongsTo n says)) (v, at, owner) (owner_only t keeps v k.0 at owner);
       as_many = as_many ∙ keeps.as_many;
       favour_lines = all_other keeps.favour_lines (line_grows lines l IsFavour) (λ x. x);
@@ -152,7 +153,7 @@ limit t u line k v spec keeps number at owner more noted as_many =
 
 pub mark_unknown : (t u : Table) (line : ℕ) (k : VersionNo) (v : Version) (word : String Global) → IsTable t → line ≡ length (lines_in t) + 1 → slice_get (versions_in t) k.0 ≡ Some v → owner_below (lines_in t) ≡ Some v
     → is_some (get nat_eq t.unknown k.0) ≡ false → u.said.items ≡ t.said.items ++ said.Rule (rule.Unknown k word) ∷ []
-    → ((j : ℕ) → kept_of u.belonging.items j ≡ (if k.0 == j then kept_of t.belonging.items j ++ line ∷ [] else kept_of t.belonging.items j)) → length u.belonging.items ≡ length t.belonging.items
+    → ((j : ℕ) → kept_of u.belonging j ≡ (if k.0 == j then kept_of t.belonging j ++ line ∷ [] else kept_of t.belonging j)) → length u.belonging ≡ length t.belonging
     → ((j : ℕ) → get nat_eq u.unknown j ≡ update nat_eq (get nat_eq t.unknown) k.0 (Some line) j)
     → Adds t (Unknown (string_bytes word)) (record t { said = u.said; belonging = u.belonging; unknown = u.unknown })
 mark_unknown t u line k v word keeps number at owner untold more noted as_many marked =
@@ -168,7 +169,7 @@ mark_unknown t u line k v word keeps number at owner untold more noted as_many m
       excluded = λ j. only_other (keeps.excluded j) (says_grows vs lines l j Excludes) (λ x. x.2);
       unknown = keyed_new nat_eq Decides-eqb (get nat_eq t.unknown) (get nat_eq u.unknown) k.0 line (λ j. SaysOf vs lines j MarksUnknownOf) (λ j. SaysOf vs (lines ++ l ∷ []) j MarksUnknownOf) (λ j. (w : Version) × (slice_get vs j ≡ Some w) × (owner_below lines ≡ Some w))
           marked (none_from (get nat_eq t.unknown k.0) untold) keeps.unknown (λ j. rw number (says_grows vs lines l j MarksUnknownOf)) (v, at, owner) (owner_only t keeps v k.0 at owner);
-      belonging = keyed_more nat_eq Decides-eqb (kept_of t.belonging.items) (kept_of u.belonging.items) k.0 line (λ j. SaysOf vs lines j BelongsTo) (λ j. SaysOf vs (lines ++ l ∷ []) j BelongsTo) (λ j. (w : Version) × (slice_get vs j ≡ Some w) × (owner_below lines ≡ Some w))
+      belonging = keyed_more nat_eq Decides-eqb (kept_of t.belonging) (kept_of u.belonging) k.0 line (λ j. SaysOf vs lines j BelongsTo) (λ j. SaysOf vs (lines ++ l ∷ []) j BelongsTo) (λ j. (w : Version) × (slice_get vs j ≡ Some w) × (owner_below lines ≡ Some w))
           noted keeps.belonging (λ j. rw number (says_grows vs lines l j BelongsTo)) (λ j n says. rw number (says_within vs lines j BelongsTo n says)) (v, at, owner) (owner_only t keeps v k.0 at owner);
       as_many = as_many ∙ keeps.as_many;
       favour_lines = all_other keeps.favour_lines (line_grows lines l IsFavour) (λ x. x);
@@ -229,15 +230,30 @@ favour t u line k v name keeps number at same untold more favoured pushed =
 
 -- ---- packages
 
-pub ok_then : {T E : Type 0} {P Q : Type 0} (r : Result T E) → OnOk r P → (P → Q) → OnOk r Q
-ok_then (Ok x) h f = f h
-ok_then (Err e) h f = tt
-
 pub adds_version : (before after : List ℕ → Option Package) (v : Version) (k : VersionNo) (p : Package) (name : List ℕ) → name ≡ v.name → ((q : List ℕ) → after q ≡ update bytes_eq before name (Some p) q) → AddsNumber (before name) v.number k p → AddsVersion before v k after
 adds_version before after v k p name same updated adds = record {
   added = (p, ap after (sym same) ∙ updated name ∙ rw ((bytes_eq-Decides name name).1 refl) refl, rw (← same) adds);
   others = λ q apart. updated q ∙ rw (same, apart) refl;
 }
+
+-- whether a number is new, told by what the package was
+pub new_number : (o : Option Package) (p : Package) (k : ℕ) → Some p ≡ o → is_some (get nat_eq p.numbers k) ≡ is_some (number_in o k)
+new_number o p k is = rw (← is) (of_found (get nat_eq p.numbers k))
+  where
+    of_found : (v : Option VersionNo) → is_some v ≡ is_some (option_map number_of v)
+    of_found None = refl
+    of_found (Some n) = refl
+
+-- what was not added was there, and what was added was not
+pub was_there : (added there : Bool) → added ≡ not there → added ≡ false → there ≡ true
+was_there true there is e = absurd cc
+was_there false true is e = refl
+was_there false false is e = absurd cc
+
+pub was_new : (added there : Bool) → added ≡ not there → added ≡ true → there ≡ false
+was_new false there is e = absurd cc
+was_new true false is e = refl
+was_new true true is e = absurd cc
 
 pub adds_to_new : (fresh p : Package) (number : ℕ) (k : VersionNo) → fresh.versions.items ≡ [] → ((n : ℕ) → get nat_eq fresh.numbers n ≡ None) → AddsNumber (Some fresh) number k p → AddsNumber None number k p
 adds_to_new fresh p number k none no_numbers adds = record {
@@ -287,7 +303,7 @@ of_package_grows vs v name = record {
 }
 
 pub list : (t u : Table) (k : VersionNo) (v : Version) → IsTable t → k.0 ≡ length (versions_in t) → (Contains (lines_in t) (Listed v) → ⊥) → AddsVersion (λ name. get_by_text t.packages name) v k (λ name. get_by_text u.packages name)
-    → versions_in u ≡ versions_in t ++ v ∷ [] → u.said.items ≡ t.said.items ++ said.Listed k ∷ [] → ((j : ℕ) → kept_of u.belonging.items j ≡ kept_of t.belonging.items j) → length u.belonging.items ≡ length t.belonging.items + 1
+    → versions_in u ≡ versions_in t ++ v ∷ [] → u.said.items ≡ t.said.items ++ said.Listed k ∷ [] → ((j : ℕ) → kept_of u.belonging j ≡ kept_of t.belonging j) → length u.belonging ≡ length t.belonging + 1
     → Adds t (Listed v) (record t { versions = u.versions; said = u.said; packages = u.packages; belonging = u.belonging })
 list t u k v keeps number unlisted adds versions more kept as_many =
     let vs = versions_in t in
@@ -322,11 +338,11 @@ list t u k v keeps number unlisted adds versions more kept as_many =
     (rw (said_now, versions) keeps_new, said_now)
 
 -- an empty list more
-pub empty_more : (lists more : List (Vec ℕ)) (empty : Vec ℕ) → empty.items ≡ [] → more ≡ lists ++ empty ∷ [] → (j : ℕ) → kept_of more j ≡ kept_of lists j
-empty_more lists more empty none is j = rw is (of_pushed lists j)
+pub empty_more : (lists more : List (List ℕ)) → more ≡ lists ++ [] ∷ [] → (j : ℕ) → kept_of more j ≡ kept_of lists j
+empty_more lists more is j = rw is (of_pushed lists j)
   where
-    of_pushed : (xs : List (Vec ℕ)) (j : ℕ) → kept_of (xs ++ empty ∷ []) j ≡ kept_of xs j
-    of_pushed [] zero = none
+    of_pushed : (xs : List (List ℕ)) (j : ℕ) → kept_of (xs ++ [] ∷ []) j ≡ kept_of xs j
+    of_pushed [] zero = refl
     of_pushed [] (suc j) = refl
     of_pushed (x ∷ xs) zero = refl
     of_pushed (x ∷ xs) (suc j) = of_pushed xs j
@@ -347,7 +363,7 @@ no_line Q zero h = absurd cc
 no_line Q (suc n) h = absurd cc
 
 -- a table of no line
-pub empty : (t : Table) → t.versions.items ≡ [] → t.said.items ≡ [] → t.packages.entries ≡ [] → t.locks.entries ≡ [] → t.favoured.entries ≡ [] → t.excluded.entries ≡ [] → t.unknown.entries ≡ [] → t.belonging.items ≡ [] → t.favours.items ≡ [] → IsTable t
+pub empty : (t : Table) → t.versions.items ≡ [] → t.said.items ≡ [] → t.packages.entries ≡ [] → t.locks.entries ≡ [] → t.favoured.entries ≡ [] → t.excluded.entries ≡ [] → t.unknown.entries ≡ [] → t.belonging ≡ [] → t.favours.items ≡ [] → IsTable t
 empty t versions saids packages locks favoured excluded unknown belonging favours =
     let vs : versions_in t ≡ [] = rw versions refl in
     let lines : lines_in t ≡ [] = rw saids refl in

@@ -5,5 +5,6 @@ pub mod Answers
 pub mod Listed
 pub mod Questions
 pub mod Codes
+pub mod Belonging
 pub mod Table
 pub mod Asks

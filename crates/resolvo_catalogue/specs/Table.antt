@@ -1,7 +1,5 @@
 -- A catalogue's lines as the code keeps them, and what its maps must have.
 use Rattle.std.specs.Prelude.{◌≡◌, ℕ, zero, suc, ◌<◌, ◌==◌, if◌then◌else◌, bytes_eq, Bool, false, not, ⊤, List, [], ◌++◌, ◌∷◌, map, length, take, Option, Some, None, slice_get, slice_index_or, string_bytes, option_map, nat_eq}
-use Rattle.std.specs.Global.{Vec}
-use Rattle.std.specs.Option.{option_map_or}
 use Rattle.std.specs.HashMap.{get, get_by_text}
 use Rattle.resolvo_text.specs.Line as says
 use Rattle.resolvo_text.specs.Line.{Version, Line}
@@ -9,6 +7,7 @@ use Rattle.resolvo_text.specs.View.{spec_of, specs_of, condition_of}
 use Rattle.resolvo_catalogue.specs.Grammar.{owner_below}
 use Rattle.resolvo_catalogue.specs.Listed.{listed, pair_versions}
 use Rattle.resolvo_catalogue.specs.Questions.{IsOnly, AreAll, LineIs, BelongsTo, MarksUnknownOf, Locks, Favours, Excludes, IsFavour, IsOwner, IsOfPackage, SaysOf, FavoursAt, number_of}
+use Rattle.resolvo_catalogue.specs.Belonging.{kept_of}
 use Rattle.resolvo_catalogue.specs.declared.rule.VersionNo.{VersionNo}
 use Rattle.resolvo_catalogue.specs.declared.rule.Rule.{Rule}
 use Rattle.resolvo_catalogue.specs.declared.rule.Rule.TheVariants as rule
@@ -108,10 +107,6 @@ pub record AddsVersion (before : List ℕ → Option Package) (version : Version
   pub added : (p : Package) × (after version.name ≡ Some p) × AddsNumber (before version.name) version.number number p
   pub others : (name : List ℕ) → bytes_eq version.name name ≡ false → after name ≡ before name
 
--- the lines that are kept for version k
-abbrev pub kept_of : List (Vec ℕ) → ℕ → List ℕ
-kept_of lists k = option_map_or (λ xs. xs.items) (slice_get lists k) []
-
 -- The table keeps these lines, of which these versions are listed.
 pub record Keeps (t : Table) (versions : List Version) (lines : List Line) : Type 0 where
   pub listing : listed lines ≡ versions
@@ -121,8 +116,8 @@ pub record Keeps (t : Table) (versions : List Version) (lines : List Line) : Typ
   pub favoured : (name : List ℕ) → IsOnly (get_by_text t.favoured name) (λ n. LineIs lines n (Favours name))
   pub excluded : (k : ℕ) → IsOnly (get nat_eq t.excluded k) (SaysOf versions lines k Excludes)
   pub unknown : (k : ℕ) → IsOnly (get nat_eq t.unknown k) (SaysOf versions lines k MarksUnknownOf)
-  pub belonging : (k : ℕ) → AreAll (kept_of t.belonging.items k) (SaysOf versions lines k BelongsTo)
-  pub as_many : length t.belonging.items ≡ length versions
+  pub belonging : (k : ℕ) → AreAll (kept_of t.belonging k) (SaysOf versions lines k BelongsTo)
+  pub as_many : length t.belonging ≡ length versions
   pub favour_lines : AreAll (map (λ f. f.0) t.favours.items) (λ n. LineIs lines n IsFavour)
   pub favour_versions : (i : ℕ) (f : ℕ × VersionNo) → slice_get t.favours.items i ≡ Some f → FavoursAt versions lines f
 

@@ -2,6 +2,7 @@
 #![tactic(auto)]
 
 mod asks;
+mod belonging;
 mod catalogue;
 mod keeping;
 mod laws;

@@ -1,7 +1,7 @@
 //! The lines of a catalogue as they are kept, and the maps by which questions are answered.
 //! The model is the list of lines, `lines_in`; `IsTable` says that the maps fit it. Used by `catalogue`.
 
-ghost use Rattle.std.specs.Prelude.{◌≡◌, ℕ, ◌+◌, ◌<◌, ◌==◌, ◌∷◌, ◌++◌, [], if◌then◌else◌, nat_eq, not, option_map, option_and_then, option_copied, map, is_some, length, slice_get, Contains, OnOk, OnErr, IfOk, Err, Some, None, List, true, false};
+ghost use Rattle.std.specs.Prelude.{◌≡◌, ℕ, ◌+◌, ◌<◌, ◌==◌, ◌∷◌, ◌++◌, [], if◌then◌else◌, nat_eq, not, option_map, option_and_then, option_copied, map, is_some, length, slice_get, Contains, IsTrue, OnOk, OnErr, IfOk, Err, Some, None, List, true, false};
 ghost use Rattle.std.specs.HashMap.{get, get_by_text};
 ghost use Rattle.std.specs.Option.{option_map_or};
 ghost use Rattle.std.specs.String.{string_bytes};
@@ -10,8 +10,9 @@ ghost use Rattle.resolvo_text.specs.View.{version_of, spec_of, specs_of, conditi
 ghost use Rattle.resolvo_text.specs.declared.line.LineFault.TheVariants.{Fault};
 ghost use Rattle.resolvo_catalogue.specs.Grammar.{MayFollow, IsCatalogueLine, line_at, owner_below};
 ghost use Rattle.resolvo_catalogue.specs.Questions.{number_of, IsOwner, IsOnly, LineIs, LocksAnother, Bars};
-ghost use Rattle.resolvo_catalogue.specs.Table.{AddsVersion};
+ghost use Rattle.resolvo_catalogue.specs.Table.{AddsVersion, number_in};
 
+use crate::belonging::Belonging;
 use crate::keeping::version_at;
 use crate::rule::{Rule, VersionNo};
 use resolvo_text::{Cond, Line, LineFault, Spec, Version, line_in};
@@ -48,7 +49,7 @@ pub struct Table {
     /// The line that marks the version as unknown.
     pub unknown: HashMap<u32, u32>,
     /// The lines that belong to each version.
-    pub belonging: Vec<Vec<u32>>,
+    pub belonging: Belonging,
     pub favours: Vec<(u32, VersionNo)>,
 }
 
@@ -65,23 +66,29 @@ impl Package {
         }
     }
 
-    fn add(&mut self, number: u32, version: VersionNo) -> Result<(), AllocError>
-        ensures { OnOk result (AddsNumber (Some self.old) number version self.new) }
+    /// Adds a version, if the package has none of this number; whether it was added.
+    fn add(&mut self, number: u32, version: VersionNo) -> Result<bool, AllocError>
+        ensures new { IfOk result (λ added. added ≡ not (is_some (get nat_eq self.old.numbers number))) }
+        ensures put { IfOk result (λ added. IsTrue added → AddsNumber (Some self.old) number version self.new) }
     {
+        if self.numbers.contains_key(&number) {
+            return Ok(false);
+        }
         self.numbers.insert(number, version)?;
         self.versions.push(version)?;
-        Ok(())
+        Ok(true)
     }
 }
 
-/// Adds a version to those of its package.
+/// Adds a version to those of its package, if it isn't listed; whether it was added.
 fn add_version(
     packages: &mut HashMap<String, Package>,
     alloc: Global,
     version: &Version,
     number: VersionNo,
-) -> Result<(), AllocError>
-    ensures { OnOk result (AddsVersion (λ name. get_by_text packages.old name) (version_of version.now) number (λ name. get_by_text packages.new name)) }
+) -> Result<bool, AllocError>
+    ensures new { IfOk result (λ added. added ≡ not (is_some (number_in (get_by_text packages.old (string_bytes version.now.name)) version.now.number))) }
+    ensures put { IfOk result (λ added. IsTrue added → AddsVersion (λ name. get_by_text packages.old name) (version_of version.now) number (λ name. get_by_text packages.new name)) }
 {
     if let Some(package) = packages.get_mut(version.name.as_str()) {
         return package.add(version.number, number);
@@ -89,11 +96,12 @@ fn add_version(
     let mut package = Package::new(alloc);
     package.add(version.number, number)?;
     packages.insert(version.name.clone()?, package)?;
-    Ok(())
+    Ok(true)
 }
 
 impl Table {
-    ghost use Rattle.resolvo_catalogue.specs.Table.{IsTable, Adds, lines_in, versions_in, number_in, numbers_in, kept_of, said_at, rule_of, is_lock_of_another};
+    ghost use Rattle.resolvo_catalogue.specs.Belonging.{kept_of};
+    ghost use Rattle.resolvo_catalogue.specs.Table.{IsTable, Adds, lines_in, versions_in, numbers_in, said_at, rule_of, is_lock_of_another};
 
     pub fn new(alloc: Global) -> Self
         ensures table { IsTable result }
@@ -107,7 +115,7 @@ impl Table {
             favoured: HashMap::new(alloc),
             excluded: HashMap::new(alloc),
             unknown: HashMap::new(alloc),
-            belonging: Vec::new(alloc),
+            belonging: Belonging::new(alloc),
             favours: Vec::new(alloc),
         }
     }
@@ -129,12 +137,9 @@ impl Table {
     }
 
     pub fn lines_of(&self, version: VersionNo) -> &[u32]
-        ensures { result.now ≡ kept_of self.now.belonging.items version.0 }
+        ensures { result.now ≡ kept_of self.now.belonging version.0 }
     {
-        match self.belonging.get(version.0 as usize) {
-            Some(lines) => lines,
-            None => &[],
-        }
+        self.belonging.lines_of(version)
     }
 
     fn said_at(&self, line: u32) -> Option<&Said>
@@ -226,14 +231,6 @@ impl Table {
         }
     }
 
-    fn is_listed(&self, version: &Version) -> bool
-        requires { IsTable self.now }
-        ensures listed { result ≡ true → Contains (lines_in self.now) (says.Listed (version_of version.now)) }
-        ensures unlisted { result ≡ false → Contains (lines_in self.now) (says.Listed (version_of version.now)) → ⊥ }
-    {
-        self.listed(version).is_ok()
-    }
-
     fn is_locked(&self, name: &str) -> bool
         ensures { result ≡ is_some (get_by_text self.now.locks name.now) }
     {
@@ -251,6 +248,7 @@ impl Table {
         requires table { IsTable self.now }
         requires short { length (lines_in self.now) < 16777216 }
         ensures found { IfOk result (λ n. IsOwner (versions_in self.now) (Some n) (owner_below (lines_in self.now))) }
+        ensures last { IfOk result (λ n. n.0 + 1 ≡ length (versions_in self.now)) }
         ensures absent { OnErr result (owner_below (lines_in self.now) ≡ None) }
     {
         let count = self.versions.len();
@@ -272,16 +270,6 @@ impl Table {
         self.unknown.contains_key(&version.0)
     }
 
-    /// Adds a line to those that belong to a version.
-    fn note(lists: &mut Vec<Vec<u32>>, version: VersionNo, line: u32) -> Result<(), AllocError>
-        requires { version.0 < length lists.old.items }
-        ensures noted { OnOk result ((k : ℕ) → kept_of lists.new.items k ≡ (if version.0 == k then kept_of lists.old.items k ++ line ∷ [] else kept_of lists.old.items k)) }
-        ensures same { OnOk result (length lists.new.items ≡ length lists.old.items) }
-    {
-        lists[version.0 as usize].push(line)?;
-        Ok(())
-    }
-
     fn skip(&mut self) -> Result<(), LineFault>
         requires table { IsTable self.old }
         ensures ok { OnOk result (Adds self.old says.Skipped self.new) }
@@ -298,12 +286,11 @@ impl Table {
         ensures placed { OnOk result (MayFollow (lines_in self.old) (says.Listed (version_of version))) }
         ensures fault { result ≡ Err Fault → MayFollow (lines_in self.old) (says.Listed (version_of version)) → ⊥ }
     {
-        if self.is_listed(&version) {
+        let number = VersionNo(self.versions.len() as u32);
+        if !add_version(&mut self.packages, alloc, &version, number)? {
             return Err(LineFault::Fault);
         }
-        let number = VersionNo(self.versions.len() as u32);
-        add_version(&mut self.packages, alloc, &version, number)?;
-        self.belonging.push(Vec::new(alloc))?;
+        self.belonging.add_version()?;
         self.versions.push((version.name, version.number))?;
         self.said.push(Said::Listed(number))?;
         Ok(())
@@ -323,7 +310,7 @@ impl Table {
         ensures fault { result ≡ Err Fault → MayFollow (lines_in self.old) (says.Needs (specs_of alternatives.items) (condition_of condition)) → ⊥ }
     {
         let owner = self.owner()?;
-        Self::note(&mut self.belonging, owner, line)?;
+        self.belonging.add_line(owner, line)?;
         self.said.push(Said::Rule(Rule::Needs {
             owner: Some(owner),
             alternatives,
@@ -341,7 +328,7 @@ impl Table {
         ensures fault { result ≡ Err Fault → MayFollow (lines_in self.old) (says.Limits (spec_of spec)) → ⊥ }
     {
         let owner = self.owner()?;
-        Self::note(&mut self.belonging, owner, line)?;
+        self.belonging.add_line(owner, line)?;
         self.said.push(Said::Rule(Rule::Limits {
             owner: Some(owner),
             spec,
@@ -362,7 +349,7 @@ impl Table {
             return Err(LineFault::Fault);
         }
         self.unknown.insert(version.0, line)?;
-        Self::note(&mut self.belonging, version, line)?;
+        self.belonging.add_line(version, line)?;
         self.said.push(Said::Rule(Rule::Unknown { version, word }))?;
         Ok(())
     }
