@@ -97,4 +97,5 @@ def main():
             print(f"| {name} | {size} | {own[0]:.2f} | {awk[0]:.2f} | {own[0] / awk[0]:.2f} | {own[2] / size:.1f} | {own[3]} |")
 
 
-main()
+if __name__ == "__main__":
+    main()

@@ -1,0 +1,331 @@
+#!/usr/bin/env python3
+"""Compares `resolve judge` with the plain slow judge, over reports of a plain slow prover and damaged copies of them.
+
+Usage: checks/judging.py [REPORTS] [DAMAGES] [PATH OF THE PROGRAM]
+Defaults: 2000 reports, 20000 damaged copies, crates/resolve/out/resolve (which `rt run` leaves).
+Each undamaged report must be answered yes by both; on each damaged copy both must say the same.
+"""
+import itertools
+import os
+import random
+import subprocess
+import sys
+import tempfile
+
+from plain_judge import cases, holds, judge, matches, obeys, parse
+
+HERE = os.path.dirname(os.path.abspath(__file__))
+PACKAGES = ["a", "b", "c"]
+
+
+# ---- texts
+
+
+def some_spec(rng):
+    package = rng.choice(PACKAGES + ["d"] if rng.random() < 0.1 else PACKAGES)
+    kind = rng.random()
+    if kind < 0.45:
+        return package
+    if kind < 0.75:
+        return f"{package} {rng.randint(1, 3)}"
+    low = rng.randint(0, 2)
+    return f"{package} {low}..{rng.randint(low + 1, 4)}"
+
+
+def some_condition(rng, depth=0):
+    kind = rng.random()
+    if depth == 2 or kind < 0.5:
+        return some_spec(rng)
+    if kind < 0.75:
+        return f"{some_spec(rng)} or {some_condition(rng, depth + 1)}"
+    if kind < 0.9:
+        return f"{some_spec(rng)} and {some_condition(rng, depth + 1)}"
+    return f"( {some_condition(rng, depth + 1)} ) and {some_spec(rng)}"
+
+
+def some_need(rng):
+    text = "needs " + " | ".join(some_spec(rng) for _ in range(rng.choice([1, 1, 2])))
+    return text + (" if " + some_condition(rng) if rng.random() < 0.3 else "")
+
+
+def some_texts(rng):
+    lines, listed = [], []
+    for package in PACKAGES:
+        for number in range(1, rng.randint(1, 3) + 1):
+            lines.append(f"version {package} {number}")
+            listed.append((package, number))
+            lines += [some_need(rng) for _ in range(rng.choice([0, 1, 1, 2]))]
+            lines += ["limits " + some_spec(rng)] * (rng.random() < 0.3)
+            lines += ["unknown offline"] * (rng.random() < 0.05)
+    for package in PACKAGES:
+        of = [v for v in listed if v[0] == package]
+        for word, chance in [("lock", 0.1), ("favour", 0.2)]:
+            if rng.random() < chance:
+                lines.append(f"{word} {package} {rng.choice(of)[1]}")
+        if rng.random() < 0.15:
+            lines.append(f"exclude {package} {rng.choice(of)[1]} broken")
+    request = [some_need(rng) for _ in range(rng.randint(1, 2))]
+    request += ["limits " + some_spec(rng)] * (rng.random() < 0.3)
+    wishes = rng.sample(listed, min(len(listed), rng.choice([0, 0, 1, 2])))
+    request += [f"wish {package} {number}" for package, number in wishes]
+    return "\n".join(lines) + "\n", "\n".join(request) + "\n"
+
+
+# ---- a plain slow prover
+
+
+def text_of(v):
+    return f"{v[0]}={v[1]}"
+
+
+def spec_text(s):
+    if s[1] is None:
+        return s[0]
+    low, high = s[1]
+    return f"{s[0]} {low}" if high == low + 1 else f"{s[0]} {low}..{high}"
+
+
+class Prover:
+    """All rule steps of two texts with their clauses; sets by trying all; proofs by case distinction."""
+
+    def __init__(self, catalogue, request):
+        self.catalogue, self.request = parse(catalogue), parse(request)
+        self.listed = [line["version"] for line in self.catalogue if line["kind"] == "version"]
+        self.rules = []
+        for where, lines in (("catalogue", self.catalogue), ("request", self.request)):
+            for n, line in enumerate(lines, 1):
+                self.add_line(where, n, line)
+        for v in self.listed:
+            place = 1 + [w for w in self.listed if w[0] == v[0]].index(v)
+            for bit in range(2):
+                self.rules.append((f"digit {text_of(v)} place {place} bit {bit}", None,
+                                   [(("v", v), False), (("bit", v[0], bit), bool(place >> bit & 1))]))
+            self.rules.append((f"any {text_of(v)}", None, [(("v", v), False), (("any", v[0]), True)]))
+
+    def add_line(self, where, n, line):
+        owner, kind = line["owner"], line["kind"]
+        at = text_of(owner) if owner and where == "catalogue" else "request"
+        own = [(("v", owner), False)] if at != "request" else []
+        if kind == "needs":
+            given = [(("v", v), True) for v in self.listed if any(matches(s, v) for s in line["alternatives"])]
+            for k, case in enumerate(cases(line["condition"]), 1):
+                clause = own + given
+                for s in case:
+                    clause = clause + [(("any", s[0]), False)]
+                    clause += [(("v", v), True) for v in self.listed if v[0] == s[0] and not matches(s, v)]
+                self.rules.append((f"need {at} line {n} case {k}", (where, n), clause))
+            if at != "request" and line["condition"] is None:
+                specs = " | ".join(map(spec_text, line["alternatives"]))
+                self.rules.append((f"gate {at} line {n}", (where, n), own + [(("shared", specs), True)]))
+                self.rules.append((f"shared {specs}", None, [(("shared", specs), False)] + given))
+        if kind == "limits":
+            text = spec_text(line["spec"])
+            self.rules.append((f"limit {at} line {n}", (where, n), own + [(("outside", text), False)]))
+            for v in self.listed:
+                if v[0] == line["spec"][0] and not matches(line["spec"], v):
+                    self.rules.append((f"limit {at} line {n} bars {text_of(v)}", (where, n), own + [(("v", v), False)]))
+                    self.rules.append((f"outside {text} holds {text_of(v)}", None, [(("v", v), False), (("outside", text), True)]))
+        if kind == "lock":
+            for v in self.listed:
+                if v[0] == line["version"][0] and v != line["version"]:
+                    self.rules.append((f"lock line {n} bars {text_of(v)}", (where, n), [(("v", v), False)]))
+        if kind in ("exclude", "unknown"):
+            self.rules.append((f"{kind} line {n}", (where, n), [(("v", line["version"]), False)]))
+
+    def sets(self):
+        choices = [[None] + [v for v in self.listed if v[0] == p] for p in PACKAGES]
+        for picked in itertools.product(*choices):
+            chosen = [v for v in picked if v]
+            if all(obeys(line, chosen) for line in self.catalogue + self.request):
+                yield chosen
+
+    # -- install reports
+
+    def list_needs(self, chosen, entries, out):
+        """Lists the chosen versions that are needed, each for a line that gives it."""
+        found = True
+        while found:
+            found = False
+            places = [("request", None)] + [(text_of(w), w) for w in entries]
+            for at, w in places:
+                lines = self.request if w is None else self.catalogue
+                for n, line in enumerate(lines, 1):
+                    if line["kind"] != "needs" or (w and line["owner"] != w) or not holds(line["condition"], entries):
+                        continue
+                    for v in chosen:
+                        if v not in entries and any(matches(s, v) for s in line["alternatives"]):
+                            entries.append(v)
+                            out.append(f"{text_of(v)} for {at} line {n}")
+                            found = True
+
+    def install(self, rng, sets):
+        chosen = rng.choice(sets)
+        entries, out, proof = [], ["install"], Proof(self.rules)
+        self.list_needs(chosen, entries, out)
+        for n, line in enumerate(self.request, 1):
+            if line["kind"] != "wish" or line["version"] in entries:
+                continue
+            v = line["version"]
+            fitting = [s for s in sets if v in s and all(w in s for w in entries)]
+            if fitting:
+                entries.append(v)
+                out.append(f"{text_of(v)} wished line {n}")
+                self.list_needs(rng.choice(fitting), entries, out)
+            else:
+                step = proof.derive([(("v", w), False) for w in [v] + entries])
+                out.append(f"left out {text_of(v)} line {n} by {step}")
+        return "\n".join(out + proof.lines) + "\n"
+
+    # -- refused reports
+
+    def refuse(self, rng):
+        proof = Proof(self.rules)
+        rng.shuffle(proof.rules)
+        proof.derive([])
+        named = {"catalogue": set(), "request": set()}
+        for where, n in filter(None, proof.stated):
+            named[where].add(n)
+        out = ["refused"]
+        for where in ("catalogue", "request"):
+            out += [f"{where} line {n}" for n in sorted(named[where])]
+        message = ["| no versions fit"] if rng.random() < 0.5 else []
+        return "\n".join(out + proof.lines + message) + "\n"
+
+
+def atom_text(atom):
+    kind = atom[0]
+    if kind == "v":
+        return text_of(atom[1])
+    if kind == "bit":
+        return f"bit {atom[2]} of {atom[1]}"
+    return f"{kind} {atom[1]}"
+
+
+def literal_text(literal):
+    return ("" if literal[1] else "not ") + atom_text(literal[0])
+
+
+class Proof:
+    """Steps of a report, each written once, in the order of their first use."""
+
+    def __init__(self, rules):
+        self.rules = list(rules)
+        self.lines, self.stated, self.numbers = [], [], {}
+
+    def step(self, text, line=None):
+        if text not in self.numbers:
+            self.numbers[text] = len(self.lines) + 1
+            self.lines.append(f"step {len(self.lines) + 1} {text}")
+            self.stated.append(line)
+        return self.numbers[text]
+
+    def derive(self, clause):
+        """Proves the clause by cases; answers its step."""
+        known = {atom: not positive for atom, positive in clause}
+        causes, open_atoms = self.spread(dict(known), self.rules)
+        if causes is None:
+            atom = open_atoms[0]
+            causes = [self.derive(clause + [(atom, True)]), self.derive(clause + [(atom, False)])]
+        else:
+            causes = [self.step(text, line) for text, line in causes]
+        texts = sorted(map(literal_text, clause), key=lambda t: t.encode())
+        return self.step(f"derive [{'; '.join(texts)}] by {' '.join(map(str, causes))}")
+
+    @staticmethod
+    def spread(known, rules):
+        """What follows by clauses with one literal left: the steps up to a broken clause, or the atoms without value."""
+        used = []
+        while True:
+            grown = False
+            for text, line, clause in rules:
+                clause = list(dict.fromkeys(clause))
+                if any(known.get(a) == p for a, p in clause):
+                    continue
+                left = [(a, p) for a, p in clause if a not in known]
+                if not left:
+                    return used + [(text, line)], None
+                if len(left) == 1:
+                    known[left[0][0]] = left[0][1]
+                    used.append((text, line))
+                    grown = True
+            if not grown:
+                atoms = sorted({a for _, _, clause in rules for a, _ in clause if a not in known}, key=lambda a: (a[0] != "v", str(a)))
+                return None, atoms
+
+
+# ---- damage
+
+
+def damaged(rng, report):
+    lines = report.split(b"\n")[:-1]
+    kind = rng.randrange(8)
+    i = rng.randrange(len(lines))
+    if kind == 0:
+        del lines[i]
+    elif kind == 1:
+        lines.insert(rng.randrange(len(lines) + 1), lines[i])
+    elif kind == 2:
+        j = rng.randrange(len(lines))
+        lines[i], lines[j] = lines[j], lines[i]
+    elif kind == 3:
+        words = lines[i].split(b" ")
+        j = rng.randrange(len(words))
+        words[j] = rng.choice(rng.choice(lines).split(b" "))
+        lines[i] = b" ".join(words)
+    elif kind == 4:
+        digits = [j for j, b in enumerate(lines[i]) if 48 <= b <= 57]
+        if digits:
+            j = rng.choice(digits)
+            lines[i] = lines[i][:j] + str(rng.randrange(10)).encode() + lines[i][j + 1:]
+    elif kind == 5:
+        words = lines[i].split(b" ")
+        del words[rng.randrange(len(words))]
+        lines[i] = b" ".join(words)
+    elif kind == 6:
+        j = rng.randrange(len(lines[i]) + 1)
+        lines[i] = lines[i][:j] + rng.choice([b" ", b";", b"]", b"x", b"0", b"\r", b"\n"]) + lines[i][j:]
+    else:
+        whole = b"\n".join(lines) + b"\n"
+        return whole[:rng.randrange(len(whole))]
+    return b"".join(line + b"\n" for line in lines)
+
+
+# ---- the comparison
+
+
+def main():
+    reports = int(sys.argv[1]) if len(sys.argv) > 1 else 2000
+    damages = int(sys.argv[2]) if len(sys.argv) > 2 else 20000
+    program = sys.argv[3] if len(sys.argv) > 3 else os.path.join(HERE, "../crates/resolve/out/resolve")
+    rng = random.Random(1)
+    counts = {"install": 0, "refused": 0, "yes": 0, "no": 0}
+    with tempfile.TemporaryDirectory() as folder:
+        paths = [os.path.join(folder, part) for part in ("catalogue", "request", "report")]
+
+        def compare(texts):
+            for path, text in zip(paths, texts):
+                with open(path, "wb") as out:
+                    out.write(text)
+            answer = subprocess.run([program, "judge", *paths], capture_output=True)
+            n = judge(*texts)
+            want = (b"yes\n", 0) if n == 0 else (b"no line %d\n" % n, 1)
+            if (answer.stdout, answer.returncode) != want:
+                sys.exit(f"{texts!r}: the program says {answer.stdout!r}, the plain judge {want[0]!r}")
+            return n
+
+        for i in range(reports):
+            catalogue, request = (text.encode() for text in some_texts(rng))
+            prover = Prover(catalogue, request)
+            sets = list(prover.sets())
+            report = (prover.install(rng, sets) if sets else prover.refuse(rng)).encode()
+            counts["install" if sets else "refused"] += 1
+            if compare((catalogue, request, report)) != 0:
+                sys.exit(f"not yes: {catalogue!r} {request!r} {report!r}")
+            for _ in range(damages // reports):
+                counts["no" if compare((catalogue, request, damaged(rng, report))) else "yes"] += 1
+    print(f"{counts['install']} install and {counts['refused']} refused reports: yes")
+    print(f"damaged copies: {counts['yes']} yes, {counts['no']} no, all as the plain judge says")
+
+
+if __name__ == "__main__":
+    main()
