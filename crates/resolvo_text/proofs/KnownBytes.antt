@@ -1,7 +1,8 @@
 -- What is known of the bytes that are left, over several steps.
-use Rattle.std.proofs.Common.{◌≡◌, ℕ, ◌+◌, ◌<◌, ◌≤◌, List, [], ◌∷◌, ◌++◌, length, take, drop, get_or, Option, Some, None, append_assoc, refl, sym, ap, ◌∙◌, arith}
+use Rattle.std.proofs.Common.{◌≡◌, ℕ, zero, suc, ◌+◌, ◌-◌, ◌<◌, ◌≤◌, List, [], ◌∷◌, ◌++◌, length, take, drop, get_or, Option, Some, None, append_assoc, refl, sym, ap, ◌∙◌, arith}
 use Rattle.std.specs.Io.KnownBytes.{Consumes, Keeps, prepend_known}
-use Rattle.std.proofs.lemmas.List.{drop_more, length-take, get_or-take, drop_all}
+use Rattle.std.specs.List.{slice_range}
+use Rattle.std.proofs.lemmas.List.{drop_more, length-take, get_or-take, drop_all, drop-take, drop-drop, take-append-drop}
 use Rattle.std.proofs.lemmas.Option.{same_Some}
 use Rattle.resolvo_text.specs.Device.{IfKnown}
 use Rattle.resolvo_text.specs.Lines.{newlines}
@@ -49,3 +50,20 @@ too_long (Some xs) (Some t) items at end room kept lt le none = λ bytes e.
 -- a piece that was read to its end has no byte unread
 pub none_unread : (items : List ℕ) (at end : ℕ) → at ≡ end → drop at (take end items) ≡ []
 none_unread items at end same = drop_all at (take end items) (omega (arith, length-take end items))
+
+take_within : (n m : ℕ) (xs : List ℕ) → n ≤ m → take n (take m xs) ≡ take n xs
+take_within zero m xs le = refl
+take_within (suc n) zero xs le = absurd (omega arith)
+take_within (suc n) (suc m) [] le = refl
+take_within (suc n) (suc m) (x ∷ xs) le = ap (λ (ys : List ℕ). x ∷ ys) (take_within n m xs (omega arith))
+
+-- a front of what is unread, up to some stop, and what is unread behind it
+pub plain_piece : (items : List ℕ) (at end stop n : ℕ) → at ≤ end → stop ≤ end → n ≤ length (slice_range items at stop) → drop at (take end items) ≡ take n (slice_range items at stop) ++ drop (at + n) (take end items)
+plain_piece items at end stop n begun below few =
+    let rest = drop at items in
+    let whole = drop at (take end items) in
+    let sum : end ≡ at + (end - at) = omega arith in
+    let unread : whole ≡ take (end - at) rest = ap (λ (e : ℕ). drop at (take e items)) sum ∙ drop-take at (end - at) items in
+    let within : n ≤ stop - at = omega (arith, length-take (stop - at) rest) in
+    let front : take n whole ≡ take n (slice_range items at stop) = ap (λ (xs : List ℕ). take n xs) unread ∙ take_within n (end - at) rest (omega (arith, within)) ∙ sym (take_within n (stop - at) rest within) in
+    sym (take-append-drop n whole) ∙ ap (λ (xs : List ℕ). xs ++ drop n whole) front ∙ ap (λ (xs : List ℕ). take n (slice_range items at stop) ++ xs) (drop-drop n at (take end items))

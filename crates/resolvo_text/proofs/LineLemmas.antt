@@ -1,15 +1,17 @@
 -- The lines of a text, one line at a time.
-use Rattle.std.proofs.Common.{◌≡◌, ℕ, ◌+◌, ◌<◌, ◌≤◌, Bool, true, false, cond, eqb, List, [], ◌∷◌, ◌++◌, length, take, Option, Some, None, refl, sym, ap, subst, ◌∙◌, append_assoc, ltb, inl, inr, arith}
-use Rattle.std.specs.List.{onto_first}
+use Rattle.std.proofs.Common.{◌≡◌, ℕ, suc, ◌+◌, ◌<◌, ◌≤◌, Bool, true, false, cond, eqb, List, [], ◌∷◌, ◌++◌, length, take, Option, Some, None, refl, sym, ap, subst, ◌∙◌, append_assoc, ltb, inl, inr, arith}
+use Rattle.std.specs.List.{onto_first, position, position_or_len}
+use Rattle.std.specs.Prelude.{not, nat_lt, unwrap_or}
 use Rattle.std.specs.Option.{option_to_list}
-use Rattle.std.specs.Io.KnownBytes.{Consumes, IsAtEnd}
+use Rattle.std.specs.Io.KnownBytes.{Consumes, IsAtEnd, prepend_known}
 use Rattle.std.proofs.lemmas.Bool.{ltb-true, ltb-false}
 use Rattle.std.proofs.lemmas.List.{append-nil, length-append}
-use Rattle.std.proofs.lemmas.List.Sums.{sum_by-cons, sum_by-append, sum_by_push}
+use Rattle.std.proofs.lemmas.List.Sums.{sum_by-cons, sum_by-append, sum_by_push, prefix_len-le-length}
 use Rattle.std.proofs.Math.Seq.{take-append-add}
 use Rattle.resolvo_text.specs.Lines.{lines_of, newlines, is_newline}
 use Rattle.resolvo_text.specs.Device.{DeviceFailed, one_more, last}
-use Rattle.resolvo_text.specs.Reader.{TakesLine, EndsLine, IsReadFault}
+use Rattle.resolvo_text.specs.Reader.{left, unread, TakesLine, TakesPlain, EndsLine, IsReadFault}
+use Rattle.resolvo_text.specs.declared.lines.LineReader.{LineReader}
 use Rattle.resolvo_text.specs.declared.lines.ReadFault.{ReadFault}
 use Rattle.resolvo_text.specs.declared.lines.ReadFault.TheVariants.{Fault, Reader, TooLong, Memory, Ids}
 use Rattle.resolvo_text.proofs.KnownBytes.{consumed, consumed_both}
@@ -31,6 +33,32 @@ no_newline_more line b none other =
     let one : newlines (line ++ b ∷ []) ≡ newlines line + cond (eqb b 10) 1 0 = sum_by_push (λ x. cond (is_newline x) 1 0) line b in
     one ∙ ap (λ (t : Bool). newlines line + cond t 1 0) other ∙ omega arith
 
+-- no newline stands above the first one
+none_above : (xs : List ℕ) → newlines (take (position_or_len is_newline xs) xs) ≡ 0
+none_above [] = refl
+none_above (b ∷ bs) = by_test (is_newline b) refl (none_above bs)
+  where
+    by_test : (t : Bool) → is_newline b ≡ t → newlines (take (position_or_len is_newline bs) bs) ≡ 0 → newlines (take (cond (not t) (1 + position_or_len is_newline bs) 0) (b ∷ bs)) ≡ 0
+    by_test true is none = refl
+    by_test false is none =
+        let one_more : 1 + position_or_len is_newline bs ≡ suc (position_or_len is_newline bs) = omega arith in
+        ap (λ (n : ℕ). newlines (take n (b ∷ bs))) one_more
+        ∙ sum_by-cons (λ x. cond (is_newline x) 1 0) b (take (position_or_len is_newline bs) bs)
+        ∙ ap (λ (t : Bool). cond t 1 0 + newlines (take (position_or_len is_newline bs) bs)) is ∙ omega (arith, none)
+
+few_above : (xs : List ℕ) → position_or_len is_newline xs ≤ length xs
+few_above xs = prefix_len-le-length (λ x. not (is_newline x)) xs
+
+-- the place of the first newline, or the length
+pub plain_above : (xs : List ℕ) (o : Option ℕ) → o ≡ position is_newline xs → newlines (take (unwrap_or o (length xs)) xs) ≡ 0
+plain_above xs o is = rw is (by_test (nat_lt (position_or_len is_newline xs) (length xs)) refl)
+  where
+    by_test : (b : Bool) → nat_lt (position_or_len is_newline xs) (length xs) ≡ b → newlines (take (unwrap_or (cond b (Some (position_or_len is_newline xs)) None) (length xs)) xs) ≡ 0
+    by_test true e = none_above xs
+    by_test false e =
+        let all : position_or_len is_newline xs ≡ length xs = omega (arith, few_above xs, ltb-false (position_or_len is_newline xs) (length xs) e) in
+        subst (λ (n : ℕ). newlines (take n xs) ≡ 0) all (none_above xs)
+
 -- ---- lines
 
 pub lines_of-line : (line rest : List ℕ) → newlines line ≡ 0 → lines_of (line ++ 10 ∷ rest) ≡ line ∷ lines_of rest
@@ -48,6 +76,27 @@ lines_of-last b (c ∷ line) h =
 pub lines_of-whole : (line : List ℕ) → 0 < length line → newlines line ≡ 0 → lines_of line ≡ line ∷ []
 lines_of-whole [] lt none = absurd (omega arith)
 lines_of-whole (b ∷ line) lt none = lines_of-last b line none
+
+-- ---- bytes of the piece that are no newline
+
+plain_taken : (told : Option (List ℕ)) (bytes rest : List ℕ) → Consumes (prepend_known (bytes ++ rest) told) (prepend_known rest told) bytes
+plain_taken None bytes rest = tt
+plain_taken (Some t) bytes rest = append_assoc bytes rest t
+
+-- the line that was begun, with the bytes that went to it
+pub record IsBegun (before after : Option (List ℕ)) (room : ℕ) (r : LineReader) : Type 0 where
+  pub consumed : Consumes before after r.line.items
+  pub sum : r.room + length r.line.items ≡ room
+  pub plain : newlines r.line.items ≡ 0
+
+pub plain_more : (before told : Option (List ℕ)) (room : ℕ) (r s : LineReader) → Consumes before (left r told) r.line.items → r.room + length r.line.items ≡ room → newlines r.line.items ≡ 0 → TakesPlain r s → IsBegun before (left s told) room s
+plain_more before told room r s first sum none takes =
+    let mid : Consumes (left r told) (left s told) takes.bytes = subst (λ (bs : List ℕ). Consumes (prepend_known bs told) (left s told) takes.bytes) (sym takes.piece) (plain_taken told takes.bytes (unread s)) in
+    let both : Consumes before (left s told) (r.line.items ++ takes.bytes) = consumed_both before (left r told) (left s told) r.line.items takes.bytes first mid in record {
+      consumed = subst (λ (bs : List ℕ). Consumes before (left s told) bs) (sym takes.line) both;
+      sum = omega (arith, sum, takes.room, ap (λ (bs : List ℕ). length bs) takes.line, length-append r.line.items takes.bytes);
+      plain = ap newlines takes.line ∙ newlines-append r.line.items takes.bytes ∙ omega (arith, none, takes.plain);
+    }
 
 -- ---- one step of the reader
 

@@ -15,6 +15,14 @@ unread r = drop r.at (take r.end r.piece.items)
 abbrev pub left : LineReader → Option (List ℕ) → Option (List ℕ)
 left r told = prepend_known (unread r) told
 
+-- Bytes of the piece went to the line, none of them a newline.
+pub record TakesPlain (old new : LineReader) : Type 0 where
+  pub bytes : List ℕ
+  pub piece : unread old ≡ bytes ++ unread new
+  pub line : new.line.items ≡ old.line.items ++ bytes
+  pub plain : newlines bytes ≡ 0
+  pub room : new.room + length bytes ≡ old.room
+
 -- Of these bytes a piece was taken, which is a line with its newline, or the last line. The rest is left.
 pub record IsLine (bytes line piece rest : List ℕ) : Type 0 where
   pub parts : bytes ≡ piece ++ rest

@@ -3,10 +3,12 @@
 //! What is left of the text is the unread bytes of the piece and what the device has left. The readers of whole
 //! texts take one line after the other; the room that is kept bounds the bytes that they take.
 
-ghost use Rattle.std.specs.Prelude.{◌≡◌, ℕ, ◌+◌, ◌<◌, ◌≤◌, List, [], ◌∷◌, length, Option, Ok, Err, Some, None, IfOk, OnOk, IfNone, IsTrue, IfErr, vec_len, false};
+ghost use Rattle.std.specs.Prelude.{◌≡◌, ℕ, ◌+◌, ◌<◌, ◌≤◌, List, [], ◌∷◌, length, take, Option, Ok, Err, Some, None, IfOk, OnOk, IfNone, IsTrue, IfErr, vec_len, false};
 ghost use Rattle.std.specs.Option.{option_to_list};
 ghost use Rattle.std.specs.Io.KnownBytes.{Consumes, Keeps, IsAtEnd};
 ghost use Rattle.resolvo_text.specs.Device.{DeviceFailed};
+ghost use Rattle.std.specs.List.{position};
+ghost use Rattle.resolvo_text.specs.Lines.{newlines, is_newline};
 
 use crate::device::{MOST_INTERRUPTIONS, Source, Trouble};
 use std::alloc::{AllocError, AllocFailed, Global};
@@ -70,8 +72,26 @@ pub struct LineReader {
     ghost has_piece: { 0 < vec_len piece },
 }
 
+/// The place of the first newline.
+fn newline_in(bytes: &[u8]) -> Option<usize>
+    ensures { result ≡ position is_newline bytes.now }
+{
+    bytes.iter().position(|byte| *byte == b'\n')
+}
+
+/// How many bytes stand above the first newline.
+fn plain_bytes(bytes: &[u8]) -> usize
+    ensures within { result ≤ length bytes.now }
+    ensures plain { newlines (take result bytes.now) ≡ 0 }
+{
+    match newline_in(bytes) {
+        Some(count) => count,
+        None => bytes.len(),
+    }
+}
+
 impl LineReader {
-    ghost use Rattle.resolvo_text.specs.Reader.{left, unread, IsReadFault, TakesLine, EndsLine};
+    ghost use Rattle.resolvo_text.specs.Reader.{left, unread, IsReadFault, TakesLine, TakesPlain, EndsLine};
 
     /// A reader that takes at most `limit` bytes.
     pub fn new(alloc: Global, limit: u32) -> Result<Self, AllocError>
@@ -105,6 +125,7 @@ impl LineReader {
     {
         self.line.clear();
         loop {
+            self.take_plain()?;
             match self.next_byte(source)? {
                 Some(b'\n') => {
                     self.whole = true;
@@ -131,6 +152,19 @@ impl LineReader {
         ensures { result ≡ self.now.whole }
     {
         self.whole
+    }
+
+    /// Takes the bytes of the piece above its next newline, as far as there is room for them.
+    fn take_plain(&mut self) -> Result<(), AllocError>
+        ensures { OnOk result (TakesPlain self.old self.new) }
+    {
+        let end = self.end.min(self.at + self.room as usize);
+        let unread = &self.piece[self.at..end];
+        let count = plain_bytes(unread);
+        self.line.extend_from_slice(&unread[..count])?;
+        self.at += count;
+        self.room -= count as u32;
+        Ok(())
     }
 
     /// Takes the next byte, or none at the end.
