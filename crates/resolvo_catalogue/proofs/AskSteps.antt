@@ -12,9 +12,9 @@ use Rattle.resolvo_text.specs.Line.{Version, Line, Skipped, Listed, Needs, Limit
 use Rattle.resolvo_text.specs.declared.spec.Version as code
 use Rattle.resolvo_catalogue.specs.Grammar.{line_at, owner_below, MayFollowInRequest, IsRequestLine, AreRequestLines}
 use Rattle.resolvo_catalogue.specs.Listed.{listed, AreDistinct}
-use Rattle.resolvo_catalogue.specs.Questions.{AreAll, LineIs, SaysOf, Wishes, WishesAt, IsWish, States, is_rule}
+use Rattle.resolvo_catalogue.specs.Questions.{AreAll, LineIs, SaysOf, Wishes, WishesAt, IsWish, States, is_rule, wished_in}
 use Rattle.resolvo_catalogue.specs.Table.{rule_line}
-use Rattle.resolvo_catalogue.specs.Asks.{asked, asked_lines, IsAsk, IsAskedRule, KeepsAsks, AreAsks, AddsAsk, ask_at, rule_asked}
+use Rattle.resolvo_catalogue.specs.Asks.{asked, asked_lines, IsAsk, IsAskedRule, KeepsAsks, AreAsks, AddsAsk, ask_at, rule_asked, wish_asked}
 use Rattle.resolvo_catalogue.specs.declared.rule.VersionNo.{VersionNo}
 use Rattle.resolvo_catalogue.specs.declared.rule.Rule.{Rule}
 use Rattle.resolvo_catalogue.specs.declared.rule.Rule.TheVariants as rule
@@ -156,3 +156,23 @@ lines_push catalogue lines more text line are new is = rw is (λ n l at.
           let above : take n (lines ++ line ∷ []) ≡ lines = rw here.0 (take-append_seam lines (line ∷ [])) in
           subst (λ (ls : List Line). (text : List ℕ) × IsRequestLine catalogue ls text l) (sym above) (text, subst (λ (x : Line). IsRequestLine catalogue lines text x) here.1 new)
     ])
+
+-- what is kept of a line, and which version it wishes
+pub asked_wish : (a : Asks) (lines : List Line) → asked_lines a ≡ lines → (n : ℕ) → option_map version_of (option_and_then wish_asked (ask_at a.asks.items n)) ≡ wished_in (line_at lines n)
+asked_wish a lines is zero = refl
+asked_wish a lines is (suc n) =
+    from_ask (slice_get a.asks.items n)
+    ∙ ap wished_in (sym (slice_get-map asked a.asks.items n) ∙ ap (λ (ls : List Line). slice_get ls n) is)
+  where
+    from_rule : (r : Rule) → None ≡ wished_in (Some (rule_line [] r))
+    from_rule (rule.Needs of ss c) = refl
+    from_rule (rule.Limits of s) = refl
+    from_rule (rule.Unknown of w) = refl
+    from_rule (rule.Lock k) = refl
+    from_rule (rule.Exclude k w) = refl
+
+    from_ask : (o : Option Ask) → option_map version_of (option_and_then wish_asked o) ≡ wished_in (option_map asked o)
+    from_ask None = refl
+    from_ask (Some ask.Nothing) = refl
+    from_ask (Some (ask.Wish v)) = refl
+    from_ask (Some (ask.Rule r)) = from_rule r

@@ -4,6 +4,7 @@ use Rattle.std.specs.HashMap.{get}
 use Rattle.resolvo_text.specs.Line as says
 use Rattle.resolvo_text.specs.Line.{Version, Line}
 use Rattle.resolvo_text.specs.View.{version_of}
+use Rattle.resolvo_text.specs.declared.spec.Version as code
 use Rattle.resolvo_catalogue.specs.Questions.{IsOnly, AreAll, LineIs, SaysOf, Wishes, WishesAt, IsWish}
 use Rattle.resolvo_catalogue.specs.Table.{rule_line}
 use Rattle.resolvo_catalogue.specs.declared.rule.VersionNo.{VersionNo}
@@ -43,6 +44,11 @@ abbrev pub rule_asked : Ask → Option Rule
 rule_asked (ask.Rule r) = Some r
 rule_asked ask.Nothing = None
 rule_asked (ask.Wish v) = None
+
+abbrev pub wish_asked : Ask → Option code.Version
+wish_asked (ask.Wish v) = Some v
+wish_asked ask.Nothing = None
+wish_asked (ask.Rule r) = None
 
 -- These lines are kept of a request over a catalogue that lists these versions.
 pub record KeepsAsks (a : Asks) (versions : List Version) (lines : List Line) : Type 0 where

@@ -126,6 +126,11 @@ States versions (rule.Unknown of word) owner line = (line ≡ Unknown (string_by
 States versions (rule.Lock locked) owner line = (v : Version) × (slice_get versions locked.0 ≡ Some v) × (line ≡ Lock v)
 States versions (rule.Exclude excluded word) owner line = (v : Version) × (slice_get versions excluded.0 ≡ Some v) × (line ≡ Exclude v (string_bytes word))
 
+-- the version that a line wishes: none, if it isn't a `wish` line
+abbrev pub wished_in : Option Line → Option Version
+wished_in (Some (Wish v)) = Some v
+wished_in _ = None
+
 -- the cases of a line: none, if it isn't a `needs` line
 abbrev pub cases_of_line : Option Line → List (List Spec)
 cases_of_line (Some (Needs alternatives condition)) = condition_cases condition

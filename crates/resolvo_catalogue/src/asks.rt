@@ -32,7 +32,7 @@ pub struct Asks {
 }
 
 impl Asks {
-    ghost use Rattle.resolvo_catalogue.specs.Asks.{AreAsks, AddsAsk, asked_lines, ask_at, rule_asked};
+    ghost use Rattle.resolvo_catalogue.specs.Asks.{AreAsks, AddsAsk, asked_lines, ask_at, rule_asked, wish_asked};
 
     pub fn new(alloc: Global) -> Self
         ensures asks { (versions : List says.Version) → AreAsks versions result }
@@ -59,6 +59,16 @@ impl Asks {
     {
         match self.ask_at(line)? {
             Ask::Rule(rule) => Some(rule),
+            _ => None,
+        }
+    }
+
+    /// The version that the line wishes, if it wishes one.
+    pub fn wished_at(&self, line: u32) -> Option<&Version>
+        ensures { option_copied result ≡ option_and_then wish_asked (ask_at self.now.asks.items line) }
+    {
+        match self.ask_at(line)? {
+            Ask::Wish(version) => Some(version),
             _ => None,
         }
     }

@@ -5,7 +5,7 @@ use crate::asks::Asks;
 use crate::catalogue::{Catalogue, MOST_BYTES};
 use crate::keeping;
 use crate::rule::{Rule, VersionNo};
-use resolvo_text::{LineFault, LineReader, ReadFault, Source, Spec};
+use resolvo_text::{LineFault, LineReader, ReadFault, Source, Spec, Version};
 use std::alloc::{AllocError, Global};
 use std::marker::Model;
 
@@ -34,15 +34,15 @@ impl Model for Request {
 }
 
 impl Request {
-    ghost use Rattle.std.specs.Prelude.{◌≡◌, ℕ, false, List, map, slice_get, Some, None, length, IfOk, IfSome, IfNone, IfErr};
+    ghost use Rattle.std.specs.Prelude.{◌≡◌, ℕ, false, List, map, slice_get, option_map, option_copied, Some, None, length, IfOk, IfSome, IfNone, IfErr};
     ghost use Rattle.resolvo_text.specs.Line as says;
-    ghost use Rattle.resolvo_text.specs.View.{cases_of};
+    ghost use Rattle.resolvo_text.specs.View.{version_of, cases_of};
     ghost use Rattle.resolvo_text.specs.Device.{IfKnown, DeviceFailed};
     ghost use Rattle.resolvo_text.specs.Texts.{IsGrammatical, IsTextFault};
     ghost use Rattle.resolvo_catalogue.specs.Grammar.{line_at, IsRequestLine, AreRequestLines};
     ghost use Rattle.resolvo_catalogue.specs.Rules.{keeps_in_request};
     ghost use Rattle.resolvo_catalogue.specs.Listed.{listed, members};
-    ghost use Rattle.resolvo_catalogue.specs.Questions.{AreAll, LineIs, IsWish, WishesAt, States, is_rule, cases_of_line};
+    ghost use Rattle.resolvo_catalogue.specs.Questions.{AreAll, LineIs, IsWish, WishesAt, States, is_rule, wished_in, cases_of_line};
 
     pub fn line_count(&self) -> u32
         ensures { result ≡ length self.now.lines }
@@ -76,6 +76,13 @@ impl Request {
             Some(rule) => rule.cases(alloc),
             None => Ok(Vec::new(alloc)),
         }
+    }
+
+    /// The version that the line wishes, if it wishes one.
+    pub fn wish(&self, line: u32) -> Option<&Version>
+        ensures { option_map version_of (option_copied result) ≡ wished_in (line_at self.now.lines line) }
+    {
+        self.asks.wished_at(line)
     }
 
     /// The `wish` lines, rising, each with the number of its version in the catalogue.
