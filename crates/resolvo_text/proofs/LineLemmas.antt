@@ -25,7 +25,7 @@ none_first : (t : Bool) (n : ℕ) → cond t 1 0 + n ≡ 0 → (t ≡ false) × 
 none_first true n e = absurd (omega arith)
 none_first false n e = (refl, omega arith)
 
-no_newline : (b : ℕ) (bs : List ℕ) → newlines (b ∷ bs) ≡ 0 → (eqb b 10 ≡ false) × (newlines bs ≡ 0)
+pub no_newline : (b : ℕ) (bs : List ℕ) → newlines (b ∷ bs) ≡ 0 → (eqb b 10 ≡ false) × (newlines bs ≡ 0)
 no_newline b bs e = none_first (eqb b 10) (newlines bs) (sym (sum_by-cons (λ x. cond (is_newline x) 1 0) b bs) ∙ e)
 
 pub no_newline_more : (line : List ℕ) (b : ℕ) → newlines line ≡ 0 → eqb b 10 ≡ false → newlines (line ++ b ∷ []) ≡ 0

@@ -117,6 +117,7 @@ impl LineReader {
             self.new.line.items (left self.new (S.left source.new)) self.new.room) }
         ensures ending { IfOk result (λ more. IsTrue more → EndsLine self.new.whole (left self.old (S.left source.old)) self.old.room
             self.new.line.items (left self.new (S.left source.new)) self.new.room) }
+        ensures less { self.new.room ≤ self.old.room }
         ensures progress { IfOk result (λ more. IsTrue more → self.new.room < self.old.room) }
         ensures end { IfOk result (λ more. more ≡ false → IsAtEnd (left self.old (S.left source.old))) }
         ensures failures { OnOk result (S.failures source.new ≡ S.failures source.old) }
@@ -156,7 +157,8 @@ impl LineReader {
 
     /// Takes the bytes of the piece above its next newline, as far as there is room for them.
     fn take_plain(&mut self) -> Result<(), AllocError>
-        ensures { OnOk result (TakesPlain self.old self.new) }
+        ensures taken { OnOk result (TakesPlain self.old self.new) }
+        ensures less { self.new.room ≤ self.old.room }
     {
         let end = self.end.min(self.at + self.room as usize);
         let unread = &self.piece[self.at..end];
@@ -172,6 +174,7 @@ impl LineReader {
         ensures taken { IfOk result (λ next. Consumes (left self.old (S.left source.old))
             (left self.new (S.left source.new)) (option_to_list next)) }
         ensures end { IfOk result (λ next. IfNone next (IsAtEnd (left self.old (S.left source.old)))) }
+        ensures less { self.new.room ≤ self.old.room }
         ensures room { IfOk result (λ next. self.new.room + length (option_to_list next) ≡ self.old.room) }
         ensures line { self.new.line ≡ self.old.line }
         ensures failures { OnOk result (S.failures source.new ≡ S.failures source.old) }

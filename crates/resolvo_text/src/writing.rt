@@ -18,6 +18,8 @@ pub struct WriteFault;
 pub fn write_all<S: Sink>(sink: &mut S, bytes: &[u8]) -> Result<(), WriteFault>
     ensures whole { OnOk result (Appends (S.contents sink.old) (S.contents sink.new) bytes.now) }
     ensures front { OnErr result (TakesFront (S.contents sink.old) (S.contents sink.new) bytes.now) }
+    ensures failures { OnOk result (S.failures sink.new ≡ S.failures sink.old) }
+    ensures empty { OnOk result (S.empty_writes sink.new ≡ S.empty_writes sink.old) }
     ensures fault { OnErr result (WriterFailed (S.failures sink.old) (S.failures sink.new) (S.interruptions sink.new)
         (S.empty_writes sink.old) (S.empty_writes sink.new)) }
 {

@@ -11,7 +11,7 @@ use Rattle.resolvo_text.proofs.lines.LineReader.next_line.Goals as goal
 
 pub returns-in-Some-eq10-clause-taken : goal.returns-in-Some-eq10-clause-taken
 returns-in-Some-eq10-clause-taken g c = λ yes.
-    let begun = plain_more (left c.args.self.now (g.S.Source.left c.args.source.now)) (g.S.Source.left c.loop-self.source) c.args.self.now.room c.loop-self.self c.take_plain.new.self c.loop-self.invariant.0 c.loop-self.invariant.1 c.loop-self.invariant.3 c.in_ok-take_plain.ensures in
+    let begun = plain_more (left c.args.self.now (g.S.Source.left c.args.source.now)) (g.S.Source.left c.loop-self.source) c.args.self.now.room c.loop-self.self c.take_plain.new.self c.loop-self.invariant.0 c.loop-self.invariant.1 c.loop-self.invariant.3 c.in_ok-take_plain.ensures.taken in
     let taken = c.in_ok-next_byte.ensures.taken in
     let same : c.next_byte.new.self.line.items ≡ c.take_plain.new.self.line.items = ap (λ (v : Vec ℕ). v.items) c.in_ok-next_byte.ensures.line in
     let is : c.in_ok-next_byte.field-0 ≡ Some 10 = c.in-Some-eq10.is ∙ ap (λ (n : ℕ). Some n) c.in-Some-eq10.field-0-test in
@@ -20,7 +20,7 @@ returns-in-Some-eq10-clause-taken g c = λ yes.
 
 pub returns-in-None-clause-taken : goal.returns-in-None-clause-taken
 returns-in-None-clause-taken g c = λ yes.
-    let begun = plain_more (left c.args.self.now (g.S.Source.left c.args.source.now)) (g.S.Source.left c.loop-self.source) c.args.self.now.room c.loop-self.self c.take_plain.new.self c.loop-self.invariant.0 c.loop-self.invariant.1 c.loop-self.invariant.3 c.in_ok-take_plain.ensures in
+    let begun = plain_more (left c.args.self.now (g.S.Source.left c.args.source.now)) (g.S.Source.left c.loop-self.source) c.args.self.now.room c.loop-self.self c.take_plain.new.self c.loop-self.invariant.0 c.loop-self.invariant.1 c.loop-self.invariant.3 c.in_ok-take_plain.ensures.taken in
     let taken = c.in_ok-next_byte.ensures.taken in
     let same : c.next_byte.new.self.line.items ≡ c.take_plain.new.self.line.items = ap (λ (v : Vec ℕ). v.items) c.in_ok-next_byte.ensures.line in
     let is : c.in_ok-next_byte.field-0 ≡ None = c.in-None.is in
@@ -31,7 +31,7 @@ returns-in-None-clause-taken g c = λ yes.
 
 pub returns-in-None-clause-ending : goal.returns-in-None-clause-ending
 returns-in-None-clause-ending g c = λ yes.
-    let begun = plain_more (left c.args.self.now (g.S.Source.left c.args.source.now)) (g.S.Source.left c.loop-self.source) c.args.self.now.room c.loop-self.self c.take_plain.new.self c.loop-self.invariant.0 c.loop-self.invariant.1 c.loop-self.invariant.3 c.in_ok-take_plain.ensures in
+    let begun = plain_more (left c.args.self.now (g.S.Source.left c.args.source.now)) (g.S.Source.left c.loop-self.source) c.args.self.now.room c.loop-self.self c.take_plain.new.self c.loop-self.invariant.0 c.loop-self.invariant.1 c.loop-self.invariant.3 c.in_ok-take_plain.ensures.taken in
     let same : c.next_byte.new.self.line.items ≡ c.take_plain.new.self.line.items = ap (λ (v : Vec ℕ). v.items) c.in_ok-next_byte.ensures.line in
     let end : IsAtEnd (left c.take_plain.new.self (g.S.Source.left c.loop-self.source)) = subst (λ (o : Option ℕ). IfNone o (IsAtEnd (left c.take_plain.new.self (g.S.Source.left c.loop-self.source)))) c.in-None.is c.in_ok-next_byte.ensures.end in
     let ends = last_line_ended _ _ _ c.in_ok-next_byte.field-0 c.take_plain.new.self.line.items c.args.self.now.room c.take_plain.new.self.room c.next_byte.new.self.room begun.consumed c.in_ok-next_byte.ensures.taken c.in-None.is end begun.plain begun.sum c.in_ok-next_byte.ensures.room in
@@ -39,6 +39,6 @@ returns-in-None-clause-ending g c = λ yes.
 
 pub returns-in_err-next_byte-clause-fault : goal.returns-in_err-next_byte-clause-fault
 returns-in_err-next_byte-clause-fault g c =
-    let begun = plain_more (left c.args.self.now (g.S.Source.left c.args.source.now)) (g.S.Source.left c.loop-self.source) c.args.self.now.room c.loop-self.self c.take_plain.new.self c.loop-self.invariant.0 c.loop-self.invariant.1 c.loop-self.invariant.3 c.in_ok-take_plain.ensures in
+    let begun = plain_more (left c.args.self.now (g.S.Source.left c.args.source.now)) (g.S.Source.left c.loop-self.source) c.args.self.now.room c.loop-self.self c.take_plain.new.self c.loop-self.invariant.0 c.loop-self.invariant.1 c.loop-self.invariant.3 c.in_ok-take_plain.ensures.taken in
     let p = err_from_is_err_and c.from_residual-in_err-next_byte.result c.from_residual-in_err-next_byte.ensures.1 in
     rw (p.1, p.2) (fault_later c.in_err-next_byte.field-0.0 _ _ _ c.take_plain.new.self.line.items c.args.self.now.room c.take_plain.new.self.room _ _ _ _ begun.consumed begun.plain begun.sum c.loop-self.invariant.2 c.in_err-next_byte.ensures.fault)

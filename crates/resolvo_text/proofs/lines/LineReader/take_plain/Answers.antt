@@ -4,8 +4,8 @@ use Rattle.std.proofs.lemmas.List.{length-take, length-take-le, length-drop}
 use Rattle.resolvo_text.proofs.KnownBytes.{plain_piece}
 use Rattle.resolvo_text.proofs.lines.LineReader.take_plain.Goals as goal
 
-pub returns : goal.returns
-returns c =
+pub returns-clause-taken : goal.returns-clause-taken
+returns-clause-taken c =
     let r = c.args.self.now in
     let bytes = c.deref.result.now in
     let n = c.plain_bytes-count.result in

@@ -1,0 +1,10 @@
+pub mod TextLemmas
+pub mod ClauseLemmas
+pub mod FormLaws
+pub mod StepLaws
+pub mod LineLaws
+pub mod WholeLines
+pub mod StreamLemmas
+pub mod DraftLemmas
+pub mod WriteLemmas
+pub mod ReportLaws

@@ -1,0 +1,9 @@
+pub mod Value
+pub mod View
+pub mod Text
+pub mod Pieces
+pub mod Reading
+pub mod Grammar
+pub mod Stream
+pub mod Draft
+pub mod Writing

@@ -1,0 +1,32 @@
+-- Pieces of texts that the writer of reports puts together.
+use Rattle.std.specs.Prelude.{ℕ, List, [], ◌∷◌, ◌++◌, codes, map}
+use Rattle.std.proofs.Common.{Bor}
+use Rattle.std.specs.List.{flat_map, join_with_byte}
+use Rattle.std.specs.Fmt.{decimal}
+use Rattle.resolvo_text.specs.declared.spec.Spec as code
+use Rattle.resolvo_text.specs.Spelling.{Words, spec_words}
+use Rattle.resolvo_text.specs.View.{spec_of}
+use Rattle.resolvo_report.specs.declared.step.Literal as code_literal
+use Rattle.resolvo_report.specs.Text.{literal_text}
+use Rattle.resolvo_report.specs.View.{literal_of}
+
+-- words, a space before each
+abbrev pub spaced : Words → List ℕ
+spaced [] = []
+spaced (w ∷ ws) = codes " " ++ w ++ spaced ws
+
+-- alternatives, a bar before each
+abbrev pub barred : List code.Spec → List ℕ
+barred ss = flat_map (λ s. codes " | " ++ join_with_byte 32 (spec_words (spec_of s))) ss
+
+-- literals, a semicolon before each
+abbrev pub parted : List code_literal.Literal → List ℕ
+parted ls = flat_map (λ l. codes "; " ++ literal_text (literal_of l)) ls
+
+-- the numbers of steps, a space before each
+abbrev pub causes_text : List ℕ → List ℕ
+causes_text ns = flat_map (λ n. codes " " ++ decimal n) ns
+
+-- the texts behind references
+abbrev pub texts_of : List (Bor (List ℕ)) → List (List ℕ)
+texts_of ts = map (λ t. t.now) ts

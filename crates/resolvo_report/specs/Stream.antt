@@ -1,0 +1,33 @@
+-- A reader of the lines of a report, with the device that it reads from.
+use Rattle.std.specs.Prelude.{◌≡◌, ℕ, ◌+◌, ◌<◌, ⊤, List, ◌++◌, length, take, Option, Some, codes}
+use Rattle.std.specs.Io.KnownBytes.{Consumes}
+use Rattle.resolvo_text.specs.Device.{IfKnown}
+use Rattle.resolvo_text.specs.Lines.{newlines}
+use Rattle.resolvo_text.specs.Reader as lines
+use Rattle.resolvo_report.specs.declared.reader.ReportReader.{ReportReader}
+use Rattle.resolvo_report.specs.declared.reader.ReportFault.{ReportFault}
+use Rattle.resolvo_report.specs.declared.reader.ReportFault.TheVariants.{NotAReport, Reader, TooLong, Memory}
+use Rattle.resolvo_report.specs.Value.{ReportLine}
+use Rattle.resolvo_report.specs.Text.{line_text, HasText}
+use Rattle.resolvo_report.specs.Grammar.{next_part, GoesOn}
+
+-- what is left of the text, where the device tells
+abbrev pub left : ReportReader → Option (List ℕ) → Option (List ℕ)
+left r told = lines.left r.lines told
+
+-- A line with its newline was taken of what was left, and its bytes of the room. It may stand in the part that
+-- it was met in, which led to the next one.
+pub record GivesLine (before : Option (List ℕ)) (r : ReportReader) (line : ReportLine) (after : Option (List ℕ)) (s : ReportReader) : Type 0 where
+  pub bytes : Consumes before after (line_text line ++ codes "\n")
+  pub text : HasText line
+  pub placed : next_part r.part line ≡ Some s.part
+  pub number : s.number ≡ r.number + 1
+  pub room : s.lines.room + length (line_text line ++ codes "\n") ≡ r.lines.room
+
+-- When the next line is not given so: what was left before and is left after, the part and the number of lines
+-- above, the room that there was, and that the device failed.
+abbrev pub IsLineFault : ReportFault → ReportReader → Option (List ℕ) → Option (List ℕ) → Type 0 → Type 0
+IsLineFault (NotAReport n) r before after failed = (n ≡ r.number + 1) × IfKnown before (λ bytes. GoesOn r.part bytes → ⊥)
+IsLineFault Reader r before after failed = failed × lines.NoLineCame before after
+IsLineFault TooLong r before after failed = IfKnown before (λ bytes. (r.lines.room < length bytes) × (newlines (take r.lines.room bytes) ≡ 0))
+IsLineFault Memory r before after failed = ⊤

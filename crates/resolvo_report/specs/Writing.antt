@@ -1,0 +1,15 @@
+-- What a writer of a report does to its device.
+use Rattle.std.specs.Prelude.{◌≡◌, ℕ, List, Option}
+use Rattle.std.specs.Io.KnownBytes.{Appends}
+use Rattle.resolvo_text.specs.Device.{WriterFailed, TakesFront}
+use Rattle.resolvo_report.specs.declared.writing.ReportWriteFault.{ReportWriteFault}
+use Rattle.resolvo_report.specs.declared.writing.ReportWriteFault.TheVariants.{Writer}
+
+-- The device took this text, and didn't fail: its contents, its failures and its empty writes before and after.
+abbrev pub Wrote : Option (List ℕ) → Option (List ℕ) → ℕ → ℕ → ℕ → ℕ → List ℕ → Type 0
+Wrote before after failures failures_now empty empty_now text = Appends before after text × (failures_now ≡ failures) × (empty_now ≡ empty)
+
+-- The device took a front of this text and no more, for want of memory or because it failed.
+abbrev pub StopsWriting : ReportWriteFault → Option (List ℕ) → Option (List ℕ) → ℕ → ℕ → ℕ → ℕ → ℕ → List ℕ → Type 0
+StopsWriting e before after failures failures_now interruptions empty empty_now text = TakesFront before after text
+    × (e ≡ Writer → WriterFailed failures failures_now interruptions empty empty_now)

@@ -1,0 +1,62 @@
+//! Reports and their lines.
+//!
+//! A report and a line are seen as those of specs/Value.antt. The reader and the writer of reports make and take
+//! them, and the judge reads a report line by line.
+
+use crate::step::{Place, Step};
+use resolvo_text::Version;
+
+/// A line of an install report about a version.
+#[derive(Debug, Drop)]
+pub enum AnswerLine {
+    /// The version is installed, since this line of the request or of the version needs it.
+    Entry {
+        version: Version,
+        place: Place,
+        line: u32,
+    },
+    /// The version is installed, since this line of the request wishes it.
+    Wished {
+        version: Version,
+        line: u32,
+    },
+    /// The version isn't installed though this line of the request wishes it: the step bars it.
+    LeftOut {
+        version: Version,
+        line: u32,
+        step: u32,
+    },
+}
+
+/// A report.
+#[derive(Debug, Drop)]
+pub enum Report {
+    /// A set serves the request. The steps bar the wishes that are left out.
+    Install {
+        lines: Vec<AnswerLine>,
+        steps: Vec<Step>,
+    },
+    /// No set serves the request. These lines of the two texts contradict each other, as the steps show, and the
+    /// lines of the message tell people why.
+    Refused {
+        catalogue: Vec<u32>,
+        request: Vec<u32>,
+        steps: Vec<Step>,
+        message: Vec<Vec<u8>>,
+    },
+}
+
+/// One line of a report.
+#[derive(Debug, Drop)]
+pub enum ReportLine {
+    Install,
+    Refused,
+    Answer(AnswerLine),
+    /// A line of the catalogue is named.
+    Catalogue { line: u32 },
+    /// A line of the request is named.
+    Request { line: u32 },
+    Step { number: u32, step: Step },
+    /// A line of the message, without the sign before it.
+    Message { bytes: Vec<u8> },
+}
