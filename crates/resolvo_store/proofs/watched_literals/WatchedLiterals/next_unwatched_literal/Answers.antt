@@ -1,0 +1,20 @@
+use Rattle.std.proofs.Common.{◌≡◌, ◌||◌, inl, inr, Some, true, sym, ◌∙◌}
+use Rattle.std.proofs.lemmas.Bool.{or_left, or_right}
+use Rattle.std.proofs.lemmas.List.Elements.{All-push}
+use Rattle.resolvo_store.specs.Signed.{Signed, value_under, is_false}
+use Rattle.resolvo_store.specs.Pairs.{watches}
+use Rattle.resolvo_store.specs.Values.{value_at}
+use Rattle.resolvo_store.proofs.ClauseValues.{one_more}
+use Rattle.resolvo_store.proofs.watched_literals.WatchedLiterals.next_unwatched_literal.Goals as goal
+
+pub loop-literal-preserved : goal.loop-literal-preserved
+loop-literal-preserved g c =
+    let l = c.in-Some.literal in
+    let here : (watches (Some c.args.self.now) l || is_false (value_under (value_at c.args.values.now) l)) ≡ true = elim c.else-not-is_watched.either [
+      | inl h ↦ or_right (watches (Some c.args.self.now) l) (is_false (value_under (value_at c.args.values.now) l)) (sym c.is_false-is_false.ensures ∙ h.1)
+      | inr h ↦ or_left (watches (Some c.args.self.now) l) (is_false (value_under (value_at c.args.values.now) l)) (sym c.watches-is_watched.ensures ∙ h)
+    ] in
+    record {
+      whole = one_more _ _ _ _ _ c.loop-literal.invariant.whole c.in-Some.ensures.steps;
+      passed = All-push (λ (m : Signed). (watches (Some c.args.self.now) m || is_false (value_under (value_at c.args.values.now) m)) ≡ true) c.loop-literal.yielded l c.loop-literal.invariant.passed here;
+    }

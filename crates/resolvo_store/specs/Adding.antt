@@ -1,0 +1,20 @@
+-- What becomes of a decision that is added.
+use Rattle.std.specs.Prelude.{Bool, true, false, [], ◌∷◌, ◌++◌, Option, Some, None}
+use Rattle.resolvo_store.specs.declared.decision.Entry.{Entry}
+use Rattle.resolvo_store.specs.declared.decision_tracker.Set.{Set}
+use Rattle.resolvo_store.specs.declared.decision_tracker.Set.TheVariants.{New, Already, Opposite}
+use Rattle.resolvo_store.specs.Trail.{Tracked}
+
+-- new where the variable has no value, already where it has this one, else opposite
+abbrev pub set_for : Bool → Option Bool → Set
+set_for value None = New
+set_for true (Some true) = Already
+set_for true (Some false) = Opposite
+set_for false (Some true) = Opposite
+set_for false (Some false) = Already
+
+-- the trail with the entry at its end, where that is new
+abbrev pub with_entry : Set → Entry → Tracked → Tracked
+with_entry New e t = record t { trail = t.trail ++ e ∷ [] }
+with_entry Already e t = t
+with_entry Opposite e t = t

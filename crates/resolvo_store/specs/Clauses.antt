@@ -1,0 +1,92 @@
+-- What clauses say, as lists of literals.
+use Rattle.std.specs.Prelude.{◌≡◌, ◌<◌, ⊤, Bool, true, false, List, [], ◌∷◌, ◌++◌, map, Option, Some, None, All, Contains}
+use Rattle.resolvo_pool.specs.declared.id.VariableId.{VariableId}
+use Rattle.resolvo_store.specs.Signed.{Signed}
+use Rattle.resolvo_store.specs.declared.lists.Candidate.{Candidate}
+use Rattle.resolvo_store.specs.declared.lists.FixedLists.{FixedLists}
+use Rattle.resolvo_store.specs.Lists.{candidates_in, condition_in, learnt_in, has_candidates, HasDisjunction, learnt_count}
+use Rattle.resolvo_store.specs.declared.clause.Clause.{Clause}
+use Rattle.resolvo_store.specs.declared.clause.Clause.TheVariants.{InstallRoot, Requires, ForbidMultipleInstances, Constrains, ConstrainsParent, ConstrainsExcluded, Lock, Learnt, Excluded, AnyOf}
+
+-- the variable is true
+abbrev pub yes : VariableId → Signed
+yes v = record { variable = v; positive = true }
+
+-- the variable is false
+abbrev pub no : VariableId → Signed
+no v = record { variable = v; positive = false }
+
+-- the variable of the problem itself
+abbrev pub root : VariableId
+root = record { 0 = 0 }
+
+-- the candidates of a requirement are true
+abbrev pub candidate_literals : {N : Type 0} → List (Candidate N) → List Signed
+candidate_literals cs = map (λ c. c.literal) cs
+
+-- the literals of a clause, one of which is true
+abbrev pub literals_of : {N : Type 0} → FixedLists N → Clause N → List Signed
+literals_of ls InstallRoot = yes root ∷ []
+literals_of ls (Requires p d r) = no p ∷ (condition_in ls d ++ candidate_literals (candidates_in ls r))
+literals_of ls (ForbidMultipleInstances v l n) = no v ∷ l ∷ []
+literals_of ls (Constrains p c s) = no p ∷ no c ∷ []
+literals_of ls (ConstrainsParent p x s) = no p ∷ no x ∷ []
+literals_of ls (ConstrainsExcluded c x s) = no c ∷ yes x ∷ []
+literals_of ls (Lock l o) = no root ∷ no o ∷ []
+literals_of ls (Learnt l) = learnt_in ls l
+literals_of ls (Excluded v s) = no v ∷ []
+literals_of ls (AnyOf x v) = yes x ∷ no v ∷ []
+
+-- the kinds that always have two literals
+abbrev pub is_binary_kind : {N : Type 0} → Clause N → Bool
+is_binary_kind InstallRoot = false
+is_binary_kind (Requires p d r) = false
+is_binary_kind (ForbidMultipleInstances v l n) = true
+is_binary_kind (Constrains p c s) = true
+is_binary_kind (ConstrainsParent p x s) = true
+is_binary_kind (ConstrainsExcluded c x s) = true
+is_binary_kind (Lock l o) = true
+is_binary_kind (Learnt l) = false
+is_binary_kind (Excluded v s) = false
+is_binary_kind (AnyOf x v) = true
+
+-- the variable has an index that a literal can have
+abbrev pub InRange : VariableId → Type 0
+InRange v = v.0 < 2147483648
+
+-- the variables that the clause names itself are in range
+abbrev pub OwnInRange : {N : Type 0} → Clause N → Type 0
+OwnInRange InstallRoot = ⊤
+OwnInRange (Requires p d r) = InRange p
+OwnInRange (ForbidMultipleInstances v l n) = InRange v
+OwnInRange (Constrains p c s) = InRange p × InRange c
+OwnInRange (ConstrainsParent p x s) = InRange p × InRange x
+OwnInRange (ConstrainsExcluded c x s) = InRange c × InRange x
+OwnInRange (Lock l o) = InRange o
+OwnInRange (Learnt l) = ⊤
+OwnInRange (Excluded v s) = InRange v
+OwnInRange (AnyOf x v) = InRange x × InRange v
+
+-- the lists that the clause names are there
+abbrev pub HasLists : {N : Type 0} → FixedLists N → Clause N → Type 0
+HasLists ls InstallRoot = ⊤
+HasLists ls (Requires p d r) = HasDisjunction ls d × (has_candidates ls r ≡ true)
+HasLists ls (ForbidMultipleInstances v l n) = ⊤
+HasLists ls (Constrains p c s) = ⊤
+HasLists ls (ConstrainsParent p x s) = ⊤
+HasLists ls (ConstrainsExcluded c x s) = ⊤
+HasLists ls (Lock l o) = ⊤
+HasLists ls (Learnt l) = l.raw < learnt_count ls
+HasLists ls (Excluded v s) = ⊤
+HasLists ls (AnyOf x v) = ⊤
+
+-- what the clause names is there
+pub record Fits {N : Type 0} (ls : FixedLists N) (c : Clause N) : Type 0 where
+  pub in_range : OwnInRange c
+  pub lists : HasLists ls c
+
+-- the value of a clause: true where a literal is true, false where all are false, else none
+abbrev pub IsValueOf : (Signed → Option Bool) → List Signed → Option Bool → Type 0
+IsValueOf value literals (Some true) = (l : Signed) × Contains literals l × (value l ≡ Some true)
+IsValueOf value literals (Some false) = All (λ l. value l ≡ Some false) literals
+IsValueOf value literals None = (l : Signed) × Contains literals l × (value l ≡ None) × All (λ m. value m ≡ Some true → ⊥) literals

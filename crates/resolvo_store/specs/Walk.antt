@@ -1,0 +1,33 @@
+-- A walk over the clauses that watch a literal.
+use Rattle.std.specs.Prelude.{◌≡◌, ℕ, List, [], ◌∷◌, ◌++◌, drop, slice_set, Option, Some, None, cond}
+use Rattle.resolvo_pool.specs.declared.id.ClauseId.{ClauseId}
+use Rattle.resolvo_store.specs.Signed.{Signed}
+use Rattle.resolvo_store.specs.Pairs.{watches, moved_pair}
+use Rattle.resolvo_store.specs.declared.watched_literals.WatchedLiterals.{WatchedLiterals}
+use Rattle.resolvo_store.specs.Watches.{pair_at, IsWatched}
+
+-- the literal to watch in the place of another, unless it is watched already
+abbrev pub new_watch : Option WatchedLiterals → Option Signed → Option Signed
+new_watch p None = None
+new_watch p (Some to) = cond (watches p to) None (Some to)
+
+abbrev pub first_target : List (Option Signed) → Option Signed
+first_target [] = None
+first_target (o ∷ os) = o
+
+-- what the clause watches once it was met with this new literal
+abbrev pub with_watch : Signed → Option WatchedLiterals → Option Signed → Option WatchedLiterals
+with_watch from p None = p
+with_watch from None (Some to) = None
+with_watch from (Some p) (Some to) = Some (moved_pair p from to)
+
+-- what the clauses watch once these were met in turn, the i-th with the i-th literal
+abbrev pub pairs_after : Signed → List (Option WatchedLiterals) → List ClauseId → List (Option Signed) → List (Option WatchedLiterals)
+pairs_after from pairs [] moves = pairs
+pairs_after from pairs (c ∷ cs) moves = pairs_after from (slice_set pairs c.0 (with_watch from (pair_at pairs c.0) (new_watch (pair_at pairs c.0) (first_target moves)))) cs (drop 1 moves)
+
+-- the walk met these clauses, and the ones from the place on are left
+pub record IsWalking (from : Signed) (met : List ClauseId) (moves : List (Option Signed)) (pairs : List (Option WatchedLiterals)) (view : Signed → List ClauseId) (place : ℕ) (now_moves : List (Option Signed)) (now_pairs : List (Option WatchedLiterals)) (now_view : Signed → List ClauseId) : Type 0 where
+  pub fit : IsWatched now_pairs now_view
+  pub split : view from ≡ met ++ drop place (now_view from)
+  pub left : pairs_after from pairs (view from) moves ≡ pairs_after from now_pairs (drop place (now_view from)) now_moves
