@@ -1,0 +1,10 @@
+use Rattle.std.proofs.Common.{ap, sym, ◌∙◌, ◌+◌, take}
+use Rattle.resolvo_report.specs.View.{steps_of}
+use Rattle.resolvo_judge.specs.Checking.{count_causes}
+use Rattle.resolvo_judge.proofs.WholeProofs.{count_more}
+use Rattle.resolvo_judge.proofs.proof.count_causes.Goals as goal
+
+pub loop-step-preserved : goal.loop-step-preserved
+loop-step-preserved c =
+    c.in_ok-count.ensures.1 ∙ (ap (λ n. n + c.causes_in.result) c.loop-step.invariant ∙ (ap (λ n. count_causes (steps_of (take c.loop-step.step-index c.args.steps.now)) + n) c.causes_in.ensures
+    ∙ sym (count_more c.args.steps.now c.loop-step.step-index c.step-item.result c.loop-step-test.true c.step-item.is)))

@@ -1,0 +1,63 @@
+-- What the judge keeps of the entries and left-out wishes so far.
+use Rattle.std.specs.Prelude.{◌≡◌, ℕ, ◌+◌, ◌||◌, Bool, true, false, IsTrue, nat_lt, List, [], ◌∷◌, map, Option, Some, None, is_some, nat_eq}
+use Rattle.std.specs.HashMap.{get}
+use Rattle.std.specs.List.{list_any, list_all}
+use Rattle.resolvo_text.specs.Line.{Version, Line, Wish}
+use Rattle.resolvo_text.specs.Matching.{is_member}
+use Rattle.resolvo_catalogue.specs.Grammar.{line_at}
+use Rattle.resolvo_text.specs.View.{version_of}
+use Rattle.resolvo_report.specs.Value.{AnswerLine, Entry, Wished, LeftOut}
+use Rattle.resolvo_judge.specs.Entries.{entries_of, left_out, wish_lines, wishes}
+use Rattle.resolvo_judge.specs.Refusal.{leaves_out}
+use Rattle.resolvo_judge.specs.Chosen.{Holds}
+use Rattle.resolvo_judge.specs.Versions.{HoldsAll}
+use Rattle.resolvo_judge.specs.declared.entries.Barred as code
+use Rattle.resolvo_judge.specs.declared.entries.Entries.{Entries}
+
+-- a wish that is left out, the step that bars it, and how many entries stand above its line
+pub record BarredWish : Type 0 where
+  pub wish : Version
+  pub step : ℕ
+  pub above : ℕ
+
+abbrev pub barred_of : code.Barred → BarredWish
+barred_of b = record { wish = version_of b.wish; step = b.step; above = b.above }
+
+-- the left-out wishes of these lines, with i entries before them
+abbrev pub barred_from : ℕ → List AnswerLine → List BarredWish
+barred_from i [] = []
+barred_from i (Entry v place n ∷ lines) = barred_from (i + 1) lines
+barred_from i (Wished v n ∷ lines) = barred_from (i + 1) lines
+barred_from i (LeftOut v n step ∷ lines) = record { wish = v; step = step; above = i } ∷ barred_from i lines
+
+-- The line's number is greater than the last one, where there was one.
+abbrev pub is_after : Option ℕ → ℕ → Bool
+is_after None n = true
+is_after (Some m) n = nat_lt m n
+
+-- This is kept of these lines.
+pub record KeepsAnswers (e : Entries) (before : List AnswerLine) : Type 0 where
+  pub chosen : Holds e.chosen (entries_of before)
+  pub out : HoldsAll e.out (left_out before)
+  pub rising : (n : ℕ) → list_all (λ m. nat_lt m n) (wish_lines before) ≡ is_after e.last_wish n
+  pub barred : map barred_of e.barred.items ≡ barred_from 0 before
+
+-- The lines of the request whose wishes are left out are kept.
+abbrev pub KeepsLines : List Line → Entries → List AnswerLine → Type 0
+KeepsLines request e before = (n : ℕ) (v : Version) → wishes (line_at request n) v ≡ true → is_some (get nat_eq e.lines n) ≡ list_any (leaves_out v n) before
+
+-- ---- the wishes
+
+-- The wish in this line, if it is one, is an entry or is left out.
+abbrev pub IsTold : List Line → List AnswerLine → ℕ → Type 0
+IsTold request answers n = (v : Version) → line_at request n ≡ Some (Wish v) → IsTrue (is_member v (entries_of answers) || list_any (leaves_out v n) answers)
+
+-- The answer says whether it is.
+abbrev pub IsWishTold : List Line → List AnswerLine → ℕ → Bool → Type 0
+IsWishTold request answers n true = IsTold request answers n
+IsWishTold request answers n false = IsTold request answers n → ⊥
+
+-- The answer says whether each wish is.
+abbrev pub AreWishesTold : List Line → List AnswerLine → Bool → Type 0
+AreWishesTold request answers true = (n : ℕ) → IsTold request answers n
+AreWishesTold request answers false = ((n : ℕ) → IsTold request answers n) → ⊥

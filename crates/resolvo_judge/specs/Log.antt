@@ -1,0 +1,29 @@
+-- What is kept of the named lines and the steps of a report.
+use Rattle.std.specs.Prelude.{◌≡◌, ℕ, Bool, true, false, List, Option}
+use Rattle.std.specs.Global.{Vec}
+use Rattle.resolvo_text.specs.Line.{Line}
+use Rattle.resolvo_report.specs.Value.{ReportLine, InstallHead, RefusedHead, Numbered}
+use Rattle.resolvo_judge.specs.declared.literal.Literal.{Literal}
+use Rattle.resolvo_judge.specs.declared.checking.Scope.{Scope}
+use Rattle.resolvo_judge.specs.Proof.{ends_empty}
+use Rattle.resolvo_judge.specs.Checking.{names_catalogue, names_request, causes_in, StandFor}
+use Rattle.resolvo_judge.specs.Refusal.{steps_in, catalogue_lines_in, request_lines_in, may_rest}
+
+-- What is kept stands for these lines: their steps, the lines that steps may rest on, and whether the last step
+-- derives the clause without literals.
+pub record LogStands (catalogue request : List Line) (entries : List (Vec ℕ × ℕ)) (clauses : List (List Literal)) (places : List (Option ℕ)) (scope : Scope) (empty : Bool) (above : List ReportLine) : Type 0 where
+  pub steps : StandFor catalogue request entries clauses places (steps_in above)
+  pub catalogue_lines : (n : ℕ) → names_catalogue scope n ≡ may_rest above (catalogue_lines_in above) n
+  pub request_lines : (n : ℕ) → names_request scope n ≡ may_rest above (request_lines_in above) n
+  pub ends : empty ≡ ends_empty (steps_in above)
+
+-- the first line of a report
+abbrev pub is_head : ReportLine → Bool
+is_head InstallHead = true
+is_head RefusedHead = true
+is_head l = false
+
+-- how many clauses the line names
+abbrev pub causes_of_line : ReportLine → ℕ
+causes_of_line (Numbered n s) = causes_in s
+causes_of_line l = 0

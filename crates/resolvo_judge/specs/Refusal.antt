@@ -1,0 +1,132 @@
+-- Where a report is refused: at the first line that doesn't pass after the lines above it, or past the last line.
+use Rattle.std.specs.Prelude.{◌≡◌, ℕ, zero, suc, ◌+◌, Bool, true, false, ◌&&◌, ◌||◌, ◌==◌, if◌then◌else◌, IsTrue, List, [], ◌∷◌, ◌++◌, length, map, take, Option, Some, None, slice_get}
+use Rattle.std.specs.List.{list_any, flat_map}
+use Rattle.std.specs.Option.{option_map_or, option_and_then}
+use Rattle.resolvo_text.specs.Line.{Version, Line, Wish}
+use Rattle.resolvo_text.specs.Matching.{Set, same_version, is_member}
+use Rattle.resolvo_catalogue.specs.Grammar.{line_at}
+use Rattle.resolvo_catalogue.specs.Rules.{keeps, keeps_in_request}
+use Rattle.resolvo_catalogue.specs.Questions.{is_rule}
+use Rattle.resolvo_catalogue.specs.Answers as answer
+use Rattle.resolvo_catalogue.specs.Answers.{Answer}
+use Rattle.resolvo_report.specs.Value.{AnswerLine, Entry, Wished, LeftOut, OfRequest, OfVersion, ReportLine, InstallHead, RefusedHead, CatalogueLine, RequestLine, Numbered, Message, Step}
+use Rattle.resolvo_report.specs.Value as line
+use Rattle.resolvo_judge.specs.StepClauses.{clause_of}
+use Rattle.resolvo_judge.specs.Entries.{entries_of, answer_fits}
+use Rattle.resolvo_judge.specs.Proof.{may_stand, is_named, ends_empty, bars}
+
+-- ---- what lines say
+
+-- what an entry or a `left out` line claims
+abbrev pub answer_of : AnswerLine → Answer
+answer_of (Entry v OfRequest n) = answer.Entry v (answer.ForRequest n)
+answer_of (Entry v (OfVersion w) n) = answer.Entry v (answer.ForVersion w n)
+answer_of (Wished v n) = answer.Entry v (answer.Wished n)
+answer_of (LeftOut v n step) = answer.LeftOut v n step
+
+abbrev pub answer_in : ReportLine → List AnswerLine
+answer_in (line.Answer a) = a ∷ []
+answer_in l = []
+
+abbrev pub step_in : ReportLine → List Step
+step_in (Numbered n s) = s ∷ []
+step_in l = []
+
+abbrev pub catalogue_line_in : ReportLine → List ℕ
+catalogue_line_in (CatalogueLine n) = n ∷ []
+catalogue_line_in l = []
+
+abbrev pub request_line_in : ReportLine → List ℕ
+request_line_in (RequestLine n) = n ∷ []
+request_line_in l = []
+
+-- the entries and left-out wishes, the steps, and the named lines
+abbrev pub answers_in : List ReportLine → List AnswerLine
+answers_in lines = flat_map answer_in lines
+
+abbrev pub steps_in : List ReportLine → List Step
+steps_in lines = flat_map step_in lines
+
+abbrev pub catalogue_lines_in : List ReportLine → List ℕ
+catalogue_lines_in lines = flat_map catalogue_line_in lines
+
+abbrev pub request_lines_in : List ReportLine → List ℕ
+request_lines_in lines = flat_map request_line_in lines
+
+-- what the entries and `left out` lines claim
+abbrev pub answers_claimed : List ReportLine → List Answer
+answers_claimed lines = map answer_of (answers_in lines)
+
+-- The report says that no set serves the request.
+abbrev pub is_refusal : List ReportLine → Bool
+is_refusal (RefusedHead ∷ lines) = true
+is_refusal lines = false
+
+-- Steps of a refusal rest on the lines that it names, those of an install report on all.
+abbrev pub may_rest : List ReportLine → List ℕ → ℕ → Bool
+may_rest above lines n = if is_refusal above then is_named lines n else true
+
+-- ---- lines
+
+abbrev pub states_rule : Option Line → Bool
+states_rule None = false
+states_rule (Some l) = is_rule l
+
+-- The line passes after the lines above it.
+abbrev pub passes : List Line → List Line → List ReportLine → ReportLine → Bool
+passes catalogue request above InstallHead = true
+passes catalogue request above RefusedHead = true
+passes catalogue request above (line.Answer a) = answer_fits catalogue request (answers_in above) a
+passes catalogue request above (CatalogueLine n) = states_rule (line_at catalogue n)
+passes catalogue request above (RequestLine n) = states_rule (line_at request n)
+passes catalogue request above (Numbered n s) = may_stand catalogue request (may_rest above (catalogue_lines_in above)) (may_rest above (request_lines_in above)) (steps_in above) s
+passes catalogue request above (Message bytes) = true
+
+-- ---- the end
+
+-- Step k, from 1, is there, and its clause has no literal but `not` of the wish or of an entry.
+abbrev pub step_bars : List Line → List Line → List Step → Set → Version → ℕ → Bool
+step_bars catalogue request steps entries wish zero = false
+step_bars catalogue request steps entries wish (suc k) = option_map_or (bars entries wish) (option_and_then (clause_of catalogue request) (slice_get steps k)) false
+
+-- The wish in this line of the request is left out.
+abbrev pub leaves_out : Version → ℕ → AnswerLine → Bool
+leaves_out v n (LeftOut w m step) = same_version w v && m == n
+leaves_out v n l = false
+
+-- The entries obey each line, each wish is an entry or is left out, and each one that is left out is barred by
+-- its step, with the entries above its line.
+pub record InstallEnds (catalogue request : List Line) (answers : List AnswerLine) (steps : List Step) : Type 0 where
+  pub catalogue_lines : (n : ℕ) → IsTrue (keeps catalogue n (entries_of answers))
+  pub request_lines : (n : ℕ) → IsTrue (keeps_in_request request n (entries_of answers))
+  pub wishes : (n : ℕ) (v : Version) → line_at request n ≡ Some (Wish v) → IsTrue (is_member v (entries_of answers) || list_any (leaves_out v n) answers)
+  pub barred : (above below : List AnswerLine) (v : Version) (n k : ℕ) → answers ≡ above ++ LeftOut v n k ∷ below → IsTrue (step_bars catalogue request steps (entries_of above) v k)
+
+-- What the report's end asks of its lines.
+abbrev pub Ends : List Line → List Line → List ReportLine → Type 0
+Ends catalogue request (RefusedHead ∷ lines) = IsTrue (ends_empty (steps_in lines))
+Ends catalogue request lines = InstallEnds catalogue request (answers_in lines) (steps_in lines)
+
+-- Each line passes after those above it.
+abbrev pub ArePassed : List Line → List Line → List ReportLine → Type 0
+ArePassed catalogue request lines = (n : ℕ) (l : ReportLine) → slice_get lines n ≡ Some l → passes catalogue request (take n lines) l ≡ true
+
+-- All lines pass, and the end does.
+pub record IsAccepted (catalogue request : List Line) (lines : List ReportLine) : Type 0 where
+  pub passed : ArePassed catalogue request lines
+  pub ends : Ends catalogue request lines
+
+-- Line n is the first that doesn't pass.
+pub record IsRefusedAtLine (catalogue request : List Line) (lines : List ReportLine) (n : ℕ) : Type 0 where
+  pub above : ℕ
+  pub place : n ≡ above + 1
+  pub passed : ArePassed catalogue request (take above lines)
+  pub refused : ReportLine
+  pub there : slice_get lines above ≡ Some refused
+  pub fails : passes catalogue request (take above lines) refused ≡ false
+
+-- All lines pass, but the end doesn't.
+pub record IsRefusedAtEnd (catalogue request : List Line) (lines : List ReportLine) (n : ℕ) : Type 0 where
+  pub place : n ≡ length lines + 1
+  pub passed : ArePassed catalogue request lines
+  pub fails : Ends catalogue request lines → ⊥

@@ -1,0 +1,280 @@
+//! The entries and the left-out wishes of an `install` report, taken one line after the other.
+//! What is kept stands for the lines so far (`KeepsAnswers` of specs/KeptAnswers.antt). The judge takes each such line here.
+
+ghost use Rattle.std.specs.Prelude.{◌≡◌, ◌++◌, ◌∷◌, [], ◌<◌, ◌+◌, ◌^◌, List, Option, IfOk, OnOk, IsTrue, option_and_then, option_copied};
+ghost use Rattle.std.specs.List.{list_any};
+ghost use Rattle.resolvo_text.specs.Line as says;
+ghost use Rattle.resolvo_text.specs.Matching.{Set, same_version, matches as matches_lem};
+ghost use Rattle.resolvo_text.specs.View.{version_of, spec_of, specs_of};
+ghost use Rattle.resolvo_catalogue.specs.Grammar.{line_at};
+ghost use Rattle.resolvo_catalogue.specs.Listed.{listed};
+ghost use Rattle.resolvo_report.specs.Value as said;
+ghost use Rattle.resolvo_report.specs.View.{place_of, answer_line_of};
+ghost use Rattle.resolvo_judge.specs.Stated.{line_said, owned_line};
+ghost use Rattle.resolvo_judge.specs.Chosen.{Holds};
+ghost use Rattle.resolvo_judge.specs.Entries.{may_enter as may_enter_lem, is_place_taken as is_place_taken_lem, gives as gives_lem, is_reason as is_reason_lem, is_wish as is_wish_lem, answer_fits, entries_of};
+ghost use Rattle.resolvo_judge.specs.KeptAnswers.{KeepsAnswers, KeepsLines, IsWishTold, AreWishesTold, is_after};
+
+use crate::chosen::Chosen;
+use crate::stated::rule_at;
+use crate::steps::number_of;
+use crate::versions::Versions;
+use resolvo_catalogue::{Catalogue, Request, Rule, Spec, Version};
+use resolvo_report::{AnswerLine, Place};
+use resolvo_text::matches;
+use std::alloc::{AllocError, Global};
+use std::collections::HashMap;
+
+/// A wish that is left out, the step that bars it, and how many entries stand above its line.
+#[derive(Drop)]
+pub struct Barred {
+    pub wish: Version,
+    pub step: u32,
+    pub above: usize,
+}
+
+/// The entries and left-out wishes so far.
+#[derive(Drop)]
+pub struct Entries {
+    pub chosen: Chosen,
+    pub out: Versions,
+    pub barred: Vec<Barred>,
+    /// The steps that bar the left-out wishes, by their request lines.
+    pub lines: HashMap<u32, u32>,
+    /// The last request line that a `wished` or `left out` line named.
+    pub last_wish: Option<u32>,
+}
+
+fn any_matches(alternatives: &[Spec], version: &Version) -> bool
+    ensures { result ≡ list_any (λ s. matches_lem (spec_of s) (version_of version.now)) alternatives.now }
+{
+    alternatives.iter().any(|spec| matches(spec, version))
+}
+
+/// Whether the version matches one of the alternatives.
+fn one_matches(alternatives: &[Spec], version: &Version) -> bool
+    ensures { result ≡ list_any (λ s. matches_lem s (version_of version.now)) (specs_of alternatives.now) }
+{
+    any_matches(alternatives, version)
+}
+
+/// Whether the rule is a need that the version meets, and whose condition holds.
+fn gives(chosen: &Chosen, rule: Option<&Rule>, version: &Version) -> bool
+    ensures { (set : Set) (vs : List says.Version) → Holds chosen.now set → result ≡ gives_lem (option_and_then (line_said vs) (option_copied rule.entry)) set (version_of version.now) }
+{
+    match rule {
+        Some(
+            Rule::Needs {
+                alternatives,
+                condition,
+                ..
+            },
+        ) => one_matches(alternatives, version) && chosen.condition_holds(condition),
+        _ => false,
+    }
+}
+
+fn is_same(one: &Version, other: &Version) -> bool
+    ensures { result ≡ same_version (version_of one.now) (version_of other.now) }
+{
+    one.name == other.name && one.number == other.number
+}
+
+impl Entries {
+    pub fn new(alloc: Global) -> Entries
+        ensures kept { KeepsAnswers result [] }
+        ensures lines { (request : List says.Line) → KeepsLines request result [] }
+    {
+        Entries {
+            chosen: Chosen::new(alloc),
+            out: Versions::new(alloc),
+            barred: Vec::new(alloc),
+            lines: HashMap::new(alloc),
+            last_wish: None,
+        }
+    }
+
+    /// Whether the version may be an entry, for whatever reason.
+    fn may_enter(&self, catalogue: &Catalogue, version: &Version) -> bool
+        ensures { (before : List said.AnswerLine) → KeepsAnswers self.now before → result ≡ may_enter_lem catalogue.now before (version_of version.now) }
+    {
+        number_of(catalogue, version).is_some()
+            && !self.chosen.has_package_of(version)
+            && !self.out.has(version)
+    }
+
+    fn is_place_taken(&self, place: &Place) -> bool
+        ensures { (before : List said.AnswerLine) → KeepsAnswers self.now before → result ≡ is_place_taken_lem (place_of place.now) (entries_of before) }
+    {
+        match place {
+            Place::Request => true,
+            Place::Version(version) => self.chosen.has(version),
+        }
+    }
+
+    /// Whether the line of this place gives a reason for the version.
+    fn is_reason(
+        &self,
+        catalogue: &Catalogue,
+        request: &Request,
+        place: &Place,
+        line: u32,
+        version: &Version,
+    ) -> bool
+        ensures { (before : List said.AnswerLine) → KeepsAnswers self.now before → result ≡ is_reason_lem catalogue.now request.now.lines (entries_of before) (place_of place.now) line (version_of version.now) }
+    {
+        self.is_place_taken(place)
+            && gives(
+                &self.chosen,
+                rule_at(catalogue, request, place, line),
+                version,
+            )
+    }
+
+    /// Whether no line so far named a wish of this line or of one below it.
+    fn is_next_wish(&self, line: u32) -> bool
+        ensures { result ≡ is_after self.now.last_wish line }
+    {
+        match self.last_wish {
+            Some(last) => last < line,
+            None => true,
+        }
+    }
+
+    /// Whether the line of the request wishes the version, and may be named now.
+    fn is_wish(&self, request: &Request, line: u32, version: &Version) -> bool
+        ensures { (before : List said.AnswerLine) → KeepsAnswers self.now before → result ≡ is_wish_lem request.now.lines before line (version_of version.now) }
+    {
+        match request.wish(line) {
+            Some(wish) => is_same(version, wish) && self.is_next_wish(line),
+            None => false,
+        }
+    }
+
+    /// Takes an entry, if it may stand here.
+    fn take_entry(
+        &mut self,
+        catalogue: &Catalogue,
+        request: &Request,
+        version: &Version,
+        place: &Place,
+        line: u32,
+    ) -> Result<bool, AllocError>
+        requires { self.old.chosen.count < 2 ^ 32 }
+        ensures fits { IfOk result (λ fits. (before : List said.AnswerLine) → KeepsAnswers self.old before → fits ≡ answer_fits catalogue.now request.now.lines before (said.Entry (version_of version.now) (place_of place.now) line)) }
+        ensures kept { IfOk result (λ fits. (before : List said.AnswerLine) → KeepsAnswers self.old before → IsTrue fits → KeepsAnswers self.new (before ++ said.Entry (version_of version.now) (place_of place.now) line ∷ [])) }
+        ensures lines { IfOk result (λ fits. (before : List said.AnswerLine) → KeepsAnswers self.old before → KeepsLines request.now.lines self.old before → IsTrue fits → KeepsLines request.now.lines self.new (before ++ said.Entry (version_of version.now) (place_of place.now) line ∷ [])) }
+        ensures few { IfOk result (λ fits. self.new.chosen.count < self.old.chosen.count + 2) }
+    {
+        if !self.may_enter(catalogue, version)
+            || !self.is_reason(catalogue, request, place, line, version)
+        {
+            return Ok(false);
+        }
+        self.chosen.add(version)?;
+        Ok(true)
+    }
+
+    /// Takes a wish that is an entry, if it may stand here.
+    fn take_wished(
+        &mut self,
+        catalogue: &Catalogue,
+        request: &Request,
+        version: &Version,
+        line: u32,
+    ) -> Result<bool, AllocError>
+        requires { self.old.chosen.count < 2 ^ 32 }
+        ensures fits { IfOk result (λ fits. (before : List said.AnswerLine) → KeepsAnswers self.old before → fits ≡ answer_fits catalogue.now request.now.lines before (said.Wished (version_of version.now) line)) }
+        ensures kept { IfOk result (λ fits. (before : List said.AnswerLine) → KeepsAnswers self.old before → IsTrue fits → KeepsAnswers self.new (before ++ said.Wished (version_of version.now) line ∷ [])) }
+        ensures lines { IfOk result (λ fits. (before : List said.AnswerLine) → KeepsAnswers self.old before → KeepsLines request.now.lines self.old before → IsTrue fits → KeepsLines request.now.lines self.new (before ++ said.Wished (version_of version.now) line ∷ [])) }
+        ensures few { IfOk result (λ fits. self.new.chosen.count < self.old.chosen.count + 2) }
+    {
+        if !self.may_enter(catalogue, version) || !self.is_wish(request, line, version) {
+            return Ok(false);
+        }
+        self.chosen.add(version)?;
+        self.last_wish = Some(line);
+        Ok(true)
+    }
+
+    /// Takes a wish that is left out, if it may stand here.
+    fn take_left_out(
+        &mut self,
+        alloc: Global,
+        request: &Request,
+        version: &Version,
+        line: u32,
+        step: u32,
+    ) -> Result<bool, AllocError>
+        ensures fits { IfOk result (λ fits. (catalogue : List says.Line) (before : List said.AnswerLine) → KeepsAnswers self.old before → fits ≡ answer_fits catalogue request.now.lines before (said.LeftOut (version_of version.now) line step)) }
+        ensures kept { IfOk result (λ fits. (before : List said.AnswerLine) → KeepsAnswers self.old before → IsTrue fits → KeepsAnswers self.new (before ++ said.LeftOut (version_of version.now) line step ∷ [])) }
+        ensures lines { IfOk result (λ fits. (before : List said.AnswerLine) → KeepsAnswers self.old before → KeepsLines request.now.lines self.old before → IsTrue fits → KeepsLines request.now.lines self.new (before ++ said.LeftOut (version_of version.now) line step ∷ [])) }
+        ensures few { IfOk result (λ fits. self.new.chosen.count ≡ self.old.chosen.count) }
+    {
+        if !self.is_wish(request, line, version) || self.chosen.has(version) {
+            return Ok(false);
+        }
+        self.out.add(alloc, version)?;
+        self.barred.push(Barred {
+            wish: version.copy()?,
+            step,
+            above: self.chosen.count(),
+        })?;
+        self.lines.insert(line, step)?;
+        self.last_wish = Some(line);
+        Ok(true)
+    }
+
+    /// Whether the wish of this request line, if it is one, is an entry or left out.
+    fn is_wish_told(&self, request: &Request, line: u32) -> bool
+        ensures { (before : List said.AnswerLine) → KeepsAnswers self.now before → KeepsLines request.now.lines self.now before → IsWishTold request.now.lines before line result }
+    {
+        match request.wish(line) {
+            Some(wish) => self.chosen.has(wish) || self.lines.contains_key(&line),
+            None => true,
+        }
+    }
+
+    /// Whether each wish of the request is an entry or left out.
+    pub fn are_wishes_told(&self, request: &Request) -> bool
+        ensures { (before : List said.AnswerLine) → KeepsAnswers self.now before → KeepsLines request.now.lines self.now before → AreWishesTold request.now.lines before result }
+    {
+        for index in 0..request.line_count() {
+            if !self.is_wish_told(request, index + 1) {
+                return false;
+            }
+        }
+        true
+    }
+
+    /// Takes the next line, if it may stand after those before it.
+    pub fn take(
+        &mut self,
+        alloc: Global,
+        catalogue: &Catalogue,
+        request: &Request,
+        line: &AnswerLine,
+    ) -> Result<bool, AllocError>
+        requires { self.old.chosen.count < 2 ^ 32 }
+        ensures fits { IfOk result (λ fits. (before : List said.AnswerLine) → KeepsAnswers self.old before → fits ≡ answer_fits catalogue.now request.now.lines before (answer_line_of line.now)) }
+        ensures kept { IfOk result (λ fits. (before : List said.AnswerLine) → KeepsAnswers self.old before → IsTrue fits → KeepsAnswers self.new (before ++ answer_line_of line.now ∷ [])) }
+        ensures lines { IfOk result (λ fits. (before : List said.AnswerLine) → KeepsAnswers self.old before → KeepsLines request.now.lines self.old before → IsTrue fits → KeepsLines request.now.lines self.new (before ++ answer_line_of line.now ∷ [])) }
+        ensures few { IfOk result (λ fits. self.new.chosen.count < self.old.chosen.count + 2) }
+    {
+        match line {
+            AnswerLine::Entry {
+                version,
+                place,
+                line,
+            } => self.take_entry(catalogue, request, version, place, *line),
+            AnswerLine::Wished { version, line } => {
+                self.take_wished(catalogue, request, version, *line)
+            }
+            AnswerLine::LeftOut {
+                version,
+                line,
+                step,
+            } => self.take_left_out(alloc, request, version, *line, *step),
+        }
+    }
+}

@@ -1,0 +1,39 @@
+//! What a proof shows, for those who rest on it. Each is a function that does nothing.
+
+ghost use Rattle.std.specs.Prelude.{◌≡◌, ℕ, List, Some, true, slice_get, ◌∷◌};
+ghost use Rattle.resolvo_text.specs.Line.{Version, Line};
+ghost use Rattle.resolvo_text.specs.Matching.{Set};
+ghost use Rattle.resolvo_catalogue.specs.Sets.{AreRefuted};
+ghost use Rattle.resolvo_catalogue.specs.Answers.{ClaimsInstall, ClaimsRefusal};
+ghost use Rattle.resolvo_report.specs.Value.{Step, ReportLine, InstallHead, RefusedHead};
+ghost use Rattle.resolvo_judge.specs.Refusal.{IsAccepted, answers_claimed, catalogue_lines_in, request_lines_in};
+ghost use Rattle.resolvo_judge.specs.StepClauses.{Clause, clause_of};
+ghost use Rattle.resolvo_judge.specs.Proof.{IsProof, is_named, every_line, ends_empty, bars, AreApart, ObeysLines, IsTrueIn};
+ghost use Rattle.resolvo_catalogue.specs.Sets.{IsSingle};
+
+/// The clause of each step of a proof is true in each single set that obeys the lines which the proof rests on,
+/// with one place for each version and helpers by what they mean.
+pub fn steps_are_true()
+    ensures { (catalogue request : List Line) (catalogue_lines request_lines : List ℕ) (steps : List Step) (set : Set) → IsProof catalogue request (is_named catalogue_lines) (is_named request_lines) steps → IsSingle catalogue set → ObeysLines catalogue request catalogue_lines request_lines set → IsTrueIn catalogue request set steps }
+{}
+
+/// A proof that ends with the empty clause refutes the lines which it rests on.
+pub fn proof_refutes()
+    ensures { (catalogue request : List Line) (catalogue_lines request_lines : List ℕ) (steps : List Step) → IsProof catalogue request (is_named catalogue_lines) (is_named request_lines) steps → ends_empty steps ≡ true → AreRefuted catalogue request catalogue_lines request_lines }
+{}
+
+/// A step of a proof whose clause has no literal but `not` of a wish and of entries: no rule-keeping set holds these.
+pub fn proof_bars()
+    ensures { (catalogue request : List Line) (steps : List Step) (entries : Set) (wish : Version) (n : ℕ) (step : Step) (clause : Clause) → IsProof catalogue request every_line every_line steps → slice_get steps n ≡ Some step → clause_of catalogue request step ≡ Some clause → bars entries wish clause ≡ true → AreApart catalogue request entries wish }
+{}
+
+/// The claim of a refusal whose lines and end pass: no single set obeys the lines that it names.
+pub fn accepted_refusal_is_true()
+    ensures { (catalogue request : List Line) (lines : List ReportLine) → IsAccepted catalogue request (RefusedHead ∷ lines) → ClaimsRefusal catalogue request (catalogue_lines_in lines) (request_lines_in lines) }
+{}
+
+/// The claim of an install report whose lines and end pass: its entries are a rule-keeping set, each for the reason
+/// that it names, and its account of the wishes is right.
+pub fn accepted_install_is_true()
+    ensures { (catalogue request : List Line) (lines : List ReportLine) → IsAccepted catalogue request (InstallHead ∷ lines) → ClaimsInstall catalogue request (answers_claimed lines) }
+{}

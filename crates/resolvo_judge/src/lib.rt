@@ -1,0 +1,37 @@
+//! The judge of a report: whether its steps are a proof, and its claim is true.
+#![tactic(auto)]
+
+mod atom;
+mod barring;
+mod building;
+mod checking;
+mod chosen;
+mod clauses;
+mod ending;
+mod entries;
+mod judging;
+mod laws;
+mod literal;
+mod log;
+mod named;
+mod numbering;
+mod numbers;
+mod one_pass;
+mod proof;
+mod stated;
+mod steps;
+mod truth;
+mod versions;
+
+pub use barring::step_bars;
+pub use checking::{Checker, Scope, advance};
+pub use clauses::Readings;
+pub use judging::{Judging, take};
+pub use laws::{
+    accepted_install_is_true, accepted_refusal_is_true, proof_bars, proof_refutes, steps_are_true,
+};
+pub use log::{Log, install_log, refusal_log, take_catalogue_line, take_request_line, take_step};
+pub use proof::{Checked, begin, check_steps, count_causes};
+
+#[cfg(test)]
+mod tests;

@@ -1,0 +1,160 @@
+//! The proof of a report, line by line: named lines, and steps.
+//! What is kept stands for the lines so far: `LogStands` of specs/Log.antt. The judge of reports takes its lines here.
+
+ghost use Rattle.std.specs.Prelude.{◌≡◌, ◌+◌, ◌^◌, ◌<◌, ◌≤◌, [], ◌∷◌, ◌++◌, List, IfOk, IsTrue, length, ℕ, ◌==◌, ◌||◌};
+ghost use Rattle.resolvo_catalogue.specs.Listed.{listed};
+ghost use Rattle.resolvo_report.specs.Value.{ReportLine, InstallHead, RefusedHead, CatalogueLine, RequestLine, Numbered};
+ghost use Rattle.resolvo_report.specs.View.{step_of};
+ghost use Rattle.resolvo_judge.specs.Checking.{causes_in, names_catalogue, names_request};
+ghost use Rattle.resolvo_judge.specs.Proof.{derives_empty as derives_empty_lem};
+ghost use Rattle.resolvo_judge.specs.Refusal.{passes, states_rule};
+ghost use Rattle.resolvo_catalogue.specs.Grammar.{line_at};
+ghost use Rattle.resolvo_text.specs.Line.{Line};
+ghost use Rattle.resolvo_judge.specs.Log.{LogStands};
+
+use crate::checking::{Checker, Scope, advance};
+use crate::clauses::Readings;
+use crate::named::{is_rule, name_in_catalogue, name_in_request};
+use crate::proof::begin;
+use resolvo_catalogue::{Catalogue, Request};
+use resolvo_report::Step;
+use std::alloc::{AllocError, Global};
+
+/// What is kept of the named lines and the steps of a report.
+#[derive(Drop)]
+pub struct Log {
+    pub checker: Checker,
+    pub scope: Scope,
+    /// The last step derives the clause without literals.
+    pub ends_empty: bool,
+}
+
+/// What is kept below the first line of an install report, the steps of which rest on all lines.
+pub fn install_log(
+    alloc: Global,
+    catalogue: &Catalogue,
+    request: &Request,
+) -> Result<Log, AllocError>
+    ensures stands { IfOk result (λ l. LogStands catalogue.now request.now.lines l.checker.numbers l.checker.clauses l.checker.places.items l.scope l.ends_empty (InstallHead ∷ [])) }
+    ensures later { IfOk result (λ l. l.checker.truth.pass ≤ length l.checker.clauses) }
+    ensures long { IfOk result (λ l. length l.checker.places.items ≡ length (listed catalogue.now)) }
+    ensures count { IfOk result (λ l. length l.checker.clauses ≡ 0) }
+{
+    Ok(Log {
+        checker: begin(alloc, catalogue, request)?,
+        scope: Scope::All,
+        ends_empty: false,
+    })
+}
+
+/// What is kept below the first line of a refusal, which names no line yet.
+pub fn refusal_log(
+    alloc: Global,
+    catalogue: &Catalogue,
+    request: &Request,
+) -> Result<Log, AllocError>
+    ensures stands { IfOk result (λ l. LogStands catalogue.now request.now.lines l.checker.numbers l.checker.clauses l.checker.places.items l.scope l.ends_empty (RefusedHead ∷ [])) }
+    ensures later { IfOk result (λ l. l.checker.truth.pass ≤ length l.checker.clauses) }
+    ensures long { IfOk result (λ l. length l.checker.places.items ≡ length (listed catalogue.now)) }
+    ensures count { IfOk result (λ l. length l.checker.clauses ≡ 0) }
+{
+    Ok(Log {
+        checker: begin(alloc, catalogue, request)?,
+        scope: Scope::Named {
+            catalogue: Vec::new(alloc),
+            request: Vec::new(alloc),
+        },
+        ends_empty: false,
+    })
+}
+
+fn derives_empty(step: &Step) -> bool
+    ensures { result ≡ derives_empty_lem (step_of step.now) }
+{
+    match step {
+        Step::Derive { literals, .. } => literals.is_empty(),
+        _ => false,
+    }
+}
+
+/// Takes a step: whether its line passes. Where it does, what is kept stands for it too.
+pub fn take_step(
+    alloc: Global,
+    catalogue: &Catalogue,
+    request: &Request,
+    log: &mut Log,
+    readings: &mut Readings,
+    step: &Step,
+) -> Result<bool, AllocError>
+    requires later { log.old.checker.truth.pass ≤ length log.old.checker.clauses }
+    requires long { length log.old.checker.places.items ≡ length (listed catalogue.now) }
+    requires short { length log.old.checker.clauses + 1 < 2 ^ 32 }
+    requires room { readings.old.read + causes_in (step_of step.now) < 2 ^ 64 }
+    ensures answer { IfOk result (λ fine. (above : List ReportLine) (n : ℕ) → LogStands catalogue.now request.now.lines log.old.checker.numbers log.old.checker.clauses log.old.checker.places.items log.old.scope log.old.ends_empty above → fine ≡ passes catalogue.now request.now.lines above (Numbered n (step_of step.now))) }
+    ensures stands { IfOk result (λ fine. IsTrue fine → (above : List ReportLine) (n : ℕ) → LogStands catalogue.now request.now.lines log.old.checker.numbers log.old.checker.clauses log.old.checker.places.items log.old.scope log.old.ends_empty above → LogStands catalogue.now request.now.lines log.new.checker.numbers log.new.checker.clauses log.new.checker.places.items log.new.scope log.new.ends_empty (above ++ Numbered n (step_of step.now) ∷ [])) }
+    ensures later { IfOk result (λ fine. IsTrue fine → log.new.checker.truth.pass ≤ length log.new.checker.clauses) }
+    ensures long { IfOk result (λ fine. IsTrue fine → length log.new.checker.places.items ≡ length (listed catalogue.now)) }
+    ensures count { IfOk result (λ fine. IsTrue fine → length log.new.checker.clauses ≡ length log.old.checker.clauses + 1) }
+    ensures read { IfOk result (λ fine. IsTrue fine → readings.new ≡ record readings.old { read = readings.old.read + causes_in (step_of step.now) }) }
+{
+    let fine = advance(
+        alloc,
+        catalogue,
+        request,
+        &log.scope,
+        &mut log.checker,
+        readings,
+        step,
+    )?;
+    log.ends_empty = derives_empty(step);
+    Ok(fine)
+}
+
+/// Takes a named line of the catalogue: whether it passes. Where it does, what is kept stands for it too.
+pub fn take_catalogue_line(
+    catalogue: &Catalogue,
+    log: &mut Log,
+    line: u32,
+) -> Result<bool, AllocError>
+    ensures answer { IfOk result (λ fine. (request : List Line) (above : List ReportLine) → fine ≡ passes catalogue.now request above (CatalogueLine line)) }
+    ensures stands { IfOk result (λ fine. IsTrue fine → (request : List Line) (above : List ReportLine) → LogStands catalogue.now request log.old.checker.numbers log.old.checker.clauses log.old.checker.places.items log.old.scope log.old.ends_empty above → LogStands catalogue.now request log.new.checker.numbers log.new.checker.clauses log.new.checker.places.items log.new.scope log.new.ends_empty (above ++ CatalogueLine line ∷ [])) }
+    ensures checker { log.new.checker ≡ log.old.checker }
+{
+    let fine = name_catalogue(catalogue, &mut log.scope, line)?;
+    Ok(fine)
+}
+
+/// Takes a named line of the request: whether it passes. Where it does, what is kept stands for it too.
+pub fn take_request_line(request: &Request, log: &mut Log, line: u32) -> Result<bool, AllocError>
+    ensures answer { IfOk result (λ fine. (catalogue : List Line) (above : List ReportLine) → fine ≡ passes catalogue request.now.lines above (RequestLine line)) }
+    ensures stands { IfOk result (λ fine. IsTrue fine → (catalogue : List Line) (above : List ReportLine) → LogStands catalogue request.now.lines log.old.checker.numbers log.old.checker.clauses log.old.checker.places.items log.old.scope log.old.ends_empty above → LogStands catalogue request.now.lines log.new.checker.numbers log.new.checker.clauses log.new.checker.places.items log.new.scope log.new.ends_empty (above ++ RequestLine line ∷ [])) }
+    ensures checker { log.new.checker ≡ log.old.checker }
+{
+    let fine = name_request(request, &mut log.scope, line)?;
+    Ok(fine)
+}
+
+fn name_catalogue(catalogue: &Catalogue, scope: &mut Scope, line: u32) -> Result<bool, AllocError>
+    ensures fine { IfOk result (λ fine. fine ≡ states_rule (line_at catalogue.now line)) }
+    ensures named { IfOk result (λ fine. IsTrue fine → (n : ℕ) → names_catalogue scope.new n ≡ ((line == n) || names_catalogue scope.old n)) }
+    ensures others { IfOk result (λ fine. IsTrue fine → (n : ℕ) → names_request scope.new n ≡ names_request scope.old n) }
+{
+    match scope {
+        Scope::Named {
+            catalogue: marks,
+            ..
+        } => name_in_catalogue(catalogue, marks, line),
+        Scope::All => Ok(catalogue.rule(line).is_some()),
+    }
+}
+
+fn name_request(request: &Request, scope: &mut Scope, line: u32) -> Result<bool, AllocError>
+    ensures fine { IfOk result (λ fine. fine ≡ states_rule (line_at request.now.lines line)) }
+    ensures named { IfOk result (λ fine. IsTrue fine → (n : ℕ) → names_request scope.new n ≡ ((line == n) || names_request scope.old n)) }
+    ensures others { IfOk result (λ fine. IsTrue fine → (n : ℕ) → names_catalogue scope.new n ≡ names_catalogue scope.old n) }
+{
+    match scope {
+        Scope::Named { request: marks, .. } => name_in_request(request, marks, line),
+        Scope::All => Ok(is_rule(request, line)),
+    }
+}
