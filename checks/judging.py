@@ -2,7 +2,8 @@
 """Compares `resolve judge` with the plain slow judge, over reports of a plain slow prover and damaged copies of them.
 
 Usage: checks/judging.py [REPORTS] [DAMAGES] [PATH OF THE PROGRAM]
-Defaults: 2000 reports, 20000 damaged copies, crates/resolve/out/resolve (which `rt run` leaves).
+Defaults: 2000 reports, 20000 damaged copies, crates/resolve/out/resolve (which `rt run` leaves). With `-` for the program
+the plain judge alone is asked.
 Each undamaged report must be answered yes by both; on each damaged copy both must say the same.
 """
 import itertools
@@ -306,8 +307,10 @@ def main():
             for path, text in zip(paths, texts):
                 with open(path, "wb") as out:
                     out.write(text)
-            answer = subprocess.run([program, "judge", *paths], capture_output=True)
             n = judge(*texts)
+            if program == "-":
+                return n
+            answer = subprocess.run([program, "judge", *paths], capture_output=True)
             want = (b"yes\n", 0) if n == 0 else (b"no line %d\n" % n, 1)
             if (answer.stdout, answer.returncode) != want:
                 sys.exit(f"{texts!r}: the program says {answer.stdout!r}, the plain judge {want[0]!r}")
