@@ -1,7 +1,8 @@
 //! A set of dense ids, kept as one flag for each index.
 //! Its model is the list of flags; an id beyond the list is not in the set. Dense ids have it as
 //! their set.
-ghost use Rattle.std.specs.Prelude.{◌≡◌, [], true, false, not, IfOk, OnOk, OnErr, slice_index_or};
+ghost use Rattle.std.specs.Prelude.{◌≡◌, [], true, false, not, IfOk, OnOk, OnErr, IsOkUnless, slice_index_or};
+ghost use Rattle.resolvo_pool.specs.declared.want.Want.TheVariants.{Memory};
 ghost use Rattle.resolvo_pool.specs.Ids.{Puts};
 
 use crate::id::DenseIndex;
@@ -49,6 +50,7 @@ impl<Id: DenseIndex> IndexedSet<Id> {
         ensures added { IfOk result (λ new. new ≡ not (slice_index_or self.old (Id.index_of id) false)) }
         ensures put { OnOk result (Puts Id.eq (λ k. slice_index_or self.old (Id.index_of k) false) (λ k. slice_index_or self.new (Id.index_of k) false) id true) }
         ensures err { OnErr result (self.new ≡ self.old) }
+        ensures refusal { IsOkUnless result Memory }
     {
         let i = id.to_index();
         if i >= self.flags.len() {

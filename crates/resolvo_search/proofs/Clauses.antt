@@ -1,0 +1,16 @@
+-- Lemmas on the clauses that are held.
+use Rattle.std.proofs.Common.{◌≡◌, ℕ, zero, suc, ◌<◌, List, [], ◌∷◌, ◌++◌, length, map, Option, Some, None, refl, ap, arith}
+use Rattle.std.specs.Prelude.{slice_get}
+use Rattle.resolvo_store.specs.Signed.{Signed}
+use Rattle.resolvo_search.specs.declared.state.HeldClause.{HeldClause}
+use Rattle.resolvo_search.specs.Known.{clause_at}
+use Rattle.resolvo_search.specs.State.{lists}
+
+pub literals_at : (cs : List HeldClause) (n : ℕ) (c : HeldClause) → slice_get cs n ≡ Some c → clause_at (lists cs) n ≡ c.literals.items
+literals_at [] n c h = cc
+literals_at (d ∷ cs) zero c h = let same : d ≡ c = cc in ap (λ (x : HeldClause). x.literals.items) same
+literals_at (d ∷ cs) (suc n) c h = literals_at cs n c h
+
+pub length-lists : (cs : List HeldClause) → length (lists cs) ≡ length cs
+length-lists [] = refl
+length-lists (c ∷ cs) = ap suc (length-lists cs)

@@ -1,0 +1,95 @@
+-- What is learnt from a broken clause.
+use Rattle.std.specs.Prelude.{◌≡◌, ℕ, suc, ◌<◌, ◌≤◌, ◌⊎◌, Bool, true, false, List, [], ◌∷◌, ◌++◌, reverse, length, cond, slice_index_or, Option, Some, slice_get}
+use Rattle.resolvo_pool.specs.declared.id.ClauseId.{ClauseId}
+use Rattle.resolvo_store.specs.Signed.{Signed, negation, has}
+use Rattle.resolvo_store.specs.declared.decision.Entry.{Entry}
+use Rattle.resolvo_search.specs.declared.state.VariableKind.{VariableKind}
+use Rattle.resolvo_search.specs.declared.state.VariableKind.TheVariants.{Solvable}
+use Rattle.resolvo_search.specs.declared.state.SearchState.{SearchState}
+use Rattle.resolvo_search.specs.declared.analysis.Analysis.{Analysis}
+use Rattle.resolvo_search.specs.declared.analysis.Learnt.{Learnt}
+use Rattle.resolvo_search.specs.Known.{IsFalseUnder, clause_at}
+use Rattle.resolvo_search.specs.Entries.{literal_of, reason_of, made_true, before, top_level, IsChoice, IsPropagated, StandsAt, StandsOn}
+use Rattle.resolvo_search.specs.State.{history, clauses_of, IsDerived}
+
+-- the entry's variable is marked
+abbrev pub is_marked : List Bool → Entry → Bool
+is_marked marks e = slice_index_or marks e.decision.variable.0 false
+
+-- the negations of what the marked entries make true
+abbrev pub denied : List Bool → List Entry → List Signed
+denied marks [] = []
+denied marks (e ∷ older) = cond (is_marked marks e) (negation (literal_of e) ∷ denied marks older) (denied marks older)
+
+-- the variables of these literals, but the root's, are marked too, and no others
+pub record Marks (literals : List Signed) (old new : List Bool) : Type 0 where
+  pub keeps : (v : ℕ) → slice_index_or old v false ≡ true → slice_index_or new v false ≡ true
+  pub takes : (l : Signed) → has literals l ≡ true → (l.variable.0 ≡ 0) ⊎ (slice_index_or new l.variable.0 false ≡ true)
+  pub only : (v : ℕ) → slice_index_or new v false ≡ true → (slice_index_or old v false ≡ true) ⊎ ((v ≡ 0 → ⊥) × ((l : Signed) × (has literals l ≡ true) × (l.variable.0 ≡ v)))
+
+-- no marked entry stands above the level, which is not above the last entry's
+pub record IsMarkedLevel (marks : List Bool) (h : List Entry) (level : ℕ) : Type 0 where
+  pub bounds : (l : Signed) → has (denied marks h) l ≡ true → (k : ℕ) × (k ≤ level) × StandsAt h (negation l) k
+  pub low : level ≤ top_level h
+
+-- the variable stands for a solvable
+abbrev pub IsSolvable : SearchState → ℕ → Type 0
+IsSolvable s v = slice_get s.variables.items v ≡ Some Solvable
+
+-- a choice that the search does not go behind: a solvable chosen before the turn, or the choice that began it
+pub record IsKept (s : SearchState) (e : Entry) (older : List Entry) : Type 0 where
+  pub chosen : e.decision.value ≡ true
+  pub low : e.level ≤ s.floor
+  pub begins : ((e.level < s.floor) × IsSolvable s e.decision.variable.0) ⊎ IsChoice e older
+
+-- each literal denies a kept choice
+abbrev pub DenyKept : SearchState → List Signed → Type 0
+DenyKept s literals = (l : Signed) → has literals l ≡ true → (e : Entry) × (older : List Entry) × StandsOn (history s) e older × (literal_of e ≡ negation l) × IsKept s e older
+
+-- each literal stands in some clause
+abbrev pub AreFromClauses : SearchState → List Signed → Type 0
+AreFromClauses s literals = (l : Signed) → has literals l ≡ true → (n : ℕ) × (has (clause_at (clauses_of s) n) l ≡ true)
+
+-- each literal but this one is false at the level or below
+abbrev pub IsBoundedBut : Signed → List Entry → List Signed → ℕ → Type 0
+IsBoundedBut except h clause level = (l : Signed) → has clause l ≡ true → (l ≡ except) ⊎ ((k : ℕ) × (k ≤ level) × StandsAt h (negation l) k)
+
+-- the learnt clause follows from its causes, and after a jump to its level all its literals but the asserted one are false
+pub record IsLearnt (s : SearchState) (x : Learnt) : Type 0 where
+  pub derived : IsDerived (clauses_of s) x.literals.items x.causes.items
+  pub caused : 0 < length x.causes.items
+  pub from : AreFromClauses s x.literals.items
+  pub stands : has x.literals.items x.asserted ≡ true
+  pub others : IsBoundedBut x.asserted (history s) x.literals.items x.level
+  pub fell : (k : ℕ) × (x.level < k) × StandsAt (history s) (negation x.asserted) k
+  pub low : s.floor ≤ x.level
+
+-- the clause follows from its causes, and denies kept choices alone
+pub record IsRefusal (s : SearchState) (literals : List Signed) (causes : List ClauseId) : Type 0 where
+  pub derived : IsDerived (clauses_of s) literals causes
+  pub caused : 0 < length causes
+  pub denies : DenyKept s literals
+
+abbrev pub IsAnalysis : SearchState → Analysis → Type 0
+IsAnalysis s (Analysis.Refused x) = IsRefusal s x.literals.items x.causes.items
+IsAnalysis s (Analysis.Learnt x) = IsLearnt s x
+
+-- what was learnt where this entry is the last of its level, from these parts
+abbrev pub IsLearntOf : List Signed → List Signed → List ClauseId → Entry → ℕ → Analysis → Type 0
+IsLearntOf literals kept causes e level (Analysis.Refused x) = ⊥
+IsLearntOf literals kept causes e level (Analysis.Learnt x) = (x.literals.items ≡ (literals ++ kept) ++ negation (literal_of e) ∷ []) × (x.causes.items ≡ reverse causes) × (x.asserted ≡ negation (literal_of e)) × (x.level ≡ level)
+
+-- a choice, made before the turn where it is below its first level; else its clause forces it
+abbrev pub IsKeptOrForced : SearchState → Entry → List Entry → Bool → Type 0
+IsKeptOrForced s e older true = (e.decision.value ≡ true) × (((e.level < s.floor) × IsSolvable s e.decision.variable.0) ⊎ IsChoice e older)
+IsKeptOrForced s e older false = IsPropagated (clauses_of s) e older
+
+-- The walk back along the trail has come to this place: one pass over the causes, the newest first,
+-- refutes whatever denies the marked entries before it and makes the kept literals false.
+pub record Walks (s : SearchState) (place : ℕ) (marks : List Bool) (kept : List Signed) (causes : List ClauseId) : Type 0 where
+  pub in_range : place ≤ length s.tracker.trail
+  pub derived : IsDerived (clauses_of s) (denied marks (before s.tracker.trail place) ++ kept) (reverse causes)
+  pub caused : 0 < length causes
+  pub from : AreFromClauses s (denied marks (before s.tracker.trail place) ++ kept)
+  pub denies : DenyKept s kept
+  pub rootless : slice_index_or marks 0 false ≡ false

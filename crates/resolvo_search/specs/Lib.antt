@@ -1,0 +1,5 @@
+pub mod Known
+pub mod Entries
+pub mod Refuting
+pub mod State
+pub mod Analysis

@@ -1,0 +1,6 @@
+//! The search over clauses: what follows from a trail of decisions, what is learnt from a broken
+//! clause, and how the trail goes on. It knows variables and literals alone, no packages.
+#![tactic(auto)]
+
+pub mod analysis;
+pub mod state;
