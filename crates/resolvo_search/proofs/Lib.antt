@@ -5,3 +5,5 @@ pub mod Refutations
 pub mod Marking
 pub mod Walking
 pub mod Clauses
+pub mod Values
+pub mod StepLemmas

@@ -3,3 +3,4 @@ pub mod Entries
 pub mod Refuting
 pub mod State
 pub mod Analysis
+pub mod Steps

@@ -4,3 +4,4 @@
 
 pub mod analysis;
 pub mod state;
+pub mod steps;

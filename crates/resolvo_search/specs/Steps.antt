@@ -1,0 +1,61 @@
+-- What the steps of the search do.
+use Rattle.std.specs.Prelude.{◌≡◌, ℕ, suc, ◌<◌, ◌≤◌, true, List, [], ◌∷◌, ◌++◌, length}
+use Rattle.resolvo_pool.specs.declared.id.ClauseId.{ClauseId}
+use Rattle.resolvo_pool.specs.declared.id.VariableId.{VariableId}
+use Rattle.resolvo_store.specs.Signed.{Signed, has}
+use Rattle.resolvo_store.specs.declared.decision.Entry.{Entry}
+use Rattle.resolvo_search.specs.declared.state.HeldClause.{HeldClause}
+use Rattle.resolvo_search.specs.declared.state.SearchState.{SearchState}
+use Rattle.resolvo_search.specs.Entries.{top_level, IsChoice, StandsOn, IsUndone}
+use Rattle.resolvo_search.specs.State.{count_of, history, IsState}
+
+-- the literal is of one of the variables
+abbrev pub AreInRange : ℕ → List Signed → Type 0
+AreInRange count literals = (l : Signed) → has literals l ≡ true → l.variable.0 < count
+
+-- the entry of a literal that a clause forces
+abbrev pub forced_entry : ClauseId → Signed → List Entry → Entry
+forced_entry c l older = record { decision = record { variable = l.variable; value = l.positive; derived_from = c }; level = top_level older }
+
+-- the entry of a variable that is chosen to be true, for a clause
+abbrev pub choice_entry : VariableId → ClauseId → List Entry → Entry
+choice_entry v c older = record { decision = record { variable = v; value = true; derived_from = c }; level = suc (top_level older) }
+
+-- only the trail changed
+pub record SameBut (old new : SearchState) : Type 0 where
+  pub variables : new.variables ≡ old.variables
+  pub floor : new.floor ≡ old.floor
+  pub clauses : new.clauses ≡ old.clauses
+
+-- each choice was one before, over the same older entries
+abbrev pub KeepsChoices : List Entry → List Entry → Type 0
+KeepsChoices old new = (e : Entry) (older : List Entry) → StandsOn new e older → IsChoice e older → StandsOn old e older
+
+-- the literal was made true, forced by the clause
+pub record Sets (c : ClauseId) (l : Signed) (old new : SearchState) : Type 0 where
+  pub state : IsState new
+  pub same : SameBut old new
+  pub pushed : new.tracker.trail ≡ old.tracker.trail ++ forced_entry c l (history old) ∷ []
+  pub front : new.tracker.front ≡ old.tracker.front
+
+-- the variable was chosen to be true, at the next level
+pub record Chooses (v : VariableId) (c : ClauseId) (old new : SearchState) : Type 0 where
+  pub state : IsState new
+  pub same : SameBut old new
+  pub pushed : new.tracker.trail ≡ old.tracker.trail ++ choice_entry v c (history old) ∷ []
+
+-- the entries above the level are gone
+pub record Undoes (level : ℕ) (old new : SearchState) : Type 0 where
+  pub state : IsState new
+  pub same : SameBut old new
+  pub undone : IsUndone level (history old) (history new)
+  pub low : top_level (history new) ≤ level
+
+-- the clause came behind the others
+pub record Adds (c : HeldClause) (id : ClauseId) (old new : SearchState) : Type 0 where
+  pub state : IsState new
+  pub variables : new.variables ≡ old.variables
+  pub floor : new.floor ≡ old.floor
+  pub tracker : new.tracker ≡ old.tracker
+  pub number : id.0 ≡ length old.clauses
+  pub added : new.clauses ≡ old.clauses ++ c ∷ []
