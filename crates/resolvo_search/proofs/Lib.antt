@@ -7,3 +7,6 @@ pub mod Walking
 pub mod Clauses
 pub mod Values
 pub mod StepLemmas
+pub mod Extending
+pub mod Visiting
+pub mod Completing

@@ -4,3 +4,4 @@ pub mod Refuting
 pub mod State
 pub mod Analysis
 pub mod Steps
+pub mod Propagation

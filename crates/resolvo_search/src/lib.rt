@@ -3,5 +3,7 @@
 #![tactic(auto)]
 
 pub mod analysis;
+pub mod propagation;
 pub mod state;
 pub mod steps;
+pub mod watching;

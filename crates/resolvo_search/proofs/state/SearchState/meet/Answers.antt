@@ -1,0 +1,34 @@
+use Rattle.std.proofs.Common.{◌≡◌, true, false, None, refl, sym, ◌∙◌, ap, subst}
+use Rattle.resolvo_store.specs.Signed.{Signed, negation, has}
+use Rattle.resolvo_store.specs.Pairs.{other_of}
+use Rattle.resolvo_search.specs.Known.{Forces, clause_at}
+use Rattle.resolvo_search.specs.State.{history, clauses_of}
+use Rattle.resolvo_search.specs.Entries.{made_true}
+use Rattle.resolvo_search.proofs.Visiting.{pair_watches, forces_other, falls_whole}
+use Rattle.resolvo_search.proofs.state.SearchState.meet.Goals as goal
+
+pub set_forced-requires-clause-forces : goal.set_forced-requires-clause-forces
+set_forced-requires-clause-forces c =
+    let s = c.args.self.now in
+    let known = made_true (history s) in
+    let is : c.other-other.result ≡ other_of c.args.watched c.args.cursor.literal = c.other-other.ensures in
+    subst (λ (l : Signed). Forces known (clause_at (clauses_of s) c.args.clause.0) l) (sym is)
+    (forces_other known (clause_at (clauses_of s) c.args.clause.0) c.args.watched c.args.cursor.literal (c.requires.ready.own c.args.clause.0 c.args.watched c.requires.pair)
+    (pair_watches s c.args.watching.now c.args.cursor.literal c.args.cursor.place c.args.clause c.args.watched c.requires.ready c.requires.stands c.requires.pair)
+    c.requires.known c.in-None.ensures
+    (subst (λ (l : Signed). has known l ≡ false) is (sym c.is_true.ensures ∙ c.if-is_true.false))
+    (subst (λ (l : Signed). has known (negation l) ≡ false) is (sym c.is_false.ensures ∙ c.if-is_false.false)))
+
+pub returns-then-is_false-clause-met : goal.returns-then-is_false-clause-met
+returns-then-is_false-clause-met c =
+    let s = c.args.self.now in
+    let known = made_true (history s) in
+    let is : c.other-other.result ≡ other_of c.args.watched c.args.cursor.literal = c.other-other.ensures in
+    record {
+      same_state = refl;
+      same_watching = refl;
+      falls = falls_whole known (clause_at (clauses_of s) c.args.clause.0) c.args.watched c.args.cursor.literal
+          (pair_watches s c.args.watching.now c.args.cursor.literal c.args.cursor.place c.args.clause c.args.watched c.requires.ready c.requires.stands c.requires.pair)
+          c.requires.known c.in-None.ensures
+          (subst (λ (l : Signed). has known (negation l) ≡ true) is (sym c.is_false.ensures ∙ c.if-is_false.true));
+    }

@@ -1,0 +1,50 @@
+use Rattle.std.proofs.Common.{◌≡◌, ◌+◌, ◌<◌, List, Option, Some, length, sym, ◌∙◌, ap, subst, arith}
+use Rattle.std.specs.Prelude.{slice_get}
+use Rattle.resolvo_store.specs.Watches.{watchers, pair_at}
+use Rattle.resolvo_store.specs.declared.watched_literals.WatchedLiterals.{WatchedLiterals}
+use Rattle.resolvo_store.proofs.Walks.{shorter}
+use Rattle.resolvo_search.specs.declared.state.SearchState.{SearchState}
+use Rattle.resolvo_store.specs.declared.watch_map.WatchMapCursor.{WatchMapCursor}
+use Rattle.resolvo_search.specs.declared.watching.Watching.{Watching}
+use Rattle.resolvo_search.specs.Propagation.{IsMeeting, IsVisiting, Keeps, Replaces}
+use Rattle.resolvo_search.proofs.Visiting.{got_in_range, fallen_now, visiting_starts, visiting_keeps, visiting_moves, visiting_ends, visiting_breaks}
+use Rattle.resolvo_search.proofs.state.SearchState.visit.Goals as goal
+
+pub meet-requires-clause-known : goal.meet-requires-clause-known
+meet-requires-clause-known c = fallen_now c.args.front c.loop-clause.cursor.literal c.loop-clause.cursor.place c.args.self.now c.loop-clause.self c.args.watching.now c.loop-clause.watching c.loop-clause.invariant
+
+pub loop-clause-smaller-in-Kept : goal.loop-clause-smaller-in-Kept
+loop-clause-smaller-in-Kept c =
+    let k : Keeps c.loop-clause.cursor.literal c.watched_literals-watched.result c.loop-clause.self c.meet.new.self c.loop-clause.watching c.meet.new.watching = subst (IsMeeting c.loop-clause.cursor.literal c.loop-clause.cursor.place c.in-Some.clause.0 c.watched_literals-watched.result c.loop-clause.self c.loop-clause.watching c.meet.new.self c.meet.new.watching) c.in-Kept.is c.in_ok-meet.ensures.met in
+    let place : c.next.new.self.place ≡ c.loop-clause.cursor.place + 1 = ap (λ (x : WatchMapCursor). x.place) c.next.ensures in
+    let same : length (watchers c.meet.new.watching.watches c.next.new.self.literal) ≡ length (watchers c.loop-clause.watching.watches c.loop-clause.cursor.literal) =
+    ap (λ (w : Watching). length (watchers w.watches c.next.new.self.literal)) k.same_watching ∙ ap (λ (x : WatchMapCursor). length (watchers c.loop-clause.watching.watches x.literal)) c.next.ensures in
+    let within : c.loop-clause.cursor.place < length (watchers c.loop-clause.watching.watches c.loop-clause.cursor.literal) = got_in_range (watchers c.loop-clause.watching.watches c.loop-clause.cursor.literal) c.loop-clause.cursor.place c.in-Some.clause (sym c.in-Some.ensures.clause) in
+    omega arith
+
+pub loop-clause-preserved-in-Kept : goal.loop-clause-preserved-in-Kept
+loop-clause-preserved-in-Kept c =
+    subst (λ (x : WatchMapCursor). IsVisiting c.args.front x.literal x.place c.args.self.now c.meet.new.self c.args.watching.now c.meet.new.watching) (sym c.next.ensures)
+    (visiting_keeps c.args.front c.loop-clause.cursor.literal c.loop-clause.cursor.place c.in-Some.clause c.watched_literals-watched.result c.args.self.now c.loop-clause.self c.meet.new.self c.args.watching.now c.loop-clause.watching c.meet.new.watching c.loop-clause.invariant (sym c.in-Some.ensures.clause)
+    (subst (λ (xs : List (Option WatchedLiterals)). pair_at xs c.in-Some.clause.0 ≡ Some c.watched_literals-watched.result) c.as_slice.ensures.value (c.watched_literals-watched.ensures c.in-Some.clause (sym c.in-Some.ensures.clause)))
+    (subst (IsMeeting c.loop-clause.cursor.literal c.loop-clause.cursor.place c.in-Some.clause.0 c.watched_literals-watched.result c.loop-clause.self c.loop-clause.watching c.meet.new.self c.meet.new.watching) c.in-Kept.is c.in_ok-meet.ensures.met))
+
+pub loop-clause-smaller : goal.loop-clause-smaller
+loop-clause-smaller c =
+    let r : Replaces c.loop-clause.cursor.literal c.loop-clause.cursor.place c.in-Some.clause.0 c.loop-clause.self c.meet.new.self c.loop-clause.watching c.meet.new.watching = subst (IsMeeting c.loop-clause.cursor.literal c.loop-clause.cursor.place c.in-Some.clause.0 c.watched_literals-watched.result c.loop-clause.self c.loop-clause.watching c.meet.new.self c.meet.new.watching) c.in-Moved.is c.in_ok-meet.ensures.met in
+    let a : length (watchers c.meet.new.watching.watches c.loop-clause.cursor.literal) + 1 ≡ length (watchers c.loop-clause.watching.watches c.loop-clause.cursor.literal) = shorter c.loop-clause.cursor.literal r.to c.loop-clause.cursor.place c.loop-clause.watching.watched.items c.meet.new.watching.watched.items (watchers c.loop-clause.watching.watches) (watchers c.meet.new.watching.watches) r.moves in
+    let within : c.loop-clause.cursor.place < length (watchers c.loop-clause.watching.watches c.loop-clause.cursor.literal) = got_in_range (watchers c.loop-clause.watching.watches c.loop-clause.cursor.literal) c.loop-clause.cursor.place c.in-Some.clause (sym c.in-Some.ensures.clause) in
+    omega arith
+
+pub loop-clause-preserved : goal.loop-clause-preserved
+loop-clause-preserved c =
+    visiting_moves c.args.front c.loop-clause.cursor.literal c.loop-clause.cursor.place c.in-Some.clause c.args.self.now c.loop-clause.self c.meet.new.self c.args.watching.now c.loop-clause.watching c.meet.new.watching c.loop-clause.invariant (sym c.in-Some.ensures.clause)
+    (subst (IsMeeting c.loop-clause.cursor.literal c.loop-clause.cursor.place c.in-Some.clause.0 c.watched_literals-watched.result c.loop-clause.self c.loop-clause.watching c.meet.new.self c.meet.new.watching) c.in-Moved.is c.in_ok-meet.ensures.met)
+
+pub returns-in-Broken-clause-visit : goal.returns-in-Broken-clause-visit
+returns-in-Broken-clause-visit c =
+    visiting_breaks c.args.front c.loop-clause.cursor.literal c.loop-clause.cursor.place c.in-Some.clause.0 c.watched_literals-watched.result c.args.self.now c.loop-clause.self c.meet.new.self c.args.watching.now c.loop-clause.watching c.meet.new.watching c.loop-clause.invariant (subst (λ (xs : List (Option WatchedLiterals)). pair_at xs c.in-Some.clause.0 ≡ Some c.watched_literals-watched.result) c.as_slice.ensures.value (c.watched_literals-watched.ensures c.in-Some.clause (sym c.in-Some.ensures.clause)))
+    (subst (IsMeeting c.loop-clause.cursor.literal c.loop-clause.cursor.place c.in-Some.clause.0 c.watched_literals-watched.result c.loop-clause.self c.loop-clause.watching c.meet.new.self c.meet.new.watching) c.in-Broken.is c.in_ok-meet.ensures.met)
+
+pub returns-clause-visit : goal.returns-clause-visit
+returns-clause-visit c = visiting_ends c.args.front c.loop-clause.cursor.literal c.loop-clause.cursor.place c.args.self.now c.loop-clause.self c.args.watching.now c.loop-clause.watching c.loop-clause.invariant (sym c.in_default.ensures.clause)

@@ -1,0 +1,11 @@
+use Rattle.std.proofs.Common.{◌≡◌, ◌-◌, length}
+use Rattle.resolvo_store.specs.Watches.{watchers}
+use Rattle.resolvo_store.specs.Signed.{Signed, negation}
+use Rattle.resolvo_search.specs.Propagation.{IsVisiting}
+use Rattle.resolvo_search.proofs.state.SearchState.visit.Given as goal
+
+abbrev pub invariant-loop-clause : goal.invariant-loop-clause
+invariant-loop-clause l = IsVisiting l.front l.cursor.literal l.cursor.place l.initial.self l.self l.initial.watching l.watching
+
+abbrev pub decreases-loop-clause : goal.decreases-loop-clause
+decreases-loop-clause l = length (watchers l.watching.watches l.cursor.literal) - l.cursor.place

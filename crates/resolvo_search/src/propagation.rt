@@ -1,0 +1,167 @@
+//! What follows from the trail. Propagation begins at the trail's front, so that nothing has to be
+//! known of which watched literals are true or false before it.
+ghost use Rattle.std.specs.Prelude.{◌≡◌, ◌<◌, ◌≤◌, ◌+◌, length, slice_get, Some, true, IfOk, IsOkUnless};
+ghost use Rattle.resolvo_pool.specs.declared.want.Want.TheVariants.{Memory};
+ghost use Rattle.resolvo_store.specs.Signed.{negation, has};
+ghost use Rattle.resolvo_store.specs.Watches.{watchers, pair_at};
+ghost use Rattle.resolvo_search.specs.Known.{clause_at};
+ghost use Rattle.resolvo_search.specs.Entries.{made_true};
+ghost use Rattle.resolvo_search.specs.State.{IsState, history, clauses_of};
+ghost use Rattle.resolvo_search.specs.Propagation.{IsReady, AreCovered, AreSingles, IsFree, IsMeeting, IsVisit, IsWalkedTo, IsOnly, IsSingleSet, IsSinglesEnd, IsTaken, IsPropagation};
+
+use crate::analysis::literal_made_true;
+use crate::state::SearchState;
+use crate::watching::{Single, Watching};
+use resolvo_pool::id::ClauseId;
+use resolvo_pool::want::R;
+use resolvo_store::literal::Literal;
+use resolvo_store::watch_map::WatchMapCursor;
+use resolvo_store::watched_literals::WatchedLiterals;
+
+/// What became of a clause that was met.
+#[derive(Clone, Copy, Debug)]
+pub enum Met {
+    /// It watches what it watched; its other watched literal is true.
+    Kept,
+    /// It watches another literal.
+    Moved,
+    /// All its literals are false.
+    Broken,
+}
+
+impl SearchState {
+    /// A literal of the clause to watch in place of a false one.
+    fn free_literal(&self, clause: ClauseId, watched: &WatchedLiterals) -> Option<Literal>
+        requires state { IsState self.now }
+        requires in_range { clause.0 < length self.now.clauses }
+        ensures { IsFree (made_true (history self.now)) (clause_at (clauses_of self.now) clause.0) watched.now result }
+    {
+        for literal in self.literals(clause) {
+            let is_watched = watched.watches(*literal);
+            if !is_watched && !self.is_false(*literal) {
+                return Some(*literal);
+            }
+        }
+        None
+    }
+
+    /// Sees to the clause at a cursor, one of whose watched literals fell.
+    fn meet(
+        &mut self,
+        watching: &mut Watching,
+        cursor: WatchMapCursor,
+        clause: ClauseId,
+        watched: WatchedLiterals,
+    ) -> R<Met>
+        requires ready { IsReady self.old watching.old }
+        requires known { has (made_true (history self.old)) (negation cursor.literal) ≡ true }
+        requires stands { slice_get (watchers watching.old.watches cursor.literal) cursor.place ≡ Some clause }
+        requires pair { pair_at watching.old.watched.items clause.0 ≡ Some watched }
+        ensures met { IfOk result (IsMeeting cursor.literal cursor.place clause.0 watched self.old watching.old self.new watching.new) }
+        ensures refusal { IsOkUnless result Memory }
+    {
+        let other = watched.other(cursor.literal);
+        if self.is_true(other) {
+            return Ok(Met::Kept);
+        }
+        match self.free_literal(clause, &watched) {
+            Some(to) => {
+                cursor.update(&mut watching.watches, watching.watched.as_mut_slice(), to)?;
+                Ok(Met::Moved)
+            }
+            None => {
+                if self.is_false(other) {
+                    Ok(Met::Broken)
+                } else {
+                    self.set_forced(clause, other)?;
+                    Ok(Met::Kept)
+                }
+            }
+        }
+    }
+
+    /// Walks over the clauses that watch a literal, which the entry at `front` made false.
+    fn visit(&mut self, watching: &mut Watching, front: usize) -> R<Option<ClauseId>>
+        requires ready { IsReady self.old watching.old }
+        requires in_range { front < length self.old.tracker.trail }
+        requires walked { IsWalkedTo front self.old watching.old }
+        ensures visit { IfOk result (IsVisit front self.old self.new watching.old watching.new) }
+        ensures refusal { IsOkUnless result Memory }
+    {
+        let entry = self.entry(front);
+        let mut cursor = watching.watches.cursor(literal_made_true(entry).negate());
+        while let Some(clause) = cursor.clause_id(&watching.watches) {
+            let watched = cursor.watched_literals(&watching.watches, watching.watched.as_slice());
+            match self.meet(watching, cursor, clause, watched)? {
+                Met::Kept => cursor.next(),
+                Met::Moved => {}
+                Met::Broken => return Ok(Some(clause)),
+            }
+        }
+        Ok(None)
+    }
+
+    /// Makes the literal of a clause of one literal true, unless it is false.
+    fn set_single(&mut self, single: Single) -> R<bool>
+        requires state { IsState self.old }
+        requires alone { IsOnly (clause_at (clauses_of self.old) single.clause.0) single.literal }
+        ensures set { IfOk result (IsSingleSet single self.old self.new) }
+        ensures refusal { IsOkUnless result Memory }
+    {
+        if self.is_false(single.literal) {
+            return Ok(false);
+        }
+        if !self.is_true(single.literal) {
+            self.set_forced(single.clause, single.literal)?;
+        }
+        Ok(true)
+    }
+
+    /// Makes the literals of the clauses of one literal true, or gives one of them that is false.
+    fn set_singles(&mut self, singles: &[Single]) -> R<Option<ClauseId>>
+        requires state { IsState self.old }
+        requires alone { AreSingles (clauses_of self.old) singles.now }
+        ensures set { IfOk result (IsSinglesEnd singles.now self.old self.new) }
+        ensures refusal { IsOkUnless result Memory }
+    {
+        for single in singles {
+            match self.set_single(*single)? {
+                true => {}
+                false => return Ok(Some(single.clause)),
+            }
+        }
+        Ok(None)
+    }
+
+    /// Takes the next entry of the trail as walked; false where all were.
+    fn take_next(&mut self) -> bool
+        requires state { IsState self.old }
+        ensures { IsTaken self.old self.new result }
+    {
+        self.tracker.next_unpropagated().is_some()
+    }
+
+    /// Sets what the clauses force, from the trail's front on, or gives a clause that is wholly false.
+    pub fn propagate(&mut self, watching: &mut Watching) -> R<Option<ClauseId>>
+        requires ready { IsReady self.old watching.old }
+        requires covered { AreCovered self.old watching.old }
+        ensures propagation { IfOk result (IsPropagation self.old self.new watching.old watching.new) }
+        ensures refusal { IsOkUnless result Memory }
+    {
+        self.tracker.again();
+        if let Some(clause) = self.set_singles(watching.assertions.as_slice())? {
+            return Ok(Some(clause));
+        }
+        if let Some(clause) = self.set_singles(watching.learnt.as_slice())? {
+            return Ok(Some(clause));
+        }
+        let mut front = 0;
+        while self.take_next() {
+            if let Some(clause) = self.visit(watching, front)? {
+                return Ok(Some(clause));
+            }
+            front += 1;
+        }
+        Ok(None)
+    }
+}
