@@ -10,3 +10,4 @@ pub mod StepLemmas
 pub mod Extending
 pub mod Visiting
 pub mod Completing
+pub mod Coming

@@ -5,3 +5,4 @@ pub mod State
 pub mod Analysis
 pub mod Steps
 pub mod Propagation
+pub mod Adding

@@ -2,6 +2,7 @@
 //! clause, and how the trail goes on. It knows variables and literals alone, no packages.
 #![tactic(auto)]
 
+pub mod adding;
 pub mod analysis;
 pub mod propagation;
 pub mod state;
