@@ -14,7 +14,7 @@ use Rattle.resolvo_search.proofs.Literals.{has_here, has_right}
 use Rattle.resolvo_search.proofs.StepLemmas.{reverse_push}
 
 -- a forced entry is no choice
-forced_keeps : (c : ClauseId) (l : Signed) (h new : List Entry) → new ≡ forced_entry c l h ∷ h → KeepsChoices h new
+pub forced_keeps : (c : ClauseId) (l : Signed) (h new : List Entry) → new ≡ forced_entry c l h ∷ h → KeepsChoices h new
 forced_keeps c l h new is e older stands choice = go (subst (λ (x : List Entry). StandsOn x e older) is stands)
   where
     go : ((forced_entry c l h ≡ e) × (h ≡ older)) ⊎ StandsOn h e older → StandsOn h e older

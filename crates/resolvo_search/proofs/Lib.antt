@@ -11,3 +11,4 @@ pub mod Extending
 pub mod Visiting
 pub mod Completing
 pub mod Coming
+pub mod Jumping

@@ -4,6 +4,7 @@
 
 pub mod adding;
 pub mod analysis;
+pub mod learning;
 pub mod propagation;
 pub mod state;
 pub mod steps;

@@ -1,0 +1,98 @@
+-- After the jump the learnt clause forces its asserted literal.
+use Rattle.std.proofs.Common.{◌≡◌, ℕ, ◌+◌, ◌-◌, ◌^◌, ◌<◌, ◌≤◌, inl, inr, true, false, List, [], ◌∷◌, ◌++◌, reverse, length, sym, ◌∙◌, ap, subst, arith}
+use Rattle.resolvo_pool.specs.declared.id.ClauseId.{ClauseId}
+use Rattle.resolvo_store.specs.Signed.{Signed, negation, has}
+use Rattle.resolvo_store.specs.Clauses.{yes, root}
+use Rattle.resolvo_store.specs.Trail.{Tracked}
+use Rattle.resolvo_store.specs.declared.decision.Entry.{Entry}
+use Rattle.resolvo_search.specs.declared.state.HeldClause.{HeldClause}
+use Rattle.resolvo_search.specs.declared.state.SearchState.{SearchState}
+use Rattle.resolvo_search.specs.declared.analysis.Learnt.{Learnt}
+use Rattle.resolvo_search.specs.declared.watching.Watching.{Watching}
+use Rattle.resolvo_search.specs.Known.{IsUndecided, Forces, clause_at}
+use Rattle.resolvo_search.specs.Entries.{made_true, top_level, IsChoice, IsUndone, StandsOn, weight}
+use Rattle.resolvo_search.specs.State.{count_of, history, clauses_of, lists, IsState}
+use Rattle.resolvo_search.specs.Analysis.{IsLearnt}
+use Rattle.resolvo_search.specs.Steps.{Sets, Undoes, KeepsChoices, forced_entry}
+use Rattle.resolvo_search.specs.Propagation.{AreSingles}
+use Rattle.resolvo_search.specs.Adding.{Comes, Learns}
+use Rattle.resolvo_search.proofs.Literals.{negation-negation}
+use Rattle.resolvo_search.proofs.Trails.{kept, undone_undecided, known_from_stands}
+use Rattle.resolvo_search.proofs.Weights.{weight_jump}
+use Rattle.resolvo_search.proofs.Clauses.{length-lists}
+use Rattle.resolvo_search.proofs.StepLemmas.{lists-append, clause_at_end}
+use Rattle.resolvo_search.proofs.Extending.{forced_keeps, set_pushed, set_extends}
+use Rattle.resolvo_search.proofs.Visiting.{ready_extends}
+
+learnt_forces : (s t : SearchState) (x : Learnt) → IsState s → IsLearnt s x → Undoes x.level s t → Forces (made_true (history t)) x.literals.items x.asserted
+learnt_forces s t x state learnt u =
+    let (high, above, stood) = learnt.fell in
+    let free : IsUndecided (made_true (history t)) (negation x.asserted) = undone_undecided x.level (count_of s) (clauses_of s) (history s) (history t) (negation x.asserted) high state.trail u.undone u.low stood above in
+    record {
+      forced = record {
+        stands = learnt.stands;
+        others = λ l h. elim (learnt.others l h) [
+          | inl e ↦ inl e
+          | inr e ↦ let (k, below, stands) = e in inr (known_from_stands (history t) (negation l) k (kept x.level (history s) (history t) (negation l) k u.undone stands below))
+        ];
+      };
+      undecided = record {
+        not_true = subst (λ (l : Signed). has (made_true (history t)) l ≡ false) (negation-negation x.asserted) free.not_false;
+        not_false = free.not_true;
+      };
+    }
+
+pub added_forces : (s t a : SearchState) (v w : Watching) (x : Learnt) (c : HeldClause) (id : ClauseId) → IsState s → IsLearnt s x → Undoes x.level s t → c ≡ record { literals = x.literals; causes = x.causes } → Comes c id t v a w
+    → Forces (made_true (history a)) (clause_at (clauses_of a) id.0) x.asserted
+added_forces s t a v w x c id state learnt u is comes =
+    let forces : Forces (made_true (history t)) x.literals.items x.asserted = learnt_forces s t x state learnt u in
+    let added : clauses_of a ≡ clauses_of t ++ c.literals.items ∷ [] = ap lists comes.adds.added ∙ lists-append t.clauses (c ∷ []) in
+    let clause : clause_at (clauses_of a) id.0 ≡ x.literals.items =
+    ap (λ (cs : List (List Signed)). clause_at cs id.0) added
+    ∙ ap (λ (n : ℕ). clause_at (clauses_of t ++ c.literals.items ∷ []) n) (comes.adds.number ∙ sym (length-lists t.clauses))
+    ∙ clause_at_end (clauses_of t) c.literals.items
+    ∙ ap (λ (h : HeldClause). h.literals.items) is in
+    let entries : history a ≡ history t = ap (λ (k : Tracked). reverse k.trail) comes.adds.tracker in
+    subst (λ (h : List Entry). Forces (made_true h) (clause_at (clauses_of a) id.0) x.asserted) (sym entries)
+    (subst (λ (l : List Signed). Forces (made_true (history t)) l x.asserted) (sym clause) forces)
+
+pub learns : (s t a b : SearchState) (v w : Watching) (x : Learnt) (c : HeldClause) (id : ClauseId) → Undoes x.level s t → c ≡ record { literals = x.literals; causes = x.causes } → Comes c id t v a w → Sets id x.asserted a b → Learns x id s b w
+learns s t a b v w x c id u is comes set =
+    let entries : history a ≡ history t = ap (λ (k : Tracked). reverse k.trail) comes.adds.tracker in
+    record {
+      ready = ready_extends a b w comes.ready (set_extends a b id x.asserted set);
+      covered = record {
+        assertions = subst (λ (cs : List HeldClause). AreSingles (lists cs) w.assertions.items) (sym set.same.clauses) comes.covered.assertions;
+        learnt = subst (λ (cs : List HeldClause). AreSingles (lists cs) w.learnt.items) (sym set.same.clauses) comes.covered.learnt;
+        covered = λ n below none. comes.covered.covered n (subst (λ (cs : List HeldClause). n < length cs) set.same.clauses below) none;
+        first = subst (λ (cs : List HeldClause). has (clause_at (lists cs) 0) (yes root) ≡ true) (sym set.same.clauses) comes.covered.first;
+      };
+      variables = set.same.variables ∙ comes.adds.variables ∙ u.same.variables;
+      floor = set.same.floor ∙ comes.adds.floor ∙ u.same.floor;
+      number = comes.adds.number ∙ ap length u.same.clauses;
+      added = set.same.clauses ∙ comes.adds.added ∙ ap (λ (cs : List HeldClause). cs ++ c ∷ []) u.same.clauses ∙ ap (λ (h : HeldClause). s.clauses ++ h ∷ []) is;
+      base = history t;
+      undone = u.undone;
+      low = u.low;
+      pushed = set_pushed a b id x.asserted set ∙ ap (λ (h : List Entry). forced_entry id x.asserted h ∷ h) entries;
+    }
+
+-- what is left after a jump stood before it
+pub undone_on : (level : ℕ) (old new : List Entry) (e : Entry) (older : List Entry) → IsUndone level old new → StandsOn new e older → StandsOn old e older
+undone_on level [] new e older u s = subst (λ (h : List Entry). StandsOn h e older) u s
+undone_on level (d ∷ ds) new e older (inl u) s = subst (λ (h : List Entry). StandsOn h e older) u s
+undone_on level (d ∷ ds) new e older (inr u) s = inr (undone_on level ds new e older u.1 s)
+
+-- each choice that is left was one before
+pub learns_choices : (s b : SearchState) (w : Watching) (x : Learnt) (id : ClauseId) → Learns x id s b w → KeepsChoices (history s) (history b)
+learns_choices s b w x id l e older stands choice =
+    undone_on x.level (history s) l.base e older l.undone
+    (forced_keeps id x.asserted l.base (history b) l.pushed e older stands choice)
+
+-- the trail is heavier than before the jump
+pub learns_heavier : (s b : SearchState) (w : Watching) (x : Learnt) (id : ClauseId) → IsState s → IsLearnt s x → Learns x id s b w → weight (count_of s) (history s) < weight (count_of s) (history b)
+learns_heavier s b w x id state learnt l =
+    let (high, above, stood) = learnt.fell in
+    let jump : weight (count_of s) (history s) < (count_of s + 1) ^ (count_of s + 1 - top_level l.base) + weight (count_of s) l.base =
+    weight_jump (count_of s) x.level (clauses_of s) (history s) l.base (negation x.asserted) high state.trail l.undone l.low stood above in
+    subst (λ (h : List Entry). weight (count_of s) (history s) < weight (count_of s) h) (sym l.pushed) jump

@@ -1,0 +1,14 @@
+use Rattle.std.proofs.Common.{refl}
+use Rattle.resolvo_search.specs.declared.state.HeldClause.{HeldClause}
+use Rattle.resolvo_search.proofs.Jumping.{added_forces, learns}
+use Rattle.resolvo_search.proofs.state.SearchState.learn.Goals as goal
+
+pub set_forced-requires-clause-forces : goal.set_forced-requires-clause-forces
+set_forced-requires-clause-forces c =
+    let h : HeldClause = record { literals = c.args.learnt.literals; causes = c.args.learnt.causes } in
+    added_forces c.args.self.now c.undo_until.new.self c.add_clause.new.self c.args.watching.now c.add_clause.new.watching c.args.learnt h c.in_ok-clause.clause c.requires.ready.state c.requires.learnt c.undo_until.ensures refl c.in_ok-clause.ensures.added
+
+pub returns-clause-learns : goal.returns-clause-learns
+returns-clause-learns c =
+    let h : HeldClause = record { literals = c.args.learnt.literals; causes = c.args.learnt.causes } in
+    learns c.args.self.now c.undo_until.new.self c.add_clause.new.self c.set_forced.new.self c.args.watching.now c.add_clause.new.watching c.args.learnt h c.in_ok-clause.clause c.undo_until.ensures refl c.in_ok-clause.ensures.added c.in_ok-set_forced.ensures.set
