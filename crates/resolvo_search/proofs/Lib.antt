@@ -12,3 +12,4 @@ pub mod Visiting
 pub mod Completing
 pub mod Coming
 pub mod Jumping
+pub mod Variables

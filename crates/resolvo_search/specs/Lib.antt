@@ -6,3 +6,4 @@ pub mod Analysis
 pub mod Steps
 pub mod Propagation
 pub mod Adding
+pub mod Beginning

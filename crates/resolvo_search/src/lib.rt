@@ -4,6 +4,7 @@
 
 pub mod adding;
 pub mod analysis;
+pub mod beginning;
 pub mod learning;
 pub mod propagation;
 pub mod state;
