@@ -13,3 +13,4 @@ pub mod Completing
 pub mod Coming
 pub mod Jumping
 pub mod Variables
+pub mod Improving

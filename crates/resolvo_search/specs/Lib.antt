@@ -7,3 +7,4 @@ pub mod Steps
 pub mod Propagation
 pub mod Adding
 pub mod Beginning
+pub mod Advancing

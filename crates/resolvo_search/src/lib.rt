@@ -3,6 +3,7 @@
 #![tactic(auto)]
 
 pub mod adding;
+pub mod advancing;
 pub mod analysis;
 pub mod beginning;
 pub mod learning;

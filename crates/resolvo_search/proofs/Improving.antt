@@ -1,0 +1,72 @@
+-- The search improves: the trail grows heavier, and its weight is bounded.
+use Rattle.std.proofs.Common.{◌≡◌, ℕ, suc, ◌+◌, ◌-◌, ◌*◌, ◌^◌, ◌<◌, ◌≤◌, true, List, [], ◌∷◌, ◌++◌, reverse, length, Vec, Global, refl, sym, ◌∙◌, ap, subst, arith}
+use Rattle.std.proofs.lemmas.List.{reverse-append}
+use Rattle.std.proofs.Math.Nat.{one-le-pow}
+use Rattle.resolvo_pool.specs.declared.id.ClauseId.{ClauseId}
+use Rattle.resolvo_pool.specs.declared.id.VariableId.{VariableId}
+use Rattle.resolvo_store.specs.Signed.{Signed, has}
+use Rattle.resolvo_store.specs.declared.decision.Entry.{Entry}
+use Rattle.resolvo_search.specs.declared.state.HeldClause.{HeldClause}
+use Rattle.resolvo_search.specs.declared.state.SearchState.{SearchState}
+use Rattle.resolvo_search.specs.declared.state.VariableKind.{VariableKind}
+use Rattle.resolvo_search.specs.declared.analysis.Learnt.{Learnt}
+use Rattle.resolvo_search.specs.declared.watching.Watching.{Watching}
+use Rattle.resolvo_search.specs.Known.{clause_at}
+use Rattle.resolvo_search.specs.Entries.{top_level, weight}
+use Rattle.resolvo_search.specs.State.{count_of, history, clauses_of, IsDerived, IsState}
+use Rattle.resolvo_search.specs.Analysis.{AreFromClauses, IsLearnt}
+use Rattle.resolvo_search.specs.Steps.{SameBut, Chooses, choice_entry}
+use Rattle.resolvo_search.specs.Propagation.{Extends}
+use Rattle.resolvo_search.specs.Adding.{Learns}
+use Rattle.resolvo_search.specs.Advancing.{Improves, weight_left}
+use Rattle.resolvo_search.proofs.Weights.{weight_bounded}
+use Rattle.resolvo_search.proofs.StepLemmas.{reverse_push}
+use Rattle.resolvo_search.proofs.Extending.{same_clauses}
+use Rattle.resolvo_search.proofs.Jumping.{learns_choices, learns_heavier}
+
+weight-append : (count : ℕ) (p h : List Entry) → weight count h ≤ weight count (p ++ h)
+weight-append count [] h = omega arith
+weight-append count (e ∷ p) h = let a : weight count h ≤ weight count (p ++ h) = weight-append count p h in omega arith
+
+same_count : (s t : SearchState) → SameBut s t → count_of t ≡ count_of s
+same_count s t same = ap (λ (v : Vec VariableKind Global). length v.items) same.variables
+
+-- a trail that goes on is no lighter
+pub extends_heavier : (s t : SearchState) (count : ℕ) → Extends s t → weight count (history s) ≤ weight count (history t)
+extends_heavier s t count e =
+    subst (λ (h : List Entry). weight count (history s) ≤ weight count h) (sym (ap reverse e.added ∙ reverse-append s.tracker.trail e.more)) (weight-append count (reverse e.more) (history s))
+
+pub learning_improves : (s m b : SearchState) (w : Watching) (x : Learnt) (id : ClauseId) → Extends s m → IsLearnt m x → Learns x id m b w → Improves id s b w
+learning_improves s m b w x id e learnt l =
+    let count : count_of m ≡ count_of s = same_count s m e.same in
+    let one : weight (count_of s) (history s) ≤ weight (count_of s) (history m) = extends_heavier s m (count_of s) e in
+    let two : weight (count_of s) (history m) < weight (count_of s) (history b) = subst (λ (n : ℕ). weight n (history m) < weight n (history b)) count (learns_heavier m b w x id e.state learnt l) in
+    record {
+      ready = l.ready;
+      covered = l.covered;
+      variables = l.variables ∙ e.same.variables;
+      floor = l.floor ∙ e.same.floor;
+      number = l.number ∙ ap (λ (cs : List HeldClause). length cs) e.same.clauses;
+      clause = record { literals = x.literals; causes = x.causes };
+      added = l.added ∙ ap (λ (cs : List HeldClause). cs ++ record { literals = x.literals; causes = x.causes } ∷ []) e.same.clauses;
+      derived = subst (λ (cs : List (List Signed)). IsDerived cs x.literals.items x.causes.items) (same_clauses s m e) learnt.derived;
+      caused = learnt.caused;
+      from = λ k h. let (n, stands) = learnt.from k h in (n, subst (λ (cs : List (List Signed)). has (clause_at cs n) k ≡ true) (same_clauses s m e) stands);
+      heavier = omega arith;
+      choices = λ d older stands choice. e.choices d older (learns_choices m b w x id l d older stands choice) choice;
+    }
+
+-- a choice makes the trail heavier
+pub choice_heavier : (s t : SearchState) (v : VariableId) (c : ClauseId) → Chooses v c s t → weight (count_of s) (history s) < weight (count_of s) (history t)
+choice_heavier s t v c chosen =
+    let d : Entry = choice_entry v c (history s) in
+    let one : 1 ≤ (count_of s + 1) ^ (count_of s + 1 - d.level) = one-le-pow (count_of s + 1 - d.level) (count_of s + 1) (omega arith) in
+    subst (λ (h : List Entry). weight (count_of s) (history s) < weight (count_of s) h) (sym (ap reverse chosen.pushed ∙ reverse_push s.tracker.trail d)) (omega arith)
+
+-- what is left to gain falls as the trail grows heavier over the same variables
+pub weight_falls : (s t : SearchState) → IsState t → count_of t ≡ count_of s → weight (count_of s) (history s) < weight (count_of s) (history t) → weight_left t < weight_left s
+weight_falls s t state count heavier =
+    let bound : weight (count_of t) (history t) ≤ count_of t * (count_of t + 1) ^ (count_of t + 1) = weight_bounded (count_of t) (clauses_of t) (history t) state.trail in
+    let bound' : weight (count_of s) (history t) ≤ count_of s * (count_of s + 1) ^ (count_of s + 1) = subst (λ (n : ℕ). weight n (history t) ≤ n * (n + 1) ^ (n + 1)) count bound in
+    let same : weight_left t ≡ count_of s * (count_of s + 1) ^ (count_of s + 1) - weight (count_of s) (history t) = ap (λ (n : ℕ). n * (n + 1) ^ (n + 1) - weight n (history t)) count in
+    omega arith

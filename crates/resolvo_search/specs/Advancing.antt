@@ -1,0 +1,46 @@
+-- One step of the search.
+use Rattle.std.specs.Prelude.{◌≡◌, ℕ, ◌+◌, ◌*◌, ◌-◌, ◌^◌, ◌<◌, [], ◌∷◌, ◌++◌, length}
+use Rattle.resolvo_pool.specs.declared.id.ClauseId.{ClauseId}
+use Rattle.resolvo_search.specs.declared.state.HeldClause.{HeldClause}
+use Rattle.resolvo_search.specs.declared.state.SearchState.{SearchState}
+use Rattle.resolvo_search.specs.declared.watching.Watching.{Watching}
+use Rattle.resolvo_search.specs.declared.advancing.Progress.{Progress}
+use Rattle.resolvo_search.specs.Entries.{weight}
+use Rattle.resolvo_search.specs.State.{count_of, history, clauses_of, IsDerived}
+use Rattle.resolvo_search.specs.Analysis.{AreFromClauses, IsRefusal}
+use Rattle.resolvo_search.specs.Steps.{SameBut, KeepsChoices}
+use Rattle.resolvo_search.specs.Propagation.{IsReady, AreCovered, Extends, IsQuiet}
+use Rattle.resolvo_search.specs.Known.{clause_at}
+use Rattle.resolvo_search.specs.Entries.{made_true}
+
+-- nothing is left to set: each clause has a true literal, or two that are not false
+pub record Completes (old new : SearchState) (w : Watching) : Type 0 where
+  pub ready : IsReady new w
+  pub covered : AreCovered new w
+  pub extends : Extends old new
+  pub quiet : (n : ℕ) → n < length new.clauses → IsQuiet (made_true (history new)) (clause_at (clauses_of new) n)
+
+-- A clause came that follows from earlier ones, and whose literals stand in them; the trail is heavier
+-- than before, and each of its choices was there.
+pub record Improves (id : ClauseId) (old new : SearchState) (w : Watching) : Type 0 where
+  pub ready : IsReady new w
+  pub covered : AreCovered new w
+  pub variables : new.variables ≡ old.variables
+  pub floor : new.floor ≡ old.floor
+  pub number : id.0 ≡ length old.clauses
+  pub clause : HeldClause
+  pub added : new.clauses ≡ old.clauses ++ clause ∷ []
+  pub derived : IsDerived (clauses_of old) clause.literals.items clause.causes.items
+  pub caused : 0 < length clause.causes.items
+  pub from : AreFromClauses old clause.literals.items
+  pub heavier : weight (count_of old) (history old) < weight (count_of old) (history new)
+  pub choices : KeepsChoices (history old) (history new)
+
+abbrev pub IsProgress : SearchState → Watching → SearchState → Watching → Progress → Type 0
+IsProgress old v new w Progress.Complete = Completes old new w
+IsProgress old v new w (Progress.Learnt id) = Improves id old new w
+IsProgress old v new w (Progress.Refused r) = IsReady new w × AreCovered new w × Extends old new × IsRefusal new r.literals.items r.causes.items
+
+-- how much weight the trail can still gain
+abbrev pub weight_left : SearchState → ℕ
+weight_left s = count_of s * (count_of s + 1) ^ (count_of s + 1) - weight (count_of s) (history s)
