@@ -4,12 +4,12 @@ use Rattle.std.specs.Prelude.{slice_index_or, Contains}
 use Rattle.std.proofs.lemmas.Bool.{both_ways, cases_Bool}
 use Rattle.std.proofs.lemmas.List.{length-append}
 use Rattle.resolvo_pool.specs.declared.id.ClauseId.{ClauseId}
-use Rattle.resolvo_store.specs.Signed.{Signed, same_literal, has}
+use Rattle.resolvo_store.specs.Signed.{Signed, has}
 use Rattle.resolvo_store.specs.Clauses.{yes, root}
 use Rattle.resolvo_store.specs.Watchable.{CanWatch}
 use Rattle.resolvo_store.specs.Watches.{pair_at}
 use Rattle.resolvo_store.specs.declared.watched_literals.WatchedLiterals.{WatchedLiterals}
-use Rattle.resolvo_store.proofs.Watched.{pair_at_end, pair_before_end, pair_in_range}
+use Rattle.resolvo_store.proofs.Watched.{pair_at_end, pair_before_end}
 use Rattle.resolvo_search.specs.declared.state.HeldClause.{HeldClause}
 use Rattle.resolvo_search.specs.declared.state.SearchState.{SearchState}
 use Rattle.resolvo_search.specs.declared.watching.Watching.{Watching}
@@ -143,10 +143,14 @@ clause_comes c id literal p b s t v w ready covers can stands adds begun = recor
     covered : (n : ℕ) → n < length t.clauses → (n ≡ length v.watched.items) ⊎ (n ≡ length v.watched.items → ⊥) → pair_at (v.watched.items ++ p ∷ []) n ≡ None → (n ≡ 0) ⊎ ((y : Single) × (y.clause.0 ≡ n) × (HasSingle w.assertions.items y ⊎ HasSingle w.learnt.items y))
     covered n below (inl e) is =
         let here : p ≡ None = sym (pair_at_end v.watched.items p) ∙ subst (λ (i : ℕ). pair_at (v.watched.items ++ p ∷ []) i ≡ None) e is in
-        inr (x, at_end ∙ sym e, elim (subst (λ (o : Option WatchedLiterals). HasSingle (with_single o b x v.assertions.items) x ⊎ HasSingle (with_single o (not b) x v.learnt.items) x) (sym here) (single_noted b x v.assertions.items v.learnt.items)) [
-          | inl h ↦ inl (subst (λ (xs : List Single). HasSingle xs x) (sym begun.assertions) h)
-          | inr h ↦ inr (subst (λ (xs : List Single). HasSingle xs x) (sym begun.learnt) h)
-        ])
+        inr (
+          x,
+          at_end ∙ sym e,
+          elim (subst (λ (o : Option WatchedLiterals). HasSingle (with_single o b x v.assertions.items) x ⊎ HasSingle (with_single o (not b) x v.learnt.items) x) (sym here) (single_noted b x v.assertions.items v.learnt.items)) [
+            | inl h ↦ inl (subst (λ (xs : List Single). HasSingle xs x) (sym begun.assertions) h)
+            | inr h ↦ inr (subst (λ (xs : List Single). HasSingle xs x) (sym begun.learnt) h)
+          ],
+        )
     covered n below (inr e) is =
         let old : pair_at v.watched.items n ≡ None = sym (pair_before_end v.watched.items p n e) ∙ is in
         let long : length t.clauses ≡ length s.clauses + 1 = ap length adds.added ∙ length-append s.clauses (c ∷ []) in
@@ -154,8 +158,12 @@ clause_comes c id literal p b s t v w ready covers can stands adds begun = recor
         let within : n < length s.clauses = below_other n (length s.clauses) (length t.clauses) below long (λ f. e (f ∙ sym each)) in
         elim (covers.covered n within old) [
           | inl z ↦ inl z
-          | inr y ↦ let (single, number, stood) = y in inr (single, number, elim stood [
-            | inl h ↦ inl (subst (λ (xs : List Single). HasSingle xs single) (sym begun.assertions) (single_stays p b x single v.assertions.items h))
-            | inr h ↦ inr (subst (λ (xs : List Single). HasSingle xs single) (sym begun.learnt) (single_stays p (not b) x single v.learnt.items h))
-          ])
+          | inr y ↦ let (single, number, stood) = y in inr (
+            single,
+            number,
+            elim stood [
+              | inl h ↦ inl (subst (λ (xs : List Single). HasSingle xs single) (sym begun.assertions) (single_stays p b x single v.assertions.items h))
+              | inr h ↦ inr (subst (λ (xs : List Single). HasSingle xs single) (sym begun.learnt) (single_stays p (not b) x single v.learnt.items h))
+            ],
+          )
         ]

@@ -1,5 +1,5 @@
 -- Propagation that went to the trail's end is complete.
-use Rattle.std.proofs.Common.{◌≡◌, ℕ, zero, suc, ◌+◌, ◌<◌, ◌≤◌, ◌⊎◌, inl, inr, Bool, true, false, List, [], ◌∷◌, ◌++◌, reverse, take, length, get_or, Option, Some, None, Vec, Global, refl, sym, ◌∙◌, ap, subst, arith}
+use Rattle.std.proofs.Common.{◌≡◌, ℕ, zero, suc, ◌+◌, ◌<◌, ◌≤◌, ◌⊎◌, inl, inr, Bool, true, false, List, [], ◌∷◌, ◌++◌, reverse, take, length, get_or, Option, Some, None, refl, sym, ◌∙◌, ap, subst, arith}
 use Rattle.std.specs.Prelude.{is_some, slice_get, min}
 use Rattle.std.specs.Option.{option_map}
 use Rattle.std.proofs.lemmas.Bool.{both_ways, cases_Bool}
@@ -19,12 +19,11 @@ use Rattle.resolvo_search.specs.declared.watching.Single.{Single}
 use Rattle.resolvo_search.specs.Known.{IsFalseUnder, Forces, clause_at}
 use Rattle.resolvo_search.specs.Entries.{made_true, before, IsTrail, IsRooted, StandsOn}
 use Rattle.resolvo_search.specs.State.{count_of, history, clauses_of, IsState}
-use Rattle.resolvo_search.specs.Propagation.{IsReady, AreCovered, AreSingles, IsOnly, HasSingle, AllTrue, SameWatching, Guards, IsWalkedTo, Extends, Walked, Running, IsBroken, Conflicts, IsQuiet, IsComplete, IsSingleSet, IsTaken, SetsSingles}
+use Rattle.resolvo_search.specs.Propagation.{IsReady, AreCovered, AreSingles, IsOnly, HasSingle, AllTrue, Guards, IsWalkedTo, Extends, Walked, Running, IsBroken, Conflicts, IsQuiet, IsComplete, IsSingleSet, IsTaken, SetsSingles}
 use Rattle.resolvo_search.proofs.Trails.{consistent, before_all, length_le, root_known}
 use Rattle.resolvo_search.proofs.Clauses.{length-lists}
-use Rattle.resolvo_search.proofs.Walking.{in_range_from}
 use Rattle.resolvo_search.proofs.Visiting.{ready_extends}
-use Rattle.resolvo_search.proofs.Extending.{extends_more, extends_nothing, still_true, same_clauses}
+use Rattle.resolvo_search.proofs.Extending.{extends_more, still_true, same_clauses}
 
 all_true_more : (s t : SearchState) (xs : List Single) → Extends s t → AllTrue (made_true (history s)) xs → AllTrue (made_true (history t)) xs
 all_true_more s t [] e a = tt
@@ -58,10 +57,13 @@ single_breaks o s t x e below only (same, f) =
     let count : length (clauses_of o) ≡ length o.clauses = length-lists o.clauses in
     let below' : x.clause.0 < length o.clauses = omega arith in
     let here = single_alone o s x e only in
-    subst (λ (u : SearchState). Extends o u × IsBroken x.clause.0 u) (sym same) (e, record {
-      in_range = subst (λ (cs : List HeldClause). x.clause.0 < length cs) (sym e.same.clauses) below';
-      falls = λ m h. subst (λ (l : Signed). has (made_true (history s)) (negation l) ≡ true) (sym (here.alone m h)) f;
-    })
+    subst (λ (u : SearchState). Extends o u × IsBroken x.clause.0 u) (sym same) (
+      e,
+      record {
+        in_range = subst (λ (cs : List HeldClause). x.clause.0 < length cs) (sym e.same.clauses) below';
+        falls = λ m h. subst (λ (l : Signed). has (made_true (history s)) (negation l) ≡ true) (sym (here.alone m h)) f;
+      },
+    )
 
 -- the trail is no longer than there are variables
 pub entries_bounded : (s : SearchState) → IsState s → length s.tracker.trail ≤ count_of s

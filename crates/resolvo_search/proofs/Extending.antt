@@ -1,12 +1,11 @@
 -- Lemmas on a trail that goes on.
-use Rattle.std.proofs.Common.{◌≡◌, ℕ, ◌+◌, ◌<◌, ◌≤◌, ◌⊎◌, inl, inr, true, List, [], ◌∷◌, ◌++◌, reverse, take, drop, length, suc, refl, sym, ◌∙◌, ap, subst, arith, append_assoc}
+use Rattle.std.proofs.Common.{◌≡◌, ℕ, ◌≤◌, ◌⊎◌, inl, inr, true, List, [], ◌∷◌, ◌++◌, reverse, take, drop, length, suc, refl, sym, ◌∙◌, ap, subst, arith, append_assoc}
 use Rattle.std.proofs.lemmas.List.{append-nil, reverse-append, take-append-le, take-append-drop}
 use Rattle.resolvo_pool.specs.declared.id.ClauseId.{ClauseId}
 use Rattle.resolvo_store.specs.Signed.{Signed, has}
 use Rattle.resolvo_store.specs.declared.decision.Entry.{Entry}
-use Rattle.resolvo_search.specs.declared.state.HeldClause.{HeldClause}
 use Rattle.resolvo_search.specs.declared.state.SearchState.{SearchState}
-use Rattle.resolvo_search.specs.Entries.{made_true, literal_of, before, top_level, IsChoice, StandsOn}
+use Rattle.resolvo_search.specs.Entries.{made_true, literal_of, before, top_level, StandsOn}
 use Rattle.resolvo_search.specs.State.{history, clauses_of, lists, IsState}
 use Rattle.resolvo_search.specs.Steps.{Sets, SameBut, KeepsChoices, forced_entry}
 use Rattle.resolvo_search.specs.Propagation.{Extends}

@@ -1,5 +1,5 @@
 -- The search improves: the trail grows heavier, and its weight is bounded.
-use Rattle.std.proofs.Common.{◌≡◌, ℕ, suc, ◌+◌, ◌-◌, ◌*◌, ◌^◌, ◌<◌, ◌≤◌, true, List, [], ◌∷◌, ◌++◌, reverse, length, Vec, Global, refl, sym, ◌∙◌, ap, subst, arith}
+use Rattle.std.proofs.Common.{◌≡◌, ℕ, ◌+◌, ◌-◌, ◌*◌, ◌^◌, ◌<◌, ◌≤◌, true, List, [], ◌∷◌, ◌++◌, reverse, length, Vec, Global, sym, ◌∙◌, ap, subst, arith}
 use Rattle.std.proofs.lemmas.List.{reverse-append}
 use Rattle.std.proofs.Math.Nat.{one-le-pow}
 use Rattle.resolvo_pool.specs.declared.id.ClauseId.{ClauseId}
@@ -12,9 +12,9 @@ use Rattle.resolvo_search.specs.declared.state.VariableKind.{VariableKind}
 use Rattle.resolvo_search.specs.declared.analysis.Learnt.{Learnt}
 use Rattle.resolvo_search.specs.declared.watching.Watching.{Watching}
 use Rattle.resolvo_search.specs.Known.{clause_at}
-use Rattle.resolvo_search.specs.Entries.{top_level, weight}
+use Rattle.resolvo_search.specs.Entries.{weight}
 use Rattle.resolvo_search.specs.State.{count_of, history, clauses_of, IsDerived, IsState}
-use Rattle.resolvo_search.specs.Analysis.{AreFromClauses, IsLearnt}
+use Rattle.resolvo_search.specs.Analysis.{IsLearnt}
 use Rattle.resolvo_search.specs.Steps.{SameBut, Chooses, choice_entry}
 use Rattle.resolvo_search.specs.Propagation.{Extends}
 use Rattle.resolvo_search.specs.Adding.{Learns}

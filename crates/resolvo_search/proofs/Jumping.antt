@@ -1,5 +1,5 @@
 -- After the jump the learnt clause forces its asserted literal.
-use Rattle.std.proofs.Common.{◌≡◌, ℕ, ◌+◌, ◌-◌, ◌^◌, ◌<◌, ◌≤◌, inl, inr, true, false, List, [], ◌∷◌, ◌++◌, reverse, length, sym, ◌∙◌, ap, subst, arith}
+use Rattle.std.proofs.Common.{◌≡◌, ℕ, ◌+◌, ◌-◌, ◌^◌, ◌<◌, inl, inr, true, false, List, [], ◌∷◌, ◌++◌, reverse, length, sym, ◌∙◌, ap, subst}
 use Rattle.resolvo_pool.specs.declared.id.ClauseId.{ClauseId}
 use Rattle.resolvo_store.specs.Signed.{Signed, negation, has}
 use Rattle.resolvo_store.specs.Clauses.{yes, root}
@@ -10,7 +10,7 @@ use Rattle.resolvo_search.specs.declared.state.SearchState.{SearchState}
 use Rattle.resolvo_search.specs.declared.analysis.Learnt.{Learnt}
 use Rattle.resolvo_search.specs.declared.watching.Watching.{Watching}
 use Rattle.resolvo_search.specs.Known.{IsUndecided, Forces, clause_at}
-use Rattle.resolvo_search.specs.Entries.{made_true, top_level, IsChoice, IsUndone, StandsOn, weight}
+use Rattle.resolvo_search.specs.Entries.{made_true, top_level, IsUndone, StandsOn, weight}
 use Rattle.resolvo_search.specs.State.{count_of, history, clauses_of, lists, IsState}
 use Rattle.resolvo_search.specs.Analysis.{IsLearnt}
 use Rattle.resolvo_search.specs.Steps.{Sets, Undoes, KeepsChoices, forced_entry}

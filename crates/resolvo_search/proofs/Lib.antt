@@ -14,3 +14,4 @@ pub mod Coming
 pub mod Jumping
 pub mod Variables
 pub mod Improving
+pub mod Choosing

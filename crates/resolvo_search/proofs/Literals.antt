@@ -1,10 +1,9 @@
 -- Lemmas on literals and lists of them.
 use Rattle.std.proofs.lemmas.List.{take_more}
-use Rattle.std.proofs.Common.{◌≡◌, ℕ, ◌+◌, ◌<◌, length, take, get_or, Bool, true, false, not, ◌==◌, ◌⊎◌, inl, inr, List, [], ◌∷◌, ◌++◌, map, refl, sym, ◌∙◌, ap, subst, cond, eqb-true, eq-eqb}
-use Rattle.std.proofs.lemmas.Bool.{or_cases, or_left, or_right, and_parts, and_from, both_ways, cases_Bool}
+use Rattle.std.proofs.Common.{◌≡◌, ℕ, ◌+◌, ◌<◌, length, take, get_or, Bool, true, false, not, ◌⊎◌, inl, inr, List, [], ◌∷◌, ◌++◌, map, refl, sym, ◌∙◌, ap, subst}
+use Rattle.std.proofs.lemmas.Bool.{or_cases, or_left, or_right, both_ways}
 use Rattle.resolvo_store.specs.Signed.{Signed, negation, same_literal, has}
 use Rattle.resolvo_store.specs.SignLaws.{same_literal_true, same_literal-self}
-use Rattle.resolvo_search.specs.Known.{holds}
 
 pub not_not : (b : Bool) → not (not b) ≡ b
 not_not true = refl

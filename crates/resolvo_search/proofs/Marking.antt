@@ -1,12 +1,11 @@
 -- What the marked entries of a trail deny.
-use Rattle.std.proofs.Common.{◌≡◌, ℕ, suc, ◌+◌, ◌-◌, ◌<◌, ◌≤◌, ◌⊎◌, inl, inr, Bool, true, false, not, cond, List, [], ◌∷◌, ◌++◌, take, length, get_or, refl, sym, ◌∙◌, ap, subst, arith, ◌==◌, eqb-true, eq-eqb}
+use Rattle.std.proofs.Common.{◌≡◌, ℕ, ◌+◌, ◌<◌, ◌≤◌, ◌⊎◌, inl, inr, Bool, true, false, cond, List, [], ◌∷◌, take, length, get_or, refl, sym, ◌∙◌, ap, subst, arith, ◌==◌, eqb-true, eq-eqb}
 use Rattle.std.specs.Prelude.{slice_index_or}
 use Rattle.std.proofs.lemmas.Bool.{both_ways}
 use Rattle.resolvo_store.specs.Signed.{Signed, negation, has}
 use Rattle.resolvo_store.specs.declared.decision.Entry.{Entry}
 use Rattle.resolvo_pool.specs.declared.id.VariableId.{VariableId}
-use Rattle.resolvo_search.specs.Known.{IsFalseUnder}
-use Rattle.resolvo_search.specs.Entries.{literal_of, made_true, before, top_level, IsTrail, StandsAt}
+use Rattle.resolvo_search.specs.Entries.{literal_of, made_true, top_level, IsTrail, StandsAt}
 use Rattle.resolvo_search.specs.Analysis.{is_marked, denied, Marks, IsMarkedLevel}
 use Rattle.resolvo_search.proofs.Literals.{negation-negation, has-cons, has_here, has_later, has_more, more_has_old, more_has_new}
 use Rattle.resolvo_search.proofs.Trails.{level_le_last, level_steps}

@@ -3,12 +3,12 @@ use Rattle.std.proofs.Common.{◌≡◌, ℕ, Bool, true, false, not, ◌⊎◌,
 use Rattle.std.specs.Prelude.{nat_eq}
 use Rattle.std.specs.List.{list_any, list_all}
 use Rattle.std.proofs.Math.Bool.{beq}
-use Rattle.std.proofs.lemmas.Bool.{false≢true, both_ways, cases_Bool, or_left, or_right, and_from}
+use Rattle.std.proofs.lemmas.Bool.{false≢true, both_ways, or_left, or_right, and_from}
 use Rattle.resolvo_pool.specs.OnePass as Pass
 use Rattle.resolvo_pool.proofs.PassLearns.{resolve_step, broken_refutes}
 use Rattle.resolvo_pool.proofs.PassSound.{Agrees, refutes_nothing}
 use Rattle.resolvo_store.specs.Signed.{Signed, negation, same_literal, has}
-use Rattle.resolvo_store.specs.Clauses.{yes, no, root}
+use Rattle.resolvo_store.specs.Clauses.{no, root}
 use Rattle.resolvo_search.specs.Known.{holds, Satisfies, SatisfiesAll}
 use Rattle.resolvo_search.specs.Refuting.{said, said_all, Refutes}
 use Rattle.resolvo_search.proofs.Literals.{has-cons, has_here, has_later}
@@ -84,8 +84,8 @@ refuted_holds v c cs rooted r s = elim (cases_satisfied v c) [
   | inr f ↦
       let agrees : Agrees nat_eq v (same_value v) (λ a. Some (v a)) = record { so = λ a b e. cc } in
       absurd (false≢true (sym (refutes_nothing nat_eq v (same_value v) (λ a. Some (v a)) agrees (map said_all cs) (all_true v cs s)) ∙ r (λ a. Some (v a)) (λ l h.
-          elim (has-cons (no root) c (unsaid l) (sym (has-said (no root ∷ c) (unsaid l)) ∙ h)) [
-            | inl e ↦ subst (λ (m : Signed). not (beq (v m.variable.0) m.positive) ≡ true) e (ap (λ b. not (beq b false)) rooted)
-            | inr e ↦ ap not (f (unsaid l) e)
-          ])))
+      elim (has-cons (no root) c (unsaid l) (sym (has-said (no root ∷ c) (unsaid l)) ∙ h)) [
+        | inl e ↦ subst (λ (m : Signed). not (beq (v m.variable.0) m.positive) ≡ true) e (ap (λ b. not (beq b false)) rooted)
+        | inr e ↦ ap not (f (unsaid l) e)
+      ])))
 ]

@@ -1,7 +1,7 @@
 -- Lemmas on the steps of the search.
-use Rattle.std.proofs.Common.{◌≡◌, ℕ, zero, suc, ◌+◌, ◌-◌, ◌<◌, ◌≤◌, ◌^◌, ◌⊎◌, inl, inr, true, false, List, [], ◌∷◌, ◌++◌, All, reverse, length, map, get_or, Option, Some, None, refl, sym, ◌∙◌, ap, subst, arith}
+use Rattle.std.proofs.Common.{◌≡◌, ℕ, zero, suc, ◌-◌, ◌<◌, ◌≤◌, ◌^◌, ◌⊎◌, inl, inr, true, false, List, [], ◌∷◌, ◌++◌, reverse, length, get_or, None, refl, sym, ◌∙◌, ap, subst, arith}
 use Rattle.std.proofs.lemmas.Bool.{both_ways}
-use Rattle.std.proofs.lemmas.List.{reverse-append, reverse-reverse, length-reverse, map-append, get_or-reverse}
+use Rattle.std.proofs.lemmas.List.{reverse-append, reverse-reverse, length-reverse, get_or-reverse}
 use Rattle.resolvo_pool.specs.declared.id.ClauseId.{ClauseId}
 use Rattle.resolvo_pool.specs.declared.id.VariableId.{VariableId}
 use Rattle.resolvo_store.specs.Signed.{Signed, has}
@@ -16,10 +16,9 @@ use Rattle.resolvo_search.specs.declared.state.SearchState.{SearchState}
 use Rattle.resolvo_search.specs.Known.{IsUndecided, Forces, clause_at}
 use Rattle.resolvo_search.specs.Entries.{made_true, top_level, Follows, IsTrail, IsUndone, IsRooted}
 use Rattle.resolvo_search.specs.State.{count_of, history, lists, clauses_of, IsDerived, AreDerived, IsState}
-use Rattle.resolvo_search.specs.Steps.{AreInRange, forced_entry, choice_entry, SameBut, Sets, Chooses, Undoes, Adds}
+use Rattle.resolvo_search.specs.Steps.{AreInRange, forced_entry, choice_entry, Sets, Chooses, Undoes, Adds}
 use Rattle.resolvo_search.proofs.Trails.{trail_more, undone_trail, undone_rooted, undone_all, length_le, level_le_length}
 use Rattle.resolvo_search.proofs.Values.{undecided_none}
-use Rattle.resolvo_search.proofs.Clauses.{length-lists}
 
 pub reverse_push : {X : Type 0} (xs : List X) (y : X) → reverse (xs ++ y ∷ []) ≡ y ∷ reverse xs
 reverse_push xs y = reverse-append xs (y ∷ [])
@@ -95,9 +94,9 @@ pub undone_is : (level : ℕ) (a b : Store.Tracked) → Store.TakesAway level a 
 undone_is level a b t =
     let whole : reverse a.trail ≡ reverse t.undone ++ reverse b.trail = ap reverse t.trail ∙ reverse-append b.trail t.undone in
     subst (λ (h : List Entry). IsUndone level h (reverse b.trail)) (sym whole) (undone_over level (reverse t.undone) (reverse b.trail) (λ i d lt.
-        let same : length (reverse t.undone) ≡ length t.undone = length-reverse t.undone in
-        let within : i < length t.undone = omega arith in
-        subst (λ (e : Entry). level < e.level) (sym (get_or-reverse t.undone i d within)) (t.above (length t.undone - 1 - i) d (omega arith))))
+    let same : length (reverse t.undone) ≡ length t.undone = length-reverse t.undone in
+    let within : i < length t.undone = omega arith in
+    subst (λ (e : Entry). level < e.level) (sym (get_or-reverse t.undone i d within)) (t.above (length t.undone - 1 - i) d (omega arith))))
 
 pub state_undone : (s : SearchState) (t : Store.Tracked) (level : ℕ) → IsState s → 1 ≤ level → Store.Undoes level s.tracker t → Undoes level s (record s { tracker = t })
 state_undone s t level state one u =

@@ -8,7 +8,7 @@ use Rattle.resolvo_store.specs.Signed.{Signed, negation, has}
 use Rattle.resolvo_store.specs.Clauses.{yes, root}
 use Rattle.resolvo_store.specs.declared.decision.Entry.{Entry}
 use Rattle.resolvo_search.specs.Known.{IsUndecided, IsForced, clause_at}
-use Rattle.resolvo_search.specs.Entries.{literal_of, reason_of, made_true, before, top_level, IsChoice, IsPropagated, IsReasoned, Follows, IsTrail, StandsAt, StandsOn, EndsWith, IsUndone, IsRooted}
+use Rattle.resolvo_search.specs.Entries.{literal_of, reason_of, made_true, before, top_level, IsReasoned, Follows, IsTrail, StandsAt, StandsOn, EndsWith, IsUndone, IsRooted}
 use Rattle.resolvo_search.proofs.Literals.{negation-negation, has-cons, has_here, has_later}
 
 -- the entry that is read at a place, and those before it

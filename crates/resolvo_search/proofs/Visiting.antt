@@ -1,5 +1,5 @@
 -- A walk over the clauses that watch a literal.
-use Rattle.std.proofs.Common.{◌≡◌, ℕ, zero, suc, ◌+◌, ◌<◌, ◌≤◌, ◌⊎◌, inl, inr, Bool, true, false, cond, List, [], ◌∷◌, drop, length, get_or, set, Option, Some, None, refl, sym, ◌∙◌, ap, subst, arith, eqb}
+use Rattle.std.proofs.Common.{◌≡◌, ℕ, zero, suc, ◌+◌, ◌<◌, ◌⊎◌, inl, inr, Bool, true, false, cond, List, [], ◌∷◌, drop, length, Option, Some, None, refl, sym, ◌∙◌, ap, subst, arith, eqb}
 use Rattle.std.specs.Prelude.{slice_get}
 use Rattle.std.proofs.lemmas.Bool.{both_ways, or_cases, or_left, or_right}
 use Rattle.std.proofs.lemmas.Bool.Decides.{eqb_tells}
@@ -8,7 +8,7 @@ use Rattle.resolvo_pool.specs.declared.id.ClauseId.{ClauseId}
 use Rattle.resolvo_store.specs.Signed.{Signed, negation, same_literal, has}
 use Rattle.resolvo_store.specs.SignLaws.{same_literal_true, same_literal-self}
 use Rattle.resolvo_store.specs.Pairs.{watches, other_of, moved_pair}
-use Rattle.resolvo_store.specs.Watches.{watchers, pair_at, count, one_if, Moves}
+use Rattle.resolvo_store.specs.Watches.{watchers, pair_at, count, one_if}
 use Rattle.resolvo_store.specs.declared.watched_literals.WatchedLiterals.{WatchedLiterals}
 use Rattle.resolvo_store.specs.declared.decision.Entry.{Entry}
 use Rattle.resolvo_store.proofs.Watched.{not_same, first_watched, pair_at-set_same, pair_at-set_other, pair_in_range, pair_of_watcher, moved_from}
@@ -19,7 +19,7 @@ use Rattle.resolvo_search.specs.declared.watching.Watching.{Watching}
 use Rattle.resolvo_search.specs.Known.{IsFalseUnder, Forces, clause_at}
 use Rattle.resolvo_search.specs.Entries.{literal_of, made_true, before}
 use Rattle.resolvo_search.specs.State.{count_of, history, clauses_of}
-use Rattle.resolvo_search.specs.Propagation.{IsReady, IsOwnPair, IsFree, SameWatching, Guards, Passed, IsWalkedTo, Extends, IsVisiting, Keeps, Replaces, Breaks, Walked, Conflicts}
+use Rattle.resolvo_search.specs.Propagation.{IsReady, IsOwnPair, IsFree, Guards, Passed, IsWalkedTo, Extends, IsVisiting, Keeps, Replaces, Breaks, Walked, Conflicts}
 use Rattle.resolvo_search.proofs.Literals.{has-cons, has_here, negation-negation}
 use Rattle.resolvo_search.proofs.Trails.{consistent}
 use Rattle.resolvo_search.proofs.Extending.{extends_more, extends_nothing, still_true, true_by_now, before_kept, same_clauses}

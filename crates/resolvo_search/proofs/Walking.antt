@@ -1,5 +1,5 @@
 -- The walk back along the trail from a broken clause.
-use Rattle.std.proofs.Common.{◌≡◌, ℕ, zero, suc, ◌+◌, ◌-◌, ◌<◌, ◌≤◌, ◌⊎◌, inl, inr, Bool, true, false, not, cond, List, [], ◌∷◌, ◌++◌, reverse, drop, length, map, refl, sym, ◌∙◌, ap, subst, arith, append_assoc}
+use Rattle.std.proofs.Common.{◌≡◌, ℕ, zero, suc, ◌+◌, ◌<◌, ◌≤◌, ◌⊎◌, inl, inr, Bool, true, false, cond, List, [], ◌∷◌, ◌++◌, reverse, drop, length, refl, sym, ◌∙◌, ap, subst, arith, append_assoc}
 use Rattle.std.specs.Prelude.{slice_index_or, nat_lt, max, IfOk, Result, Ok, Err}
 use Rattle.std.proofs.lemmas.Bool.{both_ways, cases_Bool}
 use Rattle.std.proofs.lemmas.Bool.Decides.{nat_tests}
@@ -13,9 +13,8 @@ use Rattle.resolvo_search.specs.declared.analysis.Analysis.{Analysis}
 use Rattle.resolvo_search.specs.declared.analysis.Learnt.{Learnt}
 use Rattle.resolvo_search.specs.Known.{IsFalseUnder, IsUndecided, IsForced, clause_at}
 use Rattle.resolvo_search.specs.Entries.{literal_of, reason_of, made_true, before, top_level, IsChoice, IsPropagated, IsReasoned, Follows, IsTrail, StandsAt, StandsOn, IsRooted}
-use Rattle.resolvo_search.specs.Refuting.{Refutes}
-use Rattle.resolvo_search.specs.State.{count_of, history, clauses_of, named, AllBelow, IsDerived, IsState}
-use Rattle.resolvo_search.specs.Analysis.{is_marked, denied, Marks, IsMarkedLevel, IsSolvable, IsKept, IsKeptOrForced, DenyKept, AreFromClauses, IsBoundedBut, IsLearnt, IsLearntOf, IsAnalysis, IsRefusal, Walks}
+use Rattle.resolvo_search.specs.State.{count_of, history, clauses_of, named, IsDerived, IsState}
+use Rattle.resolvo_search.specs.Analysis.{is_marked, denied, Marks, IsMarkedLevel, IsSolvable, IsKept, IsKeptOrForced, AreFromClauses, IsLearnt, IsLearntOf, IsAnalysis, IsRefusal, Walks}
 use Rattle.resolvo_search.proofs.Literals.{negation-negation, has-cons, has_here, has_later, has-append, has_left, has_right}
 use Rattle.resolvo_search.proofs.Refutations.{refutes_more, refutes_broken, refutes_step}
 use Rattle.resolvo_search.proofs.Trails.{before_all, whole_trail, trail_before, consistent, same_or_negated, known_from_stands, stands_from_entry, root_known, rooted_rest}
@@ -253,10 +252,10 @@ walk_starts s broken none marks state bound falls empty marked =
     let c : List Signed = clause_at (clauses_of s) broken.0 in
     let rooted : has (made_true (history s)) (yes root) ≡ true = root_known (history s) state.rooted in
     let here : (l : Signed) → has c l ≡ true → has (no root ∷ (denied marks (history s) ++ [])) l ≡ true = λ l h.
-        elim (marked.takes l h) [
-          | inl z ↦ has_here (no root) (denied marks (history s) ++ []) l (sym (root_false (count_of s) (clauses_of s) (history s) l state.trail rooted (falls l h) z))
-          | inr r ↦ has_later (no root) (denied marks (history s) ++ []) l (has_left (denied marks (history s)) [] l (denied_has marks (history s) l (falls l h) r))
-        ] in
+    elim (marked.takes l h) [
+      | inl z ↦ has_here (no root) (denied marks (history s) ++ []) l (sym (root_false (count_of s) (clauses_of s) (history s) l state.trail rooted (falls l h) z))
+      | inr r ↦ has_later (no root) (denied marks (history s) ++ []) l (has_left (denied marks (history s)) [] l (denied_has marks (history s) l (falls l h) r))
+    ] in
     let derived' : IsDerived (clauses_of s) (denied marks (history s) ++ []) (broken ∷ []) = record { in_range = (bound, tt); refuted = refutes_broken c (no root ∷ (denied marks (history s) ++ [])) here } in
     let from' : AreFromClauses s (denied marks (history s) ++ []) = λ l h. elim (has-append (denied marks (history s)) [] l h) [ inl a ↦ stood l a | inr a ↦ absurd (both_ways false refl a) ] in
     record {

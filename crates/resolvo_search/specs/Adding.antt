@@ -1,7 +1,6 @@
 -- A clause comes, with what it watches.
 use Rattle.std.specs.Prelude.{◌≡◌, ◌≤◌, Bool, true, false, not, [], ◌∷◌, ◌++◌, List, length, Option, Some, None}
 use Rattle.resolvo_pool.specs.declared.id.ClauseId.{ClauseId}
-use Rattle.resolvo_store.specs.Signed.{Signed}
 use Rattle.resolvo_store.specs.Watches.{watchers, IsWatched}
 use Rattle.resolvo_store.specs.declared.watched_literals.WatchedLiterals.{WatchedLiterals}
 use Rattle.resolvo_search.specs.declared.state.HeldClause.{HeldClause}

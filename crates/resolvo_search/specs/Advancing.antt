@@ -8,7 +8,7 @@ use Rattle.resolvo_search.specs.declared.advancing.Progress.{Progress}
 use Rattle.resolvo_search.specs.Entries.{weight}
 use Rattle.resolvo_search.specs.State.{count_of, history, clauses_of, IsDerived}
 use Rattle.resolvo_search.specs.Analysis.{AreFromClauses, IsRefusal}
-use Rattle.resolvo_search.specs.Steps.{SameBut, KeepsChoices}
+use Rattle.resolvo_search.specs.Steps.{KeepsChoices}
 use Rattle.resolvo_search.specs.Propagation.{IsReady, AreCovered, Extends, IsQuiet}
 use Rattle.resolvo_search.specs.Known.{clause_at}
 use Rattle.resolvo_search.specs.Entries.{made_true}

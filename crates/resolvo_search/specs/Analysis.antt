@@ -1,15 +1,14 @@
 -- What is learnt from a broken clause.
-use Rattle.std.specs.Prelude.{◌≡◌, ℕ, suc, ◌<◌, ◌≤◌, ◌⊎◌, Bool, true, false, List, [], ◌∷◌, ◌++◌, reverse, length, cond, slice_index_or, Option, Some, slice_get}
+use Rattle.std.specs.Prelude.{◌≡◌, ℕ, ◌<◌, ◌≤◌, ◌⊎◌, Bool, true, false, List, [], ◌∷◌, ◌++◌, reverse, length, cond, slice_index_or, Some, slice_get}
 use Rattle.resolvo_pool.specs.declared.id.ClauseId.{ClauseId}
 use Rattle.resolvo_store.specs.Signed.{Signed, negation, has}
 use Rattle.resolvo_store.specs.declared.decision.Entry.{Entry}
-use Rattle.resolvo_search.specs.declared.state.VariableKind.{VariableKind}
 use Rattle.resolvo_search.specs.declared.state.VariableKind.TheVariants.{Solvable}
 use Rattle.resolvo_search.specs.declared.state.SearchState.{SearchState}
 use Rattle.resolvo_search.specs.declared.analysis.Analysis.{Analysis}
 use Rattle.resolvo_search.specs.declared.analysis.Learnt.{Learnt}
-use Rattle.resolvo_search.specs.Known.{IsFalseUnder, clause_at}
-use Rattle.resolvo_search.specs.Entries.{literal_of, reason_of, made_true, before, top_level, IsChoice, IsPropagated, StandsAt, StandsOn}
+use Rattle.resolvo_search.specs.Known.{clause_at}
+use Rattle.resolvo_search.specs.Entries.{literal_of, before, top_level, IsChoice, IsPropagated, StandsAt, StandsOn}
 use Rattle.resolvo_search.specs.State.{history, clauses_of, IsDerived}
 
 -- the entry's variable is marked

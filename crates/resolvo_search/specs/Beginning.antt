@@ -8,7 +8,7 @@ use Rattle.resolvo_search.specs.declared.state.SearchState.{SearchState}
 use Rattle.resolvo_search.specs.declared.state.VariableKind.{VariableKind}
 use Rattle.resolvo_search.specs.declared.state.VariableKind.TheVariants.{Root}
 use Rattle.resolvo_search.specs.declared.watching.Watching.{Watching}
-use Rattle.resolvo_search.specs.State.{IsState, lists}
+use Rattle.resolvo_search.specs.State.{IsState}
 use Rattle.resolvo_search.specs.Propagation.{IsReady, AreCovered}
 
 -- the one clause says that the root is true, and follows from nothing

@@ -1,6 +1,6 @@
 -- The trail, read from its newest entry back.
 use Rattle.std.specs.Prelude.{◌≡◌, ℕ, suc, ◌+◌, ◌-◌, ◌^◌, ◌<◌, ◌⊎◌, true, List, [], ◌∷◌, ◌++◌, reverse, take}
-use Rattle.resolvo_store.specs.Signed.{Signed, negation, has}
+use Rattle.resolvo_store.specs.Signed.{Signed}
 use Rattle.resolvo_store.specs.Clauses.{yes, root}
 use Rattle.resolvo_store.specs.declared.decision.Entry.{Entry}
 use Rattle.resolvo_search.specs.Known.{IsUndecided, IsForced, clause_at}

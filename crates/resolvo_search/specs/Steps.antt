@@ -7,7 +7,7 @@ use Rattle.resolvo_store.specs.declared.decision.Entry.{Entry}
 use Rattle.resolvo_search.specs.declared.state.HeldClause.{HeldClause}
 use Rattle.resolvo_search.specs.declared.state.SearchState.{SearchState}
 use Rattle.resolvo_search.specs.Entries.{top_level, IsChoice, StandsOn, IsUndone}
-use Rattle.resolvo_search.specs.State.{count_of, history, IsState}
+use Rattle.resolvo_search.specs.State.{history, IsState}
 
 -- the literal is of one of the variables
 abbrev pub AreInRange : ℕ → List Signed → Type 0

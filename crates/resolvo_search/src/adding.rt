@@ -70,8 +70,7 @@ impl Watching {
         let WatchedLiterals { first, second } = watched;
         self.watches
             .start_watching(WatchedLiterals { first, second }, clause)?;
-        self.watched
-            .push(Some(WatchedLiterals { first, second }))?;
+        self.watched.push(Some(WatchedLiterals { first, second }))?;
         Ok(())
     }
 

@@ -139,12 +139,7 @@ impl SearchState {
     }
 
     /// The negations of what the marked entries among the first `place` make true, from the newest on.
-    fn denied(
-        &self,
-        alloc: Global,
-        place: usize,
-        marks: &IndexedSet<VariableId>,
-    ) -> R<Vec<Literal>>
+    fn denied(&self, alloc: Global, place: usize, marks: &IndexedSet<VariableId>) -> R<Vec<Literal>>
         requires state { IsState self.now }
         requires in_range { place ≤ length self.now.tracker.trail }
         ensures literals { IfOk result (λ v. v.items ≡ denied marks.now (before self.now.tracker.trail place)) }

@@ -1,4 +1,4 @@
-use Rattle.std.proofs.Common.{◌≡◌, ℕ, ◌+◌, true, false, sym, ◌∙◌, ap, subst, take, List, Bool, eqb-true, eq-eqb, cond, ◌==◌}
+use Rattle.std.proofs.Common.{◌≡◌, ◌+◌, true, false, sym, ◌∙◌, ap, subst, take, List, Bool, eqb-true, eq-eqb, cond, ◌==◌}
 use Rattle.std.proofs.lemmas.Bool.{both_ways}
 use Rattle.resolvo_pool.specs.declared.id.VariableId.{VariableId}
 use Rattle.std.specs.Prelude.{slice_index_or}

@@ -1,4 +1,4 @@
-use Rattle.std.proofs.Common.{◌≡◌, true, false, List, length, take, sym, ◌∙◌, ap, subst, not}
+use Rattle.std.proofs.Common.{◌≡◌, true, List, take, sym, ◌∙◌, subst}
 use Rattle.std.proofs.lemmas.List.{take_all}
 use Rattle.std.proofs.lemmas.Bool.{not-true}
 use Rattle.resolvo_store.specs.Signed.{Signed, has, same_literal}

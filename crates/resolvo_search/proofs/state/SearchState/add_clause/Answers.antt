@@ -1,4 +1,4 @@
-use Rattle.std.proofs.Common.{◌≡◌, true, sym, ◌∙◌, ap, subst}
+use Rattle.std.proofs.Common.{◌≡◌, true, sym, subst}
 use Rattle.resolvo_store.specs.Signed.{Signed, has}
 use Rattle.resolvo_search.proofs.Coming.{clause_comes, first_has}
 use Rattle.resolvo_search.proofs.state.SearchState.add_clause.Goals as goal

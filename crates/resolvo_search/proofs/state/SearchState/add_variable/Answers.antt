@@ -1,6 +1,5 @@
 use Rattle.std.proofs.Common.{◌≡◌, ◌<◌, length, ap, is_ok, arith}
 use Rattle.std.proofs.ResultArms.{chosen}
-use Rattle.resolvo_search.specs.State.{count_of}
 use Rattle.resolvo_search.proofs.Variables.{variable_added}
 use Rattle.resolvo_search.proofs.state.SearchState.add_variable.Goals as goal
 

@@ -9,7 +9,7 @@ use Rattle.resolvo_search.specs.State.{clauses_of}
 use Rattle.resolvo_search.specs.Known.{clause_at}
 use Rattle.resolvo_search.specs.Analysis.{Walks, Marks, IsKeptOrForced, is_marked}
 use Rattle.resolvo_search.proofs.Clauses.{length-lists}
-use Rattle.resolvo_search.proofs.Walking.{Meets, meets, walk_starts, walk_keeps, walk_resolves, walk_learns, rooted_before, kept_low, in_range_from, learnt_analysis, if_ok_more}
+use Rattle.resolvo_search.proofs.Walking.{Meets, meets, walk_starts, walk_keeps, walk_resolves, rooted_before, kept_low, in_range_from, learnt_analysis, if_ok_more}
 use Rattle.resolvo_search.proofs.state.SearchState.analyze.Goals as goal
 use Rattle.resolvo_search.proofs.state.SearchState.analyze.Goals.{else-self-entry-via-then-self-entry+else-below-entry, else-self-entry-via-else-self-entry}
 

@@ -1,4 +1,4 @@
-use Rattle.std.proofs.Common.{◌≡◌, ◌+◌, true, suc, ap, ◌∙◌, arith}
+use Rattle.std.proofs.Common.{◌≡◌, ◌+◌, true, suc, arith}
 use Rattle.resolvo_store.specs.declared.decision.Entry.{Entry}
 use Rattle.resolvo_search.specs.Steps.{choice_entry}
 use Rattle.resolvo_search.specs.Entries.{top_level}

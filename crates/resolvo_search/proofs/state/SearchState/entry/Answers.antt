@@ -1,4 +1,4 @@
-use Rattle.std.proofs.Common.{◌≡◌, ◌+◌, ◌<◌, ◌^◌, ℕ, false, length, arith}
+use Rattle.std.proofs.Common.{◌<◌, ◌^◌, false, arith}
 use Rattle.resolvo_store.specs.declared.decision.Entry.{Entry}
 use Rattle.resolvo_search.specs.State.{count_of, clauses_of}
 use Rattle.resolvo_search.proofs.Trails.{entry_read, entry_in_range}

@@ -1,4 +1,3 @@
-use Rattle.std.proofs.Common.{◌≡◌}
 use Rattle.resolvo_search.proofs.Walking.{meets, kept_or_forced}
 use Rattle.resolvo_search.proofs.state.SearchState.is_kept.Goals as goal
 

@@ -1,6 +1,6 @@
-use Rattle.std.proofs.Common.{◌≡◌, ◌+◌, ◌-◌, ◌<◌, ◌≤◌, ℕ, true, false, List, ◌∷◌, length, sym, ◌∙◌, ap, subst, arith}
+use Rattle.std.proofs.Common.{◌≡◌, ◌+◌, ◌-◌, ℕ, false, List, ◌∷◌, sym, ◌∙◌, ap, arith}
 use Rattle.resolvo_store.specs.declared.decision.Entry.{Entry}
-use Rattle.resolvo_search.specs.Entries.{before, IsTrail}
+use Rattle.resolvo_search.specs.Entries.{before}
 use Rattle.resolvo_search.specs.State.{count_of, clauses_of}
 use Rattle.resolvo_search.specs.Analysis.{is_marked}
 use Rattle.resolvo_search.proofs.Trails.{trail_before}

@@ -1,6 +1,6 @@
 use Rattle.std.proofs.Common.{ℕ, ◌≤◌, length}
 use Rattle.resolvo_search.specs.Entries.{before}
-use Rattle.resolvo_search.specs.Analysis.{denied, IsMarkedLevel}
+use Rattle.resolvo_search.specs.Analysis.{IsMarkedLevel}
 use Rattle.resolvo_search.proofs.state.SearchState.marked_level.Given as goal
 
 abbrev pub invariant-loop-place : goal.invariant-loop-place

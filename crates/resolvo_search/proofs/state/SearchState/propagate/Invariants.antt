@@ -1,4 +1,4 @@
-use Rattle.std.proofs.Common.{◌≡◌, ◌-◌, length}
+use Rattle.std.proofs.Common.{◌≡◌, ◌-◌}
 use Rattle.resolvo_search.specs.Propagation.{Running}
 use Rattle.resolvo_search.specs.State.{count_of}
 use Rattle.resolvo_search.proofs.state.SearchState.propagate.Given as goal

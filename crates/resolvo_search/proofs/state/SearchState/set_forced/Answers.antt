@@ -1,4 +1,4 @@
-use Rattle.std.proofs.Common.{◌≡◌, ap, ◌∙◌}
+use Rattle.std.proofs.Common.{◌≡◌}
 use Rattle.resolvo_store.specs.declared.decision.Entry.{Entry}
 use Rattle.resolvo_search.specs.Steps.{forced_entry}
 use Rattle.resolvo_search.specs.State.{history}

@@ -1,4 +1,4 @@
-use Rattle.std.proofs.Common.{◌≡◌, true, false, subst}
+use Rattle.std.proofs.Common.{subst}
 use Rattle.resolvo_search.specs.State.{clauses_of}
 use Rattle.resolvo_search.specs.Propagation.{IsSingleSet}
 use Rattle.resolvo_search.proofs.Completing.{single_at, single_alone, single_breaks, singles_more}

@@ -1,13 +1,11 @@
 use Rattle.std.proofs.Common.{◌≡◌, ◌+◌, ◌<◌, List, Option, Some, length, sym, ◌∙◌, ap, subst, arith}
-use Rattle.std.specs.Prelude.{slice_get}
 use Rattle.resolvo_store.specs.Watches.{watchers, pair_at}
 use Rattle.resolvo_store.specs.declared.watched_literals.WatchedLiterals.{WatchedLiterals}
 use Rattle.resolvo_store.proofs.Walks.{shorter}
-use Rattle.resolvo_search.specs.declared.state.SearchState.{SearchState}
 use Rattle.resolvo_store.specs.declared.watch_map.WatchMapCursor.{WatchMapCursor}
 use Rattle.resolvo_search.specs.declared.watching.Watching.{Watching}
 use Rattle.resolvo_search.specs.Propagation.{IsMeeting, IsVisiting, Keeps, Replaces}
-use Rattle.resolvo_search.proofs.Visiting.{got_in_range, fallen_now, visiting_starts, visiting_keeps, visiting_moves, visiting_ends, visiting_breaks}
+use Rattle.resolvo_search.proofs.Visiting.{got_in_range, fallen_now, visiting_keeps, visiting_moves, visiting_ends, visiting_breaks}
 use Rattle.resolvo_search.proofs.state.SearchState.visit.Goals as goal
 
 pub meet-requires-clause-known : goal.meet-requires-clause-known

@@ -1,6 +1,5 @@
-use Rattle.std.proofs.Common.{◌≡◌, ◌-◌, length}
+use Rattle.std.proofs.Common.{◌-◌, length}
 use Rattle.resolvo_store.specs.Watches.{watchers}
-use Rattle.resolvo_store.specs.Signed.{Signed, negation}
 use Rattle.resolvo_search.specs.Propagation.{IsVisiting}
 use Rattle.resolvo_search.proofs.state.SearchState.visit.Given as goal
 
