@@ -1,0 +1,4 @@
+pub mod Graph
+pub mod Outlook
+pub mod Runs
+pub mod Walk
