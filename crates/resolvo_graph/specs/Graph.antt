@@ -1,6 +1,7 @@
 -- The conflict graph, as the list of its nodes and that of its edges, and what is read off it.
 use Rattle.std.specs.Prelude.{ℕ, ◌+◌, ◌==◌, ◌<◌, ◌&&◌, cond, not, Bool, true, false, List, [], ◌∷◌, Option, Some, None, filter, length, map, reverse, slice_get}
 use Rattle.std.specs.List.{list_any}
+use Rattle.resolvo_pool.specs.declared.id.VersionSetId.{VersionSetId}
 use Rattle.resolvo_pool.specs.declared.requirement.Requirement.{Requirement}
 use Rattle.resolvo_graph.specs.declared.graph.NodeIndex.{NodeIndex}
 use Rattle.resolvo_graph.specs.declared.graph.ConflictNode.{ConflictNode}
@@ -44,6 +45,21 @@ is_exclusion (Conflict Excluded) = true
 is_exclusion (Conflict (Locked s)) = false
 is_exclusion (Conflict (Constrains v)) = false
 is_exclusion (Conflict ForbidMultipleInstances) = false
+
+abbrev pub is_forbidden : {S : Type 0} → ConflictEdge S → Bool
+is_forbidden (Requires q) = false
+is_forbidden (Conflict ForbidMultipleInstances) = true
+is_forbidden (Conflict Excluded) = false
+is_forbidden (Conflict (Locked s)) = false
+is_forbidden (Conflict (Constrains v)) = false
+
+-- the version set that the source admits alone
+abbrev pub admitted_by : {S : Type 0} → ConflictEdge S → Option VersionSetId
+admitted_by (Requires q) = None
+admitted_by (Conflict (Constrains v)) = Some v
+admitted_by (Conflict Excluded) = None
+admitted_by (Conflict (Locked s)) = None
+admitted_by (Conflict ForbidMultipleInstances) = None
 
 abbrev pub is_unresolved : {S : Type 0} → ConflictNode S → Bool
 is_unresolved Nodes.Root = false

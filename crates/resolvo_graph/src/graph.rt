@@ -6,7 +6,7 @@ ghost use Rattle.std.specs.List.{position_or_len};
 ghost use Rattle.indexmap.specs.IndexSet.{insert_key};
 ghost use Rattle.resolvo_pool.specs.declared.want.Want.TheVariants.{Memory};
 ghost use Rattle.resolvo_graph.specs.declared.graph.ConflictNode.TheVariants.{Root};
-ghost use Rattle.resolvo_graph.specs.Graph.{edges_of, requirement_of, is_conflict, is_exclusion, is_unresolved, is_unresolved_at, unresolved_of, is_excluding};
+ghost use Rattle.resolvo_graph.specs.Graph.{edges_of, edges_to, requirement_of, is_conflict, is_exclusion, is_forbidden, admitted_by, is_unresolved, is_unresolved_at, unresolved_of, is_excluding};
 
 use indexmap::IndexSet;
 use resolvo_pool::id::{Exact, SolvableId, StringId, VersionSetId};
@@ -82,6 +82,26 @@ impl<S: Copy> ConflictEdge<S> {
         ensures { result ≡ is_conflict self }
     {
         matches!(self, ConflictEdge::Conflict(_))
+    }
+
+    /// Whether both ends are versions of one package.
+    pub fn is_forbidden(self) -> bool
+        ensures { result ≡ is_forbidden self }
+    {
+        matches!(
+            self,
+            ConflictEdge::Conflict(ConflictCause::ForbidMultipleInstances)
+        )
+    }
+
+    /// The version set that the source admits alone.
+    pub fn admitted(self) -> Option<VersionSetId>
+        ensures { result ≡ admitted_by self }
+    {
+        match self {
+            ConflictEdge::Conflict(ConflictCause::Constrains(version_set)) => Some(version_set),
+            _ => None,
+        }
     }
 
     /// Whether the target is the reason why the source is excluded.
@@ -234,6 +254,27 @@ impl<S: Copy + Exact + Hash> ConflictGraph<S> {
         }
         found.reverse();
         Ok(found)
+    }
+
+    /// The edges that enter a node, the oldest first.
+    pub fn edges_to(&self, alloc: Global, node: NodeIndex) -> R<Vec<Edge<S>>>
+        ensures edges { IfOk result (λ v. v.items ≡ edges_to self.now node) }
+        ensures refusal { IsOkUnless result Memory }
+    {
+        let mut found = Vec::new(alloc);
+        for edge in &self.edges {
+            if edge.target == node {
+                found.push(*edge)?;
+            }
+        }
+        Ok(found)
+    }
+
+    /// The nodes, each at its index.
+    pub fn nodes(&self) -> &[ConflictNode<S>]
+        ensures { result.now ≡ self.now.nodes }
+    {
+        self.nodes.as_slice()
     }
 
     /// Whether a node is the reason of an exclusion.

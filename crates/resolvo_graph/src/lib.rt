@@ -2,6 +2,13 @@
 #![tactic(auto)]
 
 pub mod graph;
+pub mod indenter;
+pub mod line;
+pub mod merging;
 mod outlook;
 mod runs;
+#[cfg(test)]
+mod tests;
+mod tree;
+pub mod unsat;
 mod walk;
