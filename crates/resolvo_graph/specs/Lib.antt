@@ -1,6 +1,6 @@
 pub mod Graph
 pub mod Indent
-pub mod Letters
+pub mod Kept
 pub mod Merging
 pub mod Outlook
 pub mod Runs

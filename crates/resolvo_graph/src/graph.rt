@@ -121,7 +121,7 @@ impl<S: Copy> ConflictNode<S> {
     }
 }
 
-/// The conflict graph. Node 0 is the root, and no two nodes are equal.
+/// The conflict graph. Node 0 is the root, no two nodes are equal, and each edge is between nodes.
 #[derive(Drop)]
 pub struct ConflictGraph<S: Eq + Hash = SolvableId> {
     nodes: IndexSet<ConflictNode<S>>,
@@ -288,12 +288,28 @@ impl<S: Copy + Exact + Hash> ConflictGraph<S> {
 
     /// The same graph again.
     pub fn clone(&self, alloc: Global) -> R<ConflictGraph<S>>
+    where
+        S: Drop,
         ensures same { IfOk result (λ g. g ≡ self.now) }
         ensures refusal { IsOkUnless result Memory }
     {
         Ok(ConflictGraph {
-            nodes: self.nodes.clone()?,
+            nodes: copied(alloc, &self.nodes)?,
             edges: Vec::from_slice(alloc, self.edges.as_slice())?,
         })
     }
+}
+
+/// The same keys in the same order.
+fn copied<K: Copy + Eq + Hash>(alloc: Global, keys: &IndexSet<K>) -> R<IndexSet<K>>
+where
+    K: Drop,
+    ensures same { IfOk result (λ s. s.keys ≡ keys.now.keys) }
+    ensures refusal { IsOkUnless result Memory }
+{
+    let mut copy = IndexSet::new(alloc);
+    for key in keys.as_slice() {
+        copy.insert_full(*key)?;
+    }
+    Ok(copy)
 }

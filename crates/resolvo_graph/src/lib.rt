@@ -7,8 +7,4 @@ pub mod line;
 pub mod merging;
 mod outlook;
 mod runs;
-#[cfg(test)]
-mod tests;
-mod tree;
-pub mod unsat;
 mod walk;

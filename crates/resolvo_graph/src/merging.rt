@@ -1,13 +1,11 @@
 //! Versions that are told as one: versions of one package with the same neighbours on both sides.
 //! `simplify` compares the sorted lists of each version's neighbours, each with its requirement.
-ghost use Rattle.std.specs.Prelude.{◌≡◌, IfOk};
-ghost use Rattle.std.specs.Option.{option_map};
-ghost use Rattle.std.specs.HashMap.{get};
+ghost use Rattle.std.specs.Prelude.{◌≡◌, IfOk, OnOk, Some, cond};
 ghost use Rattle.std.specs.List.Sorted.{IsPermutation, IsSorted};
-ghost use Rattle.resolvo_graph.specs.Merging.{before, after, AreProfiles, alike, group, IsMerged};
+ghost use Rattle.resolvo_graph.specs.Merging.{before, after, IsProfile, AreProfiles, alike, group, neighbour_cmp, solvable_of, IsMerged};
+ghost use Rattle.resolvo_graph.specs.Kept.{kept_with};
 
 use crate::graph::{ConflictGraph, ConflictNode, NodeIndex};
-use itertools::Itertools;
 use resolvo_pool::id::{Exact, SolvableId};
 use resolvo_pool::provider::Interner;
 use resolvo_pool::requirement::Requirement;
@@ -45,9 +43,22 @@ impl<N, S> Model for Profile<N, S> {
 impl<N: Copy + Exact, S: Copy + Exact> Profile<N, S> {
     /// Whether both versions are told as one.
     fn is_alike(&self, other: &Profile<N, S>) -> bool
-        ensures { result ≡ alike ⟦<(Option<Requirement>, NodeIndex) as PartialEq>⟧.eq N.eq self.now other.now }
+        ensures { result ≡ alike N.eq self.now other.now }
     {
         self.name == other.name && self.before == other.before && self.after == other.after
+    }
+}
+
+impl<S: Copy> ConflictNode<S> {
+    /// The version that this node stands for, if it stands for one.
+    pub fn solvable(self) -> Option<S>
+        ensures { result ≡ solvable_of self }
+    {
+        match self {
+            ConflictNode::Solvable(solvable) => Some(solvable),
+            ConflictNode::Root | ConflictNode::UnresolvedDependency | ConflictNode::Excluded(_) =>
+                None,
+        }
     }
 }
 
@@ -58,18 +69,32 @@ impl<S: SolverId> ConflictGraph<S> {
         alloc: Global,
         interner: &I,
     ) -> R<HashMap<S, Rc<MergedConflictNode<S>>>>
-        ensures { IfOk result (λ m. IsMerged ⟦<(Option<Requirement>, NodeIndex) as PartialEq>⟧.eq I.NameId.eq S.eq ⟦<(Option<Requirement>, NodeIndex) as Ord>⟧.cmp self.now (I.name_of_solvable interner.now) (λ s. option_map (λ r. r.value.ids.items) (get S.eq m s))) }
+        ensures { IfOk result (λ m. IsMerged I.NameId.eq S.eq self.now (I.name_of_solvable interner.now) (kept_with S.eq m)) }
     {
         let profiles = profiles(alloc, self, interner)?;
         let mut merged = HashMap::new(alloc);
         for profile in &profiles {
             let ids = alike_ones(alloc, &profiles, profile)?;
             if ids.len() > 1 {
-                merged.insert(profile.solvable, Rc::new(alloc, MergedConflictNode { ids })?)?;
+                keep(alloc, &mut merged, profile.solvable, ids)?;
             }
         }
         Ok(merged)
     }
+}
+
+/// Keeps the versions that are told with one.
+fn keep<S: SolverId>(
+    alloc: Global,
+    merged: &mut HashMap<S, Rc<MergedConflictNode<S>>>,
+    solvable: S,
+    ids: Vec<S>,
+) -> R<()>
+    ensures { OnOk result ((s : S) → kept_with S.eq merged.new s ≡ cond (S.eq solvable s) (Some ids.items) (kept_with S.eq merged.old s)) }
+{
+    let group = Rc::new(alloc, MergedConflictNode { ids })?;
+    merged.insert(solvable, group)?;
+    Ok(())
 }
 
 /// The versions that are told with one, itself among them.
@@ -80,7 +105,7 @@ fn alike_ones<N: Copy + Exact, S: Copy + Exact>(
 ) -> R<Vec<S>>
 where
     S: Drop,
-    ensures { IfOk result (λ v. v.items ≡ group ⟦<(Option<Requirement>, NodeIndex) as PartialEq>⟧.eq N.eq profiles.now one.now) }
+    ensures { IfOk result (λ v. v.items ≡ group N.eq profiles.now one.now) }
 {
     let mut ids = Vec::new(alloc);
     for profile in profiles {
@@ -97,21 +122,33 @@ fn profiles<S: SolverId, I: Interner<SolvableId = S>>(
     graph: &ConflictGraph<S>,
     interner: &I,
 ) -> R<Vec<Profile<I::NameId, S>>>
-    ensures { IfOk result (λ v. AreProfiles ⟦<(Option<Requirement>, NodeIndex) as Ord>⟧.cmp graph.now (I.name_of_solvable interner.now) v.items) }
+    ensures { IfOk result (λ v. AreProfiles graph.now (I.name_of_solvable interner.now) v.items) }
 {
     let mut found = Vec::new(alloc);
     for (index, node) in graph.nodes().iter().enumerate() {
-        if let ConflictNode::Solvable(solvable) = *node {
-            let node = NodeIndex(index);
-            found.push(Profile {
-                solvable,
-                name: interner.solvable_name(solvable),
-                before: in_order(neighbours_before(alloc, graph, node)?)?,
-                after: in_order(neighbours_after(alloc, graph, node)?)?,
-            })?;
+        if let Some(solvable) = node.solvable() {
+            found.push(profile_of(alloc, graph, interner, NodeIndex(index), solvable)?)?;
         }
     }
     Ok(found)
+}
+
+/// What decides with which others a version is told.
+fn profile_of<S: SolverId, I: Interner<SolvableId = S>>(
+    alloc: Global,
+    graph: &ConflictGraph<S>,
+    interner: &I,
+    node: NodeIndex,
+    solvable: S,
+) -> R<Profile<I::NameId, S>>
+    ensures { IfOk result (IsProfile graph.now (I.name_of_solvable interner.now) (node, solvable)) }
+{
+    Ok(Profile {
+        solvable,
+        name: interner.solvable_name(solvable),
+        before: in_order(neighbours_before(alloc, graph, node)?)?,
+        after: in_order(neighbours_after(alloc, graph, node)?)?,
+    })
 }
 
 /// Where the edges to a node come from, each with its requirement.
@@ -149,8 +186,9 @@ fn in_order(
     neighbours: Vec<(Option<Requirement>, NodeIndex)>,
 ) -> R<Vec<(Option<Requirement>, NodeIndex)>>
     ensures permutation { IfOk result (λ v. IsPermutation neighbours.items v.items) }
-    ensures sorted { IfOk result (λ v. IsSorted ⟦<(Option<Requirement>, NodeIndex) as Ord>⟧.cmp v.items) }
+    ensures sorted { IfOk result (λ v. IsSorted neighbour_cmp v.items) }
 {
-    let alloc = *neighbours.allocator();
-    Ok(neighbours.into_iter().sorted(alloc)?.collect(alloc)?)
+    let mut neighbours = neighbours;
+    neighbours.sort()?;
+    Ok(neighbours)
 }

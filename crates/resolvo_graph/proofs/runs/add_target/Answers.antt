@@ -12,9 +12,9 @@ returns-then-is_of-clause-put c =
 pub returns-clause-put : goal.returns-clause-put
 returns-clause-put c =
     elim c.match-pop.branch [
-      in-Some+else-is_of+in_ok-push-2 w ↦ follows _ _ _ c.pop.new.self.items w.in-Some.last c.in_ok-one.field-0 c.args.requirement c.args.target w.in-Some.ensures.items (sym w.is_of.ensures ∙ w.if-is_of.false) (ap (λ v. v.items) w.found-is ∙ w.in_ok-push-2.ensures.items) c.in_ok-one.ensures.run c.in_ok-push-3.ensures.items
-    | in_default w ↦
-      let none : c.args.found.now.items ≡ [] = nil_from_length c.args.found.now.items (omega (arith, c.args.found.now.ok, w.in_default.ensures.cases)) in
-      let left : c.pop.new.self.items ≡ [] = sym (append-nil c.pop.new.self.items) ∙ sym w.in_default.ensures.items ∙ none in
-      begins _ _ _ c.in_ok-one.field-0 c.args.requirement c.args.target none (ap (λ v. v.items) w.found-is ∙ left) c.in_ok-one.ensures.run c.in_ok-push-3.ensures.items
+      | in-Some+else-is_of+in_ok-push-2 w ↦ follows _ _ _ c.pop.new.self.items w.in-Some.last c.in_ok-one.field-0 c.args.requirement c.args.target w.in-Some.ensures.items (sym w.is_of.ensures ∙ w.if-is_of.false) (ap (λ v. v.items) w.found-is ∙ w.in_ok-push-2.ensures.items) c.in_ok-one.ensures.run c.in_ok-push-3.ensures.items
+      | in_default w ↦
+          let none : c.args.found.now.items ≡ [] = nil_from_length c.args.found.now.items (omega (arith, c.args.found.now.ok, w.in_default.ensures.cases)) in
+          let left : c.pop.new.self.items ≡ [] = sym (append-nil c.pop.new.self.items) ∙ sym w.in_default.ensures.items ∙ none in
+          begins _ _ _ c.in_ok-one.field-0 c.args.requirement c.args.target none (ap (λ v. v.items) w.found-is ∙ left) c.in_ok-one.ensures.run c.in_ok-push-3.ensures.items
     ]

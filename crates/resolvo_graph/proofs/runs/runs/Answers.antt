@@ -13,6 +13,6 @@ loop-edge-preserved g c =
     let more : runs_of (take (i + 1) c.args.edges.now) ≡ with_last_edge (runs_of (take i c.args.edges.now)) c.requirement.result e.target =
     ap runs_of one ∙ runs_of-last (take i c.args.edges.now) e ∙ ap (λ o. with_last_edge (runs_of (take i c.args.edges.now)) o e.target) (sym c.requirement.ensures) in
     elim c.match-requirement.branch [
-      in-Some+in_ok-add_target w ↦ ap (λ v. v.items) w.found-is ∙ w.in_ok-add_target.ensures.put ∙ ap (λ rs. with_last rs w.in-Some.requirement e.target) c.loop-edge.invariant ∙ ap (λ o. with_last_edge (runs_of (take i c.args.edges.now)) o e.target) (sym w.in-Some.is) ∙ sym more
-    | in_default w ↦ ap (λ v. v.items) w.found-is ∙ c.loop-edge.invariant ∙ ap (λ o. with_last_edge (runs_of (take i c.args.edges.now)) o e.target) (sym w.in_default.is) ∙ sym more
+      | in-Some+in_ok-add_target w ↦ ap (λ v. v.items) w.found-is ∙ w.in_ok-add_target.ensures.put ∙ ap (λ rs. with_last rs w.in-Some.requirement e.target) c.loop-edge.invariant ∙ ap (λ o. with_last_edge (runs_of (take i c.args.edges.now)) o e.target) (sym w.in-Some.is) ∙ sym more
+      | in_default w ↦ ap (λ v. v.items) w.found-is ∙ c.loop-edge.invariant ∙ ap (λ o. with_last_edge (runs_of (take i c.args.edges.now)) o e.target) (sym w.in_default.is) ∙ sym more
     ]
