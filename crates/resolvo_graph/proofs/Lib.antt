@@ -1,0 +1,5 @@
+pub mod CopyLemmas
+pub mod IndentLemmas
+pub mod MergeLemmas
+pub mod RunLemmas
+pub mod WalkLemmas

@@ -1,0 +1,73 @@
+-- Profiles go with versions one by one, and groups are kept one by one.
+use Rattle.std.proofs.Common.{◌≡◌, ℕ, suc, ◌+◌, ◌<◌, ◌≤◌, add-one, length-drop, drop-cons, Bool, true, false, cond, List, [], ◌∷◌, ◌++◌, length, take, drop, get_or, Option, None, Some, refl, sym, ap, subst, ◌∙◌, arith}
+use Rattle.std.specs.Prelude.{◌&&◌, nat_lt}
+use Rattle.std.specs.List.{AllZip}
+use Rattle.std.specs.Option.{option_or}
+use Rattle.std.proofs.lemmas.List.{take_more, length-take, append-nil, nil_from_length}
+use Rattle.resolvo_graph.specs.declared.graph.NodeIndex.{NodeIndex}
+use Rattle.resolvo_graph.specs.declared.graph.ConflictNode.{ConflictNode}
+use Rattle.resolvo_graph.specs.Merging.{solvable_of, with_version, versions_from}
+
+pub zip_one : {A B : Type 0} (R : A → B → Type 0) (xs : List A) (ys : List B) (x : A) (y : B) → AllZip R xs ys → R x y → AllZip R (xs ++ x ∷ []) (ys ++ y ∷ [])
+zip_one R [] [] x y h r = (r, tt)
+zip_one R [] (b ∷ ys) x y h r = absurd h
+zip_one R (a ∷ xs) [] x y h r = absurd h
+zip_one R (a ∷ xs) (b ∷ ys) x y h r = (h.0, zip_one R xs ys x y h.1 r)
+
+with_more : {S : Type 0} (k : ℕ) (o : Option S) (vs ws : List (NodeIndex × S)) → with_version k o (vs ++ ws) ≡ with_version k o vs ++ ws
+with_more k None vs ws = refl
+with_more k (Some s) vs ws = refl
+
+versions_from-last : {S : Type 0} (k : ℕ) (ns : List (ConflictNode S)) (n : ConflictNode S) → versions_from k (ns ++ n ∷ []) ≡ versions_from k ns ++ with_version (k + length ns) (solvable_of n) []
+versions_from-last {S} k [] n =
+    let same : k ≡ k + length {A = ConflictNode S} [] = omega arith in
+    ap (λ i. with_version i (solvable_of n) []) same
+versions_from-last {S} k (m ∷ ns) n =
+    let same : (k + 1) + length ns ≡ k + length (m ∷ ns) = omega arith in
+    ap (with_version k (solvable_of m)) (versions_from-last (k + 1) ns n) ∙ with_more k (solvable_of m) (versions_from (k + 1) ns) (with_version ((k + 1) + length ns) (solvable_of n) [])
+    ∙ ap (λ i. with_version k (solvable_of m) (versions_from (k + 1) ns) ++ with_version i (solvable_of n) []) same
+
+taken : {S : Type 0} (ns : List (ConflictNode S)) (i : ℕ) (n : ConflictNode S) → i < length ns → n ≡ get_or ns i n → versions_from 0 (take (i + 1) ns) ≡ versions_from 0 (take i ns) ++ with_version i (solvable_of n) []
+taken ns i n h at =
+    let long : 0 + length (take i ns) ≡ i = omega (arith, length-take i ns) in
+    ap (versions_from 0) (take_more ns i n h ∙ ap (λ x. take i ns ++ x ∷ []) (sym at)) ∙ versions_from-last 0 (take i ns) n ∙ ap (λ k. versions_from 0 (take i ns) ++ with_version k (solvable_of n) []) long
+
+-- one profile more, for a version
+pub profile_more : {S P : Type 0} (R : NodeIndex × S → P → Type 0) (ns : List (ConflictNode S)) (found now : List P) (i : ℕ) (n : ConflictNode S) (o : Option S) (s : S) (p : P) → AllZip R (versions_from 0 (take i ns)) found → i < length ns → n ≡ get_or ns i n → o ≡ solvable_of n → o ≡ Some s → R (record { 0 = i }, s) p → now ≡ found ++ p ∷ [] → AllZip R (versions_from 0 (take (i + 1) ns)) now
+profile_more R ns found now i n o s p h less at is some r put =
+    let more : versions_from 0 (take (i + 1) ns) ≡ versions_from 0 (take i ns) ++ (record { 0 = i }, s) ∷ [] = taken ns i n less at ∙ ap (λ q. versions_from 0 (take i ns) ++ with_version i q []) (sym is ∙ some) in
+    subst (λ xs. AllZip R xs now) (sym more) (subst (λ ys. AllZip R (versions_from 0 (take i ns) ++ (record { 0 = i }, s) ∷ []) ys) (sym put) (zip_one R (versions_from 0 (take i ns)) found (record { 0 = i }, s) p h r))
+
+-- none for another node
+pub profile_same : {S P : Type 0} (R : NodeIndex × S → P → Type 0) (ns : List (ConflictNode S)) (found now : List P) (i : ℕ) (n : ConflictNode S) (o : Option S) → AllZip R (versions_from 0 (take i ns)) found → i < length ns → n ≡ get_or ns i n → o ≡ solvable_of n → o ≡ None → now ≡ found → AllZip R (versions_from 0 (take (i + 1) ns)) now
+profile_same R ns found now i n o h less at is none put =
+    let more : versions_from 0 (take (i + 1) ns) ≡ versions_from 0 (take i ns) = taken ns i n less at ∙ ap (λ q. versions_from 0 (take i ns) ++ with_version i q []) (sym is ∙ none) ∙ append-nil (versions_from 0 (take i ns)) in
+    subst (λ xs. AllZip R xs now) (sym more) (subst (λ ys. AllZip R (versions_from 0 (take i ns)) ys) (sym put) h)
+
+or_assoc : {A : Type 0} (a b c : Option A) → option_or (option_or a b) c ≡ option_or a (option_or b c)
+or_assoc None b c = refl
+or_assoc (Some x) b c = refl
+
+-- the group of one version was kept under it
+pub kept_one : {G : Type 0} (whole rest kept now : Option G) (b t : Bool) (x : G) → whole ≡ option_or (option_or rest (cond (b && t) (Some x) None)) kept → t ≡ true → now ≡ cond b (Some x) kept → whole ≡ option_or rest now
+kept_one whole rest kept now b t x h many put = h ∙ or_assoc rest (cond (b && t) (Some x) None) kept ∙ ap (option_or rest) (ap (λ c. option_or (cond (b && c) (Some x) None) kept) many ∙ go b ∙ sym put)
+  where
+    go : (c : Bool) → option_or (cond (c && true) (Some x) None) kept ≡ cond c (Some x) kept
+    go true = refl
+    go false = refl
+
+-- a version that is told alone
+pub kept_none : {G : Type 0} (whole rest kept : Option G) (b t : Bool) (x : G) → whole ≡ option_or (option_or rest (cond (b && t) (Some x) None)) kept → t ≡ false → whole ≡ option_or rest kept
+kept_none whole rest kept b t x h few = h ∙ or_assoc rest (cond (b && t) (Some x) None) kept ∙ ap (option_or rest) (ap (λ c. option_or (cond (b && c) (Some x) None) kept) few ∙ go b)
+  where
+    go : (c : Bool) → option_or (cond (c && false) (Some x) None) kept ≡ kept
+    go true = refl
+    go false = refl
+
+-- the first of what is left
+pub first_left : {A : Type 0} (xs : List A) (i : ℕ) (x : A) → i < length xs → x ≡ get_or xs i x → drop i xs ≡ x ∷ drop (i + 1) xs
+first_left xs i x h at = drop-cons xs i x h ∙ ap (λ y. y ∷ drop (suc i) xs) (sym at) ∙ ap (λ k. x ∷ drop k xs) (sym (add-one i))
+
+-- nothing is left
+pub dropped : {A : Type 0} (xs : List A) (i : ℕ) → length xs ≤ i → drop i xs ≡ []
+dropped xs i h = nil_from_length (drop i xs) (omega (arith, length-drop i xs))

@@ -1,0 +1,11 @@
+-- What a map of merged versions keeps.
+use Rattle.std.specs.Prelude.{Bool, List, Option}
+use Rattle.std.specs.Option.{option_map}
+use Rattle.std.specs.HashMap.{HashMap, get}
+use Rattle.std.specs.declared.rc.Rc.{Rc}
+use Rattle.std.specs.declared.alloc.Global.{Global}
+use Rattle.resolvo_graph.specs.declared.merging.MergedConflictNode.{MergedConflictNode}
+
+-- the versions that are told with this one
+abbrev pub kept_with : {S H : Type 0} → (S → S → Bool) → HashMap S (Rc (MergedConflictNode S) Global) H → S → Option (List S)
+kept_with eq m s = option_map (λ r. r.value.ids.items) (get eq m s)

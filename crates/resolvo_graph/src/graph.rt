@@ -1,0 +1,315 @@
+//! The conflict graph: which versions, wishes and reasons made an answer impossible.
+//! The model is the list of its nodes and the list of its edges, each in the order in which they were
+//! added. The solver builds it from a conflict; the message is told over it.
+ghost use Rattle.std.specs.Prelude.{◌≡◌, ◌<◌, ◌++◌, ◌∷◌, [], IfOk, OnOk, OnErr, IsOkUnless, length, slice_get, Some, None, nat_lt};
+ghost use Rattle.std.specs.List.{position_or_len};
+ghost use Rattle.indexmap.specs.IndexSet.{insert_key};
+ghost use Rattle.resolvo_pool.specs.declared.want.Want.TheVariants.{Memory};
+ghost use Rattle.resolvo_graph.specs.declared.graph.ConflictNode.TheVariants.{Root};
+ghost use Rattle.resolvo_graph.specs.Graph.{edges_of, edges_to, requirement_of, is_conflict, is_exclusion, is_forbidden, admitted_by, is_unresolved, is_unresolved_at, unresolved_of, is_excluding};
+
+use indexmap::IndexSet;
+use resolvo_pool::id::{Exact, SolvableId, StringId, VersionSetId};
+use resolvo_pool::requirement::Requirement;
+use resolvo_pool::want::R;
+use std::alloc::Global;
+use std::hash::Hash;
+use std::marker::Model;
+
+/// A node, by its place among the nodes.
+#[derive(Clone, Copy, Debug, PartialEq, Eq, PartialOrd, Ord, Hash)]
+pub struct NodeIndex(pub usize);
+
+/// An edge, by its place among the edges.
+#[derive(Clone, Copy, Debug, PartialEq, Eq, PartialOrd, Ord, Hash)]
+pub struct EdgeIndex(pub usize);
+
+/// A node of the graph.
+#[derive(Clone, Copy, Debug, PartialEq, Eq, Hash)]
+pub enum ConflictNode<S = SolvableId> {
+    /// The problem itself.
+    Root,
+    Solvable(S),
+    /// Where a requirement leads that no candidate matches.
+    UnresolvedDependency,
+    /// The reason why some versions are excluded.
+    Excluded(StringId),
+}
+
+/// What an edge says of its ends.
+#[derive(Clone, Copy, Debug, PartialEq, Eq)]
+pub enum ConflictEdge<S = SolvableId> {
+    /// The source needs this; the target is a candidate, or the unresolved node.
+    Requires(Requirement),
+    /// The source is in the target's way.
+    Conflict(ConflictCause<S>),
+}
+
+/// Why an edge's source is in the way of its target.
+#[derive(Clone, Copy, Debug, PartialEq, Eq)]
+pub enum ConflictCause<S = SolvableId> {
+    /// This other version is locked.
+    Locked(S),
+    /// The source admits only what matches this version set, and the target doesn't.
+    Constrains(VersionSetId),
+    /// Both are versions of one package.
+    ForbidMultipleInstances,
+    /// The target is the reason why the source is excluded.
+    Excluded,
+}
+
+/// An edge between two nodes.
+#[derive(Clone, Copy, Debug)]
+pub struct Edge<S = SolvableId> {
+    pub source: NodeIndex,
+    pub target: NodeIndex,
+    pub weight: ConflictEdge<S>,
+}
+
+impl<S: Copy> ConflictEdge<S> {
+    /// What the source needs, unless this is a conflict.
+    pub fn requirement(self) -> Option<Requirement>
+        ensures { result ≡ requirement_of self }
+    {
+        match self {
+            ConflictEdge::Requires(requirement) => Some(requirement),
+            ConflictEdge::Conflict(_) => None,
+        }
+    }
+
+    /// Whether this is a conflict.
+    pub fn is_conflict(self) -> bool
+        ensures { result ≡ is_conflict self }
+    {
+        matches!(self, ConflictEdge::Conflict(_))
+    }
+
+    /// Whether both ends are versions of one package.
+    pub fn is_forbidden(self) -> bool
+        ensures { result ≡ is_forbidden self }
+    {
+        matches!(
+            self,
+            ConflictEdge::Conflict(ConflictCause::ForbidMultipleInstances)
+        )
+    }
+
+    /// The version set that the source admits alone.
+    pub fn admitted(self) -> Option<VersionSetId>
+        ensures { result ≡ admitted_by self }
+    {
+        match self {
+            ConflictEdge::Conflict(ConflictCause::Constrains(version_set)) => Some(version_set),
+            _ => None,
+        }
+    }
+
+    /// Whether the target is the reason why the source is excluded.
+    pub fn is_exclusion(self) -> bool
+        ensures { result ≡ is_exclusion self }
+    {
+        matches!(self, ConflictEdge::Conflict(ConflictCause::Excluded))
+    }
+}
+
+impl<S: Copy> ConflictNode<S> {
+    /// Whether requirements without candidates lead here.
+    pub fn is_unresolved(self) -> bool
+        ensures { result ≡ is_unresolved self }
+    {
+        matches!(self, ConflictNode::UnresolvedDependency)
+    }
+}
+
+/// The conflict graph. Node 0 is the root, no two nodes are equal, and each edge is between nodes.
+#[derive(Drop)]
+pub struct ConflictGraph<S: Eq + Hash = SolvableId> {
+    nodes: IndexSet<ConflictNode<S>>,
+    edges: Vec<Edge<S>>,
+}
+
+impl<S: Eq + Hash> Model for ConflictGraph<S> {
+    ghost use Rattle.std.specs.Prelude.{◌≡◌, slice_get, Some, All};
+    ghost use Rattle.resolvo_graph.specs.Graph.{Graph, IsWithin};
+    ghost use Rattle.resolvo_graph.specs.declared.graph.ConflictNode.TheVariants.{Root};
+
+    ghost Value = { Graph S };
+
+    ghost view = { λ g. record { nodes = g.nodes.keys; edges = g.edges.items } };
+
+    ghost invariant = { λ g. (slice_get g.nodes.keys 0 ≡ Some Root) × All (IsWithin g.nodes.keys) g.edges.items };
+}
+
+impl<S: Copy + Exact + Hash> ConflictGraph<S> {
+    /// The root alone.
+    pub fn new(alloc: Global) -> R<ConflictGraph<S>>
+        ensures graph { IfOk result (λ g. g ≡ record { nodes = Root ∷ []; edges = [] }) }
+        ensures refusal { IsOkUnless result Memory }
+    {
+        let mut nodes = IndexSet::new(alloc);
+        nodes.insert_full(ConflictNode::Root)?;
+        Ok(ConflictGraph {
+            nodes,
+            edges: Vec::new(alloc),
+        })
+    }
+
+    /// Adds a node behind the others, unless an equal one is there, and answers its index.
+    pub fn add_node(&mut self, node: ConflictNode<S>) -> R<NodeIndex>
+        ensures index { IfOk result (λ i. i.0 ≡ position_or_len (⟦<ConflictNode<S> as PartialEq>⟧.eq node) self.old.nodes) }
+        ensures put { OnOk result (self.new ≡ record self.old { nodes = insert_key ⟦<ConflictNode<S> as PartialEq>⟧.eq self.old.nodes node }) }
+        ensures err { OnErr result (self.new ≡ self.old) }
+        ensures refusal { IsOkUnless result Memory }
+    {
+        let (index, _) = self.nodes.insert_full(node)?;
+        Ok(NodeIndex(index))
+    }
+
+    /// Whether there is a node of this index.
+    pub fn has_node(&self, node: NodeIndex) -> bool
+        ensures { result ≡ nat_lt node.0 (length self.now.nodes) }
+    {
+        node.0 < self.nodes.len()
+    }
+
+    /// Adds an edge behind the others.
+    pub fn add_edge(
+        &mut self,
+        source: NodeIndex,
+        target: NodeIndex,
+        weight: ConflictEdge<S>,
+    ) -> R<EdgeIndex>
+        requires source { source.0 < length self.old.nodes }
+        requires target { target.0 < length self.old.nodes }
+        ensures index { IfOk result (λ i. i.0 ≡ length self.old.edges) }
+        ensures put { OnOk result (self.new ≡ record self.old { edges = self.old.edges ++ record { source = source; target = target; weight = weight } ∷ [] }) }
+        ensures err { OnErr result (self.new ≡ self.old) }
+        ensures refusal { IsOkUnless result Memory }
+    {
+        let index = self.edges.len();
+        self.edges.push(Edge {
+            source,
+            target,
+            weight,
+        })?;
+        Ok(EdgeIndex(index))
+    }
+
+    /// The node that stands for the problem itself.
+    pub fn root_node(&self) -> NodeIndex
+        ensures { result.0 ≡ 0 }
+    {
+        NodeIndex(0)
+    }
+
+    /// The node where requirements without candidates lead, if there is one.
+    pub fn unresolved_node(&self) -> Option<NodeIndex>
+        ensures { result ≡ unresolved_of self.now }
+    {
+        for (index, node) in self.nodes.as_slice().iter().enumerate() {
+            if node.is_unresolved() {
+                return Some(NodeIndex(index));
+            }
+        }
+        None
+    }
+
+    /// Whether a node is the one where requirements without candidates lead.
+    pub fn is_unresolved(&self, node: NodeIndex) -> bool
+        ensures { result ≡ is_unresolved_at self.now node }
+    {
+        match self.nodes.get_index(node.0) {
+            Some(node) => node.is_unresolved(),
+            None => false,
+        }
+    }
+
+    /// The node of an index.
+    pub fn node(&self, node: NodeIndex) -> Option<ConflictNode<S>>
+        ensures { result ≡ slice_get self.now.nodes node.0 }
+    {
+        match self.nodes.get_index(node.0) {
+            Some(node) => Some(*node),
+            None => None,
+        }
+    }
+
+    /// The edge of an index.
+    pub fn edge(&self, edge: EdgeIndex) -> Option<Edge<S>>
+        ensures { result ≡ slice_get self.now.edges edge.0 }
+    {
+        self.edges.get(edge.0).copied()
+    }
+
+    /// The edges that leave a node, the newest first.
+    pub fn edges(&self, alloc: Global, node: NodeIndex) -> R<Vec<Edge<S>>>
+        ensures edges { IfOk result (λ v. v.items ≡ edges_of self.now node) }
+        ensures refusal { IsOkUnless result Memory }
+    {
+        let mut found = Vec::new(alloc);
+        for edge in &self.edges {
+            if edge.source == node {
+                found.push(*edge)?;
+            }
+        }
+        found.reverse();
+        Ok(found)
+    }
+
+    /// The edges that enter a node, the oldest first.
+    pub fn edges_to(&self, alloc: Global, node: NodeIndex) -> R<Vec<Edge<S>>>
+        ensures edges { IfOk result (λ v. v.items ≡ edges_to self.now node) }
+        ensures refusal { IsOkUnless result Memory }
+    {
+        let mut found = Vec::new(alloc);
+        for edge in &self.edges {
+            if edge.target == node {
+                found.push(*edge)?;
+            }
+        }
+        Ok(found)
+    }
+
+    /// The nodes, each at its index.
+    pub fn nodes(&self) -> &[ConflictNode<S>]
+        ensures { result.now ≡ self.now.nodes }
+    {
+        self.nodes.as_slice()
+    }
+
+    /// Whether a node is the reason of an exclusion.
+    pub fn is_excluding(&self, node: NodeIndex) -> bool
+        ensures { result ≡ is_excluding self.now node }
+    {
+        self.edges
+            .iter()
+            .any(|edge| edge.target == node && edge.weight.is_exclusion())
+    }
+
+    /// The same graph again.
+    pub fn clone(&self, alloc: Global) -> R<ConflictGraph<S>>
+    where
+        S: Drop,
+        ensures same { IfOk result (λ g. g ≡ self.now) }
+        ensures refusal { IsOkUnless result Memory }
+    {
+        Ok(ConflictGraph {
+            nodes: copied(alloc, &self.nodes)?,
+            edges: Vec::from_slice(alloc, self.edges.as_slice())?,
+        })
+    }
+}
+
+/// The same keys in the same order.
+fn copied<K: Copy + Eq + Hash>(alloc: Global, keys: &IndexSet<K>) -> R<IndexSet<K>>
+where
+    K: Drop,
+    ensures same { IfOk result (λ s. s.keys ≡ keys.now.keys) }
+    ensures refusal { IsOkUnless result Memory }
+{
+    let mut copy = IndexSet::new(alloc);
+    for key in keys.as_slice() {
+        copy.insert_full(*key)?;
+    }
+    Ok(copy)
+}

@@ -1,0 +1,10 @@
+//! Why there is no answer: the conflict graph, versions that are told as one, and the message.
+#![tactic(auto)]
+
+pub mod graph;
+pub mod indenter;
+pub mod line;
+pub mod merging;
+mod outlook;
+mod runs;
+mod walk;

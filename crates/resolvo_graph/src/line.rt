@@ -1,0 +1,253 @@
+//! The lines of the message: an indent, and a sentence on a requirement, on versions told as one, or
+//! on a constraint. docs/MESSAGES.md explains the sentences to those who read them.
+ghost use Rattle.std.specs.Prelude.{◌≡◌, ◌==◌, Some, length};
+ghost use Rattle.std.specs.Fmt.{WritesOnOk};
+ghost use Rattle.resolvo_graph.specs.Wording.{line_text, sentence_words, requirement_words, versions_words, set_words, admitted_words, constraint_words, words_before, words_behind, words_of};
+
+use crate::indenter::Indenter;
+use resolvo_pool::id::{SolvableId, StringId, VersionSetId};
+use resolvo_pool::provider::Interner;
+use resolvo_pool::requirement::{DisplayRequirement, Requirement};
+use std::fmt;
+use std::marker::Model;
+
+/// What is told of a requirement.
+#[derive(Clone, Copy, Debug, PartialEq, Eq)]
+pub enum Outlook {
+    /// No candidate matches.
+    Missing,
+    /// Some candidate can be installed.
+    Installable,
+    /// None of the candidates can be installed.
+    Hopeless,
+}
+
+/// What is told of versions.
+#[derive(Clone, Copy, Debug, PartialEq, Eq)]
+pub enum Verdict {
+    /// They can be installed.
+    Alone,
+    /// They are excluded, for this reason.
+    Excluded(StringId),
+    /// Another version of their package is told above.
+    Conflicts,
+    /// They admit only some versions of other packages, told below.
+    Constrains,
+    /// They need what is told below.
+    Requires,
+    /// They are locked, and another version is needed.
+    Locked,
+}
+
+impl Outlook {
+    /// What stands before a requirement, at the top and below.
+    #[tactic(auto, unfolding(crate::specs::Wording::words_before))]
+    fn words_before(self, top: bool) -> &'static str
+        ensures { result.now ≡ words_before top self }
+    {
+        match (self, top) {
+            (Outlook::Missing, true) => "No candidates were found for ",
+            _ => "",
+        }
+    }
+
+    /// What stands behind a requirement, at the top and below.
+    #[tactic(auto, unfolding(crate::specs::Wording::words_behind))]
+    fn words_behind(self, top: bool) -> &'static str
+        ensures { result.now ≡ words_behind top self }
+    {
+        match (self, top) {
+            (Outlook::Missing, true) => ".",
+            (Outlook::Missing, false) => ", for which no candidates were found.",
+            (Outlook::Installable, true) => {
+                " can be installed with any of the following options:"
+            }
+            (Outlook::Installable, false) => {
+                ", which can be installed with any of the following options:"
+            }
+            (Outlook::Hopeless, true) => {
+                " cannot be installed because there are no viable options:"
+            }
+            (Outlook::Hopeless, false) => {
+                ", which cannot be installed because there are no viable options:"
+            }
+        }
+    }
+}
+
+impl Verdict {
+    /// What stands behind versions, before a reason.
+    #[tactic(auto, unfolding(crate::specs::Wording::words_of))]
+    fn words(self) -> &'static str
+        ensures { result.now ≡ words_of self }
+    {
+        match self {
+            Verdict::Alone => "",
+            Verdict::Excluded(_) => " is excluded because ",
+            Verdict::Conflicts => ", which conflicts with the versions reported above.",
+            Verdict::Constrains => " would constrain",
+            Verdict::Requires => " would require",
+            Verdict::Locked => " is locked, but another version is required as reported above",
+        }
+    }
+}
+
+/// Versions of one package that are told as one.
+#[derive(Drop)]
+pub struct Versions<S> {
+    ids: Vec<S>,
+}
+
+impl<S> Model for Versions<S> {
+    ghost use Rattle.std.specs.Prelude.{List};
+
+    ghost Value = { List S };
+
+    ghost view = { λ v. v.ids.items };
+}
+
+impl<S> Versions<S> {
+    /// These versions.
+    pub fn new(ids: Vec<S>) -> Versions<S>
+        ensures { result ≡ ids.items }
+    {
+        Versions { ids }
+    }
+
+    /// The versions, in order.
+    pub fn ids(&self) -> &[S]
+        ensures { result.now ≡ self.now }
+    {
+        self.ids.as_slice()
+    }
+}
+
+/// What a line says.
+#[derive(Drop)]
+pub enum Sentence<S = SolvableId> {
+    /// The heading of the second tree.
+    Incompatible,
+    Requirement(Requirement, Outlook),
+    Versions(Versions<S>, Verdict),
+    /// A version set that versions told above admit alone.
+    Admitted(VersionSetId),
+    /// A constraint of the problem itself.
+    Constraint(VersionSetId),
+}
+
+/// A line of the message.
+#[derive(Drop)]
+pub struct MessageLine<S = SolvableId> {
+    pub indenter: Indenter,
+    pub sentence: Sentence<S>,
+}
+
+/// A line, to be written.
+#[derive(Drop)]
+pub(crate) struct DisplayLine<'a, I: Interner> {
+    pub(crate) line: &'a MessageLine<I::SolvableId>,
+    pub(crate) interner: &'a I,
+}
+
+impl<I: Interner> fmt::Display for DisplayLine<'_, I> {
+    ghost output = { λ d. Some (line_text (record { name_of = I.name_of_version_set d.interner.now; members_of = I.members_of d.interner.now; name_text = I.name_text d.interner.now; version_set_text = I.version_set_text d.interner.now; versions_text = I.merged_text d.interner.now; word_text = I.string_text d.interner.now }) d.line.now) };
+
+    fn fmt<W: fmt::Write>(&self, f: &mut fmt::Formatter<W>) -> fmt::Result {
+        let indent = &self.line.indenter;
+        write!(f, "{indent}")?;
+        self.write_sentence(f)?;
+        f.write_str("\n")
+    }
+}
+
+impl<I: Interner> DisplayLine<'_, I> {
+    /// Writes what the line says.
+    fn write_sentence<W: fmt::Write>(&self, f: &mut fmt::Formatter<W>) -> fmt::Result
+        ensures { WritesOnOk W.write_str_gives f.old result (sentence_words (record { name_of = I.name_of_version_set self.now.interner.now; members_of = I.members_of self.now.interner.now; name_text = I.name_text self.now.interner.now; version_set_text = I.version_set_text self.now.interner.now; versions_text = I.merged_text self.now.interner.now; word_text = I.string_text self.now.interner.now }) (length self.now.line.now.indenter.levels == 1) self.now.line.now.sentence) f.new }
+    {
+        match &self.line.sentence {
+            Sentence::Incompatible => f.write_str("The following packages are incompatible"),
+            Sentence::Requirement(requirement, outlook) => {
+                self.write_requirement(*requirement, *outlook, f)
+            }
+            Sentence::Versions(versions, verdict) => self.write_versions(versions, *verdict, f),
+            Sentence::Admitted(version_set) => self.write_admitted(*version_set, f),
+            Sentence::Constraint(version_set) => self.write_constraint(*version_set, f),
+        }
+    }
+
+    /// Writes a version set that versions told above admit alone.
+    fn write_admitted<W: fmt::Write>(
+        &self,
+        version_set: VersionSetId,
+        f: &mut fmt::Formatter<W>,
+    ) -> fmt::Result
+        ensures { WritesOnOk W.write_str_gives f.old result (admitted_words (record { name_of = I.name_of_version_set self.now.interner.now; members_of = I.members_of self.now.interner.now; name_text = I.name_text self.now.interner.now; version_set_text = I.version_set_text self.now.interner.now; versions_text = I.merged_text self.now.interner.now; word_text = I.string_text self.now.interner.now }) version_set) f.new }
+    {
+        self.write_set(version_set, f)?;
+        f.write_str(", which conflicts with any installable versions previously reported")
+    }
+
+    /// Writes a constraint of the problem itself.
+    fn write_constraint<W: fmt::Write>(
+        &self,
+        version_set: VersionSetId,
+        f: &mut fmt::Formatter<W>,
+    ) -> fmt::Result
+        ensures { WritesOnOk W.write_str_gives f.old result (constraint_words (record { name_of = I.name_of_version_set self.now.interner.now; members_of = I.members_of self.now.interner.now; name_text = I.name_text self.now.interner.now; version_set_text = I.version_set_text self.now.interner.now; versions_text = I.merged_text self.now.interner.now; word_text = I.string_text self.now.interner.now }) version_set) f.new }
+    {
+        f.write_str("the constraint ")?;
+        self.write_set(version_set, f)?;
+        f.write_str(" cannot be fulfilled")
+    }
+
+    /// Writes what is told of a requirement: at the top in other words than below.
+    fn write_requirement<W: fmt::Write>(
+        &self,
+        requirement: Requirement,
+        outlook: Outlook,
+        f: &mut fmt::Formatter<W>,
+    ) -> fmt::Result
+        ensures { WritesOnOk W.write_str_gives f.old result (requirement_words (record { name_of = I.name_of_version_set self.now.interner.now; members_of = I.members_of self.now.interner.now; name_text = I.name_text self.now.interner.now; version_set_text = I.version_set_text self.now.interner.now; versions_text = I.merged_text self.now.interner.now; word_text = I.string_text self.now.interner.now }) (length self.now.line.now.indenter.levels == 1) requirement outlook) f.new }
+    {
+        let top = self.line.indenter.is_at_top_level();
+        let shown = DisplayRequirement {
+            requirement,
+            interner: self.interner,
+        };
+        f.write_str(outlook.words_before(top))?;
+        write!(f, "{shown}")?;
+        f.write_str(outlook.words_behind(top))
+    }
+
+    /// Writes what is told of versions.
+    fn write_versions<W: fmt::Write>(
+        &self,
+        versions: &Versions<I::SolvableId>,
+        verdict: Verdict,
+        f: &mut fmt::Formatter<W>,
+    ) -> fmt::Result
+        ensures { WritesOnOk W.write_str_gives f.old result (versions_words (record { name_of = I.name_of_version_set self.now.interner.now; members_of = I.members_of self.now.interner.now; name_text = I.name_text self.now.interner.now; version_set_text = I.version_set_text self.now.interner.now; versions_text = I.merged_text self.now.interner.now; word_text = I.string_text self.now.interner.now }) versions.now verdict) f.new }
+    {
+        self.interner.display_merged_solvables(versions.ids(), f)?;
+        f.write_str(verdict.words())?;
+        match verdict {
+            Verdict::Excluded(reason) => self.interner.display_string(reason, f),
+            _ => Ok(()),
+        }
+    }
+
+    /// Writes a version set behind its package's name.
+    fn write_set<W: fmt::Write>(
+        &self,
+        version_set: VersionSetId,
+        f: &mut fmt::Formatter<W>,
+    ) -> fmt::Result
+        ensures { WritesOnOk W.write_str_gives f.old result (set_words (record { name_of = I.name_of_version_set self.now.interner.now; members_of = I.members_of self.now.interner.now; name_text = I.name_text self.now.interner.now; version_set_text = I.version_set_text self.now.interner.now; versions_text = I.merged_text self.now.interner.now; word_text = I.string_text self.now.interner.now }) version_set) f.new }
+    {
+        let name = self.interner.version_set_name(version_set);
+        self.interner.display_name(name, f)?;
+        f.write_str(" ")?;
+        self.interner.display_version_set(version_set, f)
+    }
+}
