@@ -4,7 +4,7 @@ use Rattle.resolvo_pool.specs.declared.id.VariableId.{VariableId}
 use Rattle.resolvo_store.specs.Signed.{Signed}
 use Rattle.resolvo_store.specs.declared.lists.Candidate.{Candidate}
 use Rattle.resolvo_store.specs.declared.lists.FixedLists.{FixedLists}
-use Rattle.resolvo_store.specs.Lists.{candidates_in, condition_in, learnt_in, has_candidates, HasDisjunction, learnt_count}
+use Rattle.resolvo_store.specs.Lists.{Named, named_by, has_candidates, HasDisjunction, learnt_count}
 use Rattle.resolvo_store.specs.declared.clause.Clause.{Clause}
 use Rattle.resolvo_store.specs.declared.clause.Clause.TheVariants.{InstallRoot, Requires, ForbidMultipleInstances, Constrains, ConstrainsParent, ConstrainsExcluded, Lock, Learnt, Excluded, AnyOf}
 
@@ -24,18 +24,22 @@ root = record { 0 = 0 }
 abbrev pub candidate_literals : {N : Type 0} → List (Candidate N) → List Signed
 candidate_literals cs = map (λ c. c.literal) cs
 
+-- the literals of a clause over what its ids name
+abbrev pub literals_by : {N : Type 0} → Named N → Clause N → List Signed
+literals_by ls InstallRoot = yes root ∷ []
+literals_by ls (Requires p d r) = no p ∷ (ls.condition d ++ candidate_literals (ls.candidates r))
+literals_by ls (ForbidMultipleInstances v l n) = no v ∷ l ∷ []
+literals_by ls (Constrains p c s) = no p ∷ no c ∷ []
+literals_by ls (ConstrainsParent p x s) = no p ∷ no x ∷ []
+literals_by ls (ConstrainsExcluded c x s) = no c ∷ yes x ∷ []
+literals_by ls (Lock l o) = no root ∷ no o ∷ []
+literals_by ls (Learnt l) = ls.learnt l
+literals_by ls (Excluded v s) = no v ∷ []
+literals_by ls (AnyOf x v) = yes x ∷ no v ∷ []
+
 -- the literals of a clause, one of which is true
 abbrev pub literals_of : {N : Type 0} → FixedLists N → Clause N → List Signed
-literals_of ls InstallRoot = yes root ∷ []
-literals_of ls (Requires p d r) = no p ∷ (condition_in ls d ++ candidate_literals (candidates_in ls r))
-literals_of ls (ForbidMultipleInstances v l n) = no v ∷ l ∷ []
-literals_of ls (Constrains p c s) = no p ∷ no c ∷ []
-literals_of ls (ConstrainsParent p x s) = no p ∷ no x ∷ []
-literals_of ls (ConstrainsExcluded c x s) = no c ∷ yes x ∷ []
-literals_of ls (Lock l o) = no root ∷ no o ∷ []
-literals_of ls (Learnt l) = learnt_in ls l
-literals_of ls (Excluded v s) = no v ∷ []
-literals_of ls (AnyOf x v) = yes x ∷ no v ∷ []
+literals_of ls c = literals_by (named_by ls) c
 
 -- the kinds that always have two literals
 abbrev pub is_binary_kind : {N : Type 0} → Clause N → Bool

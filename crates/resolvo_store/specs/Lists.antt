@@ -52,6 +52,15 @@ abbrev pub HasDisjunction : {N : Type 0} → FixedLists N → Option (DenseId Di
 HasDisjunction ls None = ⊤
 HasDisjunction ls (Some d) = d.raw < disjunction_count ls
 
+-- what the ids of lists name, however the lists are kept
+pub record Named (N : Type 0) : Type 0 where
+  pub candidates : Requirement → List (Candidate N)
+  pub condition : Option (DenseId DisjunctionTag ℕ) → List Signed
+  pub learnt : DenseId LearntClauseTag ℕ → List Signed
+
+abbrev pub named_by : {N : Type 0} → FixedLists N → Named N
+named_by ls = record { candidates = candidates_in ls; condition = condition_in ls; learnt = learnt_in ls }
+
 -- no list was given
 pub record IsEmpty {N : Type 0} (ls : FixedLists N) : Type 0 where
   pub candidates : (r : Requirement) → slot_of ls.candidates r ≡ None
