@@ -3,6 +3,7 @@ pub mod ClauseLists
 pub mod ClauseValues
 pub mod Digits
 pub mod Interning
+pub mod Rooms
 pub mod Seconds
 pub mod Ties
 pub mod Trails

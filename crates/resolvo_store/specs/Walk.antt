@@ -29,7 +29,7 @@ pairs_after from pairs (c ∷ cs) moves = pairs_after from (slice_set pairs c.0 
 
 -- the list without the clause of this number
 abbrev pub without : ℕ → List ClauseId → List ClauseId
-without c xs = filter (λ x. not (x.0 == c)) xs
+without c xs = filter (λ x. not (c == x.0)) xs
 
 -- the lists once the clause went from the one literal's list to the front of the other's, if it moves
 abbrev pub moved_view : Signed → ClauseId → Option Signed → (Signed → List ClauseId) → Signed → List ClauseId

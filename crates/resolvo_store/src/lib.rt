@@ -12,6 +12,7 @@ pub mod decision_tracker;
 pub mod lists;
 pub mod literal;
 pub mod literals;
+pub mod store_call;
 #[cfg(test)]
 mod tests;
 pub mod variable_map;
