@@ -1,11 +1,12 @@
 -- What calls of a clause store answer, and what becomes of the store: one call, and any list of calls.
-use Rattle.std.specs.Prelude.{◌≡◌, ℕ, ◌Prelude.{◌≡◌, ℕ, ◌<◌, ◌==◌, ◌&&◌, nat_lt&◌, nat_lt, not, cond, is_some, Bool, true, false, List, [], ◌∷◌, length, take, slice_get, Option, Some, None, OnErr, Vec}
+use Rattle.std.specs.Prelude.{◌≡◌, ℕ, ◌&&◌, nat_lt, not, cond, is_some, Bool, true, false, List, [], ◌∷◌, length, take, slice_get, Option, Some, None, Vec}
 use Rattle.std.specs.Option.{option_map, unwrap_or}
 use Rattle.std.specs.List.{list_all}
 use Rattle.std.specs.declared.alloc.Global.{Global}
 use Rattle.resolvo_pool.specs.declared.id.ClauseId.{ClauseId}
 use Rattle.resolvo_pool.specs.declared.id.DenseId.{DenseId}
 use Rattle.resolvo_pool.specs.declared.id.DisjunctionTag.{DisjunctionTag}
+use Rattle.resolvo_pool.specs.declared.id.LearntClauseTag.{LearntClauseTag}
 use Rattle.resolvo_pool.specs.declared.id.VariableId.{VariableId}
 use Rattle.resolvo_pool.specs.declared.requirement.Requirement.{Requirement}
 use Rattle.resolvo_pool.specs.declared.want.Want.{Want}
@@ -14,12 +15,11 @@ use Rattle.resolvo_pool.specs.ByRequirement.{index_in}
 use Rattle.resolvo_store.specs.Signed.{Signed, same_literal, has}
 use Rattle.resolvo_store.specs.Trail.{value_in, last_level}
 use Rattle.resolvo_store.specs.Adding.{set_for}
-use Rattle.resolvo_store.specs.Clauses.{literals_by}
+use Rattle.resolvo_store.specs.Clauses.{is_in_range, is_own_in_range, lists_there, literals_by}
 use Rattle.resolvo_store.specs.Pick.{first_broken_by, pick_by}
 use Rattle.resolvo_store.specs.Stored.{Stored, Like, names_in}
 use Rattle.resolvo_store.specs.Changes.{candidates_from, with_candidates, with_disjunction, with_learnt, with_clause, with_need, with_decision, undone, last_undone, undone_until, bumped, decayed, walked}
 use Rattle.resolvo_store.specs.declared.clause.Clause.{Clause}
-use Rattle.resolvo_store.specs.declared.clause.Clause.TheVariants.{InstallRoot, Requires, ForbidMultipleInstances, Constrains, ConstrainsParent, ConstrainsExcluded, Lock, Learnt, Excluded, AnyOf}
 use Rattle.resolvo_store.specs.declared.decision.Decision.{Decision}
 use Rattle.resolvo_store.specs.declared.decision_tracker.Set.{Set}
 use Rattle.resolvo_store.specs.declared.decide_queue.NeedClause.{NeedClause}
@@ -31,10 +31,6 @@ use Rattle.resolvo_store.specs.declared.store_call.StoreAnswer.{StoreAnswer}
 use Rattle.resolvo_store.specs.declared.store_call.StoreAnswer.TheVariants as answer
 
 -- ---- conditions
-
--- a literal can have the variable
-abbrev pub is_in_range : VariableId → Bool
-is_in_range v = nat_lt v.0 2147483648
 
 -- the requirement has no candidates yet, and literals can have the new ones
 abbrev pub can_fix : {N : Type 0} → Stored N → Requirement → List (N × Vec VariableId Global) → Bool
@@ -51,31 +47,8 @@ has_candidates_for s r = is_some (s.candidates r)
 abbrev pub has_clause : {N : Type 0} → Stored N → ClauseId → Bool
 has_clause s c = nat_lt c.0 (length s.clauses)
 
--- literals can have the variables that the clause names itself
-abbrev pub is_own_in_range : {N : Type 0} → Clause N → Bool
-is_own_in_range InstallRoot = true
-is_own_in_range (Requires p d r) = is_in_range p
-is_own_in_range (ForbidMultipleInstances v l n) = is_in_range v
-is_own_in_range (Constrains p c s) = is_in_range p && is_in_range c
-is_own_in_range (ConstrainsParent p x s) = is_in_range p && is_in_range x
-is_own_in_range (ConstrainsExcluded c x s) = is_in_range c && is_in_range x
-is_own_in_range (Lock l o) = is_in_range o
-is_own_in_range (Learnt l) = true
-is_own_in_range (Excluded v s) = is_in_range v
-is_own_in_range (AnyOf x v) = is_in_range x && is_in_range v
-
--- the lists that the clause names are there
-abbrev pub has_lists : {N : Type 0} → Stored N → Clause N → Bool
-has_lists s InstallRoot = true
-has_lists s (Requires p d r) = has_condition s d && has_candidates_for s r
-has_lists s (ForbidMultipleInstances v l n) = true
-has_lists s (Constrains p c v) = true
-has_lists s (ConstrainsParent p x v) = true
-has_lists s (ConstrainsExcluded c x v) = true
-has_lists s (Lock l o) = true
-has_lists s (Learnt l) = nat_lt l.raw (length s.learnt)
-has_lists s (Excluded v r) = true
-has_lists s (AnyOf x v) = true
+abbrev pub has_learnt_in : {N : Type 0} → Stored N → DenseId LearntClauseTag ℕ → Bool
+has_learnt_in s l = nat_lt l.raw (length s.learnt)
 
 -- they are two different ones of the literals, if anything is watched
 abbrev pub can_watch : List Signed → Option WatchedLiterals → Bool
@@ -84,7 +57,7 @@ can_watch literals (Some p) = has literals p.first && (has literals p.second && 
 
 -- what the clause names is there, and it watches literals of its own
 abbrev pub can_add : {N : Type 0} → Stored N → Clause N → Option WatchedLiterals → Bool
-can_add s c w = is_own_in_range c && (has_lists s c && can_watch (literals_by (names_in s) c) w)
+can_add s c w = is_own_in_range c && (lists_there (has_condition s) (has_candidates_for s) (has_learnt_in s) c && can_watch (literals_by (names_in s) c) w)
 
 -- what the need clause names is there
 abbrev pub can_register : {N : Type 0} → Stored N → NeedClause → Bool
@@ -100,7 +73,7 @@ can_decay per_million = not (nat_lt 1000000 per_million)
 -- ---- one call
 
 -- an answer, with plain lists
-data pub Told : Type 0 where
+pub data Told : Type 0 where
   Done : Told
   Added : ClauseId → Told
   Became : Set → Told
@@ -167,6 +140,10 @@ answer_to s (call.Walk l moves) = Met (s.watchers l)
 answer_to s call.Falsified = Falsified (broken_in s)
 answer_to s call.NextDecision = broken_or_next (broken_in s) (picked_in s)
 
+-- a call whose condition doesn't hold is answered `Bad`
+abbrev pub answer_of : {N : Type 0} → Stored N → StoreCall N → Told
+answer_of s c = cond (may s c) (answer_to s c) Bad
+
 module _ {N : Type 0} (eq : N → N → Bool) where
   -- what becomes of the store by a call whose condition holds
   abbrev pub changed_by : Stored N → StoreCall N → Stored N
@@ -184,12 +161,9 @@ module _ {N : Type 0} (eq : N → N → Bool) where
   changed_by s call.Falsified = s
   changed_by s call.NextDecision = s
 
-  -- a call whose condition doesn't hold changes nothing
+  -- and changes nothing
   abbrev pub step : Stored N → StoreCall N → Stored N
   step s c = cond (may s c) (changed_by s c) s
-
-  abbrev pub answer_of : Stored N → StoreCall N → Told
-  answer_of s c = cond (may s c) (answer_to s c) Bad
 
   -- ---- any list of calls
 

@@ -29,9 +29,13 @@ same_requirement (Single v) (Union u) = false
 same_requirement (Union u) (Single v) = false
 same_requirement (Union u) (Union w) = u.0 == w.0
 
+-- the versions of a package as candidates
+abbrev pub versions_of : {N : Type 0} → N → List VariableId → List (Candidate N)
+versions_of p vs = map (λ v. record { literal = yes v; «package» = p }) vs
+
 -- the versions of packages as candidates, package by package
 abbrev pub candidates_from : {N : Type 0} → List (N × Vec VariableId Global) → List (Candidate N)
-candidates_from groups = flat_map (λ g. map (λ v. record { literal = yes v; package = g.0 }) g.1.items) groups
+candidates_from groups = flat_map (λ g. versions_of g.0 g.1.items) groups
 
 abbrev pub with_candidates : {N : Type 0} → Requirement → List (Candidate N) → Stored N → Stored N
 with_candidates r cs s = record s { candidates = λ q. cond (same_requirement r q) (Some cs) (s.candidates q) }
