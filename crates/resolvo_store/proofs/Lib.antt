@@ -1,3 +1,4 @@
+pub mod Alike
 pub mod CaseLaws
 pub mod ClauseLists
 pub mod ClauseValues

@@ -243,10 +243,14 @@ impl<N: SolverId + Drop> ClauseStore<N> {
     pub fn bump_name(&mut self, name: N, add: u64) -> R<()>
         ensures store { OnOk result (Like (plain N.Scores.score_of self.new) (bumped N.eq name add (plain N.Scores.score_of self.old))) }
         ensures err { OnErr result (Like (plain N.Scores.score_of self.new) (plain N.Scores.score_of self.old)) }
+        ensures refusal { IsOkUnless result Memory }
     {
         let score = self.scores.get(name).saturating_add(add);
         self.queue.mark_name_hot(name)?;
-        self.scores.set(name, score)
+        match self.scores.set(name, score) {
+            Ok(()) => Ok(()),
+            Err(_) => Err(Want::Memory),
+        }
     }
 
     /// Scales each score by so many millionths, rounding down.
