@@ -51,14 +51,14 @@ module _ {N : Type 0} (n m : Named N) (v u : ℕ → Option Bool) (names : SameN
   pub eligible_same : (r : NeedClause) → is_eligible_by n v r ≡ is_eligible_by m u r
   eligible_same r =
       ap (λ o. is_true o && list_all (λ l. is_false (value_under v l)) (n.condition r.condition)) (values r.parent.0)
-          ∙ ap (λ b. is_true (u r.parent.0) && b) (all_same (λ l. is_false (value_under v l)) (λ l. is_false (value_under u l)) (λ l. ap is_false (value_same l)) (n.condition r.condition)
-          ∙ ap (λ ls. list_all (λ l. is_false (value_under u l)) ls) (names.condition r.condition))
+      ∙ ap (λ b. is_true (u r.parent.0) && b) (all_same (λ l. is_false (value_under v l)) (λ l. is_false (value_under u l)) (λ l. ap is_false (value_same l)) (n.condition r.condition)
+      ∙ ap (λ ls. list_all (λ l. is_false (value_under u l)) ls) (names.condition r.condition))
 
   pub broken_same : (r : NeedClause) → is_broken_by n v r ≡ is_broken_by m u r
   broken_same r =
       ap (λ b. b && list_all (λ c. is_false (value_under v c.literal)) (n.candidates r.requirement)) (eligible_same r)
-          ∙ ap (λ b. is_eligible_by m u r && b) (all_same (λ (c : Candidate N). is_false (value_under v c.literal)) (λ c. is_false (value_under u c.literal)) (λ c. ap is_false (value_same c.literal)) (n.candidates r.requirement)
-          ∙ ap (λ cs. list_all (λ c. is_false (value_under u c.literal)) cs) (names.candidates r.requirement))
+      ∙ ap (λ b. is_eligible_by m u r && b) (all_same (λ (c : Candidate N). is_false (value_under v c.literal)) (λ c. is_false (value_under u c.literal)) (λ c. ap is_false (value_same c.literal)) (n.candidates r.requirement)
+      ∙ ap (λ cs. list_all (λ c. is_false (value_under u c.literal)) cs) (names.candidates r.requirement))
 
   pub first_broken_same : (rs : List NeedClause) → first_broken_by n v rs ≡ first_broken_by m u rs
   first_broken_same [] = refl
@@ -68,21 +68,21 @@ module _ {N : Type 0} (n m : Named N) (v u : ℕ → Option Bool) (names : SameN
     decision_same : (r : NeedClause) (cs : List (Candidate N)) (c : Candidate N) → decision_for n v score r cs c ≡ decision_for m u other r cs c
     decision_same r cs c =
         ap (λ (k : ℕ). record { candidate = c.literal.variable; required_by = r.parent; clause_id = r.clause; package_activity = k; candidate_count = count_by (λ d. is_open (value_under v d.literal)) cs }) (scores c.package)
-            ∙ ap (λ (k : ℕ). record { candidate = c.literal.variable; required_by = r.parent; clause_id = r.clause; package_activity = other c.package; candidate_count = k })
-            (count_same (λ (d : Candidate N). is_open (value_under v d.literal)) (λ d. is_open (value_under u d.literal)) (λ d. ap is_open (value_same d.literal)) cs)
+        ∙ ap (λ (k : ℕ). record { candidate = c.literal.variable; required_by = r.parent; clause_id = r.clause; package_activity = other c.package; candidate_count = k })
+        (count_same (λ (d : Candidate N). is_open (value_under v d.literal)) (λ d. is_open (value_under u d.literal)) (λ d. ap is_open (value_same d.literal)) cs)
 
     offer_of_same : (r : NeedClause) (cs : List (Candidate N)) → offer_of n v score r cs ≡ offer_of m u other r cs
     offer_of_same r cs =
         ap (λ b. cond b None (option_map (decision_for n v score r cs) (find (λ c. is_open (value_under v c.literal)) cs)))
-            (any_same (λ (c : Candidate N). is_true (value_under v c.literal)) (λ c. is_true (value_under u c.literal)) (λ c. ap is_true (value_same c.literal)) cs)
-            ∙ ap (λ o. cond (list_any (λ c. is_true (value_under u c.literal)) cs) None o)
-            (option_map_same (decision_for n v score r cs) (decision_for m u other r cs) (decision_same r cs) (find (λ c. is_open (value_under v c.literal)) cs)
-            ∙ ap (λ o. option_map (decision_for m u other r cs) o) (find_same (λ (c : Candidate N). is_open (value_under v c.literal)) (λ c. is_open (value_under u c.literal)) (λ c. ap is_open (value_same c.literal)) cs))
+        (any_same (λ (c : Candidate N). is_true (value_under v c.literal)) (λ c. is_true (value_under u c.literal)) (λ c. ap is_true (value_same c.literal)) cs)
+        ∙ ap (λ o. cond (list_any (λ c. is_true (value_under u c.literal)) cs) None o)
+        (option_map_same (decision_for n v score r cs) (decision_for m u other r cs) (decision_same r cs) (find (λ c. is_open (value_under v c.literal)) cs)
+        ∙ ap (λ o. option_map (decision_for m u other r cs) o) (find_same (λ (c : Candidate N). is_open (value_under v c.literal)) (λ c. is_open (value_under u c.literal)) (λ c. ap is_open (value_same c.literal)) cs))
 
     offer_same : (r : NeedClause) → offer_by n v score r ≡ offer_by m u other r
     offer_same r =
         ap (λ b. cond b (offer_of n v score r (n.candidates r.requirement)) None) (eligible_same r)
-            ∙ ap (λ o. cond (is_eligible_by m u r) o None) (offer_of_same r (n.candidates r.requirement) ∙ ap (λ cs. offer_of m u other r cs) (names.candidates r.requirement))
+        ∙ ap (λ o. cond (is_eligible_by m u r) o None) (offer_of_same r (n.candidates r.requirement) ∙ ap (λ cs. offer_of m u other r cs) (names.candidates r.requirement))
 
     pick_after_same : (best : Option NextDecision) (rs : List NeedClause) → pick_after_by n v score best rs ≡ pick_after_by m u other best rs
     pick_after_same best [] = refl

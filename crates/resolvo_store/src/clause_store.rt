@@ -139,11 +139,7 @@ impl<N: SolverId + Drop> ClauseStore<N> {
     }
 
     /// Adds a clause with what it watches. Clause 0 is that of the root.
-    pub fn add_clause(
-        &mut self,
-        clause: Clause<N>,
-        watched: Option<WatchedLiterals>,
-    ) -> R<ClauseId>
+    pub fn add_clause(&mut self, clause: Clause<N>, watched: Option<WatchedLiterals>) -> R<ClauseId>
         requires { can_add (plain N.Scores.score_of self.old) clause watched ≡ true }
         ensures number { IfOk result (λ id. id.0 ≡ length (plain N.Scores.score_of self.old).clauses) }
         ensures store { OnOk result (Like (plain N.Scores.score_of self.new) (with_clause clause watched (plain N.Scores.score_of self.old))) }
@@ -234,9 +230,17 @@ impl<N: SolverId + Drop> ClauseStore<N> {
         ensures refusal { IsOkUnless result Memory }
     {
         self.queue.sync(&self.lists, &mut self.tracker)?;
-        Ok(self
-            .queue
-            .next_decision(&self.lists, self.tracker.map(), &self.scores))
+        Ok(
+            self.queue
+                .next_decision(&self.lists, self.tracker.map(), &self.scores),
+        )
+    }
+
+    /// Tells whether scores are raised at all. No answer rests on it.
+    pub fn set_standard_activity_params(&mut self, is_standard: bool)
+        ensures { Like (plain N.Scores.score_of self.new) (plain N.Scores.score_of self.old) }
+    {
+        self.queue.set_standard_activity_params(is_standard);
     }
 
     /// Raises a package's score, not past the highest.

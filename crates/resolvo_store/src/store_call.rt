@@ -55,7 +55,7 @@ pub enum StoreCall<N> {
 }
 
 /// The answer of a clause store to a call.
-#[derive(Debug, Drop)]
+#[derive(Debug, Drop, PartialEq)]
 pub enum StoreAnswer {
     /// The call had nothing to tell.
     Done,

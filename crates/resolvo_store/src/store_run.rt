@@ -137,11 +137,7 @@ impl<N: SolverId + Drop> ClauseStore<N> {
     }
 
     /// Adds a clause, if what it names is there and it watches literals of its own.
-    fn try_add(
-        &mut self,
-        clause: Clause<N>,
-        watched: Option<WatchedLiterals>,
-    ) -> R<StoreAnswer>
+    fn try_add(&mut self, clause: Clause<N>, watched: Option<WatchedLiterals>) -> R<StoreAnswer>
         ensures answer { IfOk result (λ a. told a ≡ cond (can_add (plain N.Scores.score_of self.old) clause watched) (Added (record { 0 = length (plain N.Scores.score_of self.old).clauses })) Bad) }
         ensures store { OnOk result (Like (plain N.Scores.score_of self.new) (cond (can_add (plain N.Scores.score_of self.old) clause watched) (with_clause clause watched (plain N.Scores.score_of self.old)) (plain N.Scores.score_of self.old))) }
         ensures err { OnErr result (Like (plain N.Scores.score_of self.new) (plain N.Scores.score_of self.old)) }

@@ -12,7 +12,7 @@ returns-clause-answer g c =
     let score = g.N.Scores.ScoreMap.score_of in
     let in_it = c.self.inside in
     c.next_decision.ensures
-        ∙ picked_plain score (record { lists = in_it.lists; clauses = in_it.clauses.items; watched = in_it.watched.items; watches = in_it.watches; trail = c.sync.new.trail.trail; needs = c.sync.new.self; scores = in_it.scores }) c.map.result.now c.map.ensures
-        ∙ ap (λ (es : List Entry). picked_in (plain score (record { lists = in_it.lists; clauses = in_it.clauses.items; watched = in_it.watched.items; watches = in_it.watches; trail = es; needs = c.sync.new.self; scores = in_it.scores }))) (ap (λ (t : Tracked). t.trail) c.in_ok-sync.ensures.trail)
-        ∙ ap (λ (rs : List NeedClause). picked_in (plain score (record { lists = in_it.lists; clauses = in_it.clauses.items; watched = in_it.watched.items; watches = in_it.watches; trail = in_it.tracker.trail; needs = rs; scores = in_it.scores }))) c.sync.ensures.registered
-        ∙ ap (λ k. picked_in (plain score k)) c.self.view_is
+    ∙ picked_plain score (record { lists = in_it.lists; clauses = in_it.clauses.items; watched = in_it.watched.items; watches = in_it.watches; trail = c.sync.new.trail.trail; needs = c.sync.new.self; scores = in_it.scores }) c.map.result.now c.map.ensures
+    ∙ ap (λ (es : List Entry). picked_in (plain score (record { lists = in_it.lists; clauses = in_it.clauses.items; watched = in_it.watched.items; watches = in_it.watches; trail = es; needs = c.sync.new.self; scores = in_it.scores }))) (ap (λ (t : Tracked). t.trail) c.in_ok-sync.ensures.trail)
+    ∙ ap (λ (rs : List NeedClause). picked_in (plain score (record { lists = in_it.lists; clauses = in_it.clauses.items; watched = in_it.watched.items; watches = in_it.watches; trail = in_it.tracker.trail; needs = rs; scores = in_it.scores }))) c.sync.ensures.registered
+    ∙ ap (λ k. picked_in (plain score k)) c.self.view_is

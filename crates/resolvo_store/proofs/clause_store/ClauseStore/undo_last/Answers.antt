@@ -12,7 +12,7 @@ pub returns-clause-answer : goal.returns-clause-answer
 returns-clause-answer g c =
     let popped = c.undo_last.ensures.popped in
     sym (ap last_undone (ap (λ k. k.trail) (sym c.self.view_is) ∙ popped.trail) ∙ last_undone_is c.undo_last.new.self.trail (record { decision = c.undo_last.result.0; level = popped.level })
-        ∙ ap (λ (n : ℕ). Some (c.undo_last.result.0, n)) (sym c.undo_last.ensures.level))
+    ∙ ap (λ (n : ℕ). Some (c.undo_last.result.0, n)) (sym c.undo_last.ensures.level))
 
 pub returns-clause-store : goal.returns-clause-store
 returns-clause-store g c =

@@ -60,10 +60,10 @@ loop-clause-preserved c =
     let wider = c.push.ensures.capacity in
     record {
       walking = subst (λ (k : WatchMapCursor). IsWalking k.literal c.push.new.self.items c.args.moves.now c.args.clauses.now (watchers c.args.self.now) k.place c.first_of-target.result.1.now c.loop-clause.clauses (watchers c.loop-clause.self)) (sym c.next.ensures) (
-        subst (λ (r : List (Option Signed)). IsWalking from c.push.new.self.items c.args.moves.now c.args.clauses.now (watchers c.args.self.now) (c.loop-clause.cursor.place + 1) r c.loop-clause.clauses (watchers c.loop-clause.self)) (sym c.first_of-target.ensures.rest)
-            (walking_keeps from c.loop-clause.met.items c.push.new.self.items c.args.moves.now c.args.clauses.now (watchers c.args.self.now) c.loop-clause.cursor.place c.loop-clause.rest.now c.loop-clause.clauses (watchers c.loop-clause.self) c.in-Some.clause
-            inv.walking at pushed stays)
-      );
+          subst (λ (r : List (Option Signed)). IsWalking from c.push.new.self.items c.args.moves.now c.args.clauses.now (watchers c.args.self.now) (c.loop-clause.cursor.place + 1) r c.loop-clause.clauses (watchers c.loop-clause.self)) (sym c.first_of-target.ensures.rest)
+          (walking_keeps from c.loop-clause.met.items c.push.new.self.items c.args.moves.now c.args.clauses.now (watchers c.args.self.now) c.loop-clause.cursor.place c.loop-clause.rest.now c.loop-clause.clauses (watchers c.loop-clause.self) c.in-Some.clause
+          inv.walking at pushed stays)
+          );
       literal = ap (λ (k : WatchMapCursor). k.literal) c.next.ensures ∙ inv.literal;
       room = subst (λ (r : List (Option Signed)). HasRoom (length r) c.loop-clause.self r) (sym c.first_of-target.ensures.rest) (rest_has_room c.loop-clause.self c.loop-clause.self c.loop-clause.rest.now (λ l. omega arith) inv.room);
       met_room = omega arith;
@@ -83,4 +83,4 @@ pub returns-clause-lists : goal.returns-clause-lists
 returns-clause-lists c = λ l.
     let inv = c.loop-clause.invariant in
     lists_all _ c.loop-clause.met.items c.args.moves.now c.args.clauses.now (watchers c.args.self.now) _ _ _ _ inv.walking (sym c.in_default.ensures.clause) l
-        ∙ ap (λ (from : Signed). lists_after from c.args.clauses.now c.loop-clause.met.items c.args.moves.now (watchers c.args.self.now) l) inv.literal
+    ∙ ap (λ (from : Signed). lists_after from c.args.clauses.now c.loop-clause.met.items c.args.moves.now (watchers c.args.self.now) l) inv.literal
