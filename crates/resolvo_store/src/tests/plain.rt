@@ -341,14 +341,14 @@ impl PlainStore {
 
     /// Lets a clause watch another literal, unless it watches that one already.
     fn move_watch(&mut self, clause: ClauseId, from: Sign, to: Sign) -> R<()> {
-        if let Some(Some((first, second))) = self.watched.get_mut(clause.to_index()) {
-            if *first == to || *second == to {
-                return Ok(());
-            }
-            if *first == from {
-                *first = to;
-            } else {
-                *second = to;
+        let index = clause.to_index();
+        if index < self.watched.len() {
+            if let Some((first, second)) = self.watched[index] {
+                if first == to || second == to {
+                    return Ok(());
+                }
+                let moved = if first == from { (to, second) } else { (first, to) };
+                self.watched[index] = Some(moved);
             }
         }
         self.watches
