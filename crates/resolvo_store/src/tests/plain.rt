@@ -10,7 +10,7 @@ use crate::store_call::{StoreAnswer, StoreCall};
 use crate::watched_literals::WatchedLiterals;
 use resolvo_pool::id::{ClauseId, DenseIndex, DisjunctionId, NameId, VariableId};
 use resolvo_pool::requirement::Requirement;
-use resolvo_pool::want::R;
+use resolvo_pool::want::{R, Want};
 use std::alloc::Global;
 
 /// A variable, and the value that makes the literal true.
@@ -105,8 +105,10 @@ impl PlainStore {
             ),
             StoreCall::UndoLast => Ok(StoreAnswer::Undone(self.undo_last())),
             StoreCall::UndoUntil(level) => {
-                while self.last_level() > *level && !self.trail.is_empty() {
-                    self.trail.pop();
+                for _ in 0..self.trail.len() {
+                    if self.last_level() > *level {
+                        self.trail.pop();
+                    }
                 }
                 Ok(StoreAnswer::Done)
             }
@@ -225,7 +227,11 @@ impl PlainStore {
                 return Ok(StoreAnswer::Bad);
             }
         }
-        let id = ClauseId(self.watched.len() as u32);
+        let count = self.watched.len();
+        if count >= 4_294_967_295 {
+            return Err(Want::Ids);
+        }
+        let id = ClauseId(count as u32);
         match watched {
             Some(pair) => {
                 let (first, second) = (sign(pair.first), sign(pair.second));
@@ -347,7 +353,11 @@ impl PlainStore {
                 if first == to || second == to {
                     return Ok(());
                 }
-                let moved = if first == from { (to, second) } else { (first, to) };
+                let moved = if first == from {
+                    (to, second)
+                } else {
+                    (first, to)
+                };
                 self.watched[index] = Some(moved);
             }
         }
