@@ -1,13 +1,19 @@
 -- Lemmas on the values of clauses.
-use Rattle.std.proofs.Common.{◌≡◌, List, [], ◌∷◌, ◌++◌, Bool, true, false, Option, Some, None, All, refl, sym, ◌∙◌, ap}
+use Rattle.std.proofs.Common.{◌≡◌, ◌<◌, arith, subst, length, Contains, List, [], ◌∷◌, ◌++◌, Bool, true, false, Option, Some, None, All, refl, sym, ◌∙◌, ap}
 use Rattle.std.proofs.lemmas.List.{append_assoc}
-use Rattle.std.proofs.lemmas.List.Elements.{All-push, Contains-push, Contains-append_left}
+use Rattle.std.proofs.lemmas.List.Elements.{All-push, Contains-push, Contains-append_left, Contains-append_right}
 use Rattle.resolvo_store.specs.Signed.{Signed}
 use Rattle.resolvo_store.specs.Clauses.{IsValueOf}
 
 -- one more of a list that is read from the front
 pub one_more : {X : Type 0} (xs ys zs all : List X) (x : X) → xs ++ ys ≡ all → ys ≡ x ∷ zs → (xs ++ x ∷ []) ++ zs ≡ all
 one_more xs ys zs all x whole e = append_assoc xs (x ∷ []) zs ∙ ap (λ w. xs ++ w) (sym e) ∙ whole
+
+-- what is read next from a list is in it
+pub is_among : {X : Type 0} (xs ys zs all : List X) (x : X) → xs ++ ys ≡ all → ys ≡ x ∷ zs → Contains all x
+is_among xs ys zs all x whole e =
+    let first : Contains (x ∷ zs) x = (0, omega arith, refl) in
+    subst (λ w. Contains w x) whole (Contains-append_right xs ys x (subst (λ w. Contains w x) (sym e) first))
 
 -- a false literal more
 pub value_false_more : (f : Signed → Option Bool) (xs : List Signed) (l : Signed) (v : Option Bool) → IsValueOf f xs v → (v ≡ Some true → ⊥) → f l ≡ Some false → IsValueOf f (xs ++ l ∷ []) v

@@ -1,17 +1,61 @@
 -- Lemmas on walks.
-use Rattle.std.proofs.Common.{◌≡◌, ℕ, zero, suc, ◌+◌, ◌<◌, true, false, cond, List, [], ◌∷◌, ◌++◌, take, drop, length, Option, Some, None, refl, sym, ◌∙◌, ap, subst, arith}
+use Rattle.std.proofs.Common.{Result, Ok, OnOk, length-append, ◌≡◌, ◌≤◌, ◌⊎◌, inl, inr, eqb, eq-eqb, ℕ, zero, suc, ◌+◌, ◌<◌, true, false, cond, List, [], ◌∷◌, ◌++◌, take, drop, length, Option, Some, None, refl, sym, ◌∙◌, ap, subst, arith}
 use Rattle.std.specs.Prelude.{slice_get, slice_set}
+use Rattle.std.proofs.lemmas.Bool.{cases_Bool}
 use Rattle.std.proofs.lemmas.List.{append_assoc, append-nil, set-get_or}
 use Rattle.resolvo_pool.specs.declared.id.ClauseId.{ClauseId}
-use Rattle.resolvo_store.specs.Signed.{Signed}
+use Rattle.resolvo_store.specs.Signed.{Signed, same_literal}
 use Rattle.resolvo_store.specs.Pairs.{watches, moved_pair}
 use Rattle.resolvo_store.specs.declared.watched_literals.WatchedLiterals.{WatchedLiterals}
-use Rattle.resolvo_store.specs.Watches.{pair_at, count, IsWatched, Moves, SameLists}
-use Rattle.resolvo_store.specs.Walk.{IsWalking, pairs_after, new_watch, first_target, with_watch}
-use Rattle.resolvo_store.proofs.ClauseLists.{in_range_from, drop_here, nothing_left, drop_taken}
+use Rattle.resolvo_store.specs.Watches.{pair_at, count, one_if, IsWatched, Moves, MovesIn, SameLists}
+use Rattle.resolvo_store.specs.Walk.{IsWalking, pairs_after, lists_after, moved_view, without, new_watch, first_target, with_watch}
+use Rattle.resolvo_store.specs.SignLaws.{same_literal-self}
+use Rattle.resolvo_store.proofs.Watched.{cases_literal, pair_of_watcher}
+use Rattle.resolvo_store.proofs.ClauseLists.{count_at, in_range_from, drop_here, nothing_left, drop_taken}
+
+-- the list around a clause that stands once in it is the list without that clause
+pub taken_out : (xs : List ClauseId) (place : ℕ) (c : ClauseId) → slice_get xs place ≡ Some c → count c.0 xs ≡ 1 → take place xs ++ drop (suc place) xs ≡ without c.0 xs
+taken_out [] place c at one = cc
+taken_out (x ∷ xs) zero c at one =
+    let same : x ≡ c = cc in
+    let here : eqb c.0 x.0 ≡ true = subst (λ (y : ClauseId). eqb c.0 y.0 ≡ true) (sym same) (eq-eqb c.0 c.0 refl) in
+    let e : one_if (eqb c.0 x.0) ≡ 1 = ap one_if here in
+    let none : count c.0 xs ≡ 0 = omega arith in
+    rw here (none_out c.0 xs none)
+  where
+    none_out : (n : ℕ) (ys : List ClauseId) → count n ys ≡ 0 → ys ≡ without n ys
+    none_out n [] e = refl
+    none_out n (y ∷ ys) e = elim (cases_Bool (eqb n y.0)) [
+      | inl h ↦ let k : one_if (eqb n y.0) ≡ 1 = ap one_if h in absurd (omega arith)
+      | inr h ↦ let k : one_if (eqb n y.0) ≡ 0 = ap one_if h in let z : count n ys ≡ 0 = omega arith in rw h (ap (λ (zs : List ClauseId). y ∷ zs) (none_out n ys z))
+    ]
+taken_out (x ∷ xs) (suc place) c at one = elim (cases_Bool (eqb c.0 x.0)) [
+  | inl h ↦ let k : one_if (eqb c.0 x.0) ≡ 1 = ap one_if h in let more : 1 ≤ count c.0 xs = count_at xs place c at in absurd (omega arith)
+  | inr h ↦ let k : one_if (eqb c.0 x.0) ≡ 0 = ap one_if h in let z : count c.0 xs ≡ 1 = omega arith in rw h (ap (λ (zs : List ClauseId). x ∷ zs) (taken_out xs place c at z))
+]
+
+-- lists that agree before a walk agree after it
+pub lists_after_same : (from : Signed) (pairs : List (Option WatchedLiterals)) (cs : List ClauseId) (moves : List (Option Signed)) (v u : Signed → List ClauseId) → SameLists v u → SameLists (lists_after from pairs cs moves v) (lists_after from pairs cs moves u)
+lists_after_same from pairs [] moves v u same l = same l
+lists_after_same from pairs (c ∷ cs) moves v u same l =
+    let o = new_watch (pair_at pairs c.0) (first_target moves) in
+    lists_after_same from (slice_set pairs c.0 (with_watch from (pair_at pairs c.0) o)) cs (drop 1 moves) (moved_view from c o v) (moved_view from c o u) (moved_same o) l
+  where
+    moved_same : (o : Option Signed) (m : Signed) → moved_view from c o u m ≡ moved_view from c o v m
+    moved_same None m = same m
+    moved_same (Some to) m = ap (λ (xs : List ClauseId). cond (same_literal from m) (without c.0 xs) (cond (same_literal to m) (c ∷ xs) xs)) (same m)
+
+-- the lists after a move are those that the move is said to give
+pub moved_is : (c : ClauseId) (from : Signed) (place : ℕ) (to : Signed) (v u : Signed → List ClauseId) → count c.0 (v from) ≡ 1 → MovesIn c from place to v u → SameLists (moved_view from c (Some to) v) u
+moved_is c from place to v u once moved m = go (cases_literal from m) (cases_literal to m)
+  where
+    go : (from ≡ m) ⊎ (same_literal from m ≡ false) → (to ≡ m) ⊎ (same_literal to m ≡ false) → u m ≡ moved_view from c (Some to) v m
+    go (inl f) t = subst (λ (n : Signed). u n ≡ moved_view from c (Some to) v n) f (rw (same_literal-self from) (moved.taken ∙ taken_out (v from) place c moved.stood once))
+    go (inr f) (inl t) = subst (λ (n : Signed). same_literal from n ≡ false → u n ≡ moved_view from c (Some to) v n) t (λ g. rw g (rw (same_literal-self to) moved.put)) f
+    go (inr f) (inr t) = rw f (rw t (moved.others m f t))
 
 pub walking_starts : (from : Signed) (moves : List (Option Signed)) (pairs : List (Option WatchedLiterals)) (view : Signed → List ClauseId) → IsWatched pairs view → IsWalking from [] moves pairs view 0 moves pairs view
-walking_starts from moves pairs view fit = record { fit = fit; split = refl; left = refl }
+walking_starts from moves pairs view fit = record { fit = fit; split = refl; left = refl; lists = λ l. refl }
 
 -- the clause at the place was met and stays
 pub walking_keeps : (from : Signed) (met more : List ClauseId) (moves : List (Option Signed)) (pairs : List (Option WatchedLiterals)) (view : Signed → List ClauseId) (place : ℕ) (rest : List (Option Signed)) (now : List (Option WatchedLiterals)) (v : Signed → List ClauseId) (c : ClauseId)
@@ -24,6 +68,8 @@ walking_keeps from met more moves pairs view place rest now v c walk at grown st
       fit = walk.fit;
       split = walk.split ∙ ap (λ (xs : List ClauseId). met ++ xs) here ∙ sym (append_assoc met (c ∷ []) (drop (place + 1) (v from))) ∙ ap (λ (xs : List ClauseId). xs ++ drop (place + 1) (v from)) (sym grown);
       left = walk.left ∙ ap (λ (xs : List ClauseId). pairs_after from now xs rest) here ∙ ap (λ (ps : List (Option WatchedLiterals)). pairs_after from ps (drop (place + 1) (v from)) (drop 1 rest)) same;
+      lists = λ l. walk.lists l ∙ ap (λ (xs : List ClauseId). lists_after from now xs rest v l) here ∙ ap (λ (ps : List (Option WatchedLiterals)). lists_after from ps (drop (place + 1) (v from)) (drop 1 rest) (moved_view from c (new_watch (pair_at now c.0) (first_target rest)) v) l) same
+          ∙ ap (λ (o : Option Signed). lists_after from now (drop (place + 1) (v from)) (drop 1 rest) (moved_view from c o v) l) (sym stays);
     }
 
 -- the clause at the place was met and moved
@@ -38,9 +84,16 @@ walking_moves from to met more moves pairs view place rest now new v u c walk at
     let pair : pair_at now c.0 ≡ Some moved.pair = ap (λ (d : ClauseId). pair_at now d.0) (sym is) ∙ moved.watched in
     let wrote : slice_set now c.0 (with_watch from (pair_at now c.0) (new_watch (pair_at now c.0) (first_target rest))) ≡ new =
     ap (λ (o : Option Signed). slice_set now c.0 (with_watch from (pair_at now c.0) o)) (sym goes) ∙ ap (λ (p : Option WatchedLiterals). slice_set now c.0 (with_watch from p (Some to))) pair ∙ ap (λ (d : ClauseId). slice_set now d.0 (Some (moved_pair moved.pair from to))) (sym is) ∙ sym moved.pairs in
+    let in_lists : MovesIn c from place to v u = subst (λ (d : ClauseId). MovesIn d from place to v u) is moved.lists in
+    let found = pair_of_watcher now v from place c walk.fit at in
+    let once : count c.0 (v from) ≡ 1 = walk.fit.once from c.0 ∙ ap (λ (o : Option WatchedLiterals). one_if (watches o from)) found.1 ∙ ap one_if found.2 in
     record {
       fit = moved.fit;
       split = walk.split ∙ ap (λ (xs : List ClauseId). met ++ xs) here ∙ sym (append_assoc met (c ∷ []) (drop (suc place) (v from))) ∙ ap (λ (xs : List ClauseId). xs ++ drop (suc place) (v from)) (sym grown) ∙ ap (λ (xs : List ClauseId). more ++ xs) behind;
+      lists = λ l. walk.lists l ∙ ap (λ (xs : List ClauseId). lists_after from now xs rest v l) here ∙ ap (λ (ps : List (Option WatchedLiterals)). lists_after from ps (drop (suc place) (v from)) (drop 1 rest) (moved_view from c (new_watch (pair_at now c.0) (first_target rest)) v) l) wrote
+          ∙ ap (λ (o : Option Signed). lists_after from new (drop (suc place) (v from)) (drop 1 rest) (moved_view from c o v) l) (sym goes)
+          ∙ lists_after_same from new (drop (suc place) (v from)) (drop 1 rest) u (moved_view from c (Some to) v) (λ m. sym (moved_is c from place to v u once in_lists m)) l
+          ∙ ap (λ (xs : List ClauseId). lists_after from new xs (drop 1 rest) u l) behind;
       left = walk.left ∙ ap (λ (xs : List ClauseId). pairs_after from now xs rest) here ∙ ap (λ (ps : List (Option WatchedLiterals)). pairs_after from ps (drop (suc place) (v from)) (drop 1 rest)) wrote ∙ ap (λ (xs : List ClauseId). pairs_after from new xs (drop 1 rest)) behind;
     }
 
@@ -75,3 +128,27 @@ new_watch_free p (Some t) to e = go (watches p t) refl e
     go : (b : _) → watches p t ≡ b → Some to ≡ cond b None (Some t) → watches p to ≡ false
     go true q r = cc
     go false q r = let same : to ≡ t = cc in subst (λ (x : Signed). watches p x ≡ false) (sym same) q
+
+pub lists_all : (from : Signed) (met : List ClauseId) (moves : List (Option Signed)) (pairs : List (Option WatchedLiterals)) (view : Signed → List ClauseId) (place : ℕ) (rest : List (Option Signed)) (now : List (Option WatchedLiterals)) (v : Signed → List ClauseId) → IsWalking from met moves pairs view place rest now v → slice_get (v from) place ≡ None → SameLists (lists_after from pairs met moves view) v
+lists_all from met moves pairs view place rest now v walk end l =
+    sym (ap (λ (xs : List ClauseId). lists_after from pairs xs moves view l) (met_all from met moves pairs view place rest now v walk end) ∙ walk.lists l ∙ ap (λ (xs : List ClauseId). lists_after from now xs rest v l) (nothing_left (v from) place end))
+
+-- what was met is less than the list, where a clause is left
+pub met_fewer : (from : Signed) (met : List ClauseId) (moves : List (Option Signed)) (pairs : List (Option WatchedLiterals)) (view : Signed → List ClauseId) (place : ℕ) (rest : List (Option Signed)) (now : List (Option WatchedLiterals)) (v : Signed → List ClauseId) (c : ClauseId) → IsWalking from met moves pairs view place rest now v → slice_get (v from) place ≡ Some c → length met < length (view from)
+met_fewer from met moves pairs view place rest now v c walk at =
+    let whole : length (view from) ≡ length (met ++ c ∷ drop (suc place) (v from)) = ap length (walk.split ∙ ap (λ (xs : List ClauseId). met ++ xs) (drop_here (v from) place c at)) in
+    let sum : length (met ++ c ∷ drop (suc place) (v from)) ≡ length met + length (c ∷ drop (suc place) (v from)) = length-append met (c ∷ drop (suc place) (v from)) in
+    omega arith
+
+-- a literal that is to be watched is the one of the step
+pub new_watch_is : (p : Option WatchedLiterals) (o : Option Signed) (to : Signed) → Some to ≡ new_watch p o → Some to ≡ o
+new_watch_is p None to e = cc
+new_watch_is p (Some t) to e = go (watches p t) e
+  where
+    go : (b : _) → Some to ≡ cond b None (Some t) → Some to ≡ Some t
+    go true r = cc
+    go false r = r
+
+-- what holds of an answer that is no refusal
+pub ok_gives : {X E : Type 0} (P : Type 0) (r : Result X E) (x : X) → OnOk r P → r ≡ Ok x → P
+ok_gives P r x h e = subst (λ q. OnOk q P) e h

@@ -240,3 +240,13 @@ started_well ps old new cl p number well differ starts = record { once = λ l d.
         let same : p ≡ r = cc in
         subst (λ (x : WatchedLiterals). same_literal x.first x.second ≡ false) same differ
     differs d r e (inr k) = well.differ d r (sym (pair_before_end ps (Some p) d k.1) ∙ e)
+
+-- a clause that watches nothing came
+pub unwatched_well : (ps : List (Option WatchedLiterals)) (view : Signed → List ClauseId) → IsWatched ps view → IsWatched (ps ++ None ∷ []) view
+unwatched_well ps view well = record { once = λ l c. well.once l c ∙ ap (λ (o : Option WatchedLiterals). one_if (watches o l)) (sym (none_more ps c)); differ = λ c p e. well.differ c p (sym (none_more ps c) ∙ e) }
+  where
+    none_more : (qs : List (Option WatchedLiterals)) (c : ℕ) → pair_at (qs ++ None ∷ []) c ≡ pair_at qs c
+    none_more [] zero = refl
+    none_more [] (suc c) = refl
+    none_more (q ∷ qs) zero = refl
+    none_more (q ∷ qs) (suc c) = none_more qs c

@@ -1,5 +1,5 @@
 -- What becomes of a decision that is added.
-use Rattle.std.specs.Prelude.{Bool, true, false, [], ◌∷◌, ◌++◌, Option, Some, None}
+use Rattle.std.specs.Prelude.{Bool, true, false, List, [], ◌∷◌, ◌++◌, Option, Some, None}
 use Rattle.resolvo_store.specs.declared.decision.Entry.{Entry}
 use Rattle.resolvo_store.specs.declared.decision_tracker.Set.{Set}
 use Rattle.resolvo_store.specs.declared.decision_tracker.Set.TheVariants.{New, Already, Opposite}
@@ -12,6 +12,12 @@ set_for true (Some true) = Already
 set_for true (Some false) = Opposite
 set_for false (Some true) = Opposite
 set_for false (Some false) = Already
+
+-- the entries with the new one at their end, where it is new
+abbrev pub entered : Set → Entry → List Entry → List Entry
+entered New e es = es ++ e ∷ []
+entered Already e es = es
+entered Opposite e es = es
 
 -- the trail with the entry at its end, where that is new
 abbrev pub with_entry : Set → Entry → Tracked → Tracked

@@ -16,3 +16,6 @@ pub mod Pick
 pub mod Cases
 pub mod Deferred
 pub mod Walk
+pub mod Stored
+pub mod Changes
+pub mod Calls

@@ -1,5 +1,5 @@
 -- The lists that clauses name by an id.
-use Rattle.std.specs.Prelude.{◌≡◌, ℕ, ◌<◌, ⊤, Bool, List, [], ◌∷◌, ◌++◌, length, Option, Some, None, Vec, is_some, slice_get}
+use Rattle.std.specs.Prelude.{◌≡◌, ℕ, ◌<◌, nat_lt, ⊤, Bool, true, List, [], ◌∷◌, ◌++◌, length, Option, Some, None, Vec, is_some, slice_get}
 use Rattle.std.specs.declared.alloc.Global.{Global}
 use Rattle.resolvo_pool.specs.declared.requirement.Requirement.{Requirement}
 use Rattle.resolvo_pool.specs.declared.id.DenseId.{DenseId}
@@ -51,6 +51,23 @@ condition_in ls (Some d) = disjunction_in ls d
 abbrev pub HasDisjunction : {N : Type 0} → FixedLists N → Option (DenseId DisjunctionTag ℕ) → Type 0
 HasDisjunction ls None = ⊤
 HasDisjunction ls (Some d) = d.raw < disjunction_count ls
+
+-- the same as a test
+abbrev pub has_disjunction : {N : Type 0} → FixedLists N → Option (DenseId DisjunctionTag ℕ) → Bool
+has_disjunction ls None = true
+has_disjunction ls (Some d) = nat_lt d.raw (disjunction_count ls)
+
+abbrev pub has_learnt : {N : Type 0} → FixedLists N → DenseId LearntClauseTag ℕ → Bool
+has_learnt ls l = nat_lt l.raw (learnt_count ls)
+
+-- what the ids of lists name, however the lists are kept
+pub record Named (N : Type 0) : Type 0 where
+  pub candidates : Requirement → List (Candidate N)
+  pub condition : Option (DenseId DisjunctionTag ℕ) → List Signed
+  pub learnt : DenseId LearntClauseTag ℕ → List Signed
+
+abbrev pub named_by : {N : Type 0} → FixedLists N → Named N
+named_by ls = record { candidates = candidates_in ls; condition = condition_in ls; learnt = learnt_in ls }
 
 -- no list was given
 pub record IsEmpty {N : Type 0} (ls : FixedLists N) : Type 0 where

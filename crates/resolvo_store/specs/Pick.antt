@@ -6,7 +6,7 @@ use Rattle.resolvo_pool.specs.declared.id.ClauseId.{ClauseId}
 use Rattle.resolvo_store.specs.Signed.{value_under, is_false, is_true, is_open}
 use Rattle.resolvo_store.specs.declared.lists.Candidate.{Candidate}
 use Rattle.resolvo_store.specs.declared.lists.FixedLists.{FixedLists}
-use Rattle.resolvo_store.specs.Lists.{candidates_in, condition_in}
+use Rattle.resolvo_store.specs.Lists.{Named, named_by}
 use Rattle.resolvo_store.specs.declared.decide_queue.NeedClause.{NeedClause}
 use Rattle.resolvo_store.specs.declared.decide_queue.NextDecision.{NextDecision}
 
@@ -20,19 +20,19 @@ later None next = next
 later (Some best) None = Some best
 later (Some best) (Some next) = cond (beats next best) (Some next) (Some best)
 
-module _ {N : Type 0} (lists : FixedLists N) (values : ℕ → Option Bool) where
+module _ {N : Type 0} (names : Named N) (values : ℕ → Option Bool) where
   -- the parent is true and the condition holds
-  abbrev pub is_eligible : NeedClause → Bool
-  is_eligible r = is_true (values r.parent.0) && list_all (λ l. is_false (value_under values l)) (condition_in lists r.condition)
+  abbrev pub is_eligible_by : NeedClause → Bool
+  is_eligible_by r = is_true (values r.parent.0) && list_all (λ l. is_false (value_under values l)) (names.condition r.condition)
 
   -- all literals of the clause are false
-  abbrev pub is_broken : NeedClause → Bool
-  is_broken r = is_eligible r && list_all (λ c. is_false (value_under values c.literal)) (candidates_in lists r.requirement)
+  abbrev pub is_broken_by : NeedClause → Bool
+  is_broken_by r = is_eligible_by r && list_all (λ c. is_false (value_under values c.literal)) (names.candidates r.requirement)
 
   -- the first clause whose literals are all false
-  abbrev pub first_broken : List NeedClause → Option ClauseId
-  first_broken [] = None
-  first_broken (r ∷ rs) = cond (is_broken r) (Some r.clause) (first_broken rs)
+  abbrev pub first_broken_by : List NeedClause → Option ClauseId
+  first_broken_by [] = None
+  first_broken_by (r ∷ rs) = cond (is_broken_by r) (Some r.clause) (first_broken_by rs)
 
   module _ (score : N → ℕ) where
     -- the decision for a candidate of the clause, with the number of its undecided candidates
@@ -50,13 +50,34 @@ module _ {N : Type 0} (lists : FixedLists N) (values : ℕ → Option Bool) wher
     offer_of r cs = cond (list_any (λ c. is_true (value_under values c.literal)) cs) None (option_map (decision_for r cs) (find (λ c. is_open (value_under values c.literal)) cs))
 
     -- what the clause has to decide: nothing, unless it is eligible
-    abbrev pub offer : NeedClause → Option NextDecision
-    offer r = cond (is_eligible r) (offer_of r (candidates_in lists r.requirement)) None
+    abbrev pub offer_by : NeedClause → Option NextDecision
+    offer_by r = cond (is_eligible_by r) (offer_of r (names.candidates r.requirement)) None
 
     -- the pick, where this is the decision so far
+    abbrev pub pick_after_by : Option NextDecision → List NeedClause → Option NextDecision
+    pick_after_by best [] = best
+    pick_after_by best (r ∷ rs) = pick_after_by (later best (offer_by r)) rs
+
+    abbrev pub pick_by : List NeedClause → Option NextDecision
+    pick_by rs = pick_after_by None rs
+
+-- the same over lists that are kept by id
+module _ {N : Type 0} (lists : FixedLists N) (values : ℕ → Option Bool) where
+  abbrev pub is_eligible : NeedClause → Bool
+  is_eligible r = is_eligible_by (named_by lists) values r
+
+  abbrev pub is_broken : NeedClause → Bool
+  is_broken r = is_broken_by (named_by lists) values r
+
+  abbrev pub first_broken : List NeedClause → Option ClauseId
+  first_broken rs = first_broken_by (named_by lists) values rs
+
+  module _ (score : N → ℕ) where
+    abbrev pub offer : NeedClause → Option NextDecision
+    offer r = offer_by (named_by lists) values score r
+
     abbrev pub pick_after : Option NextDecision → List NeedClause → Option NextDecision
-    pick_after best [] = best
-    pick_after best (r ∷ rs) = pick_after (later best (offer r)) rs
+    pick_after best rs = pick_after_by (named_by lists) values score best rs
 
     abbrev pub pick : List NeedClause → Option NextDecision
-    pick rs = pick_after None rs
+    pick rs = pick_by (named_by lists) values score rs

@@ -1,5 +1,5 @@
 -- The clauses that watch a literal.
-use Rattle.std.specs.Prelude.{◌≡◌, ℕ, zero, suc, ◌+◌, Bool, true, false, nat_eq, List, [], ◌∷◌, ◌++◌, take, drop, slice_set, slice_get, slice_index_or, length, not, ◌==◌, Vec, Option, Some, None}
+use Rattle.std.specs.Prelude.{◌≡◌, ℕ, zero, suc, ◌+◌, ◌-◌, ◌≤◌, ⊤, vec_len, vec_capacity, Bool, true, false, nat_eq, List, [], ◌∷◌, ◌++◌, take, drop, slice_set, slice_get, slice_index_or, length, not, ◌==◌, Vec, Option, Some, None}
 use Rattle.std.specs.List.{count_by}
 use Rattle.std.specs.declared.alloc.Global.{Global}
 use Rattle.resolvo_pool.specs.declared.id.ClauseId.{ClauseId}
@@ -17,6 +17,22 @@ list_at (v ∷ vs) (suc n) = list_at vs n
 -- the clauses that watch the literal, the latest first
 abbrev pub watchers : WatchMap → Signed → List ClauseId
 watchers m l = list_at m.lists.items (index_in l)
+
+-- how many clauses more the list of an index has room for; none beyond the lists
+abbrev pub room_at : List (Vec ClauseId Global) → ℕ → ℕ
+room_at [] n = 0
+room_at (v ∷ vs) zero = vec_capacity v - vec_len v
+room_at (v ∷ vs) (suc n) = room_at vs n
+
+-- how many clauses more can begin to watch the literal without a growth
+abbrev pub room : WatchMap → Signed → ℕ
+room m l = room_at m.lists.items (index_in l)
+
+-- there is room for so many clauses at each of the literals
+abbrev pub HasRoom : ℕ → WatchMap → List (Option Signed) → Type 0
+HasRoom n m [] = ⊤
+HasRoom n m (None ∷ os) = HasRoom n m os
+HasRoom n m (Some l ∷ os) = (n ≤ room m l) × HasRoom n m os
 
 -- how many literals some clause watches
 abbrev pub watched_count : WatchMap → ℕ

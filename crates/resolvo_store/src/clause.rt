@@ -4,15 +4,15 @@
 ghost use Rattle.std.specs.Prelude.{◌≡◌, ◌++◌, IfOk, IsOkUnless};
 ghost use Rattle.std.specs.Option.{option_to_list};
 ghost use Rattle.resolvo_pool.specs.declared.want.Want.TheVariants.{Memory};
-ghost use Rattle.resolvo_store.specs.Signed.{value_under};
+ghost use Rattle.resolvo_store.specs.Signed.{value_under, has};
 ghost use Rattle.resolvo_store.specs.Values.{value_at};
-ghost use Rattle.resolvo_store.specs.Clauses.{literals_of, Fits, OwnInRange, is_binary_kind, IsValueOf};
+ghost use Rattle.resolvo_store.specs.Clauses.{literals_of, Fits, OwnInRange, is_binary_kind, is_own_in_range, has_lists, IsValueOf};
 ghost use Rattle.resolvo_store.specs.ClauseParts.{own_literals_of, listed_literals_of, candidate_literals_of};
 ghost use Rattle.resolvo_store.specs.Reading.{rest_of, listed, named};
 
 use crate::decision_map::DecisionMap;
 use crate::lists::{Candidate, FixedLists};
-use crate::literal::Literal;
+use crate::literal::{Literal, is_in_range};
 use crate::literals::Literals;
 use resolvo_pool::id::{DisjunctionId, LearntClauseId, StringId, VariableId, VersionSetId};
 use resolvo_pool::requirement::Requirement;
@@ -45,6 +45,21 @@ pub enum Clause<N> {
     AnyOf(VariableId, VariableId),
 }
 
+impl<N: Copy + Drop> Clause<N> {
+    /// Whether the lists that it names are there.
+    pub fn has_lists(&self, lists: &FixedLists<N>) -> bool
+        ensures { result ≡ has_lists lists.now self.now }
+    {
+        match *self {
+            Clause::Requires(_, condition, requirement) => {
+                lists.has_condition(condition) && lists.candidates(requirement).is_some()
+            }
+            Clause::Learnt(id) => lists.has_learnt(id),
+            _ => true,
+        }
+    }
+}
+
 impl<N: Copy> Clause<N> {
     /// Whether this is of a kind that always has two literals.
     pub fn is_binary(&self) -> bool
@@ -59,6 +74,23 @@ impl<N: Copy> Clause<N> {
                 | Clause::Lock(..)
                 | Clause::AnyOf(..)
         )
+    }
+
+    /// Whether literals can have the variables that it names itself.
+    pub fn is_in_range(&self) -> bool
+        ensures { result ≡ is_own_in_range self.now }
+    {
+        match *self {
+            Clause::InstallRoot | Clause::Learnt(_) => true,
+            Clause::Requires(variable, _, _)
+            | Clause::ForbidMultipleInstances(variable, _, _)
+            | Clause::Lock(_, variable)
+            | Clause::Excluded(variable, _) => is_in_range(variable),
+            Clause::Constrains(first, second, _)
+            | Clause::ConstrainsParent(first, second, _)
+            | Clause::ConstrainsExcluded(first, second, _)
+            | Clause::AnyOf(first, second) => is_in_range(first) && is_in_range(second),
+        }
     }
 
     /// Its literals, one after another.
@@ -143,6 +175,19 @@ impl<N: Copy> Clause<N> {
             literals.push(literal)?;
         }
         Ok(literals)
+    }
+
+    /// Whether a literal is one of its literals.
+    pub fn has_literal(&self, lists: &FixedLists<N>, literal: Literal) -> bool
+        requires { Fits lists.now self.now }
+        ensures { result ≡ has (literals_of lists.now self.now) literal }
+    {
+        for own in self.iter(lists) {
+            if own == literal {
+                return true;
+            }
+        }
+        false
     }
 
     /// Its value: true where a literal is true, false where all are false, else none.

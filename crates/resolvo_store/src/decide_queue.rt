@@ -2,7 +2,7 @@
 //! The model is the list of those clauses, by position. A clause is eligible where its parent is true,
 //! its condition holds and none of its candidates is true; the first eligible one is chosen for, unless
 //! a later one beats it.
-ghost use Rattle.std.specs.Prelude.{◌≡◌, ◌++◌, ◌∷◌, [], OnOk, OnErr, IsOkUnless, None};
+ghost use Rattle.std.specs.Prelude.{◌≡◌, ◌++◌, ◌∷◌, [], OnOk, OnErr, IsOkUnless, None, length};
 ghost use Rattle.std.specs.Option.{option_map, option_copied};
 ghost use Rattle.std.specs.List.{find, count_by, list_any, list_all};
 ghost use Rattle.resolvo_pool.specs.declared.want.Want.TheVariants.{Memory};
@@ -13,6 +13,7 @@ ghost use Rattle.resolvo_store.specs.Reading.{listed};
 ghost use Rattle.resolvo_store.specs.Pick.{is_eligible, is_broken, offer, beats, later, pick, first_broken};
 
 use crate::decision_map::DecisionMap;
+use crate::decision_tracker::DecisionTracker;
 use crate::lists::{Candidate, FixedLists};
 use crate::literal::Literal;
 use resolvo_pool::id::{ClauseId, DisjunctionId, VariableId};
@@ -81,6 +82,39 @@ impl DecideQueue {
         self.registered.push(need)?;
         Ok(())
     }
+
+    /// Makes the queue take note of what happened to the trail, and of the clauses that came since
+    /// this was last called. The registered clauses stay, and so does the trail but for its floor,
+    /// which is taken. The scan keeps nothing between calls, so it has nothing to bring up to date.
+    pub fn sync<N: SolverId>(
+        &mut self,
+        _lists: &FixedLists<N>,
+        trail: &mut DecisionTracker,
+    ) -> R<()>
+    where
+        N: Drop,
+        ensures registered { self.new ≡ self.old }
+        ensures trail { OnOk result (trail.new ≡ record trail.old { floor = length trail.old.trail }) }
+        ensures err { OnErr result (trail.new ≡ trail.old) }
+        ensures refusal { IsOkUnless result Memory }
+    {
+        trail.take_sync_floor();
+        Ok(())
+    }
+
+    /// Tells the queue of a package whose score is above 0. The scan reads each score anew.
+    pub fn mark_name_hot<N: SolverId>(&mut self, _name: N) -> R<()>
+        ensures registered { self.new ≡ self.old }
+        ensures refusal { IsOkUnless result Memory }
+    {
+        Ok(())
+    }
+
+    /// Tells the queue whether scores are raised at all, which lets it stop a search early. No answer
+    /// rests on it, and the scan never stops early.
+    pub fn set_standard_activity_params(&mut self, _is_standard: bool)
+        ensures { self.new ≡ self.old }
+    {}
 
     /// What is to be decided next, or none where no clause is eligible.
     pub fn next_decision<N: SolverId>(

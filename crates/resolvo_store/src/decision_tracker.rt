@@ -97,6 +97,13 @@ impl DecisionTracker {
         self.map.level(variable)
     }
 
+    /// The level of the last decision, or 0 where there is none.
+    pub fn last_level(&self) -> u32
+        ensures { result ≡ last_level self.now.trail }
+    {
+        top_level(self.stack.as_slice())
+    }
+
     /// The clause that a variable's decision came from, if it is decided.
     pub fn find_clause_for_assignment(&self, variable: VariableId) -> Option<ClauseId>
         ensures { result ≡ clause_for self.now.trail variable.0 }

@@ -4,6 +4,7 @@
 
 pub mod binary_encoding;
 pub mod clause;
+pub mod clause_store;
 pub mod conditions;
 pub mod decide_queue;
 pub mod decision;
@@ -12,6 +13,8 @@ pub mod decision_tracker;
 pub mod lists;
 pub mod literal;
 pub mod literals;
+pub mod store_call;
+mod store_run;
 #[cfg(test)]
 mod tests;
 pub mod variable_map;

@@ -5,7 +5,7 @@ ghost use Rattle.std.specs.Option.{option_map, option_copied};
 ghost use Rattle.resolvo_pool.specs.declared.want.Want.TheVariants.{Memory, Ids};
 ghost use Rattle.resolvo_pool.specs.ByRequirement.{slot_of, PutsAt, index_in};
 ghost use Rattle.resolvo_store.specs.Signed.{Signed};
-ghost use Rattle.resolvo_store.specs.Lists.{candidates_in, disjunction_in, condition_in, learnt_in, has_candidates, disjunction_count, learnt_count, IsEmpty, FixesCandidates, FixesDisjunction, FixesLearnt};
+ghost use Rattle.resolvo_store.specs.Lists.{candidates_in, disjunction_in, condition_in, learnt_in, has_candidates, has_disjunction, has_learnt, disjunction_count, learnt_count, IsEmpty, FixesCandidates, FixesDisjunction, FixesLearnt};
 ghost use Rattle.resolvo_store.specs.Reading.{listed};
 
 use crate::literal::Literal;
@@ -113,6 +113,23 @@ impl<N: Copy + Drop> FixedLists<N> {
             }
             None => None,
         }
+    }
+
+    /// Whether the condition's case is there, if there is a condition.
+    pub fn has_condition(&self, id: Option<DisjunctionId>) -> bool
+        ensures { result ≡ has_disjunction self.now id }
+    {
+        match id {
+            Some(id) => id.to_index() < self.disjunctions.len(),
+            None => true,
+        }
+    }
+
+    /// Whether the literals of a learnt clause are there.
+    pub fn has_learnt(&self, id: LearntClauseId) -> bool
+        ensures { result ≡ has_learnt self.now id }
+    {
+        id.to_index() < self.learnt.len()
     }
 
     /// The literals of a learnt clause.

@@ -3,6 +3,7 @@
 ghost use Rattle.std.specs.Prelude.{◌≡◌, ◌<◌, ℕ, Bool, not};
 ghost use Rattle.resolvo_pool.specs.declared.id.VariableId.{VariableId};
 ghost use Rattle.resolvo_store.specs.Signed.{Signed, negation, value_under, is_false, is_true, is_open, index_in, literal_at};
+ghost use Rattle.resolvo_store.specs.Clauses.{is_in_range};
 ghost use Rattle.resolvo_store.specs.Values.{value_at};
 ghost use Rattle.resolvo_store.specs.SignLaws.{index_round_trip, index_distinct, same_is_index};
 
@@ -132,4 +133,11 @@ impl DenseIndex for Literal {
         let double = self.variable.0 as usize * 2;
         if self.positive { double } else { double + 1 }
     }
+}
+
+/// Whether a literal can have this variable.
+pub fn is_in_range(variable: VariableId) -> bool
+    ensures { result ≡ is_in_range variable }
+{
+    variable.0 < 2_147_483_648
 }

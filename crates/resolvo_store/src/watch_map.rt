@@ -3,14 +3,14 @@
 //! calls take; the map and that list fit each other (`IsWatched`): each clause stands once in the list
 //! of each of its two literals, and in no other. A clause that begins to watch a literal comes to the
 //! front of its list. A walk is a cursor that the caller leads on.
-ghost use Rattle.std.specs.Prelude.{◌≡◌, ℕ, ◌<◌, ◌≤◌, ◌+◌, ◌++◌, ◌∷◌, [], List, Option, length, slice_get, false, Some, drop, OnOk, OnErr, IfOk, IsOkUnless, IfSome};
+ghost use Rattle.std.specs.Prelude.{◌≡◌, ℕ, ◌<◌, ◌≤◌, ◌+◌, ◌++◌, ◌∷◌, [], List, Option, length, slice_get, false, Some, drop, OnOk, OnErr, IfOk, IsOk, IsOkUnless, IfSome, vec_capacity};
 ghost use Rattle.resolvo_pool.specs.declared.want.Want.TheVariants.{Memory};
 ghost use Rattle.resolvo_pool.specs.declared.id.ClauseId.{ClauseId};
 ghost use Rattle.resolvo_store.specs.Signed.{Signed, same_literal};
 ghost use Rattle.resolvo_store.specs.Pairs.{watches, side_of};
 ghost use Rattle.resolvo_store.specs.declared.watched_literals.WatchedLiterals.{WatchedLiterals};
-ghost use Rattle.resolvo_store.specs.Watches.{list_at, watchers, watched_count, pair_at, IsWatched, StartsIn, Moves, PutsFirst, TakesOut, SameLists};
-ghost use Rattle.resolvo_store.specs.Walk.{pairs_after, new_watch, first_target};
+ghost use Rattle.resolvo_store.specs.Watches.{list_at, room_at, room, HasRoom, watchers, watched_count, pair_at, IsWatched, StartsIn, Moves, PutsFirst, TakesOut, SameLists};
+ghost use Rattle.resolvo_store.specs.Walk.{pairs_after, lists_after, new_watch, first_target};
 
 use crate::literal::Literal;
 use crate::watched_literals::{Watch, WatchedLiterals};
@@ -78,7 +78,7 @@ impl WatchMap {
 
     /// Walks over the clauses that watch a literal: the clause met at each step watches the literal of
     /// that step in place of this one, unless it watches that one already; where there is none, it
-    /// stays. After a refusal the clauses that were met before have moved.
+    /// stays. The room for all moves is made first, so a refused walk moves nothing.
     pub fn walk(
         &mut self,
         alloc: Global,
@@ -89,22 +89,86 @@ impl WatchMap {
         requires { IsWatched clauses.old (watchers self.old) }
         ensures met { IfOk result (λ v. v.items ≡ watchers self.old literal) }
         ensures moved { IfOk result (λ v. clauses.new ≡ pairs_after literal clauses.old v.items moves.now) }
+        ensures lists { IfOk result (λ v. (l : Signed) → watchers self.new l ≡ lists_after literal clauses.old v.items moves.now (watchers self.old) l) }
         ensures fit { IsWatched clauses.new (watchers self.new) }
+        ensures err { OnErr result (SameLists (watchers self.old) (watchers self.new)) }
+        ensures err_clauses { OnErr result (clauses.new ≡ clauses.old) }
         ensures refusal { IsOkUnless result Memory }
     {
         let mut met = Vec::new(alloc);
+        met.reserve(self.count(literal))?;
+        self.make_room(moves)?;
+        self.walk_in_room(&mut met, clauses, literal, moves);
+        Ok(met)
+    }
+
+    /// The walk where there is room for all moves, and for the clauses that are met.
+    fn walk_in_room(
+        &mut self,
+        met: &mut Vec<ClauseId>,
+        clauses: &mut [Option<WatchedLiterals>],
+        literal: Literal,
+        moves: &[Option<Literal>],
+    )
+        requires fit { IsWatched clauses.old (watchers self.old) }
+        requires none_met { met.old.items ≡ [] }
+        requires met_room { length (watchers self.old literal) ≤ vec_capacity met.old }
+        requires room { HasRoom (length moves.now) self.old moves.now }
+        ensures met { met.new.items ≡ watchers self.old literal }
+        ensures moved { clauses.new ≡ pairs_after literal clauses.old met.new.items moves.now }
+        ensures lists { (l : Signed) → watchers self.new l ≡ lists_after literal clauses.old met.new.items moves.now (watchers self.old) l }
+        ensures fit { IsWatched clauses.new (watchers self.new) }
+    {
         let mut cursor = self.cursor(literal);
         let mut rest = moves;
         while let Some(clause) = cursor.clause_id(self) {
-            met.push(clause)?;
+            met.push(clause).unwrap();
             let (target, others) = first_of(rest);
             rest = others;
             match cursor.target(self, clauses, target) {
-                Some(to) => cursor.update(self, clauses, to)?,
+                Some(to) => cursor.update(self, clauses, to).unwrap(),
                 None => cursor.next(),
             }
         }
-        Ok(met)
+    }
+
+    /// Makes room for so many clauses at each of these literals as there are literals.
+    fn make_room(&mut self, moves: &[Option<Literal>]) -> R<()>
+        ensures same { SameLists (watchers self.old) (watchers self.new) }
+        ensures room { OnOk result (HasRoom (length moves.now) self.new moves.now) }
+        ensures refusal { IsOkUnless result Memory }
+    {
+        for target in moves {
+            if let Some(literal) = target {
+                self.reserve(*literal, moves.len())?;
+            }
+        }
+        Ok(())
+    }
+
+    /// Makes room for so many clauses more at a literal.
+    fn reserve(&mut self, literal: Literal, count: usize) -> R<()>
+        ensures same { SameLists (watchers self.old) (watchers self.new) }
+        ensures room { OnOk result (count ≤ room self.new literal) }
+        ensures others { OnOk result ((l : Signed) → room self.old l ≤ room self.new l) }
+        ensures refusal { IsOkUnless result Memory }
+    {
+        let index = literal.to_index();
+        add_lists(&mut self.lists, index + 1, self.alloc)?;
+        self.lists[index].reserve(count)?;
+        Ok(())
+    }
+
+    /// How many clauses watch a literal.
+    fn count(&self, literal: Literal) -> usize
+        ensures { result ≡ length (watchers self.now literal) }
+    {
+        let index = literal.to_index();
+        if index < self.lists.len() {
+            self.lists[index].len()
+        } else {
+            0
+        }
     }
 
     /// The clause at a place of a literal's list.
@@ -125,7 +189,9 @@ impl WatchMap {
     /// Puts a clause to the front of a literal's list.
     fn put_first(&mut self, literal: Literal, clause: ClauseId) -> R<()>
         ensures put { OnOk result (PutsFirst clause literal (watchers self.old) (watchers self.new)) }
+        ensures room { OnOk result ((l : Signed) → room self.old l ≤ room self.new l + 1) }
         ensures err { OnErr result (SameLists (watchers self.old) (watchers self.new)) }
+        ensures succeeds { 1 ≤ room self.old literal → IsOk result }
         ensures refusal { IsOkUnless result Memory }
     {
         let index = literal.to_index();
@@ -137,7 +203,8 @@ impl WatchMap {
     /// Takes the clause at a place out of a literal's list.
     fn take_out(&mut self, literal: Literal, place: usize)
         requires { place < length (watchers self.old literal) }
-        ensures { TakesOut literal place (watchers self.old) (watchers self.new) }
+        ensures taken { TakesOut literal place (watchers self.old) (watchers self.new) }
+        ensures room { (l : Signed) → room self.old l ≤ room self.new l }
     {
         let index = literal.to_index();
         self.lists[index].remove(place);
@@ -215,7 +282,9 @@ impl WatchMapCursor {
         requires free { (c : ClauseId) → slice_get (watchers map.old self.now.literal) self.now.place ≡ Some c → watches (pair_at clauses.old c.0) to ≡ false }
         ensures moved { OnOk result (Moves self.now.literal self.now.place to clauses.old clauses.new (watchers map.old) (watchers map.new)) }
         ensures err { OnErr result (SameLists (watchers map.old) (watchers map.new)) }
+        ensures room { OnOk result ((l : Signed) → room map.old l ≤ room map.new l + 1) }
         ensures err_clauses { OnErr result (clauses.new ≡ clauses.old) }
+        ensures succeeds { 1 ≤ room map.old to → IsOk result }
         ensures refusal { IsOkUnless result Memory }
     {
         let WatchMapCursor { literal, place } = *self;
@@ -248,6 +317,8 @@ fn pair_of(clauses: &[Option<WatchedLiterals>], clause: ClauseId) -> Option<Watc
 fn add_lists(lists: &mut Vec<Vec<ClauseId>>, count: usize, alloc: Global) -> R<()>
     ensures same { (i : ℕ) → list_at lists.new.items i ≡ list_at lists.old.items i }
     ensures enough { OnOk result (count ≤ length lists.new.items) }
+    ensures room { (i : ℕ) → room_at lists.old.items i ≤ room_at lists.new.items i }
+    ensures succeeds { count ≤ length lists.old.items → IsOk result }
     ensures refusal { IsOkUnless result Memory }
 {
     while lists.len() < count {

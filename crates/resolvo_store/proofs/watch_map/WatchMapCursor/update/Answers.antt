@@ -25,5 +25,5 @@ returns-clause-moved c =
     let m = c.moved.ensures in
     let t = c.to_index.ensures.index in
     updated c.in-Some.clause c.watched_literals-watched.result c.args.self.now.literal c.args.to c.args.self.now.place c.args.clauses.now _ (watchers c.args.map.now) (watchers c.put_first.new.self) (watchers c.take_out.new.self)
-    c.requires.fit stood is (c.requires.free c.in-Some.clause stood) c.in_ok-put_first-in-Some.ensures.put c.take_out.ensures
+    c.requires.fit stood is (c.requires.free c.in-Some.clause stood) c.in_ok-put_first-in-Some.ensures.put c.take_out.ensures.taken
     (ap (λ (p : WatchedLiterals). slice_set c.args.clauses.now c.to_index.result (Some p)) m ∙ ap (λ n. slice_set c.args.clauses.now n (Some (moved_pair c.watched_literals-watched.result c.args.self.now.literal c.args.to))) t)
