@@ -1,2 +1,3 @@
 pub mod Encoding
 pub mod Ending
+pub mod Numbered
