@@ -4,3 +4,7 @@ pub mod Sound
 pub mod Quiet
 pub mod Reached
 pub mod Ended
+pub mod Meanings
+pub mod Turns
+pub mod LoadingLemmas
+pub mod FirstLemmas

@@ -50,9 +50,9 @@ module _ {N S : Type 0} (origin : ℕ → Atom N S) where
   abbrev pub AreCalledFor : (List (Literal (Atom N S)) → Literal (Atom N S) → Type 0) → List Entry → Type 0
   AreCalledFor choice h = (e : Entry) (older : List Entry) → StandsOn h e older → IsChoice e older → 0 < e.decision.variable.0 → choice (known_of older) (meaning (literal_of e))
 
-  -- each literal denies a solvable of the list
+  -- each literal denies the root or a solvable of the list
   abbrev pub Denies : (S → S → Bool) → Packages N S → List S → List Signed → Type 0
-  Denies same p list clause = (l : Signed) → has clause l ≡ true → (s : S) × Means l (minus (Atom.solvable s)) × (is_in same p list s ≡ true)
+  Denies same p list clause = (l : Signed) → has clause l ≡ true → (l ≡ no root_variable) ⊎ ((s : S) × Means l (minus (Atom.solvable s)) × (is_in same p list s ≡ true))
 
   module _ (same : S → S → Bool) (p : Packages N S) (rules : Rule N S → Type 0) where
     -- the clause has causes from which it follows, says that the root is true, or states a rule
