@@ -8,3 +8,5 @@ pub mod Meanings
 pub mod Turns
 pub mod LoadingLemmas
 pub mod FirstLemmas
+pub mod Places
+pub mod Growing

@@ -3,6 +3,7 @@ use Rattle.std.proofs.Common.{◌≡◌, ℕ, ◌<◌, ◌⊎◌, inl, inr, Bool
 use Rattle.std.proofs.lemmas.Bool.{both_ways}
 use Rattle.std.specs.Prelude.{Contains}
 use Rattle.resolvo_pool.specs.declared.id.ClauseId.{ClauseId}
+use Rattle.resolvo_pool.specs.declared.id.VersionSetId.{VersionSetId}
 use Rattle.resolvo_pool.specs.declared.requirement.Requirement.{Requirement}
 use Rattle.resolvo_pool.specs.OnePass.{Literal}
 use Rattle.resolvo_pool.specs.RuleKeeping.{Packages, Rules, is_in, meets, IsRuleKeeping}
@@ -16,7 +17,9 @@ use Rattle.resolvo_search.specs.State.{lists, IsDerived}
 use Rattle.resolvo_search.proofs.Clauses.{length-lists}
 use Rattle.resolvo_rules.specs.Encoding.{IsExact, Atom, Rule, plus, minus, literals_of, IsRule, AgreeWith}
 use Rattle.resolvo_rules.specs.Ending as Ending
-use Rattle.resolvo_rules.specs.Numbered.{meaning, Means, meanings, known_of, AreCoded, IsTurnEnd, Denies}
+use Rattle.resolvo_rules.specs.First.{TriesMatches, IsFirstChoices, IsFirstPick}
+use Rattle.resolvo_rules.specs.Numbered.{meaning, Means, meanings, known_of, AreCalledFor, AreCoded, IsTurnEnd, Denies}
+use Rattle.resolvo_rules.proofs.FirstLemmas.{first_choices}
 use Rattle.resolvo_rules.proofs.Meanings.{meaning_stands, stands_meaning, quiet_meaning, trail_meaning, derived_implied}
 use Rattle.resolvo_rules.proofs.Ended.{turn_is_right, keeping_without_wishes, refusal_is_right}
 
@@ -44,6 +47,15 @@ module _ {N S : Type 0} (same : S → S → Bool) (exact : IsExact same) (same_n
   -- Without wishes they keep all rules.
   pub turn_keeps_rules : (count : ℕ) (clauses : List HeldClause) (h : List Entry) (members : List S) → IsTurnEnd origin same p rules root registered [] count clauses h members → IsRuleKeeping same p root members
   turn_keeps_rules count clauses h members t = keeping_without_wishes same exact p root members (turn_accepted [] count clauses h members t).keeping
+
+  -- Without wishes, and where each choice took the first candidate that was not false, they are the first choices, if these
+  -- keep all rules.
+  pub turn_takes_first : (tried : VersionSetId → List S) → TriesMatches same p tried → (bits : S → ℕ → Bool) (count : ℕ) (clauses : List HeldClause) (h : List Entry) (members first : List S)
+      → IsTurnEnd origin same p rules root registered [] count clauses h members → AreCalledFor origin (IsFirstPick same p tried rules) h → AgreeWith rules bits → IsFirstChoices same p tried root first
+      → (s : S) → (is_in same p members s ≡ true → is_in same p first s ≡ true) × (is_in same p first s ≡ true → is_in same p members s ≡ true)
+  turn_takes_first tried tries bits count clauses h members first t picks agree f =
+      first_choices same exact p tried tries root rules registered same_name names bits (known_of origin h) members first (end_meaning [] count clauses h members t) agree f
+      (trail_meaning origin same p rules registered count clauses t.coded (IsFirstPick same p tried rules) h t.trail t.rooted picks)
 
   -- A clause that follows from the clauses, and denies solvables of a list alone: no rule-keeping set holds them all. With
   -- no literal it leaves no rule-keeping set.
