@@ -15,7 +15,8 @@ use Rattle.resolvo_search.specs.Known.{clause_at}
 use Rattle.resolvo_search.specs.Entries.{literal_of, made_true, IsChoice, StandsOn, IsTrail}
 use Rattle.resolvo_search.specs.State.{lists, AreDerived}
 use Rattle.resolvo_search.specs.Steps.{KeepsChoices}
-use Rattle.resolvo_search.proofs.Literals.{has_here, has_later}
+use Rattle.resolvo_search.specs.Beginning.{IsRootClause}
+use Rattle.resolvo_search.proofs.Literals.{has-cons, has_here, has_later}
 use Rattle.resolvo_search.proofs.Trails.{known_in_range, clause_at_kept}
 use Rattle.resolvo_search.proofs.Clauses.{length-lists}
 use Rattle.resolvo_search.proofs.StepLemmas.{lists-append}
@@ -156,3 +157,20 @@ coded_learnt origin same p rules registered count cs c caused from derived coded
       | inl a ↦ coded.in_range n l a
       | inr (k, a) ↦ let (j, b) = from l (here k l a) in coded.in_range j l b
     ]
+
+-- At its start the search has the root's clause alone, and no rule is stated.
+pub coded_begins : {N S : Type 0} (origin : ℕ → Atom N S) (same : S → S → Bool) (p : Packages N S) (registered : S → Type 0) (cs : List HeldClause) → IsRootClause cs → AreCoded origin same p (λ r. ⊥) registered 1 cs
+coded_begins origin same p registered [] h = absurd h
+coded_begins origin same p registered (c ∷ d ∷ cs) h = absurd h
+coded_begins origin same p registered (c ∷ []) (is, none) = record {
+  once = λ m n a b x y e. omega arith;
+  in_range = λ n l h. (let z : l.variable.0 ≡ 0 = ap (λ (x : Signed). x.variable.0) (of_root n l h) in omega arith);
+  derived = ((λ some. let z : length c.causes.items ≡ 0 = ap length none in absurd (omega arith)), tt);
+  accounted = λ d a. subst (IsAccounted origin same p (λ r. ⊥)) (sym (contains_one d c a)) (inr (inl (subst (λ (x : List Signed). has x (yes root_variable) ≡ true) (sym is) refl)));
+  stated = λ r f. absurd f;
+  positive = λ n l s h m. (let z : l.variable.0 ≡ 0 = ap (λ (x : Signed). x.variable.0) (of_root n l h) in let other : 0 < l.variable.0 = m.0 in absurd (omega arith));
+}
+  where
+    of_root : (n : ℕ) (l : Signed) → has (clause_at (c.literals.items ∷ []) n) l ≡ true → l ≡ yes root_variable
+    of_root zero l h = elim (has-cons (yes root_variable) [] l (subst (λ (x : List Signed). has x l ≡ true) is h)) [ inl e ↦ sym e | inr f ↦ absurd (both_ways false refl f) ]
+    of_root (suc n) l h = absurd (both_ways false refl h)

@@ -1,5 +1,6 @@
 -- The end of a turn, over atoms.
 use Rattle.std.specs.Prelude.{◌≡◌, ℕ, ◌⊎◌, Bool, true, false, not, ◌&&◌, ◌==◌, List, [], ◌∷◌, Option, None, Some, Contains}
+use Rattle.std.proofs.Common.{inl, inr}
 use Rattle.std.specs.List.{list_any}
 use Rattle.resolvo_pool.specs.declared.id.VersionSetId.{VersionSetId}
 use Rattle.resolvo_pool.specs.declared.requirement.ConditionalRequirement.{ConditionalRequirement}
@@ -47,6 +48,11 @@ module _ {N S : Type 0} (same : S → S → Bool) (p : Packages N S) (rules : Ru
 
   abbrev pub IsAsked : List (Literal (Atom N S)) → Requirement → Type 0
   IsAsked known r = IsAskedByNeed known r ⊎ IsAskedByGate known r
+
+  -- the rule whose clause asks
+  abbrev pub asking : (known : List (Literal (Atom N S))) (r : Requirement) → IsAsked known r → Rule N S
+  asking known r (inl k) = Rule.needs k.parent k.need k.case
+  asking known r (inr k) = Rule.shared r
 
   -- a clause may ask for a match of the requirement
   abbrev pub HasClause : Requirement → Type 0
