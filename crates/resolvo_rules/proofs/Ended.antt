@@ -1,8 +1,7 @@
 -- The end of an accepted turn: the solvables that are true keep all rules, and are their reached part.
-use Rattle.std.proofs.Common.{◌≡◌, ℕ, ◌⊎◌, inl, inr, Bool, true, false, not, ◌&&◌, ◌==◌, List, [], ◌∷◌, ◌++◌, filter, Option, Some, None, refl, sym, ◌∙◌, ap, subst, eqb-true, eq-eqb}
+use Rattle.std.proofs.Common.{◌≡◌, ℕ, ◌⊎◌, inl, inr, Bool, true, false, not, ◌&&◌, ◌==◌, List, [], ◌∷◌, ◌++◌, filter, Option, Some, None, refl, sym, ◌∙◌, subst, eqb-true, eq-eqb}
 use Rattle.std.specs.Prelude.{Contains}
-use Rattle.std.specs.List.{list_any}
-use Rattle.std.proofs.lemmas.Bool.{and_parts, and_from, both_ways, cases_Bool, not-true, not_from_false, false_from_ne_true, not_from_true}
+use Rattle.std.proofs.lemmas.Bool.{and_parts, and_from, both_ways, cases_Bool, not-true, not_from_false, false_from_ne_true}
 use Rattle.resolvo_pool.specs.declared.id.VersionSetId.{VersionSetId}
 use Rattle.resolvo_pool.specs.declared.requirement.ConditionalRequirement.{ConditionalRequirement}
 use Rattle.resolvo_pool.specs.declared.requirement.Requirement.{Requirement}
@@ -10,9 +9,9 @@ use Rattle.resolvo_pool.specs.OnePass.{Literal, negate, is_true_at, clause_true}
 use Rattle.resolvo_pool.specs.Provider.{listed}
 use Rattle.resolvo_pool.specs.Text.{alternatives_of}
 use Rattle.resolvo_pool.specs.RuleKeeping.{Packages, Rules, is_in, is_match, is_outside, is_met, meets, binds, is_barred, rules_for, is_member, IsSingle, Obeys, IsRuleKeeping, IsNamed, IsExemptKeeping, IsClosed, IsReached}
-use Rattle.resolvo_rules.specs.Encoding.{IsExact, Atom, Rule, plus, minus, parent_literals, cases_for, case_holds, case_literals, candidate_literals, literals_of, IsRule, value, Fits, shown, IsImplied, IsBarredIn, AgreeWith}
-use Rattle.resolvo_rules.specs.Ending.{AreFalse, IsQuiet, IsTrueParent, HasClause, IsAsked, IsCalledFor, IsEnd, is_digit, digits_in, IsAccepted, Denies}
-use Rattle.resolvo_rules.proofs.Lists.{contains_cases, contains_none, contains_one, contains_parts, all_contained, any_contained, contained_any, contains_filter, filter_contains}
+use Rattle.resolvo_rules.specs.Encoding.{IsExact, Atom, Rule, plus, minus, parent_literals, case_holds, case_literals, candidate_literals, literals_of, IsRule, value, Fits, shown, IsImplied, IsBarredIn, AgreeWith}
+use Rattle.resolvo_rules.specs.Ending.{AreFalse, IsTrueParent, IsCalledFor, IsEnd, is_digit, digits_in, IsAccepted, Denies}
+use Rattle.resolvo_rules.proofs.Lists.{contains_cases, contains_none, contains_parts, all_contained, any_contained, contained_any, contains_filter, filter_contains}
 use Rattle.resolvo_rules.proofs.Members.{true_plus, true_minus, twice, made_by, any_in, in_contained, contained_in, candidate_named, in_case, stands_candidate, binds_case}
 use Rattle.resolvo_rules.proofs.Quiet.{quiet_second, quiet_first, quiet_single, false_single}
 use Rattle.resolvo_rules.proofs.Sound.{clause_holds, rules_sound}
@@ -101,7 +100,7 @@ module _ {N S : Type 0} (same : S → S → Bool) (exact : IsExact same) (same_n
   by_clause parent need case r m holds =
       elim (end.met need.requirement (inl (record { parent = parent; need = need; case = case; stands = r; chosen = true_parent parent m; holds = case_false parent need case r holds; asks = refl }))) [
         | inl none ↦ absurd ((end.quiet _ r).unbroken (false_both known (parent_literals parent) (case_literals same p case ++ candidate_literals same p (alternatives_of p.members_of need.requirement)) (parent_false parent m)
-        (false_both known (case_literals same p case) (candidate_literals same p (alternatives_of p.members_of need.requirement)) (case_false parent need case r holds) (candidates_false need.requirement none))))
+            (false_both known (case_literals same p case) (candidate_literals same p (alternatives_of p.members_of need.requirement)) (case_false parent need case r holds) (candidates_false need.requirement none))))
         | inr (s, o, k) ↦ (s, end.chosen s k, o)
       ]
 

@@ -2,17 +2,16 @@
 use Rattle.std.proofs.Common.{◌≡◌, ℕ, ◌⊎◌, inl, inr, Bool, true, false, ◌||◌, List, [], ◌∷◌, ◌++◌, Option, Some, None, refl, sym, ◌∙◌, ap, subst}
 use Rattle.std.specs.Prelude.{Contains}
 use Rattle.std.specs.List.{list_any, flat_map}
-use Rattle.std.proofs.lemmas.Bool.{or_cases, or_left, and_parts, both_ways}
+use Rattle.std.proofs.lemmas.Bool.{or_cases, and_parts, both_ways}
 use Rattle.resolvo_pool.specs.declared.id.VersionSetId.{VersionSetId}
-use Rattle.resolvo_pool.specs.declared.requirement.ConditionalRequirement.{ConditionalRequirement}
 use Rattle.resolvo_pool.specs.declared.requirement.Requirement.{Requirement}
-use Rattle.resolvo_pool.specs.OnePass.{Literal, negate, is_true_at, clause_true}
+use Rattle.resolvo_pool.specs.OnePass.{Literal, is_true_at, clause_true}
 use Rattle.resolvo_pool.specs.Provider.{listed}
 use Rattle.resolvo_pool.specs.Text.{alternatives_of}
 use Rattle.resolvo_pool.specs.RuleKeeping.{Packages, Rules, IsLawful, is_in, is_match, meets, is_member, IsSingle}
 use Rattle.resolvo_rules.specs.Encoding.{IsExact, Atom, Rule, plus, minus, literals_of, IsRule, value, shown, AgreeWith}
 use Rattle.resolvo_rules.specs.Ending.{IsCalledFor, IsTrail, IsEnd}
-use Rattle.resolvo_rules.specs.First.{IsFirst, TriesMatches, order, HoldsFirst, IsFirstChoices, TakesFirst, IsFirstPick}
+use Rattle.resolvo_rules.specs.First.{IsFirst, TriesMatches, order, HoldsFirst, IsFirstChoices, IsFirstPick}
 use Rattle.resolvo_rules.proofs.Lists.{contains_first, contains_right}
 use Rattle.resolvo_rules.proofs.Members.{plus_true, true_plus, true_minus, candidate_named, contained_in}
 use Rattle.resolvo_rules.proofs.Sound.{rules_sound}

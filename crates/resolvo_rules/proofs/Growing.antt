@@ -8,16 +8,16 @@ use Rattle.resolvo_pool.specs.declared.requirement.Requirement.{Requirement}
 use Rattle.resolvo_pool.specs.OnePass.{Literal}
 use Rattle.resolvo_pool.specs.RuleKeeping.{Packages, is_in}
 use Rattle.resolvo_store.specs.Signed.{Signed, has}
-use Rattle.resolvo_store.specs.Clauses.{yes, no, root as root_variable}
+use Rattle.resolvo_store.specs.Clauses.{yes, root as root_variable}
 use Rattle.resolvo_store.specs.declared.decision.Entry.{Entry}
 use Rattle.resolvo_search.specs.declared.state.HeldClause.{HeldClause}
 use Rattle.resolvo_search.specs.Known.{clause_at}
-use Rattle.resolvo_search.specs.Entries.{literal_of, made_true, IsChoice, StandsOn, IsTrail}
+use Rattle.resolvo_search.specs.Entries.{literal_of, made_true, StandsOn, IsTrail}
 use Rattle.resolvo_search.specs.State.{lists, AreDerived}
 use Rattle.resolvo_search.specs.Steps.{KeepsChoices}
 use Rattle.resolvo_search.specs.Beginning.{IsRootClause}
 use Rattle.resolvo_search.proofs.Literals.{has-cons, has_here, has_later}
-use Rattle.resolvo_search.proofs.Trails.{known_in_range, clause_at_kept}
+use Rattle.resolvo_search.proofs.Trails.{known_in_range}
 use Rattle.resolvo_search.proofs.Clauses.{length-lists}
 use Rattle.resolvo_search.proofs.StepLemmas.{lists-append}
 use Rattle.resolvo_rules.specs.Encoding.{Atom, Rule, plus, literals_of}
@@ -25,7 +25,6 @@ use Rattle.resolvo_rules.specs.Ending.{IsAsked, IsCalledFor}
 use Rattle.resolvo_rules.specs.First.{IsFirstPick}
 use Rattle.resolvo_rules.specs.Numbered.{meaning, Means, meanings, known_of, IsOnce, Spells, AreCalledFor, IsAccounted, AreCoded}
 use Rattle.resolvo_rules.proofs.Lists.{contains_none, contains_cases, contains_one, contains_parts}
-use Rattle.resolvo_rules.proofs.Meanings.{held_at, clause_in_range}
 
 -- an entry of a trail, with what stands before it, is one
 stands_trail : (count : ℕ) (cs : List (List Signed)) (h : List Entry) (e : Entry) (older : List Entry) → IsTrail count cs h → StandsOn h e older → IsTrail count cs (e ∷ older)

@@ -1,5 +1,5 @@
 -- What holds of clauses and trails over variables holds of what they mean.
-use Rattle.std.proofs.Common.{◌≡◌, ℕ, zero, suc, ◌<◌, ◌≤◌, ◌⊎◌, inl, inr, Bool, true, false, not, ◌==◌, List, [], ◌∷◌, ◌++◌, length, reverse, map, cond, refl, sym, ◌∙◌, ap, subst, arith, eqb-true, eq-eqb}
+use Rattle.std.proofs.Common.{◌≡◌, ℕ, zero, suc, ◌<◌, ◌⊎◌, inl, inr, Bool, true, false, ◌==◌, List, [], ◌∷◌, length, reverse, cond, refl, sym, ◌∙◌, ap, subst, arith, eqb-true, eq-eqb}
 use Rattle.std.specs.Prelude.{Contains}
 use Rattle.std.specs.Bool.{beq}
 use Rattle.std.proofs.lemmas.Bool.{both_ways, cases_Bool}
@@ -13,17 +13,16 @@ use Rattle.resolvo_store.specs.Clauses.{yes, no, root as root_variable}
 use Rattle.resolvo_store.specs.declared.decision.Entry.{Entry}
 use Rattle.resolvo_search.specs.declared.state.HeldClause.{HeldClause}
 use Rattle.resolvo_search.specs.Known.{clause_at, holds, Satisfies, SatisfiesAll, IsForced as IsForcedBy}
-use Rattle.resolvo_search.specs.Entries.{literal_of, reason_of, made_true, IsChoice, IsPropagated, StandsOn, IsTrail, IsRooted}
+use Rattle.resolvo_search.specs.Entries.{literal_of, reason_of, made_true, IsTrail, IsRooted}
 use Rattle.resolvo_search.specs.Propagation.{IsQuiet}
 use Rattle.resolvo_search.specs.State.{lists, named, AllBelow, IsDerived, AreDerived}
 use Rattle.resolvo_search.proofs.Literals.{has-cons, has_here, has_later}
 use Rattle.resolvo_search.proofs.Trails.{consistent, known_in_range, root_known}
-use Rattle.resolvo_search.proofs.Clauses.{length-lists}
 use Rattle.resolvo_search.proofs.Refutations.{refuted_holds}
-use Rattle.resolvo_rules.specs.Encoding.{Atom, Rule, plus, minus, literals_of, IsImplied}
+use Rattle.resolvo_rules.specs.Encoding.{Atom, Rule, plus, literals_of, IsImplied}
 use Rattle.resolvo_rules.specs.Ending as Ending
 use Rattle.resolvo_rules.specs.Numbered.{meaning, Means, meanings, known_of, IsOnce, values_by, Spells, AreCalledFor, IsAccounted, AreCoded}
-use Rattle.resolvo_rules.proofs.Lists.{contains_none, contains_cases, contains_first, contains_later, contains_left, contains_right, contains_only}
+use Rattle.resolvo_rules.proofs.Lists.{contains_none, contains_cases, contains_first, contains_later, contains_left, contains_right}
 use Rattle.resolvo_rules.proofs.Members.{makes, made_by}
 
 pub contains_reverse : {X : Type 0} (x : X) (xs : List X) → Contains xs x → Contains (reverse xs) x

@@ -1,9 +1,9 @@
 -- Members of sets, literals of solvables, and truth under a valuation.
-use Rattle.std.proofs.Common.{◌≡◌, ℕ, zero, suc, ◌⊎◌, inl, inr, Bool, true, false, not, ◌&&◌, ◌||◌, ◌==◌, List, [], ◌∷◌, ◌++◌, map, filter, Option, Some, None, refl, sym, ◌∙◌, ap, subst, eqb-true, eq-eqb, All}
+use Rattle.std.proofs.Common.{◌≡◌, ℕ, zero, suc, ◌⊎◌, inl, inr, Bool, true, false, not, ◌&&◌, ◌||◌, List, [], ◌∷◌, ◌++◌, filter, Option, Some, None, refl, sym, ◌∙◌, ap, subst, eqb-true, eq-eqb}
 use Rattle.std.specs.Prelude.{Contains}
-use Rattle.std.specs.List.{list_any, list_all}
+use Rattle.std.specs.List.{list_any}
 use Rattle.std.specs.Bool.{beq}
-use Rattle.std.proofs.lemmas.Bool.{or_cases, or_left, or_right, and_parts, and_from, both_ways, cases_Bool}
+use Rattle.std.proofs.lemmas.Bool.{or_cases, or_left, or_right, and_parts, and_from, both_ways}
 use Rattle.std.proofs.lemmas.List.Elements.{All-contains}
 use Rattle.resolvo_pool.specs.declared.id.VersionSetId.{VersionSetId}
 use Rattle.resolvo_pool.specs.declared.id.ConditionId.{ConditionId}
@@ -14,10 +14,9 @@ use Rattle.resolvo_pool.specs.declared.requirement.ConditionalRequirement.{Condi
 use Rattle.resolvo_pool.specs.declared.requirement.Requirement.{Requirement}
 use Rattle.resolvo_pool.specs.declared.requirement.Requirement.TheVariants.{Single, Union}
 use Rattle.resolvo_pool.specs.OnePass.{Literal, negate, is_true_at, clause_true}
-use Rattle.resolvo_pool.specs.Provider.{Listing, listed, AreOf, listing_or_empty}
-use Rattle.resolvo_pool.specs.Text.{alternatives_of}
-use Rattle.resolvo_pool.specs.RuleKeeping.{Packages, IsLawful, says, is_in, is_match, is_outside, is_met, meets, holds_within, holds, binds_under, binds}
-use Rattle.resolvo_store.specs.Cases.{cases, says_within, some_case_met}
+use Rattle.resolvo_pool.specs.Provider.{Listing, listed, AreOf}
+use Rattle.resolvo_pool.specs.RuleKeeping.{Packages, IsLawful, says, is_in, is_match, is_outside, is_met, holds_within, binds_under, binds}
+use Rattle.resolvo_store.specs.Cases.{says_within}
 use Rattle.resolvo_store.proofs.CaseLaws.{exact_cases}
 use Rattle.resolvo_rules.specs.Encoding.{IsExact, Atom, plus, minus, solvables, has_condition, same_requirement, asks, cases_under, cases_for, case_holds, case_literals, candidate_literals}
 use Rattle.resolvo_rules.proofs.Lists.{contains_first, contains_later, contains_none, contains_cases, contains_left, contains_right, contains_parts, contains_map, map_contains, contains_filter, filter_contains, any_contained, contained_any, none_contained}

@@ -1,9 +1,9 @@
 -- What short clauses leave no choice about.
-use Rattle.std.proofs.Common.{◌≡◌, ◌⊎◌, inl, inr, Bool, List, [], ◌∷◌, subst, sym}
+use Rattle.std.proofs.Common.{◌≡◌, ◌⊎◌, inl, inr, List, [], ◌∷◌, subst, sym}
 use Rattle.std.specs.Prelude.{Contains}
 use Rattle.resolvo_pool.specs.OnePass.{Literal, negate}
 use Rattle.resolvo_rules.specs.Ending.{AreFalse, IsQuiet}
-use Rattle.resolvo_rules.proofs.Lists.{contains_cases, contains_one, contains_first, contains_only, contains_second}
+use Rattle.resolvo_rules.proofs.Lists.{contains_cases, contains_one, contains_first, contains_second}
 
 module _ {A : Type 0} where
   -- the literals of a clause of two

@@ -1,5 +1,5 @@
 -- The end of an accepted turn, and refusals, over the clauses and the trail of the search.
-use Rattle.std.proofs.Common.{◌≡◌, ℕ, ◌<◌, ◌⊎◌, inl, inr, Bool, true, false, List, [], refl, sym, ◌∙◌, ap, subst, arith}
+use Rattle.std.proofs.Common.{◌≡◌, ℕ, ◌<◌, inl, inr, Bool, true, false, List, [], refl, sym, ◌∙◌, ap, subst, arith}
 use Rattle.std.proofs.lemmas.Bool.{both_ways}
 use Rattle.std.specs.Prelude.{Contains}
 use Rattle.resolvo_pool.specs.declared.id.ClauseId.{ClauseId}
@@ -15,10 +15,10 @@ use Rattle.resolvo_search.specs.Known.{clause_at}
 use Rattle.resolvo_search.specs.Entries.{made_true, IsTrail, IsRooted}
 use Rattle.resolvo_search.specs.State.{lists, IsDerived}
 use Rattle.resolvo_search.proofs.Trails.{consistent, root_known}
-use Rattle.resolvo_rules.specs.Encoding.{IsExact, Atom, Rule, plus, minus, literals_of, IsRule, AgreeWith}
+use Rattle.resolvo_rules.specs.Encoding.{IsExact, Atom, Rule, plus, literals_of, IsRule, AgreeWith}
 use Rattle.resolvo_rules.specs.Ending as Ending
 use Rattle.resolvo_rules.specs.First.{TriesMatches, IsFirstChoices, IsFirstPick}
-use Rattle.resolvo_rules.specs.Numbered.{meaning, Means, meanings, known_of, Spells, AreCalledFor, AreCoded, IsTurnEnd, Denies}
+use Rattle.resolvo_rules.specs.Numbered.{meaning, meanings, known_of, Spells, AreCalledFor, AreCoded, IsTurnEnd, Denies}
 use Rattle.resolvo_rules.proofs.FirstLemmas.{first_choices}
 use Rattle.resolvo_rules.proofs.Meanings.{meaning_stands, stands_meaning, quiet_meaning, trail_meaning, derived_implied}
 use Rattle.resolvo_rules.proofs.Reached.{met_by_literal}
