@@ -1,0 +1,12 @@
+pub mod Lists
+pub mod Members
+pub mod Sound
+pub mod Quiet
+pub mod Reached
+pub mod Ended
+pub mod Meanings
+pub mod Turns
+pub mod LoadingLemmas
+pub mod FirstLemmas
+pub mod Places
+pub mod Growing

@@ -1,0 +1,53 @@
+-- First choices: of each requirement the first candidate, in the order in which they are tried.
+use Rattle.std.specs.Prelude.{◌≡◌, Bool, true, List, [], ◌∷◌, ◌++◌, Option, Contains}
+use Rattle.std.specs.List.{flat_map}
+use Rattle.resolvo_pool.specs.declared.id.VersionSetId.{VersionSetId}
+use Rattle.resolvo_pool.specs.declared.requirement.ConditionalRequirement.{ConditionalRequirement}
+use Rattle.resolvo_pool.specs.declared.requirement.Requirement.{Requirement}
+use Rattle.resolvo_pool.specs.OnePass.{Literal}
+use Rattle.resolvo_pool.specs.Text.{alternatives_of}
+use Rattle.resolvo_pool.specs.RuleKeeping.{Packages, Rules, is_in, is_match, binds, rules_for, is_member, IsRuleKeeping}
+use Rattle.resolvo_rules.specs.Encoding.{Atom, Rule, plus, minus}
+use Rattle.resolvo_rules.specs.Ending.{IsAsked}
+
+-- the solvable comes first
+abbrev pub IsFirst : {S : Type 0} → List S → S → Type 0
+IsFirst [] s = ⊥
+IsFirst (x ∷ xs) s = x ≡ s
+
+-- `tried` lists the matches of each version set in the order in which they are tried
+module _ {N S : Type 0} (same : S → S → Bool) (p : Packages N S) (tried : VersionSetId → List S) where
+  -- each match is tried, and nothing else
+  abbrev pub TriesMatches : Type 0
+  TriesMatches = (v : VersionSetId) (s : S) → is_in same p (tried v) s ≡ is_match same p v s
+
+  -- the candidates of a requirement: those of its alternatives, in order
+  abbrev pub order : Requirement → List S
+  order r = flat_map tried (alternatives_of p.members_of r)
+
+  module _ (root : Rules) where
+    -- the set holds the first candidate of each requirement of the root or a member that binds in it
+    abbrev pub HoldsFirst : List S → Type 0
+    HoldsFirst list = (parent : Option S) (need : ConditionalRequirement) (s : S) → is_member same p root list parent ≡ true → Contains (rules_for same p root parent).requirements need → binds same p list need ≡ true → IsFirst (order need.requirement) s → is_in same p list s ≡ true
+
+    -- The first choices: the least such set. It keeps all rules, and no requirement that binds in it has alternatives.
+    pub record IsFirstChoices (first : List S) : Type 0 where
+      pub holds : HoldsFirst first
+      pub least : (list : List S) → HoldsFirst list → (s : S) → is_in same p first s ≡ true → is_in same p list s ≡ true
+      pub keeping : IsRuleKeeping same p root first
+      pub alone : (parent : Option S) (need : ConditionalRequirement) → is_member same p root first parent ≡ true → Contains (rules_for same p root parent).requirements need → binds same p first need ≡ true → (v : VersionSetId) × (alternatives_of p.members_of need.requirement ≡ v ∷ [])
+
+  -- the solvable is the first candidate that is not known to be false
+  pub record TakesFirst (known : List (Literal (Atom N S))) (r : Requirement) (s : S) : Type 0 where
+    pub before : List S
+    pub after : List S
+    pub splits : order r ≡ before ++ s ∷ after
+    pub fell : (t : S) → Contains before t → Contains known (minus (Atom.solvable t))
+
+  -- the literal chooses the first candidate, of a requirement that is asked for, that is not false
+  pub record IsFirstPick (rules : Rule N S → Type 0) (known : List (Literal (Atom N S))) (l : Literal (Atom N S)) : Type 0 where
+    pub requirement : Requirement
+    pub asked : IsAsked same p rules known requirement
+    pub solvable : S
+    pub is : l ≡ plus (Atom.solvable solvable)
+    pub first : TakesFirst known requirement solvable

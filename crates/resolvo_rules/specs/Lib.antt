@@ -1,0 +1,5 @@
+pub mod Encoding
+pub mod Ending
+pub mod Numbered
+pub mod Loading
+pub mod First
