@@ -156,7 +156,7 @@ refusal_true catalogue request lines accepted = refutes catalogue request (catal
 
 -- ---- an install report
 
-install_proof : (catalogue request : List Line) (lines : List ReportLine) → ArePassed catalogue request (InstallHead ∷ lines) → IsProof catalogue request every_line every_line (steps_in lines)
+pub install_proof : (catalogue request : List Line) (lines : List ReportLine) → ArePassed catalogue request (InstallHead ∷ lines) → IsProof catalogue request every_line every_line (steps_in lines)
 install_proof catalogue request lines passed k s at =
     let f = found_at step_in one_step lines k s at in
     subst (λ (ss : List Step). may_stand catalogue request every_line every_line ss s ≡ true) f.above

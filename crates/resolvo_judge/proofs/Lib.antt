@@ -25,3 +25,5 @@ pub mod LogLemmas
 pub mod VersionLemmas
 pub mod EntryLemmas
 pub mod BarredLemmas
+pub mod EndLemmas
+pub mod JudgeLemmas

@@ -9,6 +9,7 @@ mod chosen;
 mod clauses;
 mod ending;
 mod entries;
+mod judgement;
 mod judging;
 mod laws;
 mod literal;
@@ -23,10 +24,9 @@ mod steps;
 mod truth;
 mod versions;
 
-pub use barring::step_bars;
 pub use checking::{Checker, Scope, advance};
 pub use clauses::Readings;
-pub use judging::{Judging, take};
+pub use judgement::{JudgeFault, Judged, Verdict, judge, judge_counted};
 pub use laws::{
     accepted_install_is_true, accepted_refusal_is_true, proof_bars, proof_refutes, steps_are_true,
 };
