@@ -27,3 +27,4 @@ pub mod EntryLemmas
 pub mod BarredLemmas
 pub mod EndLemmas
 pub mod JudgeLemmas
+pub mod PlaceLaws
