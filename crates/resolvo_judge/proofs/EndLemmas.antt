@@ -49,7 +49,7 @@ install_ends catalogue request j (Install ls ss) fine install passed stands keep
     let answers : List AnswerLine = answers_in rest in
     let steps : List Step = steps_in rest in
     let all : fine ≡ list_all (is_barred catalogue request steps (entries_of answers)) (barred_from 0 answers) =
-        barred (install_proof catalogue request rest passed) ∙ ap (λ (bs : List BarredWish). list_all (is_barred catalogue request steps (entries_of answers)) bs) stands.entries.barred in
+    barred (install_proof catalogue request rest passed) ∙ ap (λ (bs : List BarredWish). list_all (is_barred catalogue request steps (entries_of answers)) bs) stands.entries.barred in
     by_answer catalogue request rest fine keeps told all
 
 -- ---- the first line

@@ -360,21 +360,42 @@ module _ (catalogue request : List Line) (known left after : Option (List ℕ)) 
     subst (λ (n : ℕ). DeviceFailed n failures_now interruptions) same h.0,
     λ text e.
         let c = consumed known left (lines_text lines) read.bytes text e in
-        let d = h.1 c.0 c.1 in
-        (lines_text lines ++ d.0, d.1, d.2, record {
-          parts = c.2 ∙ ap (λ (bs : List ℕ). lines_text lines ++ bs) d.3 ∙ sym (append_assoc (lines_text lines) d.0 d.1);
-          above = lines; begun = d.0; part = r.part; lines = refl; good = read.good; passed = passed; unfinished = d.4;
-        }),
+        let d = h.1 c.0 c.1 in (
+          lines_text lines ++ d.0,
+          d.1,
+          d.2,
+          record {
+            parts = c.2 ∙ ap (λ (bs : List ℕ). lines_text lines ++ bs) d.3 ∙ sym (append_assoc (lines_text lines) d.0 d.1);
+            above = lines;
+            begun = d.0;
+            part = r.part;
+            lines = refl;
+            good = read.good;
+            passed = passed;
+            unfinished = d.4;
+          },
+        ),
   )
   stops TooLong h = λ text e.
       let c = consumed known left (lines_text lines) read.bytes text e in
       let d = h c.0 c.1 in
       let front : List ℕ = take r.lines.room c.0 in
-      let rest : List ℕ = drop r.lines.room c.0 in
-      (lines_text lines ++ front, rest, omega (arith, read.used, length-append (lines_text lines) front, length-take r.lines.room c.0, d.0), omega (arith, length-drop r.lines.room c.0, d.0), record {
-        parts = c.2 ∙ ap (λ (bs : List ℕ). lines_text lines ++ bs) (sym (take-append-drop r.lines.room c.0)) ∙ sym (append_assoc (lines_text lines) front rest);
-        above = lines; begun = front; part = r.part; lines = refl; good = read.good; passed = passed; unfinished = d.1;
-      })
+      let rest : List ℕ = drop r.lines.room c.0 in (
+        lines_text lines ++ front,
+        rest,
+        omega (arith, read.used, length-append (lines_text lines) front, length-take r.lines.room c.0, d.0),
+        omega (arith, length-drop r.lines.room c.0, d.0),
+        record {
+          parts = c.2 ∙ ap (λ (bs : List ℕ). lines_text lines ++ bs) (sym (take-append-drop r.lines.room c.0)) ∙ sym (append_assoc (lines_text lines) front rest);
+          above = lines;
+          begun = front;
+          part = r.part;
+          lines = refl;
+          good = read.good;
+          passed = passed;
+          unfinished = d.1;
+        },
+      )
 
 -- after a yes the claim is true
 pub claims : (catalogue request : List Line) (text : List ℕ) (v : Verdict) → IsVerdict catalogue request text v → ClaimsTruth catalogue request text v

@@ -79,8 +79,8 @@ module _ (catalogue request : List Line) where
   pub one_place : (text : List ℕ) (m n : ℕ) → IsRefusedAt catalogue request text m → IsRefusedAt catalogue request text n → m ≡ n
   one_place text m n a b =
       let same = same_length (length a.above) (length b.above)
-          (λ lt. not_below a.above b.above a.part b.part a.below b.below a.good b.good b.passed lt (sym b.parts ∙ a.parts) a.none)
-          (λ gt. not_below b.above a.above b.part a.part b.below a.below b.good a.good a.passed gt (sym a.parts ∙ b.parts) b.none) in
+      (λ lt. not_below a.above b.above a.part b.part a.below b.below a.good b.good b.passed lt (sym b.parts ∙ a.parts) a.none)
+      (λ gt. not_below b.above a.above b.part a.part b.below a.below b.good a.good a.passed gt (sym a.parts ∙ b.parts) b.none) in
       omega (arith, a.place, b.place, same)
 
   -- all lines of the report pass, and so does its end

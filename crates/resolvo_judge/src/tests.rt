@@ -4,12 +4,12 @@ mod devices;
 mod reports;
 mod steps;
 
+ghost use Rattle.std.specs.Prelude.{◌<◌};
+
 use crate::{Judged, judge_counted};
 use resolvo_catalogue::{Catalogue, MemorySource, Request};
 use std::alloc::Global;
 use std::test::Fail;
-
-ghost use Rattle.std.specs.Prelude.{◌<◌};
 
 /// The verdict on a report, from a device that gives so many bytes a call.
 fn judged(

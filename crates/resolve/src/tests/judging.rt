@@ -12,16 +12,35 @@ const CATALOGUE: &str =
 const REQUEST: &str = "needs p\n";
 
 /// A proof by a gate and helpers. Its last line tells in which order the clauses are read.
-const PROOF: &str = "refused\ncatalogue line 2\ncatalogue line 3\nrequest line 1\nstep 1 need request line 1 case 1\nstep 2 gate p=1 line 2\nstep 3 shared c\nstep 4 limit p=1 line 3\nstep 5 outside c 9 holds c=1\nstep 6 outside c 9 holds c=2\nstep 7 outside c 9 holds c=3\nstep 8 outside c 9 holds c=4\n";
+const PROOF: &str =
+    "refused\ncatalogue line 2\ncatalogue line 3\nrequest line 1\nstep 1 need request line 1 case 1\nstep 2 gate p=1 line 2\nstep 3 shared c\nstep 4 limit p=1 line 3\nstep 5 outside c 9 holds c=1\nstep 6 outside c 9 holds c=2\nstep 7 outside c 9 holds c=3\nstep 8 outside c 9 holds c=4\n";
 
 #[test]
 fn answers(rt: HostRuntime) -> Result<(), Fail> {
     for (catalogue, request, last, printed, code) in [
-        (CATALOGUE, REQUEST, "step 9 derive [] by 1 2 4 5 6 7 8 3\n", "yes\n", 0u8),
-        (CATALOGUE, REQUEST, "step 9 derive [] by 1 2 3 4 5 6 7 8\n", "no line 13\n", 1),
+        (
+            CATALOGUE,
+            REQUEST,
+            "step 9 derive [] by 1 2 4 5 6 7 8 3\n",
+            "yes\n",
+            0u8,
+        ),
+        (
+            CATALOGUE,
+            REQUEST,
+            "step 9 derive [] by 1 2 3 4 5 6 7 8\n",
+            "no line 13\n",
+            1,
+        ),
         (CATALOGUE, REQUEST, "", "no line 13\n", 1),
         (CATALOGUE, "needs  p\n", "", "fault at request line 1\n", 2),
-        ("needs p\n", "needs  p\n", "", "fault at catalogue line 1\n", 2),
+        (
+            "needs p\n",
+            "needs  p\n",
+            "",
+            "fault at catalogue line 1\n",
+            2,
+        ),
     ] {
         let mut report = String::from_str(rt.alloc(), PROOF)?;
         report.push_str(last)?;
@@ -53,7 +72,13 @@ fn each_read_of_the_report_failing(rt: HostRuntime) -> Result<(), Fail> {
         let mut request = MemorySource::new(b"", 1);
         let mut report = MemorySource::new(b"install\n", 1).failing_after(calls);
         let mut writer = MemorySink::new(rt.alloc(), 100, 1)?;
-        let ended = check(rt.alloc(), &mut catalogue, &mut request, &mut report, &mut writer);
+        let ended = check(
+            rt.alloc(),
+            &mut catalogue,
+            &mut request,
+            &mut report,
+            &mut writer,
+        );
         assert_eq!(rt; ended, Err(RunFault::Reader), "{calls}");
         assert_eq!(rt; writer.bytes().len(), 0);
     }
@@ -67,7 +92,13 @@ fn each_write_failing(rt: HostRuntime) -> Result<(), Fail> {
         let mut request = MemorySource::new(b"", 1);
         let mut report = MemorySource::new(b"install\n", 1);
         let mut writer = MemorySink::new(rt.alloc(), 100, 1)?.failing_after(calls as u64);
-        let ended = check(rt.alloc(), &mut catalogue, &mut request, &mut report, &mut writer);
+        let ended = check(
+            rt.alloc(),
+            &mut catalogue,
+            &mut request,
+            &mut report,
+            &mut writer,
+        );
         assert_eq!(rt; ended, Err(RunFault::Writer));
         assert_eq!(rt; Some(writer.bytes()), b"yes\n".get(..calls));
     }
@@ -75,7 +106,13 @@ fn each_write_failing(rt: HostRuntime) -> Result<(), Fail> {
     let mut request = MemorySource::new(b"", 1);
     let mut report = MemorySource::new(b"install\n", 1);
     let mut writer = MemorySink::new(rt.alloc(), 100, 1)?;
-    let ended = check(rt.alloc(), &mut catalogue, &mut request, &mut report, &mut writer);
+    let ended = check(
+        rt.alloc(),
+        &mut catalogue,
+        &mut request,
+        &mut report,
+        &mut writer,
+    );
     assert_eq!(rt; ended, Ok(Checked::Yes));
     Ok(())
 }

@@ -725,7 +725,8 @@ fn reports_are_judged(rt: HostRuntime) -> Result<(), Fail> {
 const CHAIN: &str =
     "version p 1\nneeds c\nlimits c 9\nversion c 1\nversion c 2\nversion c 3\nversion c 4\n";
 
-const PROOF: &str = "refused\ncatalogue line 2\ncatalogue line 3\nrequest line 1\nstep 1 need request line 1 case 1\nstep 2 gate p=1 line 2\nstep 3 shared c\nstep 4 limit p=1 line 3\nstep 5 outside c 9 holds c=1\nstep 6 outside c 9 holds c=2\nstep 7 outside c 9 holds c=3\nstep 8 outside c 9 holds c=4\nstep 9 derive [] by 1 2 4 5 6 7 8 3\n";
+const PROOF: &str =
+    "refused\ncatalogue line 2\ncatalogue line 3\nrequest line 1\nstep 1 need request line 1 case 1\nstep 2 gate p=1 line 2\nstep 3 shared c\nstep 4 limit p=1 line 3\nstep 5 outside c 9 holds c=1\nstep 6 outside c 9 holds c=2\nstep 7 outside c 9 holds c=3\nstep 8 outside c 9 holds c=4\nstep 9 derive [] by 1 2 4 5 6 7 8 3\n";
 
 /// The same verdict however the device cuts the bytes, and a reading for each naming.
 #[test]

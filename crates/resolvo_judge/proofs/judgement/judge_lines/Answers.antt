@@ -71,10 +71,11 @@ loop-judging-preserved g c =
     let t = c.in_ok-take.ensures in
     let fine = c.if-not-branch.false in
     let lines = report_lines inv.0.report in
-    let head = is_no_head c.args.catalogue.now c.args.request.now.lines _ _ _ r next.self l c.loop-judging.judging c.loop-judging.readings c.loop-judging.number inv.0 given in
-    (reached_more c.args.catalogue.now c.args.request.now.lines _ _ _ r next.self l c.loop-judging.judging c.loop-judging.readings c.loop-judging.number inv.0 given c.take.new.judging c.take.new.readings
-      (sym (t.answer lines inv.0.stands) ∙ fine) (t.stands fine lines head (refusal_kept inv.0.report l) inv.0.stands) (t.later fine) (t.long fine) (t.count fine) (t.few fine) (t.named fine) (t.read fine),
-    c.in_ok-line.ensures.failures ∙ inv.1)
+    let head = is_no_head c.args.catalogue.now c.args.request.now.lines _ _ _ r next.self l c.loop-judging.judging c.loop-judging.readings c.loop-judging.number inv.0 given in (
+      reached_more c.args.catalogue.now c.args.request.now.lines _ _ _ r next.self l c.loop-judging.judging c.loop-judging.readings c.loop-judging.number inv.0 given c.take.new.judging c.take.new.readings
+          (sym (t.answer lines inv.0.stands) ∙ fine) (t.stands fine lines head (refusal_kept inv.0.report l) inv.0.stands) (t.later fine) (t.long fine) (t.count fine) (t.few fine) (t.named fine) (t.read fine),
+      c.in_ok-line.ensures.failures ∙ inv.1,
+    )
 
 pub returns-then-branch-clause-verdict : goal.returns-then-branch-clause-verdict
 returns-then-branch-clause-verdict g c = λ text e.
