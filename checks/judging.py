@@ -82,8 +82,7 @@ def text_of(v):
 def spec_text(s):
     if s[1] is None:
         return s[0]
-    low, high = s[1]
-    return f"{s[0]} {low}" if high == low + 1 else f"{s[0]} {low}..{high}"
+    return f"{s[0]} {'..'.join(map(str, s[1]))}"
 
 
 class Prover:

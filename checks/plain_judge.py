@@ -49,7 +49,7 @@ def place(word):
 
 
 def spec(words):
-    """Takes a SPEC off the front of the words."""
+    """Takes a SPEC off the front of the words. `a 2` and `a 2..3` are two, since helpers are named by SPECs as written."""
     need(words)
     package = name(words.pop(0))
     if words and words[0] not in (b"|", b"if", b"and", b"or", b")", b"holds"):
@@ -59,8 +59,7 @@ def spec(words):
             low, high = number(low), number(high)
             need(low < high)
             return package, (low, high)
-        low = number(word)
-        return package, (low, low + 1)
+        return package, (number(word),)
     return package, None
 
 
@@ -77,7 +76,9 @@ def only(words):
 
 
 def matches(s, v):
-    return s[0] == v[0] and (s[1] is None or s[1][0] <= v[1] < s[1][1])
+    if s[0] != v[0] or s[1] is None:
+        return s[0] == v[0]
+    return v[1] == s[1][0] if len(s[1]) == 1 else s[1][0] <= v[1] < s[1][1]
 
 
 # ---- catalogue and request (taken to be in the grammar)

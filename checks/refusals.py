@@ -29,6 +29,37 @@ exclude c 2 insecure
 EVERY_ASK = b"needs a 1..4 | b if c or d\nlimits a 1..4\nwish a 1\n"
 
 
+# a report whose steps are of every kind that rests on helpers, and one that is refused at its end
+JUDGED = b"""version p 1
+needs c
+limits c 9
+version c 1
+version c 2
+"""
+JUDGED_STEPS = b"""step 1 need request line 1 case 1
+step 2 gate p=1 line 2
+step 3 shared c
+step 4 limit p=1 line 3
+step 5 outside c 9 holds c=1
+step 6 outside c 9 holds c=2
+step 7 digit c=1 place 0 bit 0
+step 8 digit c=2 place 1 bit 0
+step 9 any c=1
+"""
+
+
+def reports():
+    """Name, catalogue, request and report."""
+    named = b"refused\ncatalogue line 2\ncatalogue line 3\nrequest line 1\n"
+    proof = named + JUDGED_STEPS + b"step 10 derive [] by 1 2 4 5 6 3\n| nothing fits\n"
+    barred = b"install\np=1 for request line 1\nleft out c=1 line 2 by 1\nstep 1 limit p=1 line 2 bars c=1\n"
+    return [
+        ("a proof with helpers", JUDGED, b"needs p\n", proof),
+        ("a proof without its end", JUDGED, b"needs p\n", named + JUDGED_STEPS),
+        ("a wish that is left out", b"version p 1\nlimits c 9\nversion c 1\n", b"needs p\nwish c 1\n", barred),
+    ]
+
+
 def example(name):
     with open(os.path.join(TOP, "examples", name), "rb") as text:
         return text.read()
@@ -113,6 +144,12 @@ def main():
                     out.write(text)
             faults += check(library, name + ", files", ["solve", *paths], b"")
             faults += check(library, name + ", standard input", [], catalogue + b"---\n" + request)
+        for name, *texts in reports():
+            paths = [os.path.join(folder, part) for part in ("catalogue", "request", "report")]
+            for path, text in zip(paths, texts):
+                with open(path, "wb") as out:
+                    out.write(text)
+            faults += check(library, name + ", judged", ["judge", *paths], b"")
     print("\n".join(faults) if faults else "all as promised")
     sys.exit(1 if faults else 0)
 

@@ -8,3 +8,4 @@ pub mod FlatClaims
 pub mod Searches
 pub mod ServedLines
 pub mod Reports
+pub mod CheckLemmas

@@ -43,7 +43,7 @@ of_texts c r catalogue request outcome output says_c says_r answer = λ t is_c u
 
 -- ---- a text that was not read
 
-if_err : {A E : Type 0} {P Q : E → Type 0} (r : Result A E) → ((e : E) → P e → Q e) → IfErr r P → IfErr r Q
+pub if_err : {A E : Type 0} {P Q : E → Type 0} (r : Result A E) → ((e : E) → P e → Q e) → IfErr r P → IfErr r Q
 if_err (Ok a) f h = tt
 if_err (Err e) f h = f e h
 
@@ -65,7 +65,7 @@ pub request_told : (catalogue before after : Option (List ℕ)) (lines : List Li
 request_told catalogue before after lines Failed fault told says stopped tells = told_ok (AnswersTexts catalogue before) fault (codes "request") told tells
     (λ n is t known u known_u. request_fault lines n (says t known) (subst (λ (f : ReadFault). IsTextFault (IsRequestLine lines) f before after 16777216 Failed) is stopped u known_u) refl refl)
 
-never_ids : (catalogue request : Device) → StopsReading read.Ids catalogue request → ⊥
+pub never_ids : (catalogue request : Device) → StopsReading read.Ids catalogue request → ⊥
 never_ids catalogue request (in_catalogue h unread) = h
 never_ids catalogue request (in_request lines says h) = h
 

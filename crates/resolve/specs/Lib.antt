@@ -7,3 +7,4 @@ pub mod Input
 pub mod Running
 pub mod Searching
 pub mod Choice
+pub mod Check

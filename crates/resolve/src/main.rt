@@ -1,6 +1,8 @@
 //! `resolve solve CATALOGUE REQUEST`, and `resolve` alone for standard input: writes the report, or why there is none.
+//! `resolve judge CATALOGUE REQUEST REPORT`: writes whether the report holds, or where it doesn't.
 #![tactic(auto)]
 
+mod check;
 mod endings;
 mod input;
 mod outcome;
@@ -11,9 +13,10 @@ mod serving;
 #[cfg(test)]
 mod tests;
 
-use endings::run_ending;
+use check::check;
+use endings::{check_ending, run_ending};
 use input::{INPUT_LIMIT, read_input, split_input};
-use outcome::{Outcome, RunFault};
+use outcome::{Checked, Outcome, RunFault};
 use resolvo_catalogue::Counted;
 use run::run;
 use std::fs::File;
@@ -35,6 +38,31 @@ fn solve_files(rt: &HostRuntime, catalogue: &str, request: &str) -> Result<Outco
     let mut request = Counted::new(request);
     let mut writer = Counted::new(io::writer(rt));
     run(rt.alloc(), &mut catalogue, &mut request, &mut writer)
+}
+
+/// Judges the report of a file over the texts of two others, which are all opened before any is read.
+fn judge_files(
+    rt: &HostRuntime,
+    catalogue: &str,
+    request: &str,
+    report: &str,
+) -> Result<Checked, RunFault> {
+    let Ok(catalogue) = File::open(rt, catalogue) else {
+        return Err(RunFault::Reader);
+    };
+    let Ok(request) = File::open(rt, request) else {
+        return Err(RunFault::Reader);
+    };
+    let Ok(report) = File::open(rt, report) else {
+        return Err(RunFault::Reader);
+    };
+    check(
+        rt.alloc(),
+        &mut Counted::new(catalogue),
+        &mut Counted::new(request),
+        &mut Counted::new(report),
+        &mut Counted::new(io::writer(rt)),
+    )
 }
 
 /// Solves standard input: the catalogue above the first line `---`, the request below it.
@@ -66,11 +94,13 @@ fn main(rt: HostRuntime) -> ExitCode {
     let Ok(words) = args.skip(1).collect::<Vec<String>>(rt.alloc()) else {
         return finish(&rt, 2, "no memory");
     };
-    let ended = match words.len() {
-        0 => solve_input(&rt),
-        3 if words[0].as_str() == "solve" => solve_files(&rt, &words[1], &words[2]),
-        _ => return finish(&rt, 2, USAGE),
+    let (status, line) = match words.len() {
+        0 => run_ending(&solve_input(&rt)),
+        3 if words[0].as_str() == "solve" => run_ending(&solve_files(&rt, &words[1], &words[2])),
+        4 if words[0].as_str() == "judge" => {
+            check_ending(&judge_files(&rt, &words[1], &words[2], &words[3]))
+        }
+        _ => (2, USAGE),
     };
-    let (status, line) = run_ending(&ended);
     finish(&rt, status, line)
 }

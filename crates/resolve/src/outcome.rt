@@ -1,4 +1,4 @@
-//! How a run ends: what was written, or why nothing whole was.
+//! How a run or a check ends: what was written, or why nothing whole was.
 
 use resolvo_catalogue::WriteFault;
 use std::alloc::{AllocError, AllocFailed};
@@ -14,7 +14,18 @@ pub enum Outcome {
     Faulty,
 }
 
-/// Why no report was written, or not all of it.
+/// What a check wrote.
+#[derive(Clone, Copy, Debug, PartialEq, Eq)]
+pub enum Checked {
+    /// The report holds.
+    Yes,
+    /// It doesn't, from the line that was written on.
+    No,
+    /// The first faulty line of the catalogue, or else of the request.
+    Faulty,
+}
+
+/// Why no text was written, or not all of it.
 #[derive(Clone, Copy, Debug, PartialEq, Eq)]
 pub enum RunFault {
     /// A reader failed, or was interrupted more than 1,000 times in a row.

@@ -17,9 +17,9 @@ use std::alloc::Global;
 
 /// What is written: how the run ends, and the text.
 #[derive(Drop)]
-struct Written {
-    outcome: Outcome,
-    text: String,
+pub struct Written {
+    pub outcome: Outcome,
+    pub text: String,
 }
 
 /// The first faulty line of a text.
@@ -34,7 +34,7 @@ fn faulty(alloc: Global, which: &str, line: u32) -> Result<Written, RunFault>
 }
 
 /// What is written where a text was not read: its faulty line, or nothing.
-fn not_read(alloc: Global, which: &str, fault: ReadFault) -> Result<Written, RunFault>
+pub fn not_read(alloc: Global, which: &str, fault: ReadFault) -> Result<Written, RunFault>
     ensures { TellsFault fault which.now result }
 {
     match fault {

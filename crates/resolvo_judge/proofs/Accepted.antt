@@ -156,7 +156,7 @@ refusal_true catalogue request lines accepted = refutes catalogue request (catal
 
 -- ---- an install report
 
-install_proof : (catalogue request : List Line) (lines : List ReportLine) → ArePassed catalogue request (InstallHead ∷ lines) → IsProof catalogue request every_line every_line (steps_in lines)
+pub install_proof : (catalogue request : List Line) (lines : List ReportLine) → ArePassed catalogue request (InstallHead ∷ lines) → IsProof catalogue request every_line every_line (steps_in lines)
 install_proof catalogue request lines passed k s at =
     let f = found_at step_in one_step lines k s at in
     subst (λ (ss : List Step). may_stand catalogue request every_line every_line ss s ≡ true) f.above
@@ -169,7 +169,7 @@ answers_fit catalogue request lines passed k a at =
     subst (λ (xs : List AnswerLine). answer_fits catalogue request xs a ≡ true) f.above
     (answer_fits_at catalogue request (InstallHead ∷ take f.place lines) f.item a f.gives (passed (suc f.place) f.item f.there))
 
-get_seam : {X : Type 0} (xs : List X) (y : X) (ys : List X) → slice_get (xs ++ y ∷ ys) (length xs) ≡ Some y
+pub get_seam : {X : Type 0} (xs : List X) (y : X) (ys : List X) → slice_get (xs ++ y ∷ ys) (length xs) ≡ Some y
 get_seam [] y ys = refl
 get_seam (x ∷ xs) y ys = get_seam xs y ys
 

@@ -25,3 +25,6 @@ pub mod LogLemmas
 pub mod VersionLemmas
 pub mod EntryLemmas
 pub mod BarredLemmas
+pub mod EndLemmas
+pub mod JudgeLemmas
+pub mod PlaceLaws

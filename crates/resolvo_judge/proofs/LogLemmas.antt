@@ -16,7 +16,7 @@ use Rattle.resolvo_judge.specs.Refusal.{answer_in, answers_in, step_in, steps_in
 use Rattle.resolvo_judge.specs.Log.{LogStands}
 
 -- a line that isn't the head of a refusal makes none
-refusal_more : (above : List ReportLine) (l : ReportLine) → is_refusal (l ∷ []) ≡ false → is_refusal (above ++ l ∷ []) ≡ is_refusal above
+pub refusal_more : (above : List ReportLine) (l : ReportLine) → is_refusal (l ∷ []) ≡ false → is_refusal (above ++ l ∷ []) ≡ is_refusal above
 refusal_more [] l h = h
 refusal_more (InstallHead ∷ above) l h = refl
 refusal_more (RefusedHead ∷ above) l h = refl
@@ -26,7 +26,7 @@ refusal_more (RequestLine n ∷ above) l h = refl
 refusal_more (Numbered n s ∷ above) l h = refl
 refusal_more (Message b ∷ above) l h = refl
 
-one_more : {X : Type 0} (f : ReportLine → List X) (above : List ReportLine) (l : ReportLine) (xs : List X) → f l ≡ xs → flat_map f (above ++ l ∷ []) ≡ flat_map f above ++ xs
+pub one_more : {X : Type 0} (f : ReportLine → List X) (above : List ReportLine) (l : ReportLine) (xs : List X) → f l ≡ xs → flat_map f (above ++ l ∷ []) ≡ flat_map f above ++ xs
 one_more f above l xs h = flat_map-append f above (l ∷ []) ∙ ap (λ ys. flat_map f above ++ ys) (append-nil (f l) ∙ h)
 
 ends_push : (steps : List Step) (s : Step) → ends_empty (steps ++ s ∷ []) ≡ derives_empty s

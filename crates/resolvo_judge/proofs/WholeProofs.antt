@@ -34,7 +34,7 @@ taken steps zero = refl
 taken [] (suc i) = refl
 taken (s ∷ steps) (suc i) = ap (λ xs. step_of s ∷ xs) (taken steps i)
 
-count_push : (xs : List Step) (s : Step) → count_causes (xs ++ s ∷ []) ≡ count_causes xs + causes_in s
+pub count_push : (xs : List Step) (s : Step) → count_causes (xs ++ s ∷ []) ≡ count_causes xs + causes_in s
 count_push [] s = omega arith
 count_push (x ∷ xs) s = omega (arith, count_push xs s)
 

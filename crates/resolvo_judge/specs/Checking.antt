@@ -62,17 +62,3 @@ Given catalogue places earlier = (v : Version) (n place : ℕ) → slice_get (li
 pub record StandFor (catalogue request : List Line) (entries : List (Vec ℕ × ℕ)) (clauses : List (List Literal)) (places : List (Option ℕ)) (earlier : List Step) : Type 0 where
   pub numbered : AreNamedClauses (Names (listed catalogue) entries) (map (clause_or_none catalogue request) earlier) (map literals_of clauses)
   pub placed : Given catalogue places earlier
-
--- ---- clauses that bar
-
--- the number of the atom that version n is in the set
-abbrev pub is_number_of : List (Vec ℕ × ℕ) → ℕ → ℕ → Bool
-is_number_of entries atom n = option_map_or (λ i. i == atom) (number_in entries (0 ∷ n ∷ [])) false
-
--- `not` of the wish or of one of these, told by their numbers
-abbrev pub is_barring : List (Vec ℕ × ℕ) → Option VersionNo → List VersionNo → Literal → Bool
-is_barring entries wish versions l = not l.positive && (option_map_or (λ v. is_number_of entries l.atom v.0) wish false || list_any (λ v. is_number_of entries l.atom v.0) versions)
-
--- Step k, from 1, is there, and all literals of its clause are so.
-abbrev pub are_barring : List (Vec ℕ × ℕ) → List (List Literal) → Option VersionNo → List VersionNo → ℕ → Bool
-are_barring entries clauses wish versions k = if k == 0 then false else option_map_or (list_all (is_barring entries wish versions)) (slice_get clauses (k - 1)) false

@@ -17,3 +17,6 @@ pub mod Log
 pub mod Versions
 pub mod Ending
 pub mod KeptAnswers
+pub mod Barring
+pub mod Judging
+pub mod Judgement

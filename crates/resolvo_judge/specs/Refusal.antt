@@ -115,18 +115,3 @@ ArePassed catalogue request lines = (n : ℕ) (l : ReportLine) → slice_get lin
 pub record IsAccepted (catalogue request : List Line) (lines : List ReportLine) : Type 0 where
   pub passed : ArePassed catalogue request lines
   pub ends : Ends catalogue request lines
-
--- Line n is the first that doesn't pass.
-pub record IsRefusedAtLine (catalogue request : List Line) (lines : List ReportLine) (n : ℕ) : Type 0 where
-  pub above : ℕ
-  pub place : n ≡ above + 1
-  pub passed : ArePassed catalogue request (take above lines)
-  pub refused : ReportLine
-  pub there : slice_get lines above ≡ Some refused
-  pub fails : passes catalogue request (take above lines) refused ≡ false
-
--- All lines pass, but the end doesn't.
-pub record IsRefusedAtEnd (catalogue request : List Line) (lines : List ReportLine) (n : ℕ) : Type 0 where
-  pub place : n ≡ length lines + 1
-  pub passed : ArePassed catalogue request lines
-  pub fails : Ends catalogue request lines → ⊥

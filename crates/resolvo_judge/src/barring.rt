@@ -1,107 +1,151 @@
-//! Whether the clause of a step bars a wish together with entries. The judge asks it for each wish that is left out.
+//! Whether steps bar the wishes that are left out. The judge asks it at the end of an `install` report.
 
-ghost use Rattle.std.specs.Prelude.{◌≡◌, ℕ, Bool, List, Some, IfSome, IfNone, false, slice_get};
-ghost use Rattle.std.specs.List.{list_any, list_all};
-ghost use Rattle.std.specs.Option.{option_map_or};
+ghost use Rattle.std.specs.Prelude.{◌≡◌, ℕ, Bool, List, IfOk, length, map, option_map, take};
+ghost use Rattle.std.specs.List.{list_all};
 ghost use Rattle.resolvo_text.specs.Line as says;
-ghost use Rattle.resolvo_catalogue.specs.Listed.{listed, members};
+ghost use Rattle.resolvo_text.specs.Matching.{Set, same_version};
+ghost use Rattle.resolvo_text.specs.View.{version_of};
+ghost use Rattle.resolvo_catalogue.specs.Listed.{pair_version, pair_versions};
 ghost use Rattle.resolvo_report.specs.Value.{Step as SaidStep};
 ghost use Rattle.resolvo_judge.specs.Proof.{IsProof};
-ghost use Rattle.resolvo_judge.specs.StepClauses.{is_listed};
-ghost use Rattle.resolvo_judge.specs.Refusal.{step_bars as step_bars_lem};
-ghost use Rattle.resolvo_judge.specs.Checking.{StandFor, is_number_of as is_number_of_lem, is_barring as is_barring_lem, are_barring as are_barring_lem};
+ghost use Rattle.resolvo_judge.specs.Chosen.{Holds};
+ghost use Rattle.resolvo_judge.specs.Checking.{StandFor};
+ghost use Rattle.resolvo_judge.specs.KeptAnswers.{barred_of};
+ghost use Rattle.resolvo_judge.specs.Barring.{TellsVersions, version_told as version_told_lem, is_barring as is_barring_lem, clause_bars as clause_bars_lem, is_barred};
 
 use crate::checking::Checker;
+use crate::chosen::Chosen;
 use crate::clauses::{Clauses, Readings};
+use crate::entries::Barred;
 use crate::literal::Literal;
 use crate::numbers::Numbers;
-use resolvo_catalogue::{Catalogue, VersionNo};
+use crate::proof::nothing_each;
+use resolvo_catalogue::{Catalogue, Version};
+use std::alloc::{AllocError, Global};
 
-/// Whether the atom of this number is that the version is in the set.
-fn is_number_of(numbers: &Numbers, version: VersionNo, atom: usize) -> bool
-    ensures { result ≡ is_number_of_lem numbers.now atom version.0 }
-{
-    match numbers.find(&[0, version.0 as usize]) {
-        Some(number) => number == atom,
-        None => false,
-    }
-}
-
-fn is_one_of(numbers: &Numbers, versions: &[VersionNo], atom: usize) -> bool
-    ensures { result ≡ list_any (λ v. is_number_of_lem numbers.now atom v.0) versions.now }
-{
-    versions
-        .iter()
-        .any(|version| is_number_of(numbers, *version, atom))
-}
-
-/// Whether the atom is that the wish is in the set. A wish that isn't listed has no atom.
-fn is_wish(numbers: &Numbers, wish: Option<VersionNo>, atom: usize) -> bool
-    ensures { result ≡ option_map_or (λ v. is_number_of_lem numbers.now atom v.0) wish false }
-{
-    match wish {
-        Some(version) => is_number_of(numbers, version, atom),
-        None => false,
-    }
-}
-
-/// Whether the literal is `not` of the wish or of an entry.
-fn is_barring(
+/// The number of the listed version that each atom says to be in the set, None for a helper.
+fn atoms_of(
+    alloc: Global,
     numbers: &Numbers,
-    wish: Option<VersionNo>,
-    entries: &[VersionNo],
+    count: usize,
+) -> Result<Vec<Option<usize>>, AllocError>
+    ensures { IfOk result (λ atoms. TellsVersions numbers.now count atoms.items) }
+{
+    let mut atoms = nothing_each(alloc, numbers.count())?;
+    for number in 0..count {
+        if let Some(atom) = numbers.find(&[0, number]) {
+            atoms[atom] = Some(number);
+        }
+    }
+    Ok(atoms)
+}
+
+/// The listed version that the atom says to be in the set.
+fn version_told<'a>(
+    versions: &'a [(String, u32)],
+    atoms: &[Option<usize>],
+    atom: usize,
+) -> Option<&'a (String, u32)>
+    ensures { option_map (λ p. pair_version p.now) result ≡ version_told_lem (pair_versions versions.now) atoms.now atom }
+{
+    match atoms.get(atom) {
+        Some(Some(number)) => versions.get(*number),
+        _ => None,
+    }
+}
+
+fn is_same(listed: &(String, u32), wish: &Version) -> bool
+    ensures { result ≡ same_version (pair_version listed.now) (version_of wish.now) }
+{
+    listed.0 == wish.name && listed.1 == wish.number
+}
+
+/// Whether the literal is `not` of the wish, or of an entry above its line.
+fn is_barring(
+    chosen: &Chosen,
+    versions: &[(String, u32)],
+    atoms: &[Option<usize>],
+    barred: &Barred,
     literal: Literal,
 ) -> bool
-    ensures { result ≡ is_barring_lem numbers.now wish entries.now literal }
+    ensures { (set : Set) → Holds chosen.now set → result ≡ is_barring_lem (pair_versions versions.now) atoms.now (take barred.now.above set) (version_of barred.now.wish) literal }
 {
-    !literal.positive
-        && (is_wish(numbers, wish, literal.atom) || is_one_of(numbers, entries, literal.atom))
+    match version_told(versions, atoms, literal.atom) {
+        Some(version) => {
+            !literal.positive
+                && (is_same(version, &barred.wish)
+                    || chosen.has_listed_among(version, barred.above))
+        }
+        None => false,
+    }
 }
 
 fn are_barring(
-    numbers: &Numbers,
-    wish: Option<VersionNo>,
-    entries: &[VersionNo],
+    chosen: &Chosen,
+    versions: &[(String, u32)],
+    atoms: &[Option<usize>],
+    barred: &Barred,
     literals: &[Literal],
 ) -> bool
-    ensures { result ≡ list_all (is_barring_lem numbers.now wish entries.now) literals.now }
+    ensures { (set : Set) → Holds chosen.now set → result ≡ list_all (is_barring_lem (pair_versions versions.now) atoms.now (take barred.now.above set) (version_of barred.now.wish)) literals.now }
 {
-    literals
-        .iter()
-        .all(|literal| is_barring(numbers, wish, entries, *literal))
+    for literal in literals {
+        if !is_barring(chosen, versions, atoms, barred, *literal) {
+            return false;
+        }
+    }
+    true
 }
 
-/// Whether the step, from 1, is there, and its clause has no literal but `not` of the wish or of an entry.
+/// Whether the wish's step is there, and its clause has no literal but `not` of the wish or of an entry above its line.
 fn clause_bars(
-    numbers: &Numbers,
+    chosen: &Chosen,
+    versions: &[(String, u32)],
+    atoms: &[Option<usize>],
     clauses: &Clauses,
-    wish: Option<VersionNo>,
-    entries: &[VersionNo],
-    step: u32,
+    barred: &Barred,
 ) -> bool
-    ensures { result ≡ are_barring_lem numbers.now clauses.now wish entries.now step }
+    ensures { (set : Set) → Holds chosen.now set → result ≡ clause_bars_lem (pair_versions versions.now) atoms.now clauses.now set (barred_of barred.now) }
 {
-    if step == 0 || clauses.len() < step as usize {
+    if barred.step == 0 || clauses.len() < barred.step as usize {
         return false;
     }
     // This reading is none of a derivation.
     let mut other = Readings::new();
-    let clause = clauses.clause(step as usize - 1, &mut other);
-    are_barring(numbers, wish, entries, clause)
+    let clause = clauses.clause(barred.step as usize - 1, &mut other);
+    are_barring(chosen, versions, atoms, barred, clause)
 }
 
-/// Whether the clause of the step, from 1, has no literal but `not` of the wish or of an entry.
-pub fn step_bars(
+fn each_bars(
+    chosen: &Chosen,
+    versions: &[(String, u32)],
+    atoms: &[Option<usize>],
+    clauses: &Clauses,
+    all: &[Barred],
+) -> bool
+    ensures { (set : Set) → Holds chosen.now set → result ≡ list_all (clause_bars_lem (pair_versions versions.now) atoms.now clauses.now set) (map barred_of all.now) }
+{
+    for barred in all {
+        if !clause_bars(chosen, versions, atoms, clauses, barred) {
+            return false;
+        }
+    }
+    true
+}
+
+/// Whether each wish that is left out is barred by its step, together with the entries above its line.
+pub fn are_barred(
+    alloc: Global,
     catalogue: &Catalogue,
     checker: &Checker,
-    wish: Option<VersionNo>,
-    entries: &[VersionNo],
-    step: u32,
-) -> bool
-    ensures { (request : List says.Line) (c r : ℕ → Bool) (steps : List SaidStep) (w : says.Version) → IsProof catalogue.now request c r steps → StandFor catalogue.now request checker.now.numbers checker.now.clauses checker.now.places.items steps → IfSome wish (λ n. slice_get (listed catalogue.now) n.0 ≡ Some w) → IfNone wish (is_listed catalogue.now w ≡ false) → result ≡ step_bars_lem catalogue.now request steps (members (listed catalogue.now) entries.now) w step }
+    chosen: &Chosen,
+    all: &[Barred],
+) -> Result<bool, AllocError>
+    ensures { IfOk result (λ fine. (request : List says.Line) (c r : ℕ → Bool) (steps : List SaidStep) (set : Set) → IsProof catalogue.now request c r steps → StandFor catalogue.now request checker.now.numbers checker.now.clauses checker.now.places.items steps → Holds chosen.now set → fine ≡ list_all (is_barred catalogue.now request steps set) (map barred_of all.now)) }
 {
-    // The proof rests on what these two say: no version is listed twice, and no two keys have one number.
-    let _versions = catalogue.versions();
+    let versions = catalogue.versions();
+    // The proof rests on what this says: no two keys have one number.
     let _count = checker.numbers.count();
-    clause_bars(&checker.numbers, &checker.clauses, wish, entries, step)
+    let atoms = atoms_of(alloc, &checker.numbers, versions.len())?;
+    Ok(each_bars(chosen, versions, &atoms, &checker.clauses, all))
 }

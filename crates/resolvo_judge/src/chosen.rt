@@ -33,7 +33,8 @@ pub struct Chosen {
 
 impl Chosen {
     pub fn new(alloc: Global) -> Chosen
-        ensures { Holds result [] }
+        ensures stands { Holds result [] }
+        ensures none { result.count ≡ 0 }
     {
         Chosen {
             picks: HashMap::new(alloc),
@@ -80,12 +81,12 @@ impl Chosen {
         }
     }
 
-    /// Whether the version is among the first so many.
-    pub fn has_among(&self, version: &Version, first: usize) -> bool
-        ensures { (set : Set) → Holds self.now set → result ≡ is_member (version_of version.now) (take first set) }
+    /// Whether a version, as the catalogue lists it, is among the first so many.
+    pub fn has_listed_among(&self, version: &(String, u32), first: usize) -> bool
+        ensures { (set : Set) → Holds self.now set → result ≡ is_member (pair_version version.now) (take first set) }
     {
-        match self.pick(&version.name) {
-            Some(pick) => version.number == pick.number && pick.index < first,
+        match self.pick(&version.0) {
+            Some(pick) => version.1 == pick.number && pick.index < first,
             None => false,
         }
     }

@@ -84,6 +84,7 @@ impl Entries {
     pub fn new(alloc: Global) -> Entries
         ensures kept { KeepsAnswers result [] }
         ensures lines { (request : List says.Line) → KeepsLines request result [] }
+        ensures none { result.chosen.count ≡ 0 }
     {
         Entries {
             chosen: Chosen::new(alloc),

@@ -1,4 +1,4 @@
-//! What a proof shows, for those who rest on it. Each is a function that does nothing.
+//! What a proof and a verdict show, for those who rest on them. Each is a function that does nothing.
 
 ghost use Rattle.std.specs.Prelude.{◌≡◌, ℕ, List, Some, true, slice_get, ◌∷◌};
 ghost use Rattle.resolvo_text.specs.Line.{Version, Line};
@@ -10,6 +10,8 @@ ghost use Rattle.resolvo_judge.specs.Refusal.{IsAccepted, answers_claimed, catal
 ghost use Rattle.resolvo_judge.specs.StepClauses.{Clause, clause_of};
 ghost use Rattle.resolvo_judge.specs.Proof.{IsProof, is_named, every_line, ends_empty, bars, AreApart, ObeysLines, IsTrueIn};
 ghost use Rattle.resolvo_catalogue.specs.Sets.{IsSingle};
+ghost use Rattle.resolvo_report.specs.Value.{Report};
+ghost use Rattle.resolvo_judge.specs.Judgement.{IsUpheld, IsRefusedAt};
 
 /// The clause of each step of a proof is true in each single set that obeys the lines which the proof rests on,
 /// with one place for each version and helpers by what they mean.
@@ -36,4 +38,14 @@ pub fn accepted_refusal_is_true()
 /// that it names, and its account of the wishes is right.
 pub fn accepted_install_is_true()
     ensures { (catalogue request : List Line) (lines : List ReportLine) → IsAccepted catalogue request (InstallHead ∷ lines) → ClaimsInstall catalogue request (answers_claimed lines) }
+{}
+
+/// A text is refused at one line at most.
+pub fn places_are_one()
+    ensures { (catalogue request : List Line) (text : List ℕ) (m n : ℕ) → IsRefusedAt catalogue request text m → IsRefusedAt catalogue request text n → m ≡ n }
+{}
+
+/// A text that holds is refused nowhere. So a verdict is yes exactly where there is no place of refusal, and else tells it.
+pub fn upheld_texts_are_refused_nowhere()
+    ensures { (catalogue request : List Line) (text : List ℕ) (r : Report) (n : ℕ) → IsUpheld catalogue request text r → IsRefusedAt catalogue request text n → ⊥ }
 {}

@@ -9,6 +9,7 @@ mod chosen;
 mod clauses;
 mod ending;
 mod entries;
+mod judgement;
 mod judging;
 mod laws;
 mod literal;
@@ -23,15 +24,14 @@ mod steps;
 mod truth;
 mod versions;
 
-pub use barring::step_bars;
-pub use checking::{Checker, Scope, advance};
+pub use checking::Scope;
 pub use clauses::Readings;
-pub use judging::{Judging, take};
+pub use judgement::{JudgeFault, Judged, Verdict, judge, judge_counted};
 pub use laws::{
-    accepted_install_is_true, accepted_refusal_is_true, proof_bars, proof_refutes, steps_are_true,
+    accepted_install_is_true, accepted_refusal_is_true, places_are_one, proof_bars, proof_refutes,
+    steps_are_true, upheld_texts_are_refused_nowhere,
 };
-pub use log::{Log, install_log, refusal_log, take_catalogue_line, take_request_line, take_step};
-pub use proof::{Checked, begin, check_steps, count_causes};
+pub use proof::{Checked, check_steps, count_causes};
 
 #[cfg(test)]
 mod tests;

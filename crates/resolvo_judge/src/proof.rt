@@ -26,7 +26,8 @@ pub struct Checked {
     pub readings: Readings,
 }
 
-fn no_places(alloc: Global, count: usize) -> Result<Vec<Option<u32>>, AllocError>
+/// A table of so many places, with nothing in each.
+pub fn nothing_each<T: Copy>(alloc: Global, count: usize) -> Result<Vec<Option<T>>, AllocError>
     ensures { IfOk result (λ places. places.items ≡ replicate count None) }
 {
     let mut places = Vec::new(alloc);
@@ -43,7 +44,7 @@ pub fn begin(alloc: Global, catalogue: &Catalogue, request: &Request) -> Result<
     ensures count { IfOk result (λ c. c.clauses ≡ []) }
     ensures long { IfOk result (λ c. length c.places.items ≡ length (listed catalogue.now)) }
 {
-    let places = no_places(alloc, catalogue.versions().len())?;
+    let places = nothing_each(alloc, catalogue.versions().len())?;
     Ok(Checker {
         numbers: Numbers::new(alloc),
         clauses: Clauses::new(alloc),
@@ -53,7 +54,8 @@ pub fn begin(alloc: Global, catalogue: &Catalogue, request: &Request) -> Result<
     })
 }
 
-fn causes_in(step: &Step) -> u64
+/// How many clauses a step names.
+pub fn causes_in(step: &Step) -> u64
     ensures { result ≡ causes_in_lem (step_of step.now) }
 {
     match step {

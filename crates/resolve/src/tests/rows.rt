@@ -1,6 +1,6 @@
 //! A table: a catalogue, a request, what is printed, and the status.
 
-use super::printed;
+use super::{printed, told};
 use std::test::Fail;
 
 struct Row {
@@ -201,6 +201,28 @@ fn rows(rt: HostRuntime) -> Result<(), Fail> {
             assert_eq!(rt; text.as_str(), row.printed, "{catalogue} --- {request}");
             assert_eq!(rt; status, row.status, "{catalogue} --- {request}");
         }
+    }
+    Ok(())
+}
+
+/// The judge says yes to each install report, and no to a refusal one past its last line, since it has no steps yet.
+#[test]
+fn reports_are_judged(rt: HostRuntime) -> Result<(), Fail> {
+    for row in &ROWS {
+        if row.status == 2 {
+            continue;
+        }
+        let (text, status) = told(rt.alloc(), row.catalogue, row.request, row.printed, 4096)?;
+        let past = row.printed.split_inclusive('\n').count().saturating_add(1);
+        let refused = format!(in rt.alloc(); "no line {past}\n")?;
+        let wanted = if row.status == 0 {
+            "yes\n"
+        } else {
+            refused.as_str()
+        };
+        let (catalogue, request) = (row.catalogue, row.request);
+        assert_eq!(rt; text.as_str(), wanted, "{catalogue} --- {request}");
+        assert_eq!(rt; status, row.status, "{catalogue} --- {request}");
     }
     Ok(())
 }

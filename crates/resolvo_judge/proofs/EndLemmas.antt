@@ -1,0 +1,84 @@
+-- Whether a report may end after its lines, over what is kept of them.
+use Rattle.std.proofs.Common.{◌≡◌, ℕ, Bool, true, false, List, [], ◌∷◌, ◌++◌, map, refl, sym, ap, subst, ◌∙◌}
+use Rattle.std.specs.List.{list_all}
+use Rattle.std.proofs.lemmas.Bool.{false≢true}
+use Rattle.resolvo_text.specs.Line.{Line}
+use Rattle.resolvo_report.specs.Value.{Report, Install, Refused, Answer, Step, AnswerLine, ReportLine, InstallHead, RefusedHead, CatalogueLine, RequestLine, Numbered, Message}
+use Rattle.resolvo_report.specs.Text.{report_lines, numbered}
+use Rattle.resolvo_judge.specs.declared.judging.Judging.{Judging}
+use Rattle.resolvo_judge.specs.declared.log.Log.{Log}
+use Rattle.resolvo_judge.specs.declared.entries.Entries.{Entries}
+use Rattle.resolvo_judge.specs.Log.{LogStands, is_head}
+use Rattle.resolvo_judge.specs.Proof.{IsProof, every_line, ends_empty}
+use Rattle.resolvo_judge.specs.Entries.{entries_of}
+use Rattle.resolvo_judge.specs.Refusal.{answers_in, steps_in, is_refusal, step_bars, ArePassed}
+use Rattle.resolvo_judge.specs.Ending.{KeepsAll}
+use Rattle.resolvo_judge.specs.KeptAnswers.{barred_of, BarredWish, barred_from, AreWishesTold, KeepsAnswers, KeepsLines}
+use Rattle.resolvo_judge.specs.Barring.{is_barred}
+use Rattle.resolvo_judge.specs.Judging.{Stands, EndsSo}
+use Rattle.resolvo_judge.proofs.Accepted.{install_proof}
+use Rattle.resolvo_judge.proofs.BarredLemmas.{barred_each, barred_all}
+
+-- the last step of a refusal
+pub refused_ends : (catalogue request : List Line) (j : Judging) (r : Report) → j.refused ≡ true → Stands catalogue request j (report_lines r) → EndsSo catalogue request (report_lines r) j.log.ends_empty
+refused_ends catalogue request j (Install ls ss) refused stands = absurd (false≢true (sym stands.refused ∙ refused))
+refused_ends catalogue request j (Refused cs rs ss ms) refused stands = one j.log.ends_empty stands.log.ends where
+  one : (b : Bool) → b ≡ ends_empty (steps_in (report_lines (Refused cs rs ss ms))) → EndsSo catalogue request (report_lines (Refused cs rs ss ms)) b
+  one true e = sym e
+  one false e = λ ends. false≢true (e ∙ ends)
+
+-- what the end of an install report asks, by the answer for its left-out wishes
+by_answer : (catalogue request : List Line) (rest : List ReportLine) (fine : Bool) → KeepsAll catalogue request (entries_of (answers_in rest)) true → AreWishesTold request (answers_in rest) true
+    → fine ≡ list_all (is_barred catalogue request (steps_in rest) (entries_of (answers_in rest))) (barred_from 0 (answers_in rest)) → EndsSo catalogue request (InstallHead ∷ rest) fine
+by_answer catalogue request rest true keeps told all = record {
+  catalogue_lines = keeps.catalogue_lines;
+  request_lines = keeps.request_lines;
+  wishes = told;
+  barred = barred_each (step_bars catalogue request (steps_in rest)) (answers_in rest) (sym all);
+}
+by_answer catalogue request rest false keeps told all = λ ends. false≢true (all ∙ barred_all (step_bars catalogue request (steps_in rest)) (answers_in rest) ends.barred)
+
+-- an install report: the entries keep all rules, the wishes are told, and those that are left out are barred
+pub install_ends : (catalogue request : List Line) (j : Judging) (r : Report) (fine : Bool) → is_refusal (report_lines r) ≡ false → ArePassed catalogue request (report_lines r) → Stands catalogue request j (report_lines r)
+    → KeepsAll catalogue request (entries_of (answers_in (report_lines r))) true → AreWishesTold request (answers_in (report_lines r)) true
+    → (IsProof catalogue request every_line every_line (steps_in (report_lines r)) → fine ≡ list_all (is_barred catalogue request (steps_in (report_lines r)) (entries_of (answers_in (report_lines r)))) (map barred_of j.entries.barred.items))
+    → EndsSo catalogue request (report_lines r) fine
+install_ends catalogue request j (Refused cs rs ss ms) fine install passed stands keeps told barred = absurd (false≢true (sym install))
+install_ends catalogue request j (Install ls ss) fine install passed stands keeps told barred =
+    let rest : List ReportLine = map (λ a. Answer a) ls ++ numbered 1 ss in
+    let answers : List AnswerLine = answers_in rest in
+    let steps : List Step = steps_in rest in
+    let all : fine ≡ list_all (is_barred catalogue request steps (entries_of answers)) (barred_from 0 answers) =
+    barred (install_proof catalogue request rest passed) ∙ ap (λ (bs : List BarredWish). list_all (is_barred catalogue request steps (entries_of answers)) bs) stands.entries.barred in
+    by_answer catalogue request rest fine keeps told all
+
+-- ---- the first line
+
+pub is_refused_head : (l : ReportLine) → is_refusal (l ∷ []) ≡ true → l ≡ RefusedHead
+is_refused_head RefusedHead h = refl
+is_refused_head InstallHead h = absurd cc
+is_refused_head (Answer a) h = absurd cc
+is_refused_head (CatalogueLine n) h = absurd cc
+is_refused_head (RequestLine n) h = absurd cc
+is_refused_head (Numbered n s) h = absurd cc
+is_refused_head (Message b) h = absurd cc
+
+pub is_install_head : (l : ReportLine) → is_head l ≡ true → is_refusal (l ∷ []) ≡ false → l ≡ InstallHead
+is_install_head InstallHead head h = refl
+is_install_head RefusedHead head h = absurd cc
+is_install_head (Answer a) head h = absurd cc
+is_install_head (CatalogueLine n) head h = absurd cc
+is_install_head (RequestLine n) head h = absurd cc
+is_install_head (Numbered n s) head h = absurd cc
+is_install_head (Message b) head h = absurd cc
+
+pub head_stands : (catalogue request : List Line) (l head : ReportLine) (refused : Bool) (given log : Log) (entries : Entries) → l ≡ head → answers_in (head ∷ []) ≡ [] → given ≡ log → refused ≡ is_refusal (l ∷ [])
+    → LogStands catalogue request log.checker.numbers log.checker.clauses log.checker.places.items log.scope log.ends_empty (head ∷ []) → KeepsAnswers entries [] → KeepsLines request entries [] → Stands catalogue request (record { refused = refused; log = given; entries = entries }) (l ∷ [])
+head_stands catalogue request l head refused given log entries is none same refusal stands kept lines =
+    subst (λ (x : ReportLine). Stands catalogue request (record { refused = refused; log = given; entries = entries }) (x ∷ [])) (sym is)
+    (subst (λ (g : Log). Stands catalogue request (record { refused = refused; log = g; entries = entries }) (head ∷ [])) (sym same) (record {
+      refused = refusal ∙ ap (λ (x : ReportLine). is_refusal (x ∷ [])) is;
+      log = stands;
+      entries = subst (λ (xs : List AnswerLine). KeepsAnswers entries xs) (sym none) kept;
+      lines = subst (λ (xs : List AnswerLine). KeepsLines request entries xs) (sym none) lines;
+    }))

@@ -1,0 +1,104 @@
+use Rattle.std.proofs.Common.{◌≡◌, Bool, [], ◌∷◌, Option, refl, sym, ap, subst, ◌∙◌, arith}
+use Rattle.std.specs.Prelude.{IfSome, IfNone, IsTrue}
+use Rattle.std.specs.Io.KnownBytes.{IsAtEnd}
+use Rattle.std.proofs.lemmas.Result.{err_from_is_err_and}
+use Rattle.resolvo_report.specs.declared.report.ReportLine.{ReportLine}
+use Rattle.resolvo_report.specs.View.{report_line_of}
+use Rattle.resolvo_report.specs.Text.{report_lines}
+use Rattle.resolvo_report.specs.Grammar.{may_end}
+use Rattle.resolvo_report.specs.Stream.{left, GivesLine}
+use Rattle.resolvo_report.proofs.StreamLemmas.{read_nothing}
+use Rattle.resolvo_judge.specs.declared.clauses.Readings.{Readings}
+use Rattle.resolvo_judge.specs.Judging.{EndsSo}
+use Rattle.resolvo_judge.proofs.JudgeLemmas.{reached_first, few_causes, reached_more, is_no_head, refusal_kept, refused_here, line_refused, end_refused, upheld, stops}
+use Rattle.resolvo_judge.proofs.judgement.judge_lines.Goals as goal
+
+pub returns-in_err-first-clause-fault : goal.returns-in_err-first-clause-fault
+returns-in_err-first-clause-fault g c =
+    let p = err_from_is_err_and c.from_residual-in_err-first.result c.from_residual-in_err-first.ensures.1 in
+    let r = c.in_ok-reader.ensures in
+    let nothing = read_nothing (g.S.Source.left c.args.source.now) _ _ _ _ _ refl r.fresh r.room r.number r.part in
+    rw (p.1, p.2) (stops c.args.catalogue.now c.args.request.now.lines _ _ _ [] c.in_ok-reader.reader nothing (λ n m at. absurd cc) _ _ _ _ refl c.in_err-first.field-0.0 c.in_err-first.ensures.fault)
+
+pub loop-judging-init : goal.loop-judging-init
+loop-judging-init g c =
+    let r = c.in_ok-reader.ensures in
+    let nothing = read_nothing (g.S.Source.left c.args.source.now) _ _ _ _ _ refl r.fresh r.room r.number r.part in
+    let given = subst (λ (o : Option ReportLine). IfSome o (λ (line : ReportLine). GivesLine (left c.in_ok-reader.reader (g.S.Source.left c.args.source.now)) c.in_ok-reader.reader (report_line_of line) (left c.next.new.self (g.S.Source.left c.next.new.source)) c.next.new.self)) c.in-Some.is c.in_ok-first.ensures.given in
+    let j = c.in_ok-judging.ensures in
+    (reached_first c.args.catalogue.now c.args.request.now.lines _ _ _ c.in_ok-reader.reader c.next.new.self (report_line_of c.in-Some.first) c.in_ok-judging.judging c.args.readings.now nothing r.part given j.stands j.later j.long j.count j.few (ap (λ (x : Readings). x.named) c.requires) (ap (λ (x : Readings). x.read) c.requires), c.in_ok-first.ensures.failures)
+
+pub returns-in_err-line-clause-fault : goal.returns-in_err-line-clause-fault
+returns-in_err-line-clause-fault g c =
+    let inv = c.loop-judging.invariant in
+    let p = err_from_is_err_and c.from_residual-in_err-line.result c.from_residual-in_err-line.ensures.1 in
+    rw (p.1, p.2) (stops c.args.catalogue.now c.args.request.now.lines _ _ _ (report_lines inv.0.report) c.loop-judging.reader inv.0.read inv.0.passed _ _ _ _ inv.1 c.in_err-line.field-0.0 c.in_err-line.ensures.fault)
+
+pub take-requires-clause-room : goal.take-requires-clause-room
+take-requires-clause-room g c =
+    let inv = c.loop-judging.invariant in
+    let r = c.loop-judging.reader in
+    let next = c.next-in-loop-judging.new in
+    let given = subst (λ (o : Option ReportLine). IfSome o (λ (line : ReportLine). GivesLine (left r (g.S.Source.left c.loop-judging.source)) r (report_line_of line) (left next.self (g.S.Source.left next.source)) next.self)) c.in-Some-2.is c.in_ok-line.ensures.given in
+    omega (arith, few_causes _ _ _ _ _ r next.self (report_line_of c.in-Some-2.line) c.loop-judging.judging c.loop-judging.readings _ inv.0 given, inv.0.counted)
+
+pub take-requires-clause-named : goal.take-requires-clause-named
+take-requires-clause-named g c =
+    let inv = c.loop-judging.invariant in
+    let r = c.loop-judging.reader in
+    let next = c.next-in-loop-judging.new in
+    let given = subst (λ (o : Option ReportLine). IfSome o (λ (line : ReportLine). GivesLine (left r (g.S.Source.left c.loop-judging.source)) r (report_line_of line) (left next.self (g.S.Source.left next.source)) next.self)) c.in-Some-2.is c.in_ok-line.ensures.given in
+    omega (arith, few_causes _ _ _ _ _ r next.self (report_line_of c.in-Some-2.line) c.loop-judging.judging c.loop-judging.readings _ inv.0 given, inv.0.named)
+
+pub returns-then-not-branch-clause-verdict : goal.returns-then-not-branch-clause-verdict
+returns-then-not-branch-clause-verdict g c =
+    let inv = c.loop-judging.invariant in
+    let r = c.loop-judging.reader in
+    let next = c.next-in-loop-judging.new in
+    let l = report_line_of c.in-Some-2.line in
+    let given = subst (λ (o : Option ReportLine). IfSome o (λ (line : ReportLine). GivesLine (left r (g.S.Source.left c.loop-judging.source)) r (report_line_of line) (left next.self (g.S.Source.left next.source)) next.self)) c.in-Some-2.is c.in_ok-line.ensures.given in
+    let fails = sym (c.in_ok-take.ensures.answer (report_lines inv.0.report) inv.0.stands) ∙ c.if-not-branch.true in
+    refused_here c.args.catalogue.now c.args.request.now.lines _ _ (report_lines inv.0.report) r.part r.number r.lines.room c.loop-judging.number inv.0.read inv.0.passed inv.0.next_line
+    (line_refused c.args.catalogue.now c.args.request.now.lines (report_lines inv.0.report) _ _ r next.self l given fails)
+
+pub loop-judging-preserved : goal.loop-judging-preserved
+loop-judging-preserved g c =
+    let inv = c.loop-judging.invariant in
+    let r = c.loop-judging.reader in
+    let next = c.next-in-loop-judging.new in
+    let l = report_line_of c.in-Some-2.line in
+    let given = subst (λ (o : Option ReportLine). IfSome o (λ (line : ReportLine). GivesLine (left r (g.S.Source.left c.loop-judging.source)) r (report_line_of line) (left next.self (g.S.Source.left next.source)) next.self)) c.in-Some-2.is c.in_ok-line.ensures.given in
+    let t = c.in_ok-take.ensures in
+    let fine = c.if-not-branch.false in
+    let lines = report_lines inv.0.report in
+    let head = is_no_head c.args.catalogue.now c.args.request.now.lines _ _ _ r next.self l c.loop-judging.judging c.loop-judging.readings c.loop-judging.number inv.0 given in (
+      reached_more c.args.catalogue.now c.args.request.now.lines _ _ _ r next.self l c.loop-judging.judging c.loop-judging.readings c.loop-judging.number inv.0 given c.take.new.judging c.take.new.readings
+          (sym (t.answer lines inv.0.stands) ∙ fine) (t.stands fine lines head (refusal_kept inv.0.report l) inv.0.stands) (t.later fine) (t.long fine) (t.count fine) (t.few fine) (t.named fine) (t.read fine),
+      c.in_ok-line.ensures.failures ∙ inv.1,
+    )
+
+pub returns-then-branch-clause-verdict : goal.returns-then-branch-clause-verdict
+returns-then-branch-clause-verdict g c = λ text e.
+    let inv = c.loop-judging.invariant in
+    let r = c.loop-judging.reader in
+    let end = subst (λ (o : Option ReportLine). IfNone o (IsAtEnd (left r (g.S.Source.left c.loop-judging.source)) × IsTrue (may_end r.part))) c.in_default-2.is c.in_ok-line.ensures.end in
+    let ends = subst (λ (b : Bool). EndsSo c.args.catalogue.now c.args.request.now.lines (report_lines inv.0.report) b) c.if-branch.true (c.in_ok-may_end.ensures inv.0.report inv.0.passed inv.0.stands) in
+    (inv.0.report, upheld _ _ _ _ r c.loop-judging.judging c.loop-judging.readings _ inv.0 end.0 end.1 ends text e)
+
+pub returns-then-branch-clause-counted : goal.returns-then-branch-clause-counted
+returns-then-branch-clause-counted g c = λ text e.
+    let inv = c.loop-judging.invariant in
+    let r = c.loop-judging.reader in
+    let end = subst (λ (o : Option ReportLine). IfNone o (IsAtEnd (left r (g.S.Source.left c.loop-judging.source)) × IsTrue (may_end r.part))) c.in_default-2.is c.in_ok-line.ensures.end in
+    let ends = subst (λ (b : Bool). EndsSo c.args.catalogue.now c.args.request.now.lines (report_lines inv.0.report) b) c.if-branch.true (c.in_ok-may_end.ensures inv.0.report inv.0.passed inv.0.stands) in
+    let u = upheld _ _ _ _ r c.loop-judging.judging c.loop-judging.readings _ inv.0 end.0 end.1 ends text e in
+    (inv.0.report, u.report, u.is, inv.0.named, inv.0.counted)
+
+pub returns-clause-verdict : goal.returns-clause-verdict
+returns-clause-verdict g c =
+    let inv = c.loop-judging.invariant in
+    let r = c.loop-judging.reader in
+    let end = subst (λ (o : Option ReportLine). IfNone o (IsAtEnd (left r (g.S.Source.left c.loop-judging.source)) × IsTrue (may_end r.part))) c.in_default-2.is c.in_ok-line.ensures.end in
+    let ends = subst (λ (b : Bool). EndsSo c.args.catalogue.now c.args.request.now.lines (report_lines inv.0.report) b) c.if-branch.false (c.in_ok-may_end.ensures inv.0.report inv.0.passed inv.0.stands) in
+    refused_here c.args.catalogue.now c.args.request.now.lines _ _ (report_lines inv.0.report) r.part r.number r.lines.room c.loop-judging.number inv.0.read inv.0.passed inv.0.next_line
+    (end_refused c.args.catalogue.now c.args.request.now.lines (report_lines inv.0.report) r.part _ end.0 ends)

@@ -1,0 +1,20 @@
+-- What the judge keeps of the lines of a report, and whether the report may end after them.
+use Rattle.std.specs.Prelude.{◌≡◌, Bool, true, false, List}
+use Rattle.resolvo_text.specs.Line.{Line}
+use Rattle.resolvo_report.specs.Value.{ReportLine}
+use Rattle.resolvo_judge.specs.declared.judging.Judging.{Judging}
+use Rattle.resolvo_judge.specs.Refusal.{answers_in, is_refusal, Ends}
+use Rattle.resolvo_judge.specs.Log.{LogStands}
+use Rattle.resolvo_judge.specs.KeptAnswers.{KeepsAnswers, KeepsLines}
+
+-- What is kept stands for these lines.
+pub record Stands (catalogue request : List Line) (j : Judging) (above : List ReportLine) : Type 0 where
+  pub refused : j.refused ≡ is_refusal above
+  pub log : LogStands catalogue request j.log.checker.numbers j.log.checker.clauses j.log.checker.places.items j.log.scope j.log.ends_empty above
+  pub entries : KeepsAnswers j.entries (answers_in above)
+  pub lines : KeepsLines request j.entries (answers_in above)
+
+-- The answer says whether the report may end after these lines.
+abbrev pub EndsSo : List Line → List Line → List ReportLine → Bool → Type 0
+EndsSo catalogue request lines true = Ends catalogue request lines
+EndsSo catalogue request lines false = Ends catalogue request lines → ⊥

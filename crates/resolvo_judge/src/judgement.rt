@@ -1,0 +1,130 @@
+//! The judge: whether a report holds for a catalogue and a request, from the report's bytes.
+//!
+//! It takes the report line by line and holds one line at a time, beside what it keeps of those above. A registry can
+//! run it on reports from strangers: its yes alone implies that the report's claim is true.
+
+ghost use Rattle.std.specs.Prelude.{◌≡◌, IfOk, IfErr};
+ghost use Rattle.resolvo_text.specs.Device.{IfKnown, DeviceFailed};
+ghost use Rattle.resolvo_judge.specs.Judgement.{IsVerdict, ClaimsTruth, CountsReadings, IsJudgeFault, IsStop, none_read};
+
+use crate::clauses::Readings;
+use crate::judging::{begin, may_end, take};
+use resolvo_catalogue::{Catalogue, Request, Source};
+use resolvo_report::{ReportFault, ReportReader};
+use std::alloc::{AllocError, Global};
+use thiserror::Error;
+
+/// Whether a report holds.
+#[derive(Clone, Copy, Debug, PartialEq, Eq)]
+pub enum Verdict {
+    /// All its lines pass, and its end does.
+    Yes,
+    /// The first line, from 1, that is none of a report or doesn't pass; or one past the last line, where the report
+    /// may not end there.
+    No(u32),
+}
+
+/// Why there is no verdict.
+#[derive(Clone, Copy, Debug, PartialEq, Eq, Error)]
+pub enum JudgeFault {
+    /// The device failed, or was interrupted too often in a row.
+    #[error("the report could not be read")]
+    Reader,
+    /// The text has more bytes than a report may have.
+    #[error("the report is too long")]
+    TooLong,
+    #[error("out of memory")]
+    Memory,
+}
+
+impl From<AllocError> for JudgeFault {
+    ghost use Rattle.resolvo_judge.specs.declared.judgement.JudgeFault.TheVariants.{Memory};
+
+    ghost from_gives = { λ _ e. e ≡ Memory };
+
+    fn from(_error: AllocError) -> Self {
+        JudgeFault::Memory
+    }
+}
+
+/// A verdict, and how many clauses of earlier steps were named and read on the way to it.
+#[derive(Clone, Copy, Debug, PartialEq, Eq)]
+pub struct Judged {
+    pub verdict: Verdict,
+    pub readings: Readings,
+}
+
+/// Takes one line of the report after the other, up to the first that doesn't pass, or to the end.
+fn judge_lines<S: Source>(
+    alloc: Global,
+    catalogue: &Catalogue,
+    request: &Request,
+    source: &mut S,
+    readings: &mut Readings,
+) -> Result<Verdict, ReportFault>
+    requires { readings.old ≡ none_read }
+    ensures verdict { IfOk result (λ verdict. IfKnown (S.left source.old) (λ text. IsVerdict catalogue.now request.now.lines text verdict)) }
+    ensures counted { IfOk result (λ verdict. IfKnown (S.left source.old) (λ text. CountsReadings text verdict readings.new)) }
+    ensures fault { IfErr result (λ e. IsStop catalogue.now request.now.lines e (S.left source.old) (S.left source.new) (DeviceFailed (S.failures source.old) (S.failures source.new) (S.interruptions source.new))) }
+{
+    let mut reader = ReportReader::new(alloc)?;
+    let Some(first) = reader.next(alloc, source)? else {
+        unreachable!();
+    };
+    let mut judging = begin(alloc, catalogue, request, &first)?;
+    let mut number = 2;
+    while let Some(line) = reader.next(alloc, source)? {
+        if !take(alloc, catalogue, request, &mut judging, readings, line)? {
+            return Ok(Verdict::No(number));
+        }
+        number += 1;
+    }
+    if may_end(alloc, catalogue, request, &judging)? {
+        Ok(Verdict::Yes)
+    } else {
+        Ok(Verdict::No(number))
+    }
+}
+
+/// The same as `judge`, with the count of clauses that were named and read.
+///
+/// After a yes both counts are equal, so each clause that a `derive` step names was read once for each naming.
+pub fn judge_counted<S: Source>(
+    alloc: Global,
+    catalogue: &Catalogue,
+    request: &Request,
+    source: &mut S,
+) -> Result<Judged, JudgeFault>
+    ensures verdict { IfOk result (λ j. IfKnown (S.left source.old) (λ text. IsVerdict catalogue.now request.now.lines text j.verdict)) }
+    ensures claim { IfOk result (λ j. IfKnown (S.left source.old) (λ text. ClaimsTruth catalogue.now request.now.lines text j.verdict)) }
+    ensures counted { IfOk result (λ j. IfKnown (S.left source.old) (λ text. CountsReadings text j.verdict j.readings)) }
+    ensures fault { IfErr result (λ e. IsJudgeFault catalogue.now request.now.lines e (S.left source.old) (S.left source.new) (DeviceFailed (S.failures source.old) (S.failures source.new) (S.interruptions source.new))) }
+{
+    let mut readings = Readings::new();
+    let verdict = match judge_lines(alloc, catalogue, request, source, &mut readings) {
+        Ok(verdict) => verdict,
+        Err(ReportFault::NotAReport(line)) => Verdict::No(line),
+        Err(ReportFault::Reader) => return Err(JudgeFault::Reader),
+        Err(ReportFault::TooLong) => return Err(JudgeFault::TooLong),
+        Err(ReportFault::Memory) => return Err(JudgeFault::Memory),
+    };
+    Ok(Judged { verdict, readings })
+}
+
+/// Whether the report that the device gives holds for the catalogue and the request, and where it doesn't.
+///
+/// Lines that have come whole are judged before the device is asked again, so a wrong line is told before a fault
+/// that comes later.
+pub fn judge<S: Source>(
+    alloc: Global,
+    catalogue: &Catalogue,
+    request: &Request,
+    source: &mut S,
+) -> Result<Verdict, JudgeFault>
+    ensures verdict { IfOk result (λ verdict. IfKnown (S.left source.old) (λ text. IsVerdict catalogue.now request.now.lines text verdict)) }
+    ensures claim { IfOk result (λ verdict. IfKnown (S.left source.old) (λ text. ClaimsTruth catalogue.now request.now.lines text verdict)) }
+    ensures fault { IfErr result (λ e. IsJudgeFault catalogue.now request.now.lines e (S.left source.old) (S.left source.new) (DeviceFailed (S.failures source.old) (S.failures source.new) (S.interruptions source.new))) }
+{
+    let judged = judge_counted(alloc, catalogue, request, source)?;
+    Ok(judged.verdict)
+}
