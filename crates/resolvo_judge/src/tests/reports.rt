@@ -13,7 +13,7 @@ struct Row {
     verdict: Verdict,
 }
 
-const ROWS: [Row; 99] = [
+static ROWS: [Row; 99] = [
     Row {
         about: "an empty report",
         catalogue: "version a 1\n",
