@@ -1,7 +1,6 @@
 -- The walk with a stack gives what visiting the root gives, and enters each node once.
 use Rattle.std.proofs.Common.{◌≡◌, ℕ, ◌+◌, ◌*◌, ◌<◌, ◌≤◌, Bool, true, false, cond, List, [], ◌∷◌, ◌++◌, map, reverse, length, All, inl, inr, refl, sym, ap, subst, ◌∙◌, arith, append_assoc, length-append}
-use Rattle.std.specs.Prelude.{◌==◌, ◌||◌, ◌⊎◌, ⊤, filter}
-use Rattle.std.specs.List.{list_any}
+use Rattle.std.specs.Prelude.{◌||◌, ◌⊎◌, ⊤, filter}
 use Rattle.std.proofs.lemmas.Bool.{eqb-true}
 use Rattle.std.proofs.lemmas.List.{append-nil, reverse-append, map-append, length-map, length-reverse}
 use Rattle.std.proofs.lemmas.List.Sums.{length-filter, count_by-le-length}
@@ -66,17 +65,21 @@ unseen-new (m ∷ ns) seen n h k = go (same_node n m) refl (λ there. unseen-new
         let here : cond (is_among (seen ++ n ∷ []) m) 0 1 ≤ cond (is_among seen m) 0 1 = rw (is_among-push seen n m) (fewer (is_among seen m) (same_node m n || false)) in
         omega arith
 
-targets_among : {S : Type 0} (es : List (Edge S)) (ns : List NodeIndex) → ((n : NodeIndex) → is_among (map (λ e. e.target) es) n ≡ true → is_among ns n ≡ true) → All (λ e. is_among ns e.target ≡ true) es
+pub targets_among : {S : Type 0} (es : List (Edge S)) (ns : List NodeIndex) → ((n : NodeIndex) → is_among (map (λ e. e.target) es) n ≡ true → is_among ns n ≡ true) → All (λ e. is_among ns e.target ≡ true) es
 targets_among [] ns h = All-nil (λ e. is_among ns e.target ≡ true)
 targets_among (e ∷ es) ns h =
     All-cons (λ d. is_among ns d.target ≡ true) e es (h e.target (ap (λ b. b || is_among (map (λ d. d.target) es) e.target) (same_self e.target)))
     (targets_among es ns (λ n k. h n (or_right (same_node n e.target) (is_among (map (λ d. d.target) es) n) k)))
 
+-- where a node's edges lead is among these, if these hold where any edge leads
+pub edges_among : {S : Type 0} (g : Graph S) (us : List NodeIndex) → ((n : NodeIndex) → is_among (map (λ e. e.target) g.edges) n ≡ true → is_among us n ≡ true) → (n : NodeIndex) → All (λ e. is_among us e.target ≡ true) (edges_of g n)
+edges_among g us h n =
+    All-permutation (λ e. is_among us e.target ≡ true) (filter (leaves n) g.edges) (edges_of g n) (IsPermutation-reverse (filter (leaves n) g.edges))
+    (All-filter (leaves n) (λ e. is_among us e.target ≡ true) g.edges (targets_among g.edges us h))
+
 -- where a node's edges lead was entered
 pub edges_entered : {S : Type 0} (g : Graph S) (n : NodeIndex) → All (λ e. is_among (entered g) e.target ≡ true) (edges_of g n)
-edges_entered g n =
-    All-permutation (λ e. is_among (entered g) e.target ≡ true) (filter (leaves n) g.edges) (edges_of g n) (IsPermutation-reverse (filter (leaves n) g.edges))
-    (All-filter (leaves n) (λ e. is_among (entered g) e.target ≡ true) g.edges (targets_among g.edges (entered g) (λ m h. or_right (same_node m (record { 0 = 0 })) (is_among (map (λ e. e.target) g.edges) m) h)))
+edges_entered g n = edges_among g (entered g) (λ m h. or_right (same_node m (record { 0 = 0 })) (is_among (map (λ e. e.target) g.edges) m) h) n
 
 -- a node that a step enters is the root, or an edge leads there
 abbrev pub IsKnown : List NodeIndex → Step → Type 0

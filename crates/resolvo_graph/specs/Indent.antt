@@ -1,6 +1,5 @@
 -- The indent of a line of the message.
 use Rattle.std.specs.Prelude.{ℕ, ◌++◌, Bool, List, [], ◌∷◌, cond, drop}
-use Rattle.std.specs.List.{flat_map}
 use Rattle.resolvo_graph.specs.declared.indenter.ChildOrder.{ChildOrder}
 use Rattle.resolvo_graph.specs.declared.indenter.ChildOrder.TheVariants.{HasRemainingSiblings, Last}
 

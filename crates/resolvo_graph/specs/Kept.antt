@@ -4,8 +4,15 @@ use Rattle.std.specs.Option.{option_map}
 use Rattle.std.specs.HashMap.{HashMap, get}
 use Rattle.std.specs.declared.rc.Rc.{Rc}
 use Rattle.std.specs.declared.alloc.Global.{Global}
+use Rattle.resolvo_graph.specs.declared.graph.NodeIndex.{NodeIndex}
 use Rattle.resolvo_graph.specs.declared.merging.MergedConflictNode.{MergedConflictNode}
+use Rattle.resolvo_graph.specs.Graph.{Graph}
+use Rattle.resolvo_graph.specs.Tree.{Findings}
 
 -- the versions that are told with this one
 abbrev pub kept_with : {S H : Type 0} → (S → S → Bool) → HashMap S (Rc (MergedConflictNode S) Global) H → S → Option (List S)
 kept_with eq m s = option_map (λ r. r.value.ids.items) (get eq m s)
+
+-- what a tree is told of, as the code keeps it
+abbrev pub findings : {S H : Type 0} → (S → S → Bool) → Graph S → List NodeIndex → HashMap S (Rc (MergedConflictNode S) Global) H → Findings S
+findings eq g installable m = record { graph = g; same = eq; installable = installable; merged = kept_with eq m }

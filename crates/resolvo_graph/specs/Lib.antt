@@ -2,7 +2,11 @@ pub mod Graph
 pub mod Indent
 pub mod Kept
 pub mod Merging
+pub mod Message
 pub mod Outlook
+pub mod Removal
 pub mod Runs
+pub mod Sample
+pub mod Tree
 pub mod Walk
 pub mod Wording

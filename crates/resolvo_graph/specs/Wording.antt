@@ -12,7 +12,7 @@ use Rattle.resolvo_graph.specs.declared.line.Verdict.TheVariants.{Alone, Exclude
 use Rattle.resolvo_graph.specs.declared.line.Sentence.{Sentence}
 use Rattle.resolvo_graph.specs.declared.line.Sentence.TheVariants as Says
 use Rattle.resolvo_graph.specs.declared.line.MessageLine.{MessageLine}
-use Rattle.resolvo_graph.specs.Indent.{Indent, indent_text}
+use Rattle.resolvo_graph.specs.Indent.{indent_text}
 
 -- what the ids mean, and how they are written
 pub record Meaning (N S : Type 0) : Type 0 where

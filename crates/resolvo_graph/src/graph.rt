@@ -1,11 +1,12 @@
 //! The conflict graph: which versions, wishes and reasons made an answer impossible.
 //! The model is the list of its nodes and the list of its edges, each in the order in which they were
 //! added. The solver builds it from a conflict; the message is told over it.
-ghost use Rattle.std.specs.Prelude.{◌≡◌, ◌<◌, ◌++◌, ◌∷◌, [], IfOk, OnOk, OnErr, IsOkUnless, length, slice_get, Some, None, nat_lt};
+ghost use Rattle.std.specs.Prelude.{◌≡◌, ◌<◌, ◌++◌, ◌∷◌, [], IfOk, OnOk, OnErr, IsOkUnless, length, map, slice_get, Some, None, nat_lt};
 ghost use Rattle.std.specs.List.{position_or_len};
 ghost use Rattle.indexmap.specs.IndexSet.{insert_key};
 ghost use Rattle.resolvo_pool.specs.declared.want.Want.TheVariants.{Memory};
 ghost use Rattle.resolvo_graph.specs.declared.graph.ConflictNode.TheVariants.{Root};
+ghost use Rattle.resolvo_graph.specs.Removal.{has_edge_at, moved, with_ends_moved, without_unused_unresolved};
 ghost use Rattle.resolvo_graph.specs.Graph.{edges_of, edges_to, requirement_of, is_conflict, is_exclusion, is_forbidden, admitted_by, is_unresolved, is_unresolved_at, unresolved_of, is_excluding};
 
 use indexmap::IndexSet;
@@ -286,6 +287,31 @@ impl<S: Copy + Exact + Hash> ConflictGraph<S> {
             .any(|edge| edge.target == node && edge.weight.is_exclusion())
     }
 
+    /// Whether an edge enters or leaves a node.
+    pub fn has_edge_at(&self, node: NodeIndex) -> bool
+        ensures { result ≡ has_edge_at self.now node }
+    {
+        self.edges
+            .iter()
+            .any(|edge| edge.source == node || edge.target == node)
+    }
+
+    /// Removes the node where requirements without candidates lead, unless an edge is at it. The last
+    /// node takes its index.
+    pub fn remove_unused_unresolved(&mut self)
+        ensures { self.new ≡ without_unused_unresolved self.old }
+    {
+        let Some(unresolved) = self.unresolved_node() else {
+            return;
+        };
+        if self.has_edge_at(unresolved) {
+            return;
+        }
+        self.nodes.swap_remove_index(unresolved.0);
+        let last = self.nodes.len();
+        move_ends(&mut self.edges, last, unresolved.0);
+    }
+
     /// The same graph again.
     pub fn clone(&self, alloc: Global) -> R<ConflictGraph<S>>
     where
@@ -297,6 +323,37 @@ impl<S: Copy + Exact + Hash> ConflictGraph<S> {
             nodes: copied(alloc, &self.nodes)?,
             edges: Vec::from_slice(alloc, self.edges.as_slice())?,
         })
+    }
+}
+
+/// Gives the ends of edges at the node of index `last` the index `place`.
+fn move_ends<S: Copy>(edges: &mut Vec<Edge<S>>, last: usize, place: usize)
+    ensures { edges.new.items ≡ map (with_ends_moved last place) edges.old.items }
+{
+    for edge in edges.iter_mut() {
+        *edge = with_ends_moved(*edge, last, place);
+    }
+}
+
+/// An edge whose ends at the node of index `last` have the index `place`.
+fn with_ends_moved<S: Copy>(edge: Edge<S>, last: usize, place: usize) -> Edge<S>
+    ensures { result ≡ with_ends_moved last place edge }
+{
+    Edge {
+        source: moved(edge.source, last, place),
+        target: moved(edge.target, last, place),
+        weight: edge.weight,
+    }
+}
+
+/// The index of a node, once the one of index `last` has the index `place`.
+fn moved(node: NodeIndex, last: usize, place: usize) -> NodeIndex
+    ensures { result ≡ moved last place node }
+{
+    if node.0 == last {
+        NodeIndex(place)
+    } else {
+        node
     }
 }
 

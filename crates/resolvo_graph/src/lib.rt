@@ -1,10 +1,14 @@
 //! Why there is no answer: the conflict graph, versions that are told as one, and the message.
 #![tactic(auto)]
 
+pub mod display_unsat;
 pub mod graph;
 pub mod indenter;
 pub mod line;
 pub mod merging;
 mod outlook;
 mod runs;
+#[cfg(test)]
+mod tests;
+mod tree;
 mod walk;

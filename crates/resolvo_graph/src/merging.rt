@@ -6,6 +6,7 @@ ghost use Rattle.resolvo_graph.specs.Merging.{before, after, IsProfile, AreProfi
 ghost use Rattle.resolvo_graph.specs.Kept.{kept_with};
 
 use crate::graph::{ConflictGraph, ConflictNode, NodeIndex};
+use itertools::Itertools;
 use resolvo_pool::id::{Exact, SolvableId};
 use resolvo_pool::provider::Interner;
 use resolvo_pool::requirement::Requirement;
@@ -146,8 +147,8 @@ fn profile_of<S: SolverId, I: Interner<SolvableId = S>>(
     Ok(Profile {
         solvable,
         name: interner.solvable_name(solvable),
-        before: in_order(neighbours_before(alloc, graph, node)?)?,
-        after: in_order(neighbours_after(alloc, graph, node)?)?,
+        before: in_order(alloc, neighbours_before(alloc, graph, node)?)?,
+        after: in_order(alloc, neighbours_after(alloc, graph, node)?)?,
     })
 }
 
@@ -183,12 +184,12 @@ fn neighbours_after<S: Copy + Exact + Hash>(
 
 /// The same neighbours in their order.
 fn in_order(
+    alloc: Global,
     neighbours: Vec<(Option<Requirement>, NodeIndex)>,
 ) -> R<Vec<(Option<Requirement>, NodeIndex)>>
     ensures permutation { IfOk result (λ v. IsPermutation neighbours.items v.items) }
     ensures sorted { IfOk result (λ v. IsSorted neighbour_cmp v.items) }
 {
-    let mut neighbours = neighbours;
-    neighbours.sort()?;
-    Ok(neighbours)
+    let sorted = neighbours.into_iter().sorted(alloc)?;
+    Ok(sorted.collect_vec(alloc)?)
 }

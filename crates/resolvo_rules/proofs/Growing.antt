@@ -47,7 +47,7 @@ has_in_more (x ∷ xs) ys zero l h = inl h
 has_in_more (x ∷ xs) ys (suc n) l h = has_in_more xs ys n l h
 
 -- the old clauses stand at their places
-clause_stays : (xs ys : List (List Signed)) (n : ℕ) → n < length xs → clause_at (xs ++ ys) n ≡ clause_at xs n
+pub clause_stays : (xs ys : List (List Signed)) (n : ℕ) → n < length xs → clause_at (xs ++ ys) n ≡ clause_at xs n
 clause_stays [] ys n below = absurd (omega arith)
 clause_stays (x ∷ xs) ys zero below = refl
 clause_stays (x ∷ xs) ys (suc n) below = clause_stays xs ys n (omega arith)
@@ -98,7 +98,8 @@ module _ {N S : Type 0} (origin other : ℕ → Atom N S) (count : ℕ) (agree :
       subst (λ m. wider (known_of other older) m) (meaning_agrees (literal_of e) a part.0.in_range)
       (subst (λ k. wider k (meaning origin (literal_of e))) (meanings_agree (made_true older) (λ l h. known_in_range count cs older l part.1 h)) now)
 
-  spells_agree : (clause : List Signed) (literals : List (Literal (Atom N S))) → ((l : Signed) → has clause l ≡ true → l.variable.0 < count) → Spells origin clause literals → Spells other clause literals
+  -- what a clause spells stands
+  pub spells_agree : (clause : List Signed) (literals : List (Literal (Atom N S))) → ((l : Signed) → has clause l ≡ true → l.variable.0 < count) → Spells origin clause literals → Spells other clause literals
   spells_agree clause literals below s = record {
     only = λ l h. elim (s.only l h) [ inl e ↦ inl e | inr (a, c) ↦ inr (a, subst (Contains literals) (meaning_agrees l a (below l h)) c) ];
     each = λ m c. (let (l, h, (a, e)) = s.each m c in (l, h, (a, e ∙ meaning_agrees l a (below l h))));

@@ -1,4 +1,4 @@
-use Rattle.std.proofs.Common.{sym, ap, subst}
+use Rattle.std.proofs.Common.{sym, subst}
 use Rattle.std.specs.List.{IsDistinct}
 use Rattle.resolvo_graph.proofs.CopyLemmas.{copied_more}
 use Rattle.resolvo_graph.proofs.graph.copied.Goals as goal

@@ -1,4 +1,4 @@
-use Rattle.std.proofs.Common.{◌≡◌, sym, ap, ◌∙◌, take, subst, arith}
+use Rattle.std.proofs.Common.{◌≡◌, ap, ◌∙◌, take, subst, arith}
 use Rattle.std.specs.List.{AllZip}
 use Rattle.std.proofs.lemmas.List.{take_all}
 use Rattle.resolvo_graph.specs.Merging.{IsProfile, versions_from}

@@ -1,6 +1,5 @@
-use Rattle.std.proofs.Common.{◌≡◌, ◌∙◌, ap, sym, List, [], arith}
+use Rattle.std.proofs.Common.{◌≡◌, ◌∙◌, ap, sym, [], arith}
 use Rattle.std.proofs.lemmas.List.{append-nil, nil_from_length}
-use Rattle.resolvo_graph.specs.Runs.{Run}
 use Rattle.resolvo_graph.proofs.RunLemmas.{joins, follows, begins}
 use Rattle.resolvo_graph.proofs.runs.add_target.Goals as goal
 use Rattle.resolvo_graph.proofs.runs.add_target.Goals.{in-Some+else-is_of+in_ok-push-2, in_default}

@@ -1,6 +1,6 @@
 use Rattle.std.proofs.lemmas.Bool.{lt-ltb, le-ltb}
-use Rattle.std.proofs.Common.{true, false, ◌≡◌, ◌∷◌, sym, ap, ◌∙◌, drop, arith, ◌+◌, length, [], List, Some, None, cond}
-use Rattle.std.specs.Prelude.{◌&&◌, nat_lt}
+use Rattle.std.proofs.Common.{true, false, ◌≡◌, sym, ap, ◌∙◌, drop, arith, ◌+◌, length, [], List, Some, cond}
+use Rattle.std.specs.Prelude.{nat_lt}
 use Rattle.std.specs.Option.{option_or}
 use Rattle.resolvo_graph.specs.Kept.{kept_with}
 use Rattle.resolvo_graph.specs.Merging.{Profile, group, group_in, own_group}

@@ -1,8 +1,8 @@
-use Rattle.std.proofs.Common.{◌≡◌, ◌++◌, ◌∷◌, [], List, take, length, refl, sym, ap, ◌∙◌, arith}
+use Rattle.std.proofs.Common.{◌≡◌, ◌++◌, ◌∷◌, [], take, sym, ap, ◌∙◌, arith}
 use Rattle.std.specs.List.{flat_map}
 use Rattle.std.proofs.lemmas.Grind.{put_two}
 use Rattle.std.proofs.lemmas.List.{take_all}
-use Rattle.resolvo_graph.specs.Indent.{signs, shown_levels, sign_above, own_sign}
+use Rattle.resolvo_graph.specs.Indent.{signs, shown_levels, sign_above}
 use Rattle.resolvo_graph.proofs.IndentLemmas.{signs-last}
 use Rattle.resolvo_graph.proofs.indenter.IndenterDisplay.fmt.Goals as goal
 

@@ -1,0 +1,15 @@
+use Rattle.std.proofs.Common.{rules, ◌≡◌, subst, sym, List, map}
+use Rattle.resolvo_answers.specs.declared.answers.Offered.{Offered}
+use Rattle.resolvo_answers.specs.Answering.{packages_by, offer_by, AreOffered}
+use Rattle.resolvo_answers.proofs.Offering.{are_offered}
+use Rattle.resolvo_answers.proofs.answers.Answers.candidates.Goals as goal
+
+pub returns-clause-offered : goal.returns-clause-offered
+returns-clause-offered g c =
+    let provider : c.cache_sorted_candidates.new.self.provider ≡ c.args.self.now = search rules in
+    let items : c.in_ok-offered.offered.items ≡ map (offer_by (g.D.Interner.name_of_solvable c.cache_sorted_candidates.new.self.provider)) c.sorted_candidates.result.now = search rules in
+    let packages = λ (q : g.row.D.Denot). packages_by g.D.Interner.name_of_solvable g.D.Interner.name_of_version_set g.D.Interner.members_of g.D.Interner.condition_of g.D.DependencyProvider.candidates_of g.D.DependencyProvider.matches g.D.DependencyProvider.dependencies_of q in
+    let q = c.cache_sorted_candidates.new.self.provider in
+    subst (λ (x : g.row.D.Denot). AreOffered g.D.SolvableId.PartialEq.eq (packages x) c.args.requirement c.in_ok-offered.offered.items) provider
+    (subst (λ (xs : List (Offered _ _)). AreOffered g.D.SolvableId.PartialEq.eq (packages q) c.args.requirement xs) (sym items)
+    (are_offered g.D.SolvableId.PartialEq.eq g.met.D.SolvableId.Exact.exact (packages q) (g.D.DependencyProvider.sorts q) (g.met.D.DependencyProvider.sorts_permute q) c.args.requirement c.sorted_candidates.result.now c.sorted_candidates.ensures.tried))

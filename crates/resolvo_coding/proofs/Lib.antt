@@ -1,0 +1,12 @@
+pub mod Positions
+pub mod KeyLemmas
+pub mod Origins
+pub mod Rules
+pub mod Starting
+pub mod Clauses
+pub mod Growth
+pub mod ChosenLemmas
+pub mod TieLemmas
+pub mod Tracking
+pub mod Naming
+pub mod Registering

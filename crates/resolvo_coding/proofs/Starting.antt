@@ -1,0 +1,107 @@
+-- The search at its start, and a variable more.
+use Rattle.std.proofs.Common.{◌≡◌, ℕ, zero, suc, List, [], ◌∷◌, ◌++◌, length, map, Some, None, Vec, Global, refl, sym, ◌∙◌, ap, subst}
+use Rattle.std.specs.Prelude.{slice_get}
+use Rattle.resolvo_pool.specs.declared.id.VariableId.{VariableId}
+use Rattle.resolvo_search.specs.declared.state.HeldClause.{HeldClause}
+use Rattle.resolvo_search.specs.declared.state.VariableKind.{VariableKind}
+use Rattle.resolvo_search.specs.declared.state.VariableKind.TheVariants as Kinds
+use Rattle.resolvo_search.specs.declared.watching.Watching.{Watching}
+use Rattle.resolvo_search.specs.Propagation.{IsReady, AreCovered}
+use Rattle.resolvo_search.specs.Beginning.{Begun, IsRootClause, AddsVariable}
+use Rattle.resolvo_search.proofs.Choosing.{ready_same, covered_same}
+use Rattle.resolvo_coding.specs.declared.atom.ProofAtom.{ProofAtom}
+use Rattle.resolvo_coding.specs.declared.stated.Stated.{Stated}
+use Rattle.resolvo_coding.specs.declared.stated.Stated.TheVariants.{Root, Learnt}
+use Rattle.resolvo_coding.specs.declared.coding.Coding.{Coding}
+use Rattle.resolvo_coding.specs.Atoms.{kind_of, StandsFor}
+use Rattle.resolvo_coding.specs.Keys.{IsPlace, AreOnce}
+use Rattle.resolvo_coding.specs.Statements.{stated_at}
+use Rattle.resolvo_coding.specs.Coding.{IsCoding, IsBegun, Gives}
+use Rattle.resolvo_coding.proofs.Positions.{get_last, once_none, once_push, front_same, front_equal}
+use Rattle.resolvo_coding.proofs.Origins.{count_is}
+
+one_clause : (cs : List HeldClause) → IsRootClause cs → length cs ≡ 1
+one_clause [] h = absurd h
+one_clause (c ∷ []) h = refl
+one_clause (c ∷ d ∷ cs) h = absurd h
+
+-- of the root's clause alone nothing but itself is stated
+root_alone : {N S : Type 0} (stated : List (Stated N S)) (n : ℕ) (x : Stated N S) → stated ≡ Root ∷ [] → stated_at stated n ≡ Some x → (n ≡ 0) × (x ≡ Root)
+root_alone {N} {S} stated n x e h = go n (subst (λ (xs : List (Stated N S)). stated_at xs n ≡ Some x) e h)
+  where
+    alone : List (Stated N S)
+    alone = Root ∷ []
+
+    go : (k : ℕ) → stated_at (Root ∷ []) k ≡ Some x → (k ≡ 0) × (x ≡ Root)
+    go zero i = (refl, cc)
+    go (suc k) i = absurd cc
+
+pub begun_is : {N S : Type 0} (c : Coding N S) → Begun c.search c.watching → c.atoms.keys ≡ [] → c.stated.items ≡ Root ∷ [] → IsBegun c
+begun_is {N} {S} c begun none alone = record {
+  coding = record {
+    ready = begun.ready;
+    covered = begun.covered;
+    kinds = begun.variables ∙ sym (ap (λ (atoms : List (ProofAtom N S)). Kinds.Root ∷ map kind_of atoms) none);
+    each = ap length alone ∙ sym (one_clause c.search.clauses begun.clause);
+    distinct = once_none c.atoms.keys none;
+    learnt = λ n clause h is. (let (z, e) = root_alone c.stated.items n Learnt alone h in absurd cc);
+    first = ap (λ (xs : List (Stated N S)). stated_at xs 0) alone;
+    rooted = λ n h. (root_alone c.stated.items n Root alone h).0;
+  };
+  atoms = none;
+  stated = alone;
+  clause = begun.clause;
+  trail = begun.trail;
+  floor = begun.floor;
+}
+
+map_push : {X Y : Type 0} (f : X → Y) (xs : List X) (x : X) → map f (xs ++ x ∷ []) ≡ map f xs ++ f x ∷ []
+map_push f [] x = refl
+map_push f (y ∷ xs) x = ap (λ zs. f y ∷ zs) (map_push f xs x)
+
+-- a variable of an atom that had none
+pub gives_added : {N S : Type 0} (a : ProofAtom N S) (v : VariableId) (old new : Coding N S) → IsCoding old → IsPlace old.atoms.keys a None
+    → AddsVariable (kind_of a) v old.search new.search → new.watching ≡ old.watching → new.atoms.keys ≡ old.atoms.keys ++ a ∷ [] → new.stated ≡ old.stated → Gives a v old new
+gives_added {N} {S} a v old new coding fresh adds watching pushed stated = record {
+  coding = record {
+    ready = subst (λ (w : Watching). IsReady new.search w) (sym watching) (ready_same old.search new.search old.watching coding.ready adds.state adds.clauses);
+    covered = subst (λ (w : Watching). AreCovered new.search w) (sym watching) (covered_same old.search new.search old.watching coding.covered adds.clauses);
+    kinds = adds.variables ∙ ap (λ (kinds : List VariableKind). kinds ++ kind_of a ∷ []) coding.kinds ∙ sym (ap (λ (atoms : List (ProofAtom N S)). Kinds.Root ∷ map kind_of atoms) pushed ∙ ap (λ (kinds : List VariableKind). Kinds.Root ∷ kinds) (map_push kind_of old.atoms.keys a));
+    each = ap (λ (xs : Vec (Stated N S) Global). length xs.items) stated ∙ coding.each ∙ sym (ap length adds.clauses);
+    distinct = subst (λ (atoms : List (ProofAtom N S)). AreOnce atoms) (sym pushed) (once_push old.atoms.keys a coding.distinct fresh);
+    learnt = λ n clause h is. coding.learnt n clause (same n Learnt h) (subst (λ (cs : List HeldClause). slice_get cs n ≡ Some clause) adds.clauses is);
+    first = ap (λ (xs : Vec (Stated N S) Global). stated_at xs.items 0) stated ∙ coding.first;
+    rooted = λ n h. coding.rooted n (same n Root h);
+  };
+  stands = (length old.atoms.keys, place, subst (λ (atoms : List (ProofAtom N S)). slice_get atoms (length old.atoms.keys) ≡ Some a) (sym pushed) (get_last old.atoms.keys a));
+  same = λ k at. absurd (fresh k at);
+  added = λ h. pushed;
+  grows = record {
+    atoms = (a ∷ [], pushed);
+    clauses = front_equal old.search.clauses new.search.clauses adds.clauses;
+    stated = front_equal old.stated.items new.stated.items (ap (λ (xs : Vec (Stated N S) Global). xs.items) stated);
+    floor = adds.floor;
+  };
+  trail = record { tracker = adds.tracker };
+  clauses = adds.clauses;
+  stated = stated;
+}
+  where
+    same : (n : ℕ) (x : Stated N S) → stated_at new.stated.items n ≡ Some x → stated_at old.stated.items n ≡ Some x
+    same n x h = ap (λ (xs : Vec (Stated N S) Global). stated_at xs.items n) (sym stated) ∙ h
+
+    place : v.0 ≡ suc (length old.atoms.keys)
+    place = adds.number ∙ count_is old coding
+
+-- an atom that has its variable
+pub gives_found : {N S : Type 0} (a : ProofAtom N S) (v : VariableId) (c : Coding N S) → IsCoding c → StandsFor c.atoms.keys v a → Gives a v c c
+gives_found a v c coding (k, e, at) = record {
+  coding = coding;
+  stands = (k, e, at);
+  same = λ j bt. refl;
+  added = λ none. absurd (none k at);
+  grows = record { atoms = front_same c.atoms.keys; clauses = front_same c.search.clauses; stated = front_same c.stated.items; floor = refl };
+  trail = record { tracker = refl };
+  clauses = refl;
+  stated = refl;
+}

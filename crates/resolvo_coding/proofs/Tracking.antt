@@ -1,0 +1,225 @@
+-- One solvable more in a package's tracker.
+use Rattle.std.proofs.Common.{◌≡◌, ℕ, zero, suc, ◌+◌, ◌*◌, ◌/◌, ◌%◌, ◌^◌, ◌<◌, ◌≤◌, ◌==◌, ◌&&◌, inl, inr, Bool, true, false, not, cond, List, [], ◌∷◌, ◌++◌, map, length, Option, Some, None, refl, sym, ◌∙◌, ap, subst, arith, eqb-true, eq-eqb}
+use Rattle.std.specs.Prelude.{slice_get, Contains, is_some}
+use Rattle.std.specs.Option.{option_to_list}
+use Rattle.std.proofs.Math.Nat.{pow-suc}
+use Rattle.std.proofs.lemmas.List.{length-append, append-nil}
+use Rattle.std.proofs.lemmas.Option.{slice_get_within}
+use Rattle.std.proofs.lemmas.Bool.{both_ways}
+use Rattle.resolvo_pool.specs.declared.id.VariableId.{VariableId}
+use Rattle.resolvo_store.specs.AtMostOne.{Tracking, digit, ties, tie_all, among, needs_helper, tracked, new_ties}
+use Rattle.resolvo_store.proofs.Digits.{digit_below, digit_power}
+use Rattle.resolvo_rules.specs.Encoding.{Rule}
+use Rattle.resolvo_rules.proofs.Lists.{contains_none, contains_one, contains_cases, contains_parts, contains_left, contains_right, contains_only, contains_first, contains_later, contains_map, map_contains, any_contained, contained_any}
+use Rattle.resolvo_coding.specs.declared.atom.ProofAtom.TheVariants.{Solvable, Bit}
+use Rattle.resolvo_coding.specs.declared.coding.Coding.{Coding}
+use Rattle.resolvo_coding.specs.Atoms.{StandsFor}
+use Rattle.resolvo_coding.specs.Statements.{rules_in}
+use Rattle.resolvo_coding.specs.Coding.{IsCoding}
+use Rattle.resolvo_coding.specs.Registered.{same_variable, IsTied, IsTie, StatesAll, GivesDigit, Tracks}
+use Rattle.resolvo_coding.proofs.Positions.{get_push, get_contains, contains_get, get_below}
+use Rattle.resolvo_coding.proofs.Origins.{stands_same}
+use Rattle.resolvo_coding.proofs.Growth.{grows_same, grows_then, trail_same, trail_then, stands_grow, rules_grow, below_or_not}
+use Rattle.resolvo_coding.proofs.TieLemmas.{tie_rule}
+
+abbrev Tie : Type 0
+Tie = VariableId × VariableId × Bool
+
+-- a tie of the variable, with the digit of its place
+has_ties : (k : ℕ) (x : VariableId) (vs : List VariableId) (i : ℕ) (v : VariableId) → slice_get vs i ≡ Some v → Contains (ties k x vs) (x, v, digit k i)
+has_ties k x [] i v h = absurd cc
+has_ties k x (w ∷ vs) zero v h = let e : w ≡ v = cc in contains_first (x, v, k % 2 == 1) (x, w, k % 2 == 1) (ties (k / 2) x vs) (ap (λ (u : VariableId). let t : Tie = (x, u, k % 2 == 1) in t) e)
+has_ties k x (w ∷ vs) (suc i) v h = contains_later (x, v, digit (k / 2) i) (x, w, k % 2 == 1) (ties (k / 2) x vs) (has_ties (k / 2) x vs i v h)
+
+ties_have : (k : ℕ) (x : VariableId) (vs : List VariableId) (tie : Tie) → Contains (ties k x vs) tie → (tie.0 ≡ x) × Contains vs tie.1
+ties_have k x [] tie h = absurd (contains_none tie h)
+ties_have k x (w ∷ vs) tie h = elim (contains_cases tie (x, w, k % 2 == 1) (ties (k / 2) x vs) h) [
+  | inl e ↦ (ap (λ (t : Tie). t.0) e, contains_first tie.1 w vs (sym (ap (λ (t : Tie). t.1) e)))
+  | inr a ↦ let (i, b) = ties_have (k / 2) x vs tie a in (i, contains_later tie.1 w vs b)
+]
+
+-- each tie is of a tracked variable or of the one that comes, and of a helper or of the one that comes
+all_have : (xs vs : List VariableId) (x : VariableId) (o : Option VariableId) (tie : Tie) → Contains (tie_all xs vs x o) tie → Contains (xs ++ x ∷ []) tie.0 × Contains (vs ++ option_to_list o) tie.1
+all_have xs vs x None tie h = let (e, a) = ties_have (length xs) x vs tie h in (contains_right tie.0 xs (x ∷ []) (contains_first tie.0 x [] (sym e)), contains_left tie.1 vs [] a)
+all_have xs vs x (Some v) tie h = elim (contains_parts tie (map (λ (y : VariableId). let t : Tie = (y, v, false) in t) xs) (ties (length xs) x vs ++ (x, v, true) ∷ []) h) [
+  | inl a ↦
+      let (y, b, e) = map_contains (λ (y : VariableId). let t : Tie = (y, v, false) in t) tie xs a in
+      (contains_left tie.0 xs (x ∷ []) (subst (Contains xs) (sym (ap (λ (t : Tie). t.0) e)) b), contains_right tie.1 vs (v ∷ []) (contains_first tie.1 v [] (sym (ap (λ (t : Tie). t.1) e))))
+  | inr a ↦ elim (contains_parts tie (ties (length xs) x vs) ((x, v, true) ∷ []) a) [
+    | inl b ↦ let (e, d) = ties_have (length xs) x vs tie b in (contains_right tie.0 xs (x ∷ []) (contains_first tie.0 x [] (sym e)), contains_left tie.1 vs (v ∷ []) d)
+    | inr b ↦
+        let e = contains_one tie (x, v, true) b in
+        (contains_right tie.0 xs (x ∷ []) (contains_first tie.0 x [] (sym (ap (λ (t : Tie). t.0) e))), contains_right tie.1 vs (v ∷ []) (contains_first tie.1 v [] (sym (ap (λ (t : Tie). t.1) e))))
+  ]
+]
+
+-- there is a tie for each place and digit that came
+all_tell : (xs vs : List VariableId) (x : VariableId) (o : Option VariableId) (i : ℕ) (v : VariableId) → length xs ≤ 2 ^ length vs → (is_some o ≡ true → length xs ≡ 2 ^ length vs) → slice_get (vs ++ option_to_list o) i ≡ Some v → Contains (tie_all xs vs x o) (x, v, digit (length xs) i)
+all_tell xs vs x None i v few full h = has_ties (length xs) x vs i v (subst (λ (ws : List VariableId). slice_get ws i ≡ Some v) (append-nil vs) h)
+all_tell xs vs x (Some w) i v few full h =
+    contains_right (x, v, digit (length xs) i) (map (λ (y : VariableId). let t : Tie = (y, w, false) in t) xs) (ties (length xs) x vs ++ (x, w, true) ∷ []) (elim (get_push vs w v i h) [
+      | inl a ↦ contains_left (x, v, digit (length xs) i) (ties (length xs) x vs) ((x, w, true) ∷ []) (has_ties (length xs) x vs i v a)
+      | inr (e, same) ↦
+          let one : digit (length xs) i ≡ true = ap (λ n. digit n i) (full refl) ∙ ap (λ k. digit (2 ^ length vs) k) e ∙ digit_power (length vs) in
+          contains_right (x, v, digit (length xs) i) (ties (length xs) x vs) ((x, w, true) ∷ []) (contains_first (x, v, digit (length xs) i) (x, w, true) [] (let back = sym same in let digit_back = sym one in λ j. (x, back j, digit_back j)))
+    ])
+
+-- so there is for each old place and a digit that came
+old_tell : (xs vs : List VariableId) (x w : VariableId) (place : ℕ) (y : VariableId) → length xs ≤ 2 ^ length vs → slice_get xs place ≡ Some y → Contains (tie_all xs vs x (Some w)) (y, w, digit place (length vs))
+old_tell xs vs x w place y few h =
+    let within : place < length xs = slice_get_within xs place y h in
+    let none : digit place (length vs) ≡ false = digit_below (length vs) place (omega arith) in
+    contains_left (y, w, digit place (length vs)) (map (λ (u : VariableId). let t : Tie = (u, w, false) in t) xs) (ties (length xs) x vs ++ (x, w, true) ∷ [])
+    (subst (λ b. Contains (map (λ (u : VariableId). let t : Tie = (u, w, false) in t) xs) (y, w, b)) (sym none) (contains_map (λ (u : VariableId). let t : Tie = (u, w, false) in t) y xs (get_contains xs place y h)))
+
+one_or_more : (h : ℕ) → 1 ≤ 2 ^ h
+one_or_more zero = omega arith
+one_or_more (suc h) = let t : 2 ^ suc h ≡ 2 ^ h * 2 = pow-suc 2 h in let r : 1 ≤ 2 ^ h = one_or_more h in omega arith
+
+variable_one : (x y : VariableId) → same_variable x y ≡ true → x ≡ y
+variable_one x y h = let e : x.0 ≡ y.0 = eqb-true x.0 y.0 h in λ i. record { 0 = e i }
+
+-- a tracker with one variable more, and the helper that it takes
+abbrev longer : Tracking VariableId → VariableId → Option VariableId → Tracking VariableId
+longer t x o = record { variables = t.variables ++ x ∷ []; helpers = t.helpers ++ option_to_list o }
+
+-- the helpers tell the places apart
+room_more : (t : Tracking VariableId) (x : VariableId) (o : Option VariableId) → length t.variables ≤ 2 ^ length t.helpers → is_some o ≡ (length t.variables == 2 ^ length t.helpers) → length (t.variables ++ x ∷ []) ≤ 2 ^ length (t.helpers ++ option_to_list o)
+room_more t x None few full =
+    let long : length (t.variables ++ x ∷ []) ≡ length t.variables + 1 = length-append t.variables (x ∷ []) in
+    let same : length (t.helpers ++ []) ≡ length t.helpers = ap length (append-nil t.helpers) in
+    let other : length t.variables ≡ 2 ^ length t.helpers → ⊥ = λ e. both_ways _ (sym full) (eq-eqb (length t.variables) (2 ^ length t.helpers) e) in
+    let power : 2 ^ length (t.helpers ++ []) ≡ 2 ^ length t.helpers = ap (λ k. 2 ^ k) same in
+    omega arith
+room_more t x (Some v) few full =
+    let long : length (t.variables ++ x ∷ []) ≡ length t.variables + 1 = length-append t.variables (x ∷ []) in
+    let more : length (t.helpers ++ v ∷ []) ≡ suc (length t.helpers) = length-append t.helpers (v ∷ []) ∙ (let e : length t.helpers + 1 ≡ suc (length t.helpers) = omega arith in e) in
+    let power : 2 ^ length (t.helpers ++ v ∷ []) ≡ 2 ^ length t.helpers * 2 = ap (λ k. 2 ^ k) more ∙ pow-suc 2 (length t.helpers) in
+    let here : length t.variables ≡ 2 ^ length t.helpers = eqb-true (length t.variables) (2 ^ length t.helpers) (sym full) in
+    let low : 1 ≤ 2 ^ length t.helpers = one_or_more (length t.helpers) in
+    omega arith
+
+module _ {N S : Type 0} (name : N) (x : VariableId) (s : S) (t : Tracking VariableId) (o : Option VariableId) (a b : Coding N S) (tied : IsTied name t a) (stands : StandsFor a.atoms.keys x (Solvable s)) (given : GivesDigit name (length t.helpers) o a b) where
+  longer_solvables : (v : VariableId) → Contains (t.variables ++ x ∷ []) v → (u : S) × StandsFor b.atoms.keys v (Solvable u)
+  longer_solvables v h = elim (contains_parts v t.variables (x ∷ []) h) [
+    | inl c ↦ let (u, f) = tied.solvables v c in (u, stands_grow a b v (Solvable u) given.grows f)
+    | inr c ↦ (s, stands_grow a b v (Solvable s) given.grows (subst (λ (w : VariableId). StandsFor a.atoms.keys w (Solvable s)) (sym (contains_one v x c)) stands))
+  ]
+
+  longer_digits : (i : ℕ) (v : VariableId) → slice_get (t.helpers ++ option_to_list o) i ≡ Some v → StandsFor b.atoms.keys v (Bit name i)
+  longer_digits i v h = go o given.stands h
+    where
+      go : (q : Option VariableId) → ((w : VariableId) → q ≡ Some w → StandsFor b.atoms.keys w (Bit name (length t.helpers))) → slice_get (t.helpers ++ option_to_list q) i ≡ Some v → StandsFor b.atoms.keys v (Bit name i)
+      go None f g = stands_grow a b v (Bit name i) given.grows (tied.digits i v (subst (λ (ws : List VariableId). slice_get ws i ≡ Some v) (append-nil t.helpers) g))
+      go (Some w) f g = elim (get_push t.helpers w v i g) [
+        | inl at ↦ stands_grow a b v (Bit name i) given.grows (tied.digits i v at)
+        | inr (e, same) ↦ subst (λ k. StandsFor b.atoms.keys v (Bit name k)) (sym e) (subst (λ (u : VariableId). StandsFor b.atoms.keys u (Bit name (length t.helpers))) (sym same) (f w refl))
+      ]
+
+  ties_are : (tie : Tie) → Contains (tie_all t.variables t.helpers x o) tie → IsTie name b.atoms.keys tie
+  ties_are tie h =
+      let (p, q) = all_have t.variables t.helpers x o tie h in
+      let (u, f) = longer_solvables tie.0 p in
+      let (i, at) = contains_get (t.helpers ++ option_to_list o) tie.1 q in
+      record { solvable = u; bit = i; stands = f; tells = longer_digits i tie.1 at }
+
+  -- what comes with a variable are ties
+  pub come_ties : (ts : List Tie) → ts ≡ new_ties same_variable t x o → (tie : Tie) → Contains ts tie → IsTie name b.atoms.keys tie
+  come_ties ts e tie h = go (among same_variable t x) (subst (λ (us : List Tie). Contains us tie) e h)
+    where
+      go : (q : Bool) → Contains (cond q [] (tie_all t.variables t.helpers x o)) tie → IsTie name b.atoms.keys tie
+      go true f = absurd (contains_none tie f)
+      go false f = ties_are tie f
+
+  module _ (c : Coding N S) (all : StatesAll name (tie_all t.variables t.helpers x o) b c) (full : is_some o ≡ (length t.variables == 2 ^ length t.helpers)) where
+    tie_told : (v w : VariableId) (place : ℕ) (u : S) (i : ℕ) → Contains (tie_all t.variables t.helpers x o) (v, w, digit place i) → StandsFor c.atoms.keys v (Solvable u) → StandsFor c.atoms.keys w (Bit name i) → rules_in c.stated.items (Rule.has_digit u i (digit place i))
+    tie_told v w place u i h f g = let (n, below, st) = all.each (v, w, digit place i) h in tie_rule name (v, w, digit place i) c n u i st f g
+
+    -- an old variable, by an old digit or the one that came
+    old_told : (place i : ℕ) (v w : VariableId) (u : S) → slice_get t.variables place ≡ Some v → StandsFor c.atoms.keys v (Solvable u) → slice_get (t.helpers ++ option_to_list o) i ≡ Some w → StandsFor c.atoms.keys w (Bit name i) → rules_in c.stated.items (Rule.has_digit u i (digit place i))
+    old_told place i v w u at f wt g = elim (below_or_not i (length t.helpers)) [
+      | inl below ↦
+          let (r, there) = tied.solvables v (get_contains t.variables place v at) in
+          let grows = grows_then a b c given.grows all.grows in
+          let one = stands_same c.atoms.keys v (Solvable r) (Solvable u) (stands_grow a c v (Solvable r) grows there) f in
+          let same : r ≡ u = cc in
+          subst (λ (y : S). rules_in c.stated.items (Rule.has_digit y i (digit place i))) same (rules_grow a c grows (Rule.has_digit r i (digit place i)) (tied.told place i v r at there below))
+      | inr past ↦ go o refl past wt
+    ]
+      where
+        go : (q : Option VariableId) → o ≡ q → length t.helpers ≤ i → slice_get (t.helpers ++ option_to_list q) i ≡ Some w → rules_in c.stated.items (Rule.has_digit u i (digit place i))
+        go None e past h =
+            let within : i < length t.helpers = slice_get_within t.helpers i w (subst (λ (ws : List VariableId). slice_get ws i ≡ Some w) (append-nil t.helpers) h) in
+            absurd (omega arith)
+        go (Some r) e past h = elim (get_push t.helpers r w i h) [
+          | inl old ↦ let within : i < length t.helpers = slice_get_within t.helpers i w old in absurd (omega arith)
+          | inr (here, same) ↦
+              let there = old_tell t.variables t.helpers x r place v tied.room at in
+              let moved = subst (λ (y : VariableId). Contains (tie_all t.variables t.helpers x (Some r)) (v, y, digit place (length t.helpers))) (sym same) there in
+              let placed = subst (λ k. Contains (tie_all t.variables t.helpers x (Some r)) (v, w, digit place k)) (sym here) moved in
+              tie_told v w place u i (subst (λ (y : Option VariableId). Contains (tie_all t.variables t.helpers x y) (v, w, digit place i)) (sym e) placed) f g
+        ]
+
+    tied_more : IsTied name (longer t x o) c
+    tied_more = record {
+      solvables = λ v h. (let (u, f) = longer_solvables v h in (u, stands_grow b c v (Solvable u) all.grows f));
+      digits = λ i v h. stands_grow b c v (Bit name i) all.grows (longer_digits i v h);
+      room = room_more t x o tied.room full;
+      told = λ place i v u at f below. (
+          let (w, wt) = get_below (t.helpers ++ option_to_list o) i below in
+          let g = stands_grow b c w (Bit name i) all.grows (longer_digits i w wt) in
+          elim (get_push t.variables x v place at) [
+            | inl old ↦ old_told place i v w u old f wt g
+            | inr (e, same) ↦
+                let there = all_tell t.variables t.helpers x o i w tied.room (λ some. eqb-true (length t.variables) (2 ^ length t.helpers) (sym full ∙ some)) wt in
+                let moved = subst (λ (y : VariableId). Contains (tie_all t.variables t.helpers x o) (y, w, digit (length t.variables) i)) (sym same) there in
+                tie_told v w place u i (subst (λ k. Contains (tie_all t.variables t.helpers x o) (v, w, digit k i)) (sym e) moved) f g
+          ]);
+    }
+
+    tracks_more : among same_variable t x ≡ false → Tracks name x t a (longer t x o) c
+    tracks_more fresh = record {
+      coding = all.coding;
+      grows = grows_then a b c given.grows all.grows;
+      trail = trail_then a b c given.trail all.trail;
+      tied = tied_more;
+      tracked = contains_right x t.variables (x ∷ []) (contains_only x);
+      keeps = λ w h. contains_left w t.variables (x ∷ []) h;
+      only = λ w h. elim (contains_parts w t.variables (x ∷ []) h) [ inl i ↦ inl i | inr i ↦ inr (contains_one w x i) ];
+      digits = λ n low below. (
+          let same : length b.search.clauses ≡ length a.search.clauses = ap length given.clauses in
+          let (tie, h, st) = all.only n (omega arith) below in
+          (tie, (all_have t.variables t.helpers x o tie h).0, st));
+      same = λ h. absurd (both_ways _ fresh (contained_any (same_variable x) x t.variables h (eq-eqb x.0 x.0 refl)));
+    }
+
+  tracks_same : IsCoding a → Contains t.variables x → Tracks name x t a t a
+  tracks_same coding h = record {
+    coding = coding;
+    grows = grows_same a;
+    trail = trail_same a;
+    tied = tied;
+    tracked = h;
+    keeps = λ w i. i;
+    only = λ w i. inl i;
+    digits = λ n low below. absurd (omega arith);
+    same = λ i. refl;
+  }
+
+  -- The tracker takes the variable, unless it has it, and its ties come as clauses.
+  pub track_is : (u : Tracking VariableId) (ts : List Tie) (c : Coding N S) → IsCoding a → is_some o ≡ needs_helper same_variable t x → u ≡ tracked same_variable t x o → ts ≡ new_ties same_variable t x o → StatesAll name ts b c → Tracks name x t a u c
+  track_is u ts c coding needed next come all =
+      go (among same_variable t x) refl (needed ∙ refl) next come
+    where
+      go : (q : Bool) → among same_variable t x ≡ q → is_some o ≡ (not q && (length t.variables == 2 ^ length t.helpers)) → u ≡ cond q t (longer t x o) → ts ≡ cond q [] (tie_all t.variables t.helpers x o) → Tracks name x t a u c
+      go true e n is are =
+          let (y, there, same) = any_contained (same_variable x) t.variables e in
+          let h : Contains t.variables x = subst (Contains t.variables) (sym (variable_one x y same)) there in
+          let none : o ≡ None = no_digit o n in
+          let unchanged : c ≡ a = all.same are ∙ given.same none in
+          subst (λ (w : Tracking VariableId). Tracks name x t a w c) (sym is) (subst (λ (d : Coding N S). Tracks name x t a t d) (sym unchanged) (tracks_same coding h))
+        where
+          no_digit : (q : Option VariableId) → is_some q ≡ false → q ≡ None
+          no_digit None h = refl
+          no_digit (Some v) h = absurd (both_ways true h refl)
+      go false e n is are = subst (λ (w : Tracking VariableId). Tracks name x t a w c) (sym is) (tracks_more c (subst (λ (us : List Tie). StatesAll name us b c) are all) n e)

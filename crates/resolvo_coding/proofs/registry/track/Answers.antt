@@ -1,0 +1,22 @@
+use Rattle.std.proofs.Common.{◌∙◌, ap, List, ◌++◌, Bool}
+use Rattle.resolvo_pool.specs.declared.id.VariableId.{VariableId}
+use Rattle.resolvo_store.specs.AtMostOne.{new_ties}
+use Rattle.resolvo_coding.specs.Registered.{same_variable}
+use Rattle.resolvo_coding.proofs.Tracking.{come_ties, track_is}
+use Rattle.resolvo_coding.proofs.registry.track.Goals as goal
+
+pub state_ties-requires : goal.state_ties-requires
+state_ties-requires g c = record {
+  coding = c.in_ok-digit.ensures.digit.coding;
+  ties =
+      come_ties c.args.name c.args.variable c.requires.solvable.0 c.args.tracker.now c.in_ok-digit.digit c.args.coding.now c.next_digit.new.coding c.requires.tied c.requires.solvable.1 c.in_ok-digit.ensures.digit c.as_slice.result.now
+      (c.as_slice.ensures.value ∙ c.in_ok-add.ensures.ties ∙ ap (λ (xs : List (VariableId × VariableId × Bool)). xs ++ new_ties same_variable c.args.tracker.now c.args.variable c.in_ok-digit.digit) c.new-ties.ensures.items);
+}
+
+pub returns : goal.returns
+returns g c = record {
+  tracked =
+      track_is c.args.name c.args.variable c.requires.solvable.0 c.args.tracker.now c.in_ok-digit.digit c.args.coding.now c.next_digit.new.coding c.requires.tied c.requires.solvable.1 c.in_ok-digit.ensures.digit c.add.new.self c.as_slice.result.now c.state_ties.new.coding c.requires.coding c.in_ok-digit.ensures.needed c.in_ok-add.ensures.tracker
+      (c.as_slice.ensures.value ∙ c.in_ok-add.ensures.ties ∙ ap (λ (xs : List (VariableId × VariableId × Bool)). xs ++ new_ties same_variable c.args.tracker.now c.args.variable c.in_ok-digit.digit) c.new-ties.ensures.items)
+      c.in_ok-state_ties.ensures.stated;
+}

@@ -1,0 +1,8 @@
+pub mod AtomLaws
+pub mod Atoms
+pub mod Keys
+pub mod Statements
+pub mod Coding
+pub mod Chosen
+pub mod Registered
+pub mod Spelled

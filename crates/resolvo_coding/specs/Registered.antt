@@ -1,0 +1,143 @@
+-- Which solvables of each package are registered, and what ties them to the digits of their places.
+use Rattle.std.specs.Prelude.{◌≡◌, ℕ, ◌+◌, ◌^◌, ◌==◌, ◌<◌, ◌≤◌, ◌⊎◌, Bool, List, [], ◌∷◌, length, slice_get, Option, Some, None, Contains}
+use Rattle.resolvo_pool.specs.declared.id.VariableId.{VariableId}
+use Rattle.resolvo_pool.specs.OnePass.{Literal}
+use Rattle.resolvo_store.specs.Clauses.{no}
+use Rattle.resolvo_store.specs.Signed.{Signed}
+use Rattle.resolvo_store.specs.AtMostOne.{Tracking, IsFrontOf, digit}
+use Rattle.resolvo_search.specs.Known.{clause_at}
+use Rattle.resolvo_search.specs.State.{clauses_of}
+use Rattle.resolvo_rules.specs.Encoding.{Atom, Rule, minus}
+use Rattle.resolvo_rules.specs.Numbered.{Spells}
+use Rattle.resolvo_coding.specs.declared.atom.ProofAtom.{ProofAtom}
+use Rattle.resolvo_coding.specs.declared.atom.ProofAtom.TheVariants.{Solvable, Bit}
+use Rattle.resolvo_coding.specs.declared.stated.Stated.TheVariants.{Digit}
+use Rattle.resolvo_coding.specs.declared.coding.Coding.{Coding}
+use Rattle.resolvo_coding.specs.declared.registry.Registry.{Registry}
+use Rattle.resolvo_coding.specs.Atoms.{origin, StandsFor}
+use Rattle.resolvo_coding.specs.Keys.{AreOnce}
+use Rattle.resolvo_coding.specs.Statements.{stated_at, rules_in}
+use Rattle.resolvo_coding.specs.Coding.{IsCoding, Grows, SameTrail}
+
+abbrev pub same_variable : VariableId → VariableId → Bool
+same_variable v w = v.0 == w.0
+
+-- the literals of a clause that tells a digit of a solvable's place
+abbrev pub digit_literals : {N S : Type 0} → N → S → ℕ → Bool → List (Literal (Atom N S))
+digit_literals {N} {S} name s bit value = minus (Atom.solvable s) ∷ (let l : Literal (Atom N S) = record { atom = Atom.digit name bit; positive = value } in l) ∷ []
+
+-- The tracker of a package: its variables stand for solvables, its helpers for the digits in order, as many as tell the
+-- places apart, and a clause states each digit of each place.
+pub record IsTied {N S : Type 0} (name : N) (t : Tracking VariableId) (c : Coding N S) : Type 0 where
+  pub solvables : (v : VariableId) → Contains t.variables v → (s : S) × StandsFor c.atoms.keys v (Solvable s)
+  pub digits : (i : ℕ) (v : VariableId) → slice_get t.helpers i ≡ Some v → StandsFor c.atoms.keys v (Bit name i)
+  pub room : length t.variables ≤ 2 ^ length t.helpers
+  pub told : (place i : ℕ) (v : VariableId) (s : S) → slice_get t.variables place ≡ Some v → StandsFor c.atoms.keys v (Solvable s) → i < length t.helpers → rules_in c.stated.items (Rule.has_digit s i (digit place i))
+
+-- each package has one tracker, and each is tied
+pub record AreTied {N S : Type 0} (r : Registry N) (c : Coding N S) : Type 0 where
+  pub each : length r.names.keys ≡ length r.trackers.items
+  pub once : AreOnce r.names.keys
+  pub tied : (k : ℕ) (name : N) (t : Tracking VariableId) → slice_get r.names.keys k ≡ Some name → slice_get r.trackers.items k ≡ Some t → IsTied name t c
+
+-- the variable is in the package's tracker
+pub record IsTracked {N : Type 0} (r : Registry N) (name : N) (v : VariableId) : Type 0 where
+  pub place : ℕ
+  pub tracker : Tracking VariableId
+  pub named : slice_get r.names.keys place ≡ Some name
+  pub tracked : slice_get r.trackers.items place ≡ Some tracker
+  pub stands : Contains tracker.variables v
+
+-- the solvable is registered as one of the package's
+abbrev pub IsRegistered : {N S : Type 0} → Registry N → Coding N S → N → S → Type 0
+IsRegistered r c name s = (v : VariableId) × StandsFor c.atoms.keys v (Solvable s) × IsTracked r name v
+
+-- no solvable is registered
+pub record IsNothing {N : Type 0} (r : Registry N) : Type 0 where
+  pub names : r.names.keys ≡ []
+  pub trackers : r.trackers.items ≡ []
+
+-- the clause of this number tells a digit of a registered solvable of the package
+pub record IsDigitClause {N S : Type 0} (r : Registry N) (c : Coding N S) (name : N) (n : ℕ) : Type 0 where
+  pub solvable : S
+  pub bit : ℕ
+  pub value : Bool
+  pub registered : IsRegistered r c name solvable
+  pub stated : stated_at c.stated.items n ≡ Some (Digit name solvable bit value)
+  pub spells : Spells (origin c.atoms.keys) (clause_at (clauses_of c.search) n) (digit_literals name solvable bit value)
+
+-- The solvable is registered, with this variable; no other one came. Each clause that came tells a digit.
+pub record Registers {N S : Type 0} (name : N) (s : S) (v : VariableId) (r : Registry N) (old : Coding N S) (t : Registry N) (new : Coding N S) : Type 0 where
+  pub coding : IsCoding new
+  pub grows : Grows old new
+  pub trail : SameTrail old new
+  pub tied : AreTied t new
+  pub stands : StandsFor new.atoms.keys v (Solvable s)
+  pub registered : IsTracked t name v
+  pub keeps : (m : N) (u : VariableId) → IsTracked r m u → IsTracked t m u
+  pub only : (m : N) (u : VariableId) → IsTracked t m u → IsTracked r m u ⊎ ((m ≡ name) × (u ≡ v))
+  pub digits : (n : ℕ) → length old.search.clauses ≤ n → n < length new.search.clauses → IsDigitClause t new name n
+  pub same : IsRegistered r old name s → new ≡ old
+
+-- the place is the package's; if it is another one, it came behind the others, with nothing tracked
+pub record PlacesName {N : Type 0} (name : N) (place : ℕ) (old new : Registry N) : Type 0 where
+  pub names : IsFrontOf old.names.keys new.names.keys
+  pub trackers : IsFrontOf old.trackers.items new.trackers.items
+  pub each : length new.names.keys ≡ length new.trackers.items
+  pub stands : slice_get new.names.keys place ≡ Some name
+  pub once : AreOnce old.names.keys → AreOnce new.names.keys
+  pub fresh : (k : ℕ) (t : Tracking VariableId) → length old.trackers.items ≤ k → slice_get new.trackers.items k ≡ Some t → (t.variables ≡ []) × (t.helpers ≡ [])
+
+-- the variable of the next digit of the package, where one is made
+pub record GivesDigit {N S : Type 0} (name : N) (count : ℕ) (given : Option VariableId) (old new : Coding N S) : Type 0 where
+  pub coding : IsCoding new
+  pub grows : Grows old new
+  pub trail : SameTrail old new
+  pub clauses : new.search.clauses ≡ old.search.clauses
+  pub stated : new.stated ≡ old.stated
+  pub stands : (v : VariableId) → given ≡ Some v → StandsFor new.atoms.keys v (Bit name count)
+  pub same : given ≡ None → new ≡ old
+
+-- the two variables stand for a solvable and for a digit of the package
+pub record IsTie {N S : Type 0} (name : N) (atoms : List (ProofAtom N S)) (tie : VariableId × VariableId × Bool) : Type 0 where
+  pub solvable : S
+  pub bit : ℕ
+  pub stands : StandsFor atoms tie.0 (Solvable solvable)
+  pub tells : StandsFor atoms tie.1 (Bit name bit)
+
+-- the clause of this number states the tie
+pub record StatesTie {N S : Type 0} (name : N) (tie : VariableId × VariableId × Bool) (c : Coding N S) (n : ℕ) : Type 0 where
+  pub is : IsTie name c.atoms.keys tie
+  pub stated : stated_at c.stated.items n ≡ Some (Digit name is.solvable is.bit tie.2)
+  pub clause : clause_at (clauses_of c.search) n ≡ no tie.0 ∷ (let l : Signed = record { variable = tie.1; positive = tie.2 } in l) ∷ []
+
+-- the tie came as a clause
+pub record StatesOne {N S : Type 0} (name : N) (tie : VariableId × VariableId × Bool) (old new : Coding N S) : Type 0 where
+  pub coding : IsCoding new
+  pub grows : Grows old new
+  pub trail : SameTrail old new
+  pub atoms : new.atoms ≡ old.atoms
+  pub states : StatesTie name tie new (length old.search.clauses)
+  pub one : length new.search.clauses ≡ length old.search.clauses + 1
+
+-- each tie came as a clause, and nothing else came
+pub record StatesAll {N S : Type 0} (name : N) (ties : List (VariableId × VariableId × Bool)) (old new : Coding N S) : Type 0 where
+  pub coding : IsCoding new
+  pub grows : Grows old new
+  pub trail : SameTrail old new
+  pub atoms : new.atoms ≡ old.atoms
+  pub each : (tie : VariableId × VariableId × Bool) → Contains ties tie → (n : ℕ) × (n < length new.search.clauses) × StatesTie name tie new n
+  pub only : (n : ℕ) → length old.search.clauses ≤ n → n < length new.search.clauses → (tie : VariableId × VariableId × Bool) × Contains ties tie × StatesTie name tie new n
+  pub same : ties ≡ [] → new ≡ old
+
+-- The variable is tracked, and no other one came. Each clause that came tells a digit of a tracked one.
+pub record Tracks {N S : Type 0} (name : N) (v : VariableId) (t : Tracking VariableId) (old : Coding N S) (u : Tracking VariableId) (new : Coding N S) : Type 0 where
+  pub coding : IsCoding new
+  pub grows : Grows old new
+  pub trail : SameTrail old new
+  pub tied : IsTied name u new
+  pub tracked : Contains u.variables v
+  pub keeps : (w : VariableId) → Contains t.variables w → Contains u.variables w
+  pub only : (w : VariableId) → Contains u.variables w → Contains t.variables w ⊎ (w ≡ v)
+  pub digits : (n : ℕ) → length old.search.clauses ≤ n → n < length new.search.clauses → (tie : VariableId × VariableId × Bool) × Contains u.variables tie.0 × StatesTie name tie new n
+  pub same : Contains t.variables v → new ≡ old

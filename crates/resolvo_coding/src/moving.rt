@@ -1,0 +1,68 @@
+//! The search goes on: a step, a choice, a return to an earlier level, the first level of a turn.
+ghost use Rattle.std.specs.Prelude.{◌≡◌, ◌<◌, ◌≤◌, length, IfOk, OnOk, IsErrOf, IsOkUnless};
+ghost use Rattle.resolvo_pool.specs.declared.want.Want.TheVariants.{Memory, Ids};
+ghost use Rattle.resolvo_store.specs.Clauses.{yes};
+ghost use Rattle.resolvo_search.specs.Known.{IsUndecided};
+ghost use Rattle.resolvo_search.specs.Entries.{made_true};
+ghost use Rattle.resolvo_search.specs.State.{count_of, history};
+ghost use Rattle.resolvo_search.specs.Steps.{Chooses, Undoes};
+ghost use Rattle.resolvo_coding.specs.Coding.{IsCoding, Advances, KeepsCode, SetsFloor};
+
+use crate::coding::Coding;
+use crate::stated::Stated;
+use resolvo_pool::id::{ClauseId, VariableId};
+use resolvo_pool::solver_id::SolverId;
+use resolvo_pool::want::R;
+use resolvo_search::advancing::Progress;
+use std::alloc::Global;
+
+impl<N: SolverId, S: SolverId> Coding<N, S> {
+    /// One step of the search: sets what the clauses force, and learns where one is broken.
+    pub fn advance(&mut self, alloc: Global) -> R<Progress>
+        requires { IsCoding self.old }
+        ensures advanced { IfOk result (Advances self.old self.new) }
+        ensures ids { IsErrOf result Ids → length self.old.search.clauses ≡ 4294967295 }
+    {
+        let progress = self.search.advance(alloc, &mut self.watching)?;
+        match progress {
+            Progress::Complete => Ok(Progress::Complete),
+            Progress::Refused(refusal) => Ok(Progress::Refused(refusal)),
+            Progress::Learnt(clause) => {
+                self.stated.push(Stated::Learnt)?;
+                Ok(Progress::Learnt(clause))
+            }
+        }
+    }
+
+    /// Chooses a variable to be true, for a clause, at the next level.
+    pub fn choose(&mut self, variable: VariableId, clause: ClauseId) -> R<()>
+        requires coding { IsCoding self.old }
+        requires in_range { variable.0 < count_of self.old.search }
+        requires undecided { IsUndecided (made_true (history self.old.search)) (yes variable) }
+        ensures chosen { OnOk result (Chooses variable clause self.old.search self.new.search) }
+        ensures kept { OnOk result (KeepsCode self.old self.new) }
+        ensures refusal { IsOkUnless result Memory }
+    {
+        self.search.choose(variable, clause)
+    }
+
+    /// Takes the entries above a level away.
+    pub fn undo_until(&mut self, level: u32)
+        requires coding { IsCoding self.old }
+        requires one { 1 ≤ level }
+        ensures undone { Undoes level self.old.search self.new.search }
+        ensures kept { KeepsCode self.old self.new }
+    {
+        self.search.undo_until(level);
+    }
+
+    /// Begins a turn at a level: no jump goes below it.
+    pub fn set_floor(&mut self, level: u32)
+        requires coding { IsCoding self.old }
+        requires one { 1 ≤ level }
+        ensures set { SetsFloor level self.old.search self.new.search }
+        ensures kept { KeepsCode self.old self.new }
+    {
+        self.search.floor = level;
+    }
+}

@@ -1,0 +1,167 @@
+//! Which solvables of each package are registered: at most one of them is true.
+//! Each package has a tracker of its solvables' variables, whose places are told by binary digits, each
+//! digit a variable of its own. A clause says of each registered solvable and each digit of its package
+//! which value the digit has where the solvable is true.
+ghost use Rattle.std.specs.Prelude.{◌≡◌, Bool, length, is_some, Contains, IfOk, OnOk};
+ghost use Rattle.resolvo_pool.specs.declared.id.VariableId.{VariableId};
+ghost use Rattle.resolvo_store.specs.AtMostOne.{needs_helper};
+ghost use Rattle.resolvo_coding.specs.declared.atom.ProofAtom.TheVariants.{Solvable, Bit};
+ghost use Rattle.resolvo_coding.specs.Atoms.{StandsFor};
+ghost use Rattle.resolvo_coding.specs.Coding.{IsCoding};
+ghost use Rattle.resolvo_coding.specs.Registered.{same_variable, IsNothing, AreTied, Registers, PlacesName, IsTied, Tracks, GivesDigit, IsTie, StatesOne, StatesAll};
+
+use crate::atom::ProofAtom;
+use crate::coding::Coding;
+use crate::keys::{place_in, push_key};
+use crate::stated::Stated;
+use indexmap::IndexSet;
+use resolvo_pool::id::VariableId;
+use resolvo_pool::solver_id::SolverId;
+use resolvo_pool::want::R;
+use resolvo_store::binary_encoding::AtMostOnceTracker;
+use resolvo_store::literal::Literal;
+use std::alloc::Global;
+use std::hash::Hash;
+
+/// The packages that have registered solvables, each with the tracker of its solvables' variables.
+#[derive(Drop)]
+pub struct Registry<N: Eq + Hash> {
+    names: IndexSet<N>,
+    trackers: Vec<AtMostOnceTracker<VariableId>>,
+}
+
+/// A variable of a solvable, one of a digit of its package, and the digit's value where the solvable is
+/// true.
+type Tie = (VariableId, VariableId, bool);
+
+impl<N: SolverId> Registry<N> {
+    /// No solvable.
+    pub fn new(alloc: Global) -> Registry<N>
+        ensures { IsNothing result }
+    {
+        Registry {
+            names: IndexSet::new(alloc),
+            trackers: Vec::new(alloc),
+        }
+    }
+
+    /// Registers a solvable of a package, and gives its variable, which is made where there is none.
+    /// A clause comes for each digit that tells it, or by now another one, apart.
+    pub fn register<S: SolverId>(
+        &mut self,
+        coding: &mut Coding<N, S>,
+        name: N,
+        solvable: S,
+    ) -> R<VariableId>
+        requires coding { IsCoding coding.old }
+        requires tied { AreTied self.old coding.old }
+        ensures registered { IfOk result (λ v. Registers name solvable v self.old coding.old self.new coding.new) }
+    {
+        let alloc = *self.trackers.allocator();
+        let variable = coding.variable(ProofAtom::Solvable(solvable))?;
+        let place = self.place_of(alloc, name)?;
+        track(alloc, &mut self.trackers[place], coding, name, variable)?;
+        Ok(variable)
+    }
+
+    /// The place of a package, which comes behind the others where it has none.
+    fn place_of(&mut self, alloc: Global, name: N) -> R<usize>
+        requires { length self.old.names.keys ≡ length self.old.trackers.items }
+        ensures place { IfOk result (λ place. PlacesName name place self.old self.new) }
+    {
+        if let Some(place) = place_in(&self.names, &name) {
+            return Ok(place);
+        }
+        let place = self.trackers.len();
+        self.trackers.push(AtMostOnceTracker::new(alloc))?;
+        push_key(&mut self.names, name)?;
+        Ok(place)
+    }
+}
+
+/// Tracks the variable of a solvable, unless it is tracked, and states what ties it to the digits of
+/// its package.
+fn track<N: SolverId, S: SolverId>(
+    alloc: Global,
+    tracker: &mut AtMostOnceTracker<VariableId>,
+    coding: &mut Coding<N, S>,
+    name: N,
+    variable: VariableId,
+) -> R<()>
+    requires coding { IsCoding coding.old }
+    requires tied { IsTied name tracker.old coding.old }
+    requires solvable { (s : S) × StandsFor coding.old.atoms.keys variable (Solvable s) }
+    ensures tracked { OnOk result (Tracks name variable tracker.old coding.old tracker.new coding.new) }
+{
+    let digit = next_digit(tracker, coding, name, variable)?;
+    let mut ties = Vec::new(alloc);
+    tracker.add(variable, digit, &mut ties)?;
+    state_ties(alloc, coding, name, ties.as_slice())?;
+    Ok(())
+}
+
+/// The variable of the digit that a variable takes with it, if it takes one.
+fn next_digit<N: SolverId, S: SolverId>(
+    tracker: &AtMostOnceTracker<VariableId>,
+    coding: &mut Coding<N, S>,
+    name: N,
+    variable: VariableId,
+) -> R<Option<VariableId>>
+    requires { IsCoding coding.old }
+    ensures digit { IfOk result (λ digit. GivesDigit name (length tracker.now.helpers) digit coding.old coding.new) }
+    ensures needed { IfOk result (λ digit. is_some digit ≡ needs_helper same_variable tracker.now variable) }
+{
+    if !tracker.needs_helper(variable) {
+        return Ok(None);
+    }
+    // A slice has fewer than 2^64 items, so 64 digits tell its places apart.
+    let _count = tracker.variables().len();
+    let bit = tracker.helpers().len() as u32;
+    let digit = coding.variable(ProofAtom::Bit(name, bit))?;
+    Ok(Some(digit))
+}
+
+/// States each tie of solvables of a package to its digits.
+fn state_ties<N: SolverId, S: SolverId>(
+    alloc: Global,
+    coding: &mut Coding<N, S>,
+    name: N,
+    ties: &[Tie],
+) -> R<()>
+    requires coding { IsCoding coding.old }
+    requires ties { (tie : VariableId × VariableId × Bool) → Contains ties.now tie → IsTie name coding.old.atoms.keys tie }
+    ensures stated { OnOk result (StatesAll name ties.now coding.old coding.new) }
+{
+    for tie in ties {
+        state_tie(alloc, coding, name, *tie)?;
+    }
+    Ok(())
+}
+
+/// States what ties a solvable to a digit of its package.
+fn state_tie<N: SolverId, S: SolverId>(
+    alloc: Global,
+    coding: &mut Coding<N, S>,
+    name: N,
+    tie: Tie,
+) -> R<()>
+    requires coding { IsCoding coding.old }
+    requires tie { IsTie name coding.old.atoms.keys tie }
+    ensures stated { OnOk result (StatesOne name tie coding.old coding.new) }
+{
+    let (variable, digit, value) = tie;
+    let mut literals = Vec::new(alloc);
+    literals.push(Literal::new(variable, true))?;
+    literals.push(Literal::new(digit, !value))?;
+    let (Some(solvable), Some(bit)) = (coding.solvable(variable), coding.bit(digit)) else {
+        unreachable!()
+    };
+    let stated = Stated::Digit {
+        name,
+        solvable,
+        bit,
+        value,
+    };
+    coding.state(stated, literals)?;
+    Ok(())
+}

@@ -1,0 +1,3 @@
+//! What no clause says: that each call succeeds with ample memory.
+
+mod registering;

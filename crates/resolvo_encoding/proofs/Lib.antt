@@ -1,0 +1,7 @@
+pub mod Carrying
+pub mod Requiring
+pub mod Needing
+pub mod Parents
+pub mod Deciding
+pub mod Turning
+pub mod Staying

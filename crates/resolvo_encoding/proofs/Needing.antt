@@ -1,0 +1,482 @@
+-- What a clause of a need, of a gate, or of one that opens it, leaves standing of the packages' encoding.
+use Rattle.std.proofs.Common.{◌≡◌, ℕ, zero, suc, ◌+◌, ◌<◌, ◌≤◌, ◌⊎◌, inl, inr, Bool, true, false, not, ◌&&◌, List, [], ◌∷◌, ◌++◌, length, reverse, is_some, Option, Some, None, refl, sym, ◌∙◌, ap, subst, arith, length-append}
+use Rattle.std.specs.Prelude.{Contains, slice_get}
+use Rattle.std.proofs.lemmas.Bool.{both_ways}
+use Rattle.resolvo_pool.specs.declared.id.ClauseId.{ClauseId}
+use Rattle.resolvo_pool.specs.declared.id.VariableId.{VariableId}
+use Rattle.resolvo_pool.specs.declared.requirement.ConditionalRequirement.{ConditionalRequirement}
+use Rattle.resolvo_pool.specs.declared.requirement.Requirement.{Requirement}
+use Rattle.resolvo_pool.specs.ByRequirement.{slot_of, PutsAt}
+use Rattle.resolvo_pool.specs.OnePass.{Literal}
+use Rattle.resolvo_pool.specs.Text.{alternatives_of}
+use Rattle.resolvo_pool.specs.RuleKeeping.{Packages, Rules, IsLawful, rules_of, rules_for}
+use Rattle.resolvo_store.specs.Signed.{Signed, has}
+use Rattle.resolvo_store.specs.Clauses.{yes, no, root as root_variable, candidate_literals as literals_in}
+use Rattle.resolvo_store.specs.Lists.{has_candidates, candidates_in, items_or_none}
+use Rattle.resolvo_store.specs.declared.decide_queue.NeedClause.{NeedClause}
+use Rattle.resolvo_store.specs.declared.lists.Candidate.{Candidate}
+use Rattle.resolvo_search.specs.declared.state.HeldClause.{HeldClause}
+use Rattle.resolvo_search.specs.Known.{clause_at}
+use Rattle.resolvo_search.specs.State.{lists, clauses_of, count_of, history}
+use Rattle.resolvo_store.specs.declared.decision.Entry.{Entry}
+use Rattle.resolvo_search.specs.Entries.{StandsOn}
+use Rattle.resolvo_search.specs.Beginning.{IsRootClause, root_entry}
+use Rattle.resolvo_search.specs.Steps.{AreInRange}
+use Rattle.resolvo_search.proofs.Literals.{has-cons, has_here, has_later}
+use Rattle.resolvo_search.proofs.Clauses.{literals_at}
+use Rattle.resolvo_rules.specs.Encoding.{IsExact, Atom, Rule, plus, minus, IsRule, literals_of, parent_literals, candidate_literals, cases_under, asks, has_condition, same_requirement}
+use Rattle.resolvo_rules.specs.Ending.{HasClause}
+use Rattle.resolvo_rules.specs.Numbered.{meaning, Means, Spells}
+use Rattle.resolvo_rules.proofs.Lists.{contains_none, contains_cases, contains_first, contains_later, contains_left, contains_right, contains_one, contains_only, contains_parts, contained_any}
+use Rattle.resolvo_rules.proofs.Members.{candidate_stands, stands_candidate, same_requirement-self}
+use Rattle.resolvo_coding.specs.declared.atom.ProofAtom.{ProofAtom}
+use Rattle.resolvo_coding.specs.declared.atom.ProofAtom.TheVariants.{Solvable, Gate}
+use Rattle.resolvo_coding.specs.declared.stated.Stated.{Stated}
+use Rattle.resolvo_coding.specs.declared.stated.Stated.TheVariants as Says
+use Rattle.resolvo_coding.specs.declared.coding.Coding.{Coding}
+use Rattle.resolvo_coding.specs.Atoms.{origin, StandsFor}
+use Rattle.resolvo_coding.specs.Statements.{rule_of, stated_at, rule_at}
+use Rattle.resolvo_coding.specs.Coding.{IsCoding, States, Gives}
+use Rattle.resolvo_coding.specs.Registered.{AreTied, IsTracked}
+use Rattle.resolvo_encoding.specs.Encoded.{IsParentVariable, IsCandidate, IsQueuedFor, Asks, Registered, IsEncoding}
+use Rattle.resolvo_encoding.specs.Encoded as E
+use Rattle.resolvo_encoding.specs.Steps.{StatesNeed, IsNeed, SameButCoding, IsBegunEncoding}
+use Rattle.resolvo_encoding.specs.declared.encoding.Encoding.{Encoding}
+use Rattle.resolvo_coding.proofs.Positions.{get_last}
+use Rattle.resolvo_coding.proofs.Origins.{means_solvable, solvable_means, means_atom, solvable_stands}
+use Rattle.resolvo_coding.proofs.Rules.{rule_stated}
+use Rattle.resolvo_coding.proofs.Growth.{stands_in_range, rule_split, rules_split}
+use Rattle.resolvo_coding.proofs.Registering.{ties_grow, nothing_tied}
+use Rattle.resolvo_encoding.proofs.Requiring.{Came, Carries, carried, candidate_grows, queued_keeps, within_keeps, encoded_keeps, gates_keep, put_at, put_other, NoneAsks, kept_carries, some_one}
+
+-- the requirement that a rule's clause asks for a match of
+abbrev requirement_in : {N S : Type 0} → Requirement → Rule N S → Requirement
+requirement_in r (Rule.needs parent need case) = need.requirement
+requirement_in r (Rule.gated s q) = r
+requirement_in r (Rule.shared q) = q
+requirement_in r (Rule.limits parent v s) = r
+requirement_in r (Rule.limits_outside parent v) = r
+requirement_in r (Rule.is_out v s) = r
+requirement_in r (Rule.bars s) = r
+requirement_in r (Rule.has_digit s bit b) = r
+requirement_in r (Rule.is_there n s) = r
+
+-- whether the atom is that a solvable is chosen
+abbrev is_choice : {N S : Type 0} → Atom N S → Bool
+is_choice (Atom.solvable s) = true
+is_choice (Atom.gate r) = false
+is_choice (Atom.outside v) = false
+is_choice (Atom.any_of n) = false
+is_choice (Atom.digit n bit) = false
+
+-- a literal of candidates is one's own
+literal_in : {N : Type 0} (cs : List (Candidate N)) (l : Signed) → has (literals_in cs) l ≡ true → (c : Candidate N) × Contains cs c × (c.literal ≡ l)
+literal_in [] l h = absurd (both_ways false refl h)
+literal_in (c ∷ cs) l h = elim (has-cons c.literal (literals_in cs) l h) [
+  | inl e ↦ (c, contains_first c c cs refl, e)
+  | inr a ↦ let (d, b, e) = literal_in cs l a in (d, contains_later d c cs b, e)
+]
+
+in_literals : {N : Type 0} (cs : List (Candidate N)) (c : Candidate N) → Contains cs c → has (literals_in cs) c.literal ≡ true
+in_literals [] c h = absurd (contains_none c h)
+in_literals (d ∷ cs) c h = elim (contains_cases c d cs h) [
+  | inl e ↦ has_here d.literal (literals_in cs) c.literal (ap (λ (x : Candidate _). x.literal) (sym e))
+  | inr a ↦ has_later d.literal (literals_in cs) c.literal (in_literals cs c a)
+]
+
+module _ {N S : Type 0} (same : S → S → Bool) (exact : IsExact same) (p : Packages N S) (root : Rules) (lawful : IsLawful p) where
+  -- The clause that a variable is false, or a candidate chosen, has the literals of the rule that the head's denial or a
+  -- match of the requirement is there.
+  pub spells_need : (e : Encoding N S) → IsEncoding same p root e → (r : Requirement) → has_candidates e.lists r ≡ true → (v : VariableId) (heads : List (Literal (Atom N S)))
+      → ((l : Signed) → l ≡ no v → (l ≡ no root_variable) ⊎ ((0 < l.variable.0) × Contains heads (meaning (origin e.coding.atoms.keys) l)))
+      → ((m : Literal (Atom N S)) → Contains heads m → Means (origin e.coding.atoms.keys) (no v) m)
+      → Spells (origin e.coding.atoms.keys) (no v ∷ literals_in (candidates_in e.lists r)) (heads ++ candidate_literals same p (alternatives_of p.members_of r))
+  spells_need e holds r has_list v heads head back = record {
+    only = λ l h. elim (has-cons (no v) (literals_in (candidates_in e.lists r)) l h) [
+      | inl i ↦ elim (head l (sym i)) [ inl z ↦ inl z | inr (z, c) ↦ inr (z, contains_left (meaning (origin e.coding.atoms.keys) l) heads (candidate_literals same p (alternatives_of p.members_of r)) c) ]
+      | inr a ↦
+          let (c, stands, is) = literal_in (candidates_in e.lists r) l a in
+          let (s, fits, m) = holds.listed r c stands in
+          let means : Means (origin e.coding.atoms.keys) l (plus (Atom.solvable s)) = subst (λ (x : Signed). Means (origin e.coding.atoms.keys) x (plus (Atom.solvable s))) is (solvable_means e.coding.atoms.keys c.literal s fits.positive fits.stands) in
+          inr (means.0, contains_right (meaning (origin e.coding.atoms.keys) l) heads (candidate_literals same p (alternatives_of p.members_of r)) (subst (Contains (candidate_literals same p (alternatives_of p.members_of r))) means.1 (candidate_stands same exact p (alternatives_of p.members_of r) s m)))
+    ];
+    each = λ m h. elim (contains_parts m heads (candidate_literals same p (alternatives_of p.members_of r)) h) [
+      | inl a ↦ (no v, has_here (no v) (literals_in (candidates_in e.lists r)) (no v) refl, back m a)
+      | inr a ↦
+          let (s, is, match) = stands_candidate same exact p (alternatives_of p.members_of r) m a in
+          let (c, stands, fits) = holds.offered r s has_list match in
+          (c.literal, has_later (no v) (literals_in (candidates_in e.lists r)) c.literal (in_literals (candidates_in e.lists r) c stands), subst (Means (origin e.coding.atoms.keys) c.literal) (sym is) (solvable_means e.coding.atoms.keys c.literal s fits.positive fits.stands))
+    ];
+  }
+
+  -- what a clause of a need states is a rule, with its literals
+  need_rule : (e : Encoding N S) → IsEncoding same p root e → (x : Stated N S) (v : VariableId) (r : Requirement) → has_candidates e.lists r ≡ true → IsNeed same p root e.coding.atoms.keys x v r → (q : Rule N S) → rule_of x ≡ Some q
+      → IsRule same p root q × Spells (origin e.coding.atoms.keys) (no v ∷ literals_in (candidates_in e.lists r)) (literals_of same p q)
+  need_rule e holds (Says.Needs parent need case) v r has_list (none, is, stands, listed, free) q one =
+      let rule : Rule.needs parent need case.items ≡ q = some_one (Rule.needs parent need case.items) q one in
+      let clause = no v ∷ literals_in (candidates_in e.lists r) in
+      subst (λ (y : Rule N S). IsRule same p root y × Spells (origin e.coding.atoms.keys) clause (literals_of same p y)) rule
+      (subst (λ vs. IsRule same p root (Rule.needs parent need vs) × Spells (origin e.coding.atoms.keys) clause (literals_of same p (Rule.needs parent need vs))) (sym none) (
+        (listed, subst (λ c. Contains (cases_under p.condition_of c) []) (sym free) (contains_only [])),
+        subst (λ y. Spells (origin e.coding.atoms.keys) clause (parent_literals parent ++ candidate_literals same p (alternatives_of p.members_of y))) (sym is) (spells_need e holds r has_list v (parent_literals parent) (head parent stands) (back parent stands)),
+      ))
+    where
+      head : (parent : Option S) → IsParentVariable e.coding.atoms.keys parent v → (l : Signed) → l ≡ no v → (l ≡ no root_variable) ⊎ ((0 < l.variable.0) × Contains (parent_literals parent) (meaning (origin e.coding.atoms.keys) l))
+      head None h l i = inl (i ∙ ap no h)
+      head (Some s) h l i =
+          let means : Means (origin e.coding.atoms.keys) l (minus (Atom.solvable s)) = subst (λ (x : Signed). Means (origin e.coding.atoms.keys) x (minus (Atom.solvable s))) (sym i) (means_atom e.coding.atoms.keys (no v) (Solvable s) h) in
+          inr (means.0, contains_first (meaning (origin e.coding.atoms.keys) l) (minus (Atom.solvable s)) [] means.1)
+
+      back : (parent : Option S) → IsParentVariable e.coding.atoms.keys parent v → (m : Literal (Atom N S)) → Contains (parent_literals parent) m → Means (origin e.coding.atoms.keys) (no v) m
+      back None h m a = absurd (contains_none m a)
+      back (Some s) h m a = subst (Means (origin e.coding.atoms.keys) (no v)) (sym (contains_one m (minus (Atom.solvable s)) a)) (means_atom e.coding.atoms.keys (no v) (Solvable s) h)
+  need_rule e holds (Says.Shared w) v r has_list (is, stands) q one =
+      let rule : Rule.shared w ≡ q = some_one (Rule.shared w) q one in
+      let clause = no v ∷ literals_in (candidates_in e.lists r) in
+      subst (λ (y : Rule N S). IsRule same p root y × Spells (origin e.coding.atoms.keys) clause (literals_of same p y)) rule
+      (subst (λ y. IsRule same p root (Rule.shared y) × Spells (origin e.coding.atoms.keys) clause (literals_of same p (Rule.shared y))) (sym is) (
+        tt,
+        spells_need e holds r has_list v (minus (Atom.gate r) ∷ [])
+            (λ l i. (let means : Means (origin e.coding.atoms.keys) l (minus (Atom.gate r)) = subst (λ (x : Signed). Means (origin e.coding.atoms.keys) x (minus (Atom.gate r))) (sym i) gate in inr (means.0, contains_first (meaning (origin e.coding.atoms.keys) l) (minus (Atom.gate r)) [] means.1)))
+            (λ m a. subst (Means (origin e.coding.atoms.keys) (no v)) (sym (contains_one m (minus (Atom.gate r)) a)) gate),
+      ))
+    where
+      gate : Means (origin e.coding.atoms.keys) (no v) (minus (Atom.gate r))
+      gate = means_atom e.coding.atoms.keys (no v) (Gate r) (subst (λ y. StandsFor e.coding.atoms.keys v (Gate y)) is stands)
+  need_rule e holds Says.Root v r has_list h q one = absurd h
+  need_rule e holds (Says.Gated s w) v r has_list h q one = absurd h
+  need_rule e holds (Says.Limits parent w s) v r has_list h q one = absurd h
+  need_rule e holds (Says.LimitsOutside parent w) v r has_list h q one = absurd h
+  need_rule e holds (Says.IsOut w s) v r has_list h q one = absurd h
+  need_rule e holds (Says.Locked locked s) v r has_list h q one = absurd h
+  need_rule e holds (Says.Excluded s why) v r has_list h q one = absurd h
+  need_rule e holds (Says.Digit n s bit value) v r has_list h q one = absurd h
+  need_rule e holds (Says.IsThere n s) v r has_list h q one = absurd h
+  need_rule e holds Says.Learnt v r has_list h q one = absurd h
+
+  -- what decisions are made for, for a clause of a need
+  need_queued : (atoms : List (ProofAtom N S)) (x : Stated N S) (v : VariableId) (r : Requirement) (number : ClauseId) → IsNeed same p root atoms x v r → IsQueuedFor atoms (Some x) (record { parent = v; requirement = r; condition = None; clause = number })
+  need_queued atoms (Says.Needs parent need case) v r number (none, is, stands, listed, free) = (none, sym is, refl, stands)
+  need_queued atoms (Says.Shared w) v r number (is, stands) = (sym is, refl, stands)
+  need_queued atoms Says.Root v r number h = absurd h
+  need_queued atoms (Says.Gated s w) v r number h = absurd h
+  need_queued atoms (Says.Limits parent w s) v r number h = absurd h
+  need_queued atoms (Says.LimitsOutside parent w) v r number h = absurd h
+  need_queued atoms (Says.IsOut w s) v r number h = absurd h
+  need_queued atoms (Says.Locked locked s) v r number h = absurd h
+  need_queued atoms (Says.Excluded s why) v r number h = absurd h
+  need_queued atoms (Says.Digit n s bit value) v r number h = absurd h
+  need_queued atoms (Says.IsThere n s) v r number h = absurd h
+  need_queued atoms Says.Learnt v r number h = absurd h
+
+  -- the requirement of a need's rule
+  asks_need : (atoms : List (ProofAtom N S)) (x : Stated N S) (v : VariableId) (r : Requirement) → IsNeed same p root atoms x v r → (q : Requirement) → HasClause same p (λ rule. rule_of x ≡ Some rule) q → q ≡ r
+  asks_need atoms (Says.Needs parent need case) v r (none, is, stands, listed, free) q (inl (other, wanted, vs, e, f)) = f ∙ sym (ap (requirement_in r) (some_one (Rule.needs parent need case.items) (Rule.needs other wanted vs) e)) ∙ is
+  asks_need atoms (Says.Needs parent need case) v r h q (inr e) = absurd cc
+  asks_need atoms (Says.Shared w) v r h q (inl (other, wanted, vs, e, f)) = absurd cc
+  asks_need atoms (Says.Shared w) v r (is, stands) q (inr e) = sym (ap (requirement_in r) (some_one (Rule.shared w) (Rule.shared q) e)) ∙ is
+  asks_need atoms Says.Root v r h q a = absurd h
+  asks_need atoms (Says.Gated s w) v r h q a = absurd h
+  asks_need atoms (Says.Limits parent w s) v r h q a = absurd h
+  asks_need atoms (Says.LimitsOutside parent w) v r h q a = absurd h
+  asks_need atoms (Says.IsOut w s) v r h q a = absurd h
+  asks_need atoms (Says.Locked locked s) v r h q a = absurd h
+  asks_need atoms (Says.Excluded s why) v r h q a = absurd h
+  asks_need atoms (Says.Digit n s bit value) v r h q a = absurd h
+  asks_need atoms (Says.IsThere n s) v r h q a = absurd h
+  asks_need atoms Says.Learnt v r h q a = absurd h
+
+  -- the place, the literals and what is stated of a clause that came
+  module _ (x : Stated N S) (literals : List Signed) (id : ClauseId) (old new : Coding N S) (before : IsCoding old) (states : States x literals id old new) where
+    pub came_at : (n : ℕ) → length old.search.clauses ≤ n → n < length new.search.clauses → n ≡ length old.search.clauses
+    came_at n low high =
+        let long : length new.search.clauses ≡ length old.search.clauses + 1 = ap length states.added ∙ length-append old.search.clauses (states.clause ∷ []) in
+        omega arith
+
+    pub came_literals : clause_at (clauses_of new.search) (length old.search.clauses) ≡ literals
+    came_literals =
+        literals_at new.search.clauses (length old.search.clauses) states.clause (subst (λ (cs : List HeldClause). slice_get cs (length old.search.clauses) ≡ Some states.clause) (sym states.added) (get_last old.search.clauses states.clause))
+        ∙ states.literals
+
+    pub came_stated : stated_at new.stated.items (length old.search.clauses) ≡ Some x
+    came_stated =
+        subst (λ n. slice_get new.stated.items n ≡ Some x) before.each
+        (subst (λ (xs : List (Stated N S)). slice_get xs (length old.stated.items) ≡ Some x) (sym states.stated) (get_last old.stated.items x))
+
+  -- A clause of a need, or of a gate, came.
+  pub need_keeps : (x : Stated N S) (v : VariableId) (r : Requirement) (old new : Encoding N S) → IsEncoding same p root old → has_candidates old.lists r ≡ true → IsNeed same p root old.coding.atoms.keys x v r → StatesNeed x v r old new
+      → IsEncoding same p root new × ((q : Rule N S) → rule_of x ≡ Some q → E.rules_of new q)
+  need_keeps x v r old new e has_list need came = (carried same exact p root old new e carries, λ q is. (length old.coding.search.clauses, rule_stated new.coding.stated.items (length old.coding.search.clauses) x stated_here ∙ is))
+    where
+      literals : List Signed
+      literals = no v ∷ literals_in (candidates_in old.lists r)
+
+      number : came.number.0 ≡ length old.coding.search.clauses
+      number = came.states.number
+
+      stated_here : stated_at new.coding.stated.items (length old.coding.search.clauses) ≡ Some x
+      stated_here = came_stated x literals came.number old.coding new.coding e.coding came.states
+
+      literals_here : clause_at (clauses_of new.coding.search) (length old.coding.search.clauses) ≡ literals
+      literals_here = came_literals x literals came.number old.coding new.coding e.coding came.states
+
+      place : (n : ℕ) → length old.coding.search.clauses ≤ n → n < length new.coding.search.clauses → n ≡ length old.coding.search.clauses
+      place = came_at x literals came.number old.coding new.coding e.coding came.states
+
+      atoms : new.coding.atoms.keys ≡ old.coding.atoms.keys
+      atoms = ap (λ a. a.keys) came.states.atoms
+
+      tracked : (m : N) (u : VariableId) → IsTracked old.registry m u → IsTracked new.registry m u
+      tracked m u h = subst (λ t. IsTracked t m u) (sym came.registry) h
+
+      candidate : (n : N) (s : S) (c : Candidate N) → IsCandidate old n s c → IsCandidate new n s c
+      candidate n s c h = candidate_grows same exact p root old new n s c came.states.grows tracked h
+
+      positive : (l : Signed) (s : S) → has literals l ≡ true → Means (origin new.coding.atoms.keys) l (plus (Atom.solvable s)) → Registered same p root new s
+      positive l s h m = elim (has-cons (no v) (literals_in (candidates_in old.lists r)) l h) [
+        | inl is ↦ absurd (both_ways false refl (ap (λ (y : Signed). y.positive) is ∙ (means_solvable new.coding.atoms.keys l s m).0))
+        | inr a ↦
+            let (c, stands, one) = literal_in (candidates_in old.lists r) l a in
+            let (t, fits, meets_it) = e.listed r c stands in
+            let fits_new = candidate (p.package_of t) t c fits in
+            let here : StandsFor new.coding.atoms.keys c.literal.variable (Solvable s) = subst (λ (y : Signed). StandsFor new.coding.atoms.keys y.variable (Solvable s)) (sym one) (means_solvable new.coding.atoms.keys l s m).1 in
+            let same_solvable : t ≡ s = some_one t s (sym (solvable_stands new.coding.atoms.keys c.literal.variable t fits_new.stands) ∙ solvable_stands new.coding.atoms.keys c.literal.variable s here) in
+            subst (λ y. Registered same p root new y) same_solvable (c.literal.variable, fits_new.stands, fits_new.tracked)
+      ]
+
+      right : Came same exact p root new (length old.coding.search.clauses)
+      right = record {
+        stated = x;
+        at = stated_here;
+        rule = λ q is. (let (rule, spells) = need_rule old e x v r has_list need q is in (rule, subst (λ (cl : List Signed). Spells (origin new.coding.atoms.keys) cl (literals_of same p q)) (sym literals_here) (subst (λ ks. Spells (origin ks) literals (literals_of same p q)) (sym atoms) spells)));
+        positive = λ l s h m. positive l s (subst (λ (cl : List Signed). has cl l ≡ true) literals_here h) m;
+      }
+
+      lists_same : (q : Requirement) → has_candidates old.lists q ≡ true → has_candidates new.lists q ≡ true
+      lists_same q h = subst (λ ls. has_candidates ls q ≡ true) (sym came.lists) h
+
+      same_rule : (n : ℕ) (q : Rule N S) → length old.coding.search.clauses ≤ n → n < length new.coding.search.clauses → rule_at new.coding.stated.items n ≡ Some q → rule_of x ≡ Some q
+      same_rule n q low high at = sym (rule_stated new.coding.stated.items (length old.coding.search.clauses) x stated_here) ∙ subst (λ k. rule_at new.coding.stated.items k ≡ Some q) (place n low high) at
+
+      fixed : (q : Requirement) → HasClause same p (E.rules_of new) q → has_candidates new.lists q ≡ true
+      fixed q (inl (parent, wanted, vs, stands, is)) = elim (rules_split old.coding new.coding e.coding came.states.coding came.states.grows (Rule.needs parent wanted vs) stands) [
+        | inl a ↦ lists_same q (e.fixed q (inl (parent, wanted, vs, a, is)))
+        | inr (n, low, high, at) ↦ lists_same q (subst (λ y. has_candidates old.lists y ≡ true) (sym (asks_need old.coding.atoms.keys x v r need q (inl (parent, wanted, vs, same_rule n (Rule.needs parent wanted vs) low high at, is)))) has_list)
+      ]
+      fixed q (inr stands) = elim (rules_split old.coding new.coding e.coding came.states.coding came.states.grows (Rule.shared q) stands) [
+        | inl a ↦ lists_same q (e.fixed q (inr a))
+        | inr (n, low, high, at) ↦ lists_same q (subst (λ y. has_candidates old.lists y ≡ true) (sym (asks_need old.coding.atoms.keys x v r need q (inr (same_rule n (Rule.shared q) low high at)))) has_list)
+      ]
+
+      next : NeedClause
+      next = record { parent = v; requirement = r; condition = None; clause = came.number }
+
+      queued : (q : NeedClause) → Contains new.queue q → IsQueuedFor new.coding.atoms.keys (stated_at new.coding.stated.items q.clause.0) q
+      queued q h = elim (contains_parts q old.queue (next ∷ []) (subst (λ qs. Contains qs q) came.queue h)) [
+        | inl a ↦ queued_keeps same exact p root lawful old new e came.states.grows q a
+        | inr a ↦ subst (λ y. IsQueuedFor new.coding.atoms.keys (stated_at new.coding.stated.items y.clause.0) y) (sym (contains_one q next a))
+            (subst (λ (o : Option (Stated N S)). IsQueuedFor new.coding.atoms.keys o next) (sym (ap (λ n. stated_at new.coding.stated.items n) number ∙ stated_here))
+            (subst (λ ks. IsQueuedFor ks (Some x) next) (sym atoms) (need_queued old.coding.atoms.keys x v r came.number need)))
+      ]
+
+      carries : Carries same exact p root old new
+      carries = record {
+        coding = came.states.coding;
+        grows = came.states.grows;
+        trail = came.states.trail;
+        tied = subst (λ t. AreTied t new.coding) (sym came.registry) (ties_grow old.registry old.coding new.coding came.states.grows e.tied);
+        keeps = tracked;
+        registered = λ n s (u, stands, there). inl (u, subst (λ ks. StandsFor ks u (Solvable s)) atoms stands, subst (λ t. IsTracked t n u) came.registry there);
+        came = λ n low high. subst (λ k. Came same exact p root new k) (sym (place n low high)) right;
+        listed = λ q c a. (let (s, fits, m) = e.listed q c (subst (λ ls. Contains (candidates_in ls q) c) came.lists a) in (s, candidate (p.package_of s) s c fits, m));
+        offered = λ q s h m. (let (c, a, fits) = e.offered q s (subst (λ ls. has_candidates ls q ≡ true) came.lists h) m in (c, subst (λ ls. Contains (candidates_in ls q) c) (sym came.lists) a, candidate (p.package_of s) s c fits));
+        fixed = fixed;
+        queued = queued;
+        asked = λ n q at a. elim (rule_split old.coding new.coding e.coding came.states.coding came.states.grows n q at) [
+          | inl b ↦ (let (y, c, d) = e.asked n q b a in (y, subst (λ qs. Contains qs y) (sym came.queue) (contains_left y old.queue (next ∷ []) c), d))
+          | inr (low, high) ↦ (next, subst (λ qs. Contains qs next) (sym came.queue) (contains_right next old.queue (next ∷ []) (contains_only next)), number ∙ sym (place n low high))
+        ];
+        gates = gates_keep same exact p root lawful old new e came.states.grows came.gates;
+        within = within_keeps same exact p root lawful old new e came.parents came.encoded;
+        encoded = encoded_keeps same exact p root lawful old new e came.states.grows came.parents came.encoded;
+      }
+
+  -- the clause that a solvable opens a gate came
+  pub gated_keeps : (s : S) (v gate : VariableId) (need : ConditionalRequirement) (id : ClauseId) (old new : Encoding N S) → IsEncoding same p root old
+      → Contains (rules_for same p root (Some s)).requirements need → need.condition ≡ None → StandsFor old.coding.atoms.keys v (Solvable s) → StandsFor old.coding.atoms.keys gate (Gate need.requirement)
+      → States (Says.Gated s need.requirement) (no v ∷ yes gate ∷ []) id old.coding new.coding → SameButCoding old new
+      → IsEncoding same p root new × E.rules_of new (Rule.gated s need.requirement)
+  gated_keeps s v gate need id old new e listed free stands opens states rest = (carried same exact p root old new e carries, (length old.coding.search.clauses, rule_stated new.coding.stated.items (length old.coding.search.clauses) x stated_here))
+    where
+      r : Requirement
+      r = need.requirement
+
+      x : Stated N S
+      x = Says.Gated s r
+
+      literals : List Signed
+      literals = no v ∷ yes gate ∷ []
+
+      stated_here : stated_at new.coding.stated.items (length old.coding.search.clauses) ≡ Some x
+      stated_here = came_stated x literals id old.coding new.coding e.coding states
+
+      literals_here : clause_at (clauses_of new.coding.search) (length old.coding.search.clauses) ≡ literals
+      literals_here = came_literals x literals id old.coding new.coding e.coding states
+
+      place : (n : ℕ) → length old.coding.search.clauses ≤ n → n < length new.coding.search.clauses → n ≡ length old.coding.search.clauses
+      place = came_at x literals id old.coding new.coding e.coding states
+
+      atoms : new.coding.atoms.keys ≡ old.coding.atoms.keys
+      atoms = ap (λ a. a.keys) states.atoms
+
+      asks_it : asks (rules_of (p.dependencies_of s)).requirements r ≡ true
+      asks_it = contained_any (λ (n : ConditionalRequirement). not (has_condition n.condition) && same_requirement r n.requirement) need (rules_of (p.dependencies_of s)).requirements listed
+          (ap (λ c. not (has_condition c) && same_requirement r need.requirement) free ∙ same_requirement-self r)
+
+      head : Means (origin old.coding.atoms.keys) (no v) (minus (Atom.solvable s))
+      head = means_atom old.coding.atoms.keys (no v) (Solvable s) stands
+
+      door : Means (origin old.coding.atoms.keys) (yes gate) (plus (Atom.gate r))
+      door = means_atom old.coding.atoms.keys (yes gate) (Gate r) opens
+
+      spells : Spells (origin old.coding.atoms.keys) literals (minus (Atom.solvable s) ∷ plus (Atom.gate r) ∷ [])
+      spells = record {
+        only = λ l h. inr (elim (has-cons (no v) (yes gate ∷ []) l h) [
+          | inl is ↦ subst (λ (y : Signed). (0 < y.variable.0) × Contains (minus (Atom.solvable s) ∷ plus (Atom.gate r) ∷ []) (meaning (origin old.coding.atoms.keys) y)) is (head.0, contains_first _ (minus (Atom.solvable s)) (plus (Atom.gate r) ∷ []) head.1)
+          | inr a ↦ subst (λ (y : Signed). (0 < y.variable.0) × Contains (minus (Atom.solvable s) ∷ plus (Atom.gate r) ∷ []) (meaning (origin old.coding.atoms.keys) y)) (only_one l a) (door.0, contains_later _ (minus (Atom.solvable s)) (plus (Atom.gate r) ∷ []) (contains_first _ (plus (Atom.gate r)) [] door.1))
+        ]);
+        each = λ m h. elim (contains_cases m (minus (Atom.solvable s)) (plus (Atom.gate r) ∷ []) h) [
+          | inl is ↦ (no v, has_here (no v) (yes gate ∷ []) (no v) refl, subst (Means (origin old.coding.atoms.keys) (no v)) (sym is) head)
+          | inr a ↦ (yes gate, has_later (no v) (yes gate ∷ []) (yes gate) (has_here (yes gate) [] (yes gate) refl), subst (Means (origin old.coding.atoms.keys) (yes gate)) (sym (contains_one m (plus (Atom.gate r)) a)) door)
+        ];
+      }
+        where
+          only_one : (l : Signed) → has (yes gate ∷ []) l ≡ true → yes gate ≡ l
+          only_one l a = elim (has-cons (yes gate) [] l a) [ inl is ↦ is | inr f ↦ absurd (both_ways false refl f) ]
+
+      no_solvable : (l : Signed) (t : S) → has literals l ≡ true → Means (origin new.coding.atoms.keys) l (plus (Atom.solvable t)) → ⊥
+      no_solvable l t h m = elim ((subst (λ ks. Spells (origin ks) literals (minus (Atom.solvable s) ∷ plus (Atom.gate r) ∷ [])) (sym atoms) spells).only l h) [
+        | inl z ↦ both_ways false refl (ap (λ (y : Signed). y.positive) (sym z) ∙ (means_solvable new.coding.atoms.keys l t m).0)
+        | inr (z, c) ↦ elim (contains_cases (meaning (origin new.coding.atoms.keys) l) (minus (Atom.solvable s)) (plus (Atom.gate r) ∷ []) c) [
+          | inl is ↦ both_ways false refl (ap (λ (y : Literal (Atom N S)). y.positive) (sym is) ∙ ap (λ (y : Literal (Atom N S)). y.positive) (sym m.1))
+          | inr b ↦ both_ways false refl (sym (ap (λ (y : Literal (Atom N S)). is_choice y.atom) m.1 ∙ ap (λ (y : Literal (Atom N S)). is_choice y.atom) (contains_one (meaning (origin new.coding.atoms.keys) l) (plus (Atom.gate r)) b)))
+        ]
+      ]
+
+      right : Came same exact p root new (length old.coding.search.clauses)
+      right = record {
+        stated = x;
+        at = stated_here;
+        rule = λ q is. (let one : Rule.gated s r ≡ q = some_one (Rule.gated s r) q is in
+            subst (λ (y : Rule N S). IsRule same p root y × Spells (origin new.coding.atoms.keys) (clause_at (clauses_of new.coding.search) (length old.coding.search.clauses)) (literals_of same p y)) one
+            (asks_it, subst (λ (cl : List Signed). Spells (origin new.coding.atoms.keys) cl (minus (Atom.solvable s) ∷ plus (Atom.gate r) ∷ [])) (sym literals_here) (subst (λ ks. Spells (origin ks) literals (minus (Atom.solvable s) ∷ plus (Atom.gate r) ∷ [])) (sym atoms) spells)));
+        positive = λ l t h m. absurd (no_solvable l t (subst (λ (cl : List Signed). has cl l ≡ true) literals_here h) m);
+      }
+
+      none : NoneAsks same exact p root lawful old new
+      none n q low high at a =
+          let one : Rule.gated s r ≡ q = some_one (Rule.gated s r) q (sym (rule_stated new.coding.stated.items (length old.coding.search.clauses) x stated_here) ∙ subst (λ k. rule_at new.coding.stated.items k ≡ Some q) (place n low high) at) in
+          subst Asks (sym one) a
+
+      carries : Carries same exact p root old new
+      carries = kept_carries same exact p root lawful old new e states.coding states.grows states.trail rest (λ n low high. subst (λ k. Came same exact p root new k) (sym (place n low high)) right) none
+
+  -- a variable came, or nothing
+  pub gives_keeps : (a : ProofAtom N S) (v : VariableId) (old new : Encoding N S) → IsEncoding same p root old → Gives a v old.coding new.coding → SameButCoding old new → IsEncoding same p root new
+  gives_keeps a v old new e gives rest = carried same exact p root old new e
+      (kept_carries same exact p root lawful old new e gives.coding gives.grows gives.trail rest (λ n low high. absurd (nothing n low high)) (λ n q low high at b. nothing n low high))
+    where
+      nothing : (n : ℕ) → length old.coding.search.clauses ≤ n → n < length new.coding.search.clauses → ⊥
+      nothing n low high = let same_length : length new.coding.search.clauses ≡ length old.coding.search.clauses = ap length gives.clauses in omega arith
+
+  -- a gate is noted, whose clause is there
+  pub gate_noted : (old new : Encoding N S) (r : Requirement) (v : VariableId) → IsEncoding same p root old → StandsFor old.coding.atoms.keys v (Gate r) → E.rules_of old (Rule.shared r)
+      → PutsAt old.gates new.gates r v → new ≡ record old { gates = new.gates } → IsEncoding same p root new
+  gate_noted old new r v e stands rule puts is = subst (λ (x : Encoding N S). IsEncoding same p root x) (sym is) (record {
+    coding = e.coding;
+    tied = e.tied;
+    spelled = e.spelled;
+    rule = e.rule;
+    positive = e.positive;
+    named = e.named;
+    candidates = e.candidates;
+    listed = λ q c a. (let (s, fits, m) = e.listed q c a in (s, record { positive = fits.positive; stands = fits.stands; tracked = fits.tracked }, m));
+    offered = λ q s h m. (let (c, a, fits) = e.offered q s h m in (c, a, record { positive = fits.positive; stands = fits.stands; tracked = fits.tracked }));
+    fixed = e.fixed;
+    queued = e.queued;
+    asked = e.asked;
+    gates = λ q u at. elim (put_other old.gates new.gates r q v puts) [
+      | inl same_one ↦ (let one : v ≡ u = some_one v u (sym (ap (slot_of new.gates) same_one ∙ put_at old.gates new.gates r v puts) ∙ at) in
+          (subst (λ y. StandsFor old.coding.atoms.keys u (Gate y)) (sym same_one) (subst (λ w. StandsFor old.coding.atoms.keys w (Gate r)) one stands), subst (λ y. E.rules_of old (Rule.shared y)) (sym same_one) rule))
+      | inr stays ↦ e.gates q u (sym stays ∙ at)
+    ];
+    within = e.within;
+    encoded = e.encoded;
+    called = e.called;
+  })
+
+  -- the literals of a need's clause have variables
+  pub need_in_range : (e : Encoding N S) (v : VariableId) (r : Requirement) → IsEncoding same p root e → v.0 < count_of e.coding.search → AreInRange (count_of e.coding.search) (no v ∷ literals_in (candidates_in e.lists r))
+  need_in_range e v r holds below l h = elim (has-cons (no v) (literals_in (candidates_in e.lists r)) l h) [
+    | inl is ↦ subst (λ (y : Signed). y.variable.0 < count_of e.coding.search) is below
+    | inr a ↦
+        let (c, stands, one) = literal_in (candidates_in e.lists r) l a in
+        let (s, fits, m) = holds.listed r c stands in
+        subst (λ (y : Signed). y.variable.0 < count_of e.coding.search) one (stands_in_range e.coding c.literal.variable (Solvable s) holds.coding fits.stands)
+  ]
+
+  -- At its start the encoding is one of any packages.
+  pub begun_encodes : (e : Encoding N S) → IsBegunEncoding e → IsEncoding same p root e
+  begun_encodes e b = record {
+    coding = b.coding.coding;
+    tied = nothing_tied e.registry e.coding b.registry.names b.registry.trackers;
+    spelled = λ n r h. absurd (no_rule n r h);
+    rule = λ r (n, h). absurd (no_rule n r h);
+    positive = λ n l s h (other, m). absurd (rootless n l h other);
+    named = λ n s (v, stands, tracked). absurd (no_tracker v tracked);
+    candidates = λ s (v, stands, tracked). absurd (no_tracker v tracked);
+    listed = λ r c h. absurd (contains_none c (subst (λ o. Contains (items_or_none o) c) (b.lists.candidates r) h));
+    offered = λ r s h m. absurd (both_ways false refl (sym (ap is_some (b.lists.candidates r)) ∙ h));
+    fixed = λ r h. absurd (elim h [ inl (parent, need, case, (n, at), is) ↦ no_rule n (Rule.needs parent need case) at | inr (n, at) ↦ no_rule n (Rule.shared r) at ]);
+    queued = λ q h. absurd (contains_none q (subst (λ qs. Contains qs q) b.queue h));
+    asked = λ n r h a. absurd (no_rule n r h);
+    gates = λ r v at. absurd (none_some v (sym (b.gates r) ∙ at));
+    within = (let none : e.encoded ≡ 0 = b.encoded in omega arith);
+    encoded = λ i parent need below at stands. (let none : e.encoded ≡ 0 = b.encoded in absurd (omega arith));
+    called = λ x older stands is other. absurd (no_choice x older stands other);
+  }
+    where
+      none_some : (v : VariableId) → None ≡ Some v → ⊥
+      none_some v h = absurd cc
+
+      no_rule : (n : ℕ) (r : Rule N S) → rule_at e.coding.stated.items n ≡ Some r → ⊥
+      no_rule n r h = go n (subst (λ (xs : List (Stated N S)). rule_at xs n ≡ Some r) b.coding.stated h)
+        where
+          go : (k : ℕ) → rule_at (Says.Root ∷ []) k ≡ Some r → ⊥
+          go zero f = absurd cc
+          go (suc k) f = absurd cc
+
+      no_tracker : {m : N} (v : VariableId) → IsTracked e.registry m v → ⊥
+      no_tracker {m} v t = nothing t.place (subst (λ (xs : List N). slice_get xs t.place ≡ Some m) b.registry.names t.named)
+        where
+          nothing : (k : ℕ) → slice_get [] k ≡ Some m → ⊥
+          nothing k h = absurd cc
+
+      rootless : (n : ℕ) (l : Signed) → has (clause_at (clauses_of e.coding.search) n) l ≡ true → 0 < l.variable.0 → ⊥
+      rootless n l h other = go e.coding.search.clauses b.coding.clause n h
+        where
+          go : (cs : List HeldClause) → IsRootClause cs → (k : ℕ) → has (clause_at (lists cs) k) l ≡ true → ⊥
+          go [] r k f = absurd r
+          go (c ∷ d ∷ cs) r k f = absurd r
+          go (c ∷ []) (is, none) zero f = elim (has-cons (yes root_variable) [] l (subst (λ (x : List Signed). has x l ≡ true) is f)) [
+            | inl i ↦ let z : l.variable.0 ≡ 0 = ap (λ (y : Signed). y.variable.0) (sym i) in omega arith
+            | inr g ↦ both_ways false refl g
+          ]
+          go (c ∷ []) r (suc k) f = both_ways false refl f
+
+      no_choice : (x : Entry) (older : List Entry) → StandsOn (history e.coding.search) x older → 0 < x.decision.variable.0 → ⊥
+      no_choice x older stands other = go (subst (λ (t : List Entry). StandsOn (reverse t) x older) b.coding.trail stands)
+        where
+          go : StandsOn (root_entry ∷ []) x older → ⊥
+          go (inl (is, rest)) = let z : x.decision.variable.0 ≡ 0 = ap (λ (y : Entry). y.decision.variable.0) (sym is) in omega arith
+          go (inr f) = f

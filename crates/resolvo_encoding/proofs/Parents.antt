@@ -1,0 +1,71 @@
+-- Parents come, and their needs are encoded in turn.
+use Rattle.std.proofs.Common.{◌≡◌, ℕ, ◌+◌, ◌<◌, ◌≤◌, ◌⊎◌, inl, inr, Bool, true, false, List, [], ◌∷◌, ◌++◌, length, cond, Some, refl, sym, subst, arith}
+use Rattle.std.specs.Prelude.{slice_get}
+use Rattle.std.specs.List.{list_any}
+use Rattle.indexmap.specs.IndexSet.{insert_key}
+use Rattle.resolvo_pool.specs.declared.solver_id.SolvableIdOrRoot.{SolvableIdOrRoot}
+use Rattle.resolvo_pool.specs.RuleKeeping.{Packages, Rules}
+use Rattle.resolvo_store.specs.AtMostOne.{IsFrontOf}
+use Rattle.resolvo_coding.proofs.Positions.{get_old, front_long, front_same}
+use Rattle.resolvo_encoding.proofs.Carrying.{split_at}
+use Rattle.resolvo_encoding.specs.Encoded.{IsEncoding}
+use Rattle.resolvo_encoding.specs.Steps.{AddsParent, IsNextEncoded}
+use Rattle.resolvo_encoding.specs.declared.encoding.Encoding.{Encoding}
+
+-- what is put into a list without repeats comes behind the others, or stood there
+pub front_insert : {X : Type 0} (eq : X → X → Bool) (xs : List X) (x : X) → IsFrontOf xs (insert_key eq xs x)
+front_insert {X} eq xs x = go (list_any (eq x) xs)
+  where
+    go : (b : Bool) → IsFrontOf xs (cond b xs (xs ++ x ∷ []))
+    go true = front_same xs
+    go false = (x ∷ [], refl)
+
+module _ {N S : Type 0} (same : S → S → Bool) (p : Packages N S) (root : Rules) where
+  -- more parents leave the encoding one
+  pub parent_keeps : (old new : Encoding N S) → IsEncoding same p root old → AddsParent old new → IsEncoding same p root new
+  parent_keeps old new e added = subst (λ (x : Encoding N S). IsEncoding same p root x) (sym added.rest) (record {
+    coding = e.coding;
+    tied = e.tied;
+    spelled = e.spelled;
+    rule = e.rule;
+    positive = e.positive;
+    named = e.named;
+    candidates = e.candidates;
+    listed = λ q c a. (let (s, fits, m) = e.listed q c a in (s, record { positive = fits.positive; stands = fits.stands; tracked = fits.tracked }, m));
+    offered = λ q s h m. (let (c, a, fits) = e.offered q s h m in (c, a, record { positive = fits.positive; stands = fits.stands; tracked = fits.tracked }));
+    fixed = e.fixed;
+    queued = e.queued;
+    asked = e.asked;
+    gates = e.gates;
+    within = (let a : length old.parents.keys ≤ length new.parents.keys = front_long old.parents.keys new.parents.keys added.front in let b : old.encoded ≤ length old.parents.keys = e.within in omega arith);
+    encoded = λ i parent need below at stands. (let b : old.encoded ≤ length old.parents.keys = e.within in let (more, is) = added.front in
+        e.encoded i parent need below (get_old old.parents.keys more i parent (omega arith) (subst (λ (ks : List (SolvableIdOrRoot S)). slice_get ks i ≡ Some parent) is at)) stands);
+    called = e.called;
+  })
+
+  -- the needs of one parent more are encoded
+  pub next_keeps : (e : Encoding N S) → IsEncoding same p root e → e.encoded < length e.parents.keys → IsNextEncoded same p root e → IsEncoding same p root (record e { encoded = e.encoded + 1 })
+  next_keeps old e below next = record {
+    coding = e.coding;
+    tied = e.tied;
+    spelled = e.spelled;
+    rule = e.rule;
+    positive = e.positive;
+    named = e.named;
+    candidates = e.candidates;
+    listed = λ q c a. (let (s, fits, m) = e.listed q c a in (s, record { positive = fits.positive; stands = fits.stands; tracked = fits.tracked }, m));
+    offered = λ q s h m. (let (c, a, fits) = e.offered q s h m in (c, a, record { positive = fits.positive; stands = fits.stands; tracked = fits.tracked }));
+    fixed = e.fixed;
+    queued = e.queued;
+    asked = e.asked;
+    gates = e.gates;
+    within = omega arith;
+    encoded = λ i parent need low at stands. elim (last_or_before i old.encoded low) [
+      | inl before ↦ e.encoded i parent need before at stands
+      | inr is ↦ next parent need (subst (λ n. slice_get old.parents.keys n ≡ Some parent) is at) stands
+    ];
+    called = e.called;
+  }
+    where
+      last_or_before : (i n : ℕ) → i < n + 1 → (i < n) ⊎ (i ≡ n)
+      last_or_before i n h = elim (split_at i n) [ inl a ↦ inl a | inr a ↦ inr (omega arith) ]

@@ -1,0 +1,388 @@
+-- What each step of encoding leaves standing of the packages' encoding.
+use Rattle.std.proofs.Common.{◌≡◌, ℕ, ◌<◌, ◌≤◌, ◌⊎◌, inl, inr, Bool, true, false, List, [], ◌∷◌, length, Option, Some, None, refl, sym, ◌∙◌, ap, subst, arith, Vec, Global, ◌==◌, eqb-true, eq-eqb, unwrap_or, is_some}
+use Rattle.std.specs.Prelude.{Contains, slice_get}
+use Rattle.std.specs.List.{AllByRecursion}
+use Rattle.std.proofs.lemmas.Bool.{both_ways, cases_Bool, and_parts}
+use Rattle.resolvo_pool.specs.declared.id.VariableId.{VariableId}
+use Rattle.resolvo_pool.specs.declared.id.VersionSetId.{VersionSetId}
+use Rattle.resolvo_pool.specs.declared.requirement.ConditionalRequirement.{ConditionalRequirement}
+use Rattle.resolvo_pool.specs.declared.requirement.Requirement.{Requirement}
+use Rattle.resolvo_pool.specs.declared.solver_id.SolvableIdOrRoot.{SolvableIdOrRoot}
+use Rattle.resolvo_pool.specs.declared.requirement.Requirement.TheVariants.{Single, Union}
+use Rattle.resolvo_pool.specs.ByRequirement.{slot_of, PutsAt}
+use Rattle.resolvo_pool.specs.Slots.{at}
+use Rattle.resolvo_pool.specs.OnePass.{Literal}
+use Rattle.resolvo_pool.specs.Provider.{listed}
+use Rattle.resolvo_pool.specs.Text.{solvable_of, alternatives_of}
+use Rattle.resolvo_pool.specs.RuleKeeping.{Packages, Rules, IsLawful, is_in, is_match, meets, rules_for}
+use Rattle.resolvo_store.specs.Signed.{Signed, has}
+use Rattle.resolvo_store.specs.Lists.{has_candidates, candidates_in, items_or_none, FixesCandidates}
+use Rattle.resolvo_store.specs.declared.decide_queue.NeedClause.{NeedClause}
+use Rattle.resolvo_store.specs.declared.lists.Candidate.{Candidate}
+use Rattle.resolvo_store.specs.declared.lists.FixedLists.{FixedLists}
+use Rattle.resolvo_search.specs.Known.{clause_at}
+use Rattle.resolvo_search.specs.State.{clauses_of}
+use Rattle.resolvo_rules.specs.Encoding.{IsExact, Atom, Rule, plus, minus, IsRule, literals_of}
+use Rattle.resolvo_rules.specs.Ending.{IsNeedEncoded, HasClause}
+use Rattle.resolvo_rules.specs.Numbered.{meaning, Means, Spells}
+use Rattle.resolvo_rules.proofs.Lists.{contains_none, contains_cases, contains_one, contains_map, map_contains}
+use Rattle.resolvo_rules.proofs.Members.{candidate_named, in_contained, contained_in}
+use Rattle.resolvo_rules.proofs.Lists.{any_contained}
+use Rattle.resolvo_answers.specs.declared.answers.Offered.{Offered}
+use Rattle.resolvo_answers.specs.Answering.{offered_solvables, AreOffered}
+use Rattle.resolvo_coding.specs.declared.atom.ProofAtom.TheVariants.{Solvable, Gate}
+use Rattle.resolvo_coding.specs.declared.stated.Stated.{Stated}
+use Rattle.resolvo_coding.specs.declared.stated.Stated.TheVariants as Says
+use Rattle.resolvo_coding.specs.declared.coding.Coding.{Coding}
+use Rattle.resolvo_coding.specs.declared.registry.Registry.{Registry}
+use Rattle.resolvo_coding.specs.Atoms.{origin, StandsFor}
+use Rattle.resolvo_coding.specs.Statements.{rule_of, stated_at, rule_at}
+use Rattle.resolvo_coding.specs.Coding.{IsCoding, Grows, SameTrail}
+use Rattle.resolvo_coding.specs.Registered.{AreTied, IsTracked, IsRegistered, IsDigitClause, digit_literals}
+use Rattle.resolvo_encoding.specs.Encoded.{IsParentVariable, IsCandidate, IsQueuedFor, Asks, Registered, IsEncoding}
+use Rattle.resolvo_encoding.specs.Encoded as E
+use Rattle.resolvo_encoding.specs.Steps.{IsOfferedAs, RegistersAll, Fixes, StatesNeed, SameButCoding, Extends}
+use Rattle.resolvo_encoding.specs.declared.encoding.Encoding.{Encoding}
+use Rattle.resolvo_coding.proofs.Origins.{solvable_stands}
+use Rattle.resolvo_coding.proofs.Registering.{ties_grow}
+use Rattle.resolvo_coding.proofs.Rules.{rule_stated}
+use Rattle.resolvo_coding.proofs.Growth.{grows_same, grows_then, stands_grow, rules_grow, stated_grows, rule_split, rules_split, spelled_grows, registered_grows, called_grows_trail}
+
+-- the same decision is made for the clause as variables come
+pub queued_grows : {N S : Type 0} (old new : Coding N S) (x : Option (Stated N S)) (q : NeedClause) → Grows old new → IsQueuedFor old.atoms.keys x q → IsQueuedFor new.atoms.keys x q
+queued_grows old new None q grows h = h
+queued_grows old new (Some Says.Root) q grows h = h
+queued_grows old new (Some (Says.Needs None need case)) q grows h = h
+queued_grows old new (Some (Says.Needs (Some s) need case)) q grows (a, b, c, d) = (a, b, c, stands_grow old new q.parent (Solvable s) grows d)
+queued_grows old new (Some (Says.Gated s r)) q grows h = h
+queued_grows old new (Some (Says.Shared r)) q grows (a, b, c) = (a, b, stands_grow old new q.parent (Gate r) grows c)
+queued_grows old new (Some (Says.Limits parent v s)) q grows h = h
+queued_grows old new (Some (Says.LimitsOutside parent v)) q grows h = h
+queued_grows old new (Some (Says.IsOut v s)) q grows h = h
+queued_grows old new (Some (Says.Locked locked s)) q grows h = h
+queued_grows old new (Some (Says.Excluded s why)) q grows h = h
+queued_grows old new (Some (Says.Digit n s bit value)) q grows h = h
+queued_grows old new (Some (Says.IsThere n s)) q grows h = h
+queued_grows old new (Some Says.Learnt) q grows h = h
+
+module _ {N S : Type 0} (same : S → S → Bool) (exact : IsExact same) (p : Packages N S) (root : Rules) where
+  -- what came with the clause of this number
+  pub record Came (new : Encoding N S) (n : ℕ) : Type 0 where
+    pub stated : Stated N S
+    pub at : stated_at new.coding.stated.items n ≡ Some stated
+    pub rule : (r : Rule N S) → rule_of stated ≡ Some r → IsRule same p root r × Spells (origin new.coding.atoms.keys) (clause_at (clauses_of new.coding.search) n) (literals_of same p r)
+    pub positive : (l : Signed) (s : S) → has (clause_at (clauses_of new.coding.search) n) l ≡ true → Means (origin new.coding.atoms.keys) l (plus (Atom.solvable s)) → Registered same p root new s
+
+  -- The encoding stays one of the packages where what came with each clause is right, and so are the lists, the queue and
+  -- the parents.
+  pub record Carries (old new : Encoding N S) : Type 0 where
+    pub coding : IsCoding new.coding
+    pub grows : Grows old.coding new.coding
+    pub trail : SameTrail old.coding new.coding
+    pub tied : AreTied new.registry new.coding
+    pub keeps : (m : N) (u : VariableId) → IsTracked old.registry m u → IsTracked new.registry m u
+    pub registered : (n : N) (s : S) → IsRegistered new.registry new.coding n s → IsRegistered old.registry old.coding n s ⊎ ((n ≡ p.package_of s) × (is_in same p (listed (p.candidates_of (p.package_of s))) s ≡ true))
+    pub came : (n : ℕ) → length old.coding.search.clauses ≤ n → n < length new.coding.search.clauses → Came new n
+    pub listed : (r : Requirement) (c : Candidate N) → Contains (candidates_in new.lists r) c → (s : S) × IsCandidate new (p.package_of s) s c × (meets same p r s ≡ true)
+    pub offered : (r : Requirement) (s : S) → has_candidates new.lists r ≡ true → meets same p r s ≡ true → (c : Candidate N) × Contains (candidates_in new.lists r) c × IsCandidate new (p.package_of s) s c
+    pub fixed : (r : Requirement) → HasClause same p (E.rules_of new) r → has_candidates new.lists r ≡ true
+    pub queued : (q : NeedClause) → Contains new.queue q → IsQueuedFor new.coding.atoms.keys (stated_at new.coding.stated.items q.clause.0) q
+    pub asked : (n : ℕ) (r : Rule N S) → rule_at new.coding.stated.items n ≡ Some r → Asks r → (q : NeedClause) × Contains new.queue q × (q.clause.0 ≡ n)
+    pub gates : (r : Requirement) (v : VariableId) → slot_of new.gates r ≡ Some v → StandsFor new.coding.atoms.keys v (Gate r) × E.rules_of new (Rule.shared r)
+    pub within : new.encoded ≤ length new.parents.keys
+    pub encoded : (i : ℕ) (parent : SolvableIdOrRoot S) (need : ConditionalRequirement) → i < new.encoded → slice_get new.parents.keys i ≡ Some parent
+        → Contains (rules_for same p root (solvable_of parent)).requirements need → IsNeedEncoded same p (E.rules_of new) (solvable_of parent) need []
+
+  pub carried : (old new : Encoding N S) → IsEncoding same p root old → Carries old new → IsEncoding same p root new
+  carried old new e h = record {
+    coding = h.coding;
+    tied = h.tied;
+    spelled = spelled_grows same p old.coding new.coding e.coding h.coding h.grows e.spelled (λ n r low high at. (spelled_at n r low high at).1);
+    rule = λ r stands. elim (rules_split old.coding new.coding e.coding h.coding h.grows r stands) [
+      | inl a ↦ e.rule r a
+      | inr (n, low, high, at) ↦ (spelled_at n r low high at).0
+    ];
+    positive = registered_grows (Registered same p root old) (Registered same p root new) old.coding new.coding e.coding h.coding h.grows stays e.positive (λ n l s low high a b. (h.came n low high).positive l s a b);
+    named = λ n s a. elim (h.registered n s a) [ inl b ↦ e.named n s b | inr (b, c) ↦ b ];
+    candidates = λ s a. elim (h.registered (p.package_of s) s a) [ inl b ↦ e.candidates s b | inr (b, c) ↦ c ];
+    listed = h.listed;
+    offered = h.offered;
+    fixed = h.fixed;
+    queued = h.queued;
+    asked = h.asked;
+    gates = h.gates;
+    within = h.within;
+    encoded = h.encoded;
+    called = called_grows_trail same p [] old.coding new.coding e.coding h.grows h.trail e.called;
+  }
+    where
+      spelled_at : (n : ℕ) (r : Rule N S) → length old.coding.search.clauses ≤ n → n < length new.coding.search.clauses → rule_at new.coding.stated.items n ≡ Some r
+          → IsRule same p root r × Spells (origin new.coding.atoms.keys) (clause_at (clauses_of new.coding.search) n) (literals_of same p r)
+      spelled_at n r low high at =
+          let came = h.came n low high in
+          came.rule r (sym (rule_stated new.coding.stated.items n came.stated came.at) ∙ at)
+
+      stays : (s : S) → Registered same p root old s → Registered same p root new s
+      stays s (v, stands, tracked) = (v, stands_grow old.coding new.coding v (Solvable s) h.grows stands, h.keeps (p.package_of s) v tracked)
+
+  pub candidate_grows : (old new : Encoding N S) (n : N) (s : S) (c : Candidate N) → Grows old.coding new.coding → ((m : N) (u : VariableId) → IsTracked old.registry m u → IsTracked new.registry m u) → IsCandidate old n s c → IsCandidate new n s c
+  candidate_grows old new n s c grows keeps h = record { positive = h.positive; stands = stands_grow old.coding new.coding c.literal.variable (Solvable s) grows h.stands; tracked = keeps n c.literal.variable h.tracked }
+
+  -- a need that is encoded stays so
+  need_grows : (old new : Encoding N S) (parent : Option S) (need : ConditionalRequirement) (case : List VersionSetId) → Grows old.coding new.coding → IsNeedEncoded same p (E.rules_of old) parent need case → IsNeedEncoded same p (E.rules_of new) parent need case
+  need_grows old new parent need case grows (inl a) = inl (rules_grow old.coding new.coding grows (Rule.needs parent need case) a)
+  need_grows old new parent need case grows (inr (inl (s, e, a, b))) = inr (inl (s, e, rules_grow old.coding new.coding grows (Rule.gated s need.requirement) a, rules_grow old.coding new.coding grows (Rule.shared need.requirement) b))
+  need_grows old new parent need case grows (inr (inr a)) = inr (inr a)
+
+-- what a map by requirement has at one where it was put
+pub put_at : {V : Type 0} (m n : List (Option V) × List (Option V)) (r : Requirement) (x : V) → PutsAt m n r x → slot_of n r ≡ Some x
+put_at m n (Single v) x f = f.0.0
+put_at m n (Union u) x f = f.0.0
+
+-- another requirement has what it had
+pub put_other : {V : Type 0} (m n : List (Option V) × List (Option V)) (r q : Requirement) (x : V) → PutsAt m n r x → (q ≡ r) ⊎ (slot_of n q ≡ slot_of m q)
+put_other m n (Single v) (Single w) x f = elim (cases_Bool (w.0 == v.0)) [
+  | inl e ↦ inl (ap (λ k. Single (record { 0 = k })) (eqb-true w.0 v.0 e))
+  | inr e ↦ inr (f.0.1 w.0 (λ i. both_ways (w.0 == v.0) e (eq-eqb w.0 v.0 i)))
+]
+put_other {V} m n (Single v) (Union u) x f = inr (ap (λ (xs : List (Option V)). at xs u.0) f.1)
+put_other {V} m n (Union u) (Single w) x f = inr (ap (λ (xs : List (Option V)). at xs w.0) f.1)
+put_other m n (Union u) (Union w) x f = elim (cases_Bool (w.0 == u.0)) [
+  | inl e ↦ inl (ap (λ k. Union (record { 0 = k })) (eqb-true w.0 u.0 e))
+  | inr e ↦ inr (f.0.1 w.0 (λ i. both_ways (w.0 == u.0) e (eq-eqb w.0 u.0 i)))
+]
+
+-- the candidates of a requirement that got them
+fix_at : {N : Type 0} (r : Requirement) (given : Vec (Candidate N) Global) (old new : FixedLists N) → FixesCandidates r given old new → slot_of new.candidates r ≡ Some given
+fix_at r given old new f = put_at old.candidates new.candidates r given f.put
+
+-- another requirement has those that it had
+fix_other : {N : Type 0} (r q : Requirement) (given : Vec (Candidate N) Global) (old new : FixedLists N) → FixesCandidates r given old new → (q ≡ r) ⊎ (slot_of new.candidates q ≡ slot_of old.candidates q)
+fix_other r q given old new f = put_other old.candidates new.candidates r q given f.put
+
+each_of : {X : Type 0} (P : X → Type 0) (xs : List X) (x : X) → AllByRecursion P xs → Contains xs x → P x
+each_of P [] x h c = absurd (contains_none x c)
+each_of P (y ∷ ys) x (h, hs) c = elim (contains_cases x y ys c) [ inl e ↦ subst P (sym e) h | inr d ↦ each_of P ys x hs d ]
+
+pub some_one : {X : Type 0} (x y : X) → Some x ≡ Some y → x ≡ y
+some_one x y e = ap (λ o. unwrap_or o x) e
+
+module _ {N S : Type 0} (same : S → S → Bool) (exact : IsExact same) (p : Packages N S) (root : Rules) (lawful : IsLawful p) where
+  -- what meets a requirement is a candidate of its package
+  meets_listed : (r : Requirement) (s : S) → meets same p r s ≡ true → is_in same p (listed (p.candidates_of (p.package_of s))) s ≡ true
+  meets_listed r s h =
+      let (v, stands, match) = any_contained (λ w. is_match same p w s) (alternatives_of p.members_of r) h in
+      let there = (and_parts _ _ match).0 in
+      subst (λ n. is_in same p (listed (p.candidates_of n)) s ≡ true) (sym (candidate_named same exact p lawful (p.set_package v) s there)) there
+
+  offer_named : (r : Requirement) (offered : List (Offered N S)) (o : Offered N S) → AreOffered same p r offered → Contains offered o → o.name ≡ p.package_of o.solvable
+  offer_named r offered o h c = each_of (λ (x : Offered N S). x.name ≡ p.package_of x.solvable) offered o h.named c
+
+  offer_meets : (r : Requirement) (offered : List (Offered N S)) (o : Offered N S) → AreOffered same p r offered → Contains offered o → meets same p r o.solvable ≡ true
+  offer_meets r offered o h c = sym (h.matches o.solvable) ∙ contained_in same exact p (offered_solvables offered) o.solvable (contains_map (λ (x : Offered N S). x.solvable) o offered c)
+
+  meets_offer : (r : Requirement) (offered : List (Offered N S)) (s : S) → AreOffered same p r offered → meets same p r s ≡ true → (o : Offered N S) × Contains offered o × (s ≡ o.solvable)
+  meets_offer r offered s h m = map_contains (λ (x : Offered N S). x.solvable) s offered (in_contained same exact p (offered_solvables offered) s (h.matches s ∙ m))
+
+  -- a registered solvable was registered, or offered
+  registered_split : (offered : List (Offered N S)) (given : List (Candidate N)) (r t : Registry N) (old new : Coding N S) → AreTied r old → RegistersAll offered given r old t new
+      → (n : N) (s : S) → IsRegistered t new n s → IsRegistered r old n s ⊎ ((o : Offered N S) × Contains offered o × (n ≡ o.name) × (o.solvable ≡ s))
+  registered_split offered given r t old new tied all n s (v, stands, tracked) = elim (all.only n v tracked) [
+    | inl k ↦
+        let (x, before) = (tied.tied k.place n k.tracker k.named k.tracked).solvables v k.stands in
+        let one : x ≡ s = some_one x s (sym (solvable_stands new.atoms.keys v x (stands_grow old new v (Solvable x) all.grows before)) ∙ solvable_stands new.atoms.keys v s stands) in
+        inl (v, subst (λ y. StandsFor old.atoms.keys v (Solvable y)) one before, k)
+    | inr (o, c, e, f) ↦ inr (o, c, e, some_one o.solvable s (sym (solvable_stands new.atoms.keys v o.solvable f) ∙ solvable_stands new.atoms.keys v s stands))
+  ]
+
+  pub queued_keeps : (old new : Encoding N S) → IsEncoding same p root old → Grows old.coding new.coding → (q : NeedClause) → Contains old.queue q → IsQueuedFor new.coding.atoms.keys (stated_at new.coding.stated.items q.clause.0) q
+  queued_keeps old new e grows q c = go (stated_at old.coding.stated.items q.clause.0) refl (e.queued q c)
+    where
+      go : (x : Option (Stated N S)) → stated_at old.coding.stated.items q.clause.0 ≡ x → IsQueuedFor old.coding.atoms.keys (stated_at old.coding.stated.items q.clause.0) q → IsQueuedFor new.coding.atoms.keys (stated_at new.coding.stated.items q.clause.0) q
+      go None at h = absurd (subst (λ y. IsQueuedFor old.coding.atoms.keys y q) at h)
+      go (Some y) at h = subst (λ z. IsQueuedFor new.coding.atoms.keys z q) (sym (stated_grows old.coding new.coding grows q.clause.0 y at)) (queued_grows old.coding new.coding (Some y) q grows (subst (λ z. IsQueuedFor old.coding.atoms.keys z q) at h))
+
+  pub gates_keep : (old new : Encoding N S) → IsEncoding same p root old → Grows old.coding new.coding → new.gates ≡ old.gates
+      → (r : Requirement) (v : VariableId) → slot_of new.gates r ≡ Some v → StandsFor new.coding.atoms.keys v (Gate r) × E.rules_of new (Rule.shared r)
+  gates_keep old new e grows gates r v at =
+      let (stands, rule) = e.gates r v (sym (ap (λ gs. slot_of gs r) gates) ∙ at) in
+      (stands_grow old.coding new.coding v (Gate r) grows stands, rules_grow old.coding new.coding grows (Rule.shared r) rule)
+
+  -- no clause that came asks for a match
+  abbrev pub NoneAsks : Encoding N S → Encoding N S → Type 0
+  NoneAsks old new = (n : ℕ) (r : Rule N S) → length old.coding.search.clauses ≤ n → n < length new.coding.search.clauses → rule_at new.coding.stated.items n ≡ Some r → Asks r → ⊥
+
+  fixed_keeps : (old new : Encoding N S) → IsEncoding same p root old → IsCoding new.coding → Grows old.coding new.coding → ((r : Requirement) → has_candidates old.lists r ≡ true → has_candidates new.lists r ≡ true) → NoneAsks old new
+      → (r : Requirement) → HasClause same p (E.rules_of new) r → has_candidates new.lists r ≡ true
+  fixed_keeps old new e coding grows has none r (inl (parent, need, case, stands, is)) = elim (rules_split old.coding new.coding e.coding coding grows (Rule.needs parent need case) stands) [
+    | inl a ↦ has r (e.fixed r (inl (parent, need, case, a, is)))
+    | inr (n, low, high, at) ↦ absurd (none n (Rule.needs parent need case) low high at tt)
+  ]
+  fixed_keeps old new e coding grows has none r (inr stands) = elim (rules_split old.coding new.coding e.coding coding grows (Rule.shared r) stands) [
+    | inl a ↦ has r (e.fixed r (inr a))
+    | inr (n, low, high, at) ↦ absurd (none n (Rule.shared r) low high at tt)
+  ]
+
+  asked_keeps : (old new : Encoding N S) → IsEncoding same p root old → IsCoding new.coding → Grows old.coding new.coding → new.queue ≡ old.queue → NoneAsks old new
+      → (n : ℕ) (r : Rule N S) → rule_at new.coding.stated.items n ≡ Some r → Asks r → (q : NeedClause) × Contains new.queue q × (q.clause.0 ≡ n)
+  asked_keeps old new e coding grows queue none n r at a = elim (rule_split old.coding new.coding e.coding coding grows n r at) [
+    | inl b ↦ let (q, c, d) = e.asked n r b a in (q, subst (λ qs. Contains qs q) (sym queue) c, d)
+    | inr (low, high) ↦ absurd (none n r low high at a)
+  ]
+
+  pub within_keeps : (old new : Encoding N S) → IsEncoding same p root old → new.parents ≡ old.parents → new.encoded ≡ old.encoded → new.encoded ≤ length new.parents.keys
+  within_keeps old new e parents encoded = subst (λ n. n ≤ length new.parents.keys) (sym encoded) (subst (λ ps. old.encoded ≤ length ps.keys) (sym parents) e.within)
+
+  pub encoded_keeps : (old new : Encoding N S) → IsEncoding same p root old → Grows old.coding new.coding → new.parents ≡ old.parents → new.encoded ≡ old.encoded
+      → (i : ℕ) (parent : SolvableIdOrRoot S) (need : ConditionalRequirement) → i < new.encoded → slice_get new.parents.keys i ≡ Some parent
+      → Contains (rules_for same p root (solvable_of parent)).requirements need → IsNeedEncoded same p (E.rules_of new) (solvable_of parent) need []
+  encoded_keeps old new e grows parents encoded i parent need below at stands =
+      need_grows same exact p root old new (solvable_of parent) need [] grows
+      (e.encoded i parent need (subst (λ n. i < n) encoded below) (sym (ap (λ ps. slice_get ps.keys i) parents) ∙ at) stands)
+
+  -- where registered solvables, lists, queue and parents stay, and what came with each clause is right
+  pub kept_carries : (old new : Encoding N S) → IsEncoding same p root old → IsCoding new.coding → Grows old.coding new.coding → SameTrail old.coding new.coding → SameButCoding old new
+      → ((n : ℕ) → length old.coding.search.clauses ≤ n → n < length new.coding.search.clauses → Came same exact p root new n) → NoneAsks old new → Carries same exact p root old new
+  kept_carries old new e coding grows trail rest came none = record {
+    coding = coding;
+    grows = grows;
+    trail = trail;
+    tied = subst (λ t. AreTied t new.coding) (sym rest.registry) (ties_grow old.registry old.coding new.coding grows e.tied);
+    keeps = tracked;
+    registered = λ n s a. (let (u, stands, there) = registered_back n s a in inl (u, stands, there));
+    came = came;
+    listed = λ q c a. (let (s, fits, m) = e.listed q c (subst (λ ls. Contains (candidates_in ls q) c) rest.lists a) in (s, candidate_grows same exact p root old new (p.package_of s) s c grows tracked fits, m));
+    offered = λ q s h m. (let (c, a, fits) = e.offered q s (subst (λ ls. has_candidates ls q ≡ true) rest.lists h) m in (c, subst (λ ls. Contains (candidates_in ls q) c) (sym rest.lists) a, candidate_grows same exact p root old new (p.package_of s) s c grows tracked fits));
+    fixed = fixed_keeps old new e coding grows (λ q h. subst (λ ls. has_candidates ls q ≡ true) (sym rest.lists) h) none;
+    queued = λ q a. queued_keeps old new e grows q (subst (λ qs. Contains qs q) rest.queue a);
+    asked = asked_keeps old new e coding grows rest.queue none;
+    gates = gates_keep old new e grows rest.gates;
+    within = within_keeps old new e rest.parents rest.encoded;
+    encoded = encoded_keeps old new e grows rest.parents rest.encoded;
+  }
+    where
+      tracked : (m : N) (u : VariableId) → IsTracked old.registry m u → IsTracked new.registry m u
+      tracked m u h = subst (λ t. IsTracked t m u) (sym rest.registry) h
+
+      registered_back : (n : N) (s : S) → IsRegistered new.registry new.coding n s → IsRegistered old.registry old.coding n s
+      registered_back n s (u, stands, there) =
+          let k = subst (λ t. IsTracked t n u) rest.registry there in
+          let (x, before) = (e.tied.tied k.place n k.tracker k.named k.tracked).solvables u k.stands in
+          let one : x ≡ s = some_one x s (sym (solvable_stands new.coding.atoms.keys u x (stands_grow old.coding new.coding u (Solvable x) grows before)) ∙ solvable_stands new.coding.atoms.keys u s stands) in
+          (u, subst (λ y. StandsFor old.coding.atoms.keys u (Solvable y)) one before, k)
+
+  -- a clause that tells a digit comes right
+  digit_came : (old new : Encoding N S) (name : N) (n : ℕ) → (d : IsDigitClause new.registry new.coding name n) → name ≡ p.package_of d.solvable → Came same exact p root new n
+  digit_came old new name n d e = record {
+    stated = Says.Digit name d.solvable d.bit d.value;
+    at = d.stated;
+    rule = λ r is.
+        let one : Rule.has_digit d.solvable d.bit d.value ≡ r = some_one (Rule.has_digit d.solvable d.bit d.value) r is in
+        subst (λ (x : Rule N S). IsRule same p root x × Spells (origin new.coding.atoms.keys) (clause_at (clauses_of new.coding.search) n) (literals_of same p x)) one
+        (tt, subst (λ m. Spells (origin new.coding.atoms.keys) (clause_at (clauses_of new.coding.search) n) (digit_literals m d.solvable d.bit d.value)) e d.spells);
+    positive = λ l s a (other, m). absurd (elim (d.spells.only l a) [
+      | inl z ↦ (let same_variable : l.variable.0 ≡ 0 = ap (λ (x : Signed). x.variable.0) z in omega arith)
+      | inr (z, c) ↦ elim (contains_cases (meaning (origin new.coding.atoms.keys) l) (minus (Atom.solvable d.solvable)) (told ∷ []) c) [
+        | inl i ↦ both_ways false refl (ap (λ (x : Literal (Atom N S)). x.positive) (sym i) ∙ ap (λ (x : Literal (Atom N S)). x.positive) (sym m))
+        | inr j ↦ solvable_no_digit s name d.bit (ap (λ (x : Literal (Atom N S)). x.atom) m ∙ ap (λ (x : Literal (Atom N S)). x.atom) (contains_one (meaning (origin new.coding.atoms.keys) l) told j))
+      ]
+    ]);
+  }
+    where
+      told : Literal (Atom N S)
+      told = record { atom = Atom.digit name d.bit; positive = d.value }
+
+      solvable_no_digit : (s : S) (m : N) (bit : ℕ) → Atom.solvable s ≡ Atom.digit m bit → ⊥
+      solvable_no_digit s m bit e = cc
+
+  -- what is offered for a requirement became its candidates
+  pub fixes_keep : (r : Requirement) (offered : List (Offered N S)) (old new : Encoding N S) → IsEncoding same p root old → AreOffered same p r offered → Fixes r offered old new → IsEncoding same p root new × (has_candidates new.lists r ≡ true)
+  fixes_keep r offered old new e h f = go f.fixed
+    where
+      go : ((has_candidates old.lists r ≡ true) × (new ≡ old)) ⊎ ((given : Vec (Candidate N) Global) × RegistersAll offered given.items old.registry old.coding new.registry new.coding × FixesCandidates r given old.lists new.lists) → IsEncoding same p root new × (has_candidates new.lists r ≡ true)
+      go (inl (has, is)) = (subst (λ (x : Encoding N S). IsEncoding same p root x) (sym is) e, subst (λ (x : Encoding N S). has_candidates x.lists r ≡ true) (sym is) has)
+      go (inr (given, all, fixes)) = (carried same exact p root old new e carries, ap is_some here)
+        where
+          here : slot_of new.lists.candidates r ≡ Some given
+          here = fix_at r given old.lists new.lists fixes
+
+          came : (n : ℕ) → length old.coding.search.clauses ≤ n → n < length new.coding.search.clauses → Came same exact p root new n
+          came n low high = let (name, d) = all.digits n low high in digit_came old new name n d (elim (registered_split offered given.items old.registry new.registry old.coding new.coding e.tied all name d.solvable d.registered) [
+            | inl a ↦ e.named name d.solvable a
+            | inr (o, c, is, one) ↦ is ∙ offer_named r offered o h c ∙ ap p.package_of one
+          ])
+
+          none : NoneAsks old new
+          none n q low high at a =
+              let (name, d) = all.digits n low high in
+              let one : Rule.has_digit d.solvable d.bit d.value ≡ q = some_one (Rule.has_digit d.solvable d.bit d.value) q (sym (rule_stated new.coding.stated.items n (Says.Digit name d.solvable d.bit d.value) d.stated) ∙ at) in
+              subst Asks (sym one) a
+
+          slots : (q : Requirement) → (q ≡ r) ⊎ (slot_of new.lists.candidates q ≡ slot_of old.lists.candidates q)
+          slots q = fix_other r q given old.lists new.lists fixes
+
+          has : (q : Requirement) → has_candidates old.lists q ≡ true → has_candidates new.lists q ≡ true
+          has q k = elim (slots q) [ inl is ↦ ap is_some (ap (slot_of new.lists.candidates) is ∙ here) | inr is ↦ ap is_some is ∙ k ]
+
+          given_candidate : (c : Candidate N) (o : Offered N S) → Contains offered o → IsOfferedAs new.registry new.coding o c → IsCandidate new (p.package_of o.solvable) o.solvable c
+          given_candidate c o a fits = record { positive = fits.positive; stands = fits.stands; tracked = subst (λ n. IsTracked new.registry n c.literal.variable) (offer_named r offered o h a) fits.tracked }
+
+          listed_new : (q : Requirement) (c : Candidate N) → Contains (candidates_in new.lists q) c → (s : S) × IsCandidate new (p.package_of s) s c × (meets same p q s ≡ true)
+          listed_new q c a = elim (slots q) [
+            | inl is ↦
+                let (o, b, fits) = all.all c (subst (λ x. Contains (items_or_none x) c) (ap (slot_of new.lists.candidates) is ∙ here) a) in
+                (o.solvable, given_candidate c o b fits, subst (λ x. meets same p x o.solvable ≡ true) (sym is) (offer_meets r offered o h b))
+            | inr is ↦
+                let (s, b, m) = e.listed q c (subst (λ x. Contains (items_or_none x) c) is a) in
+                (s, candidate_grows same exact p root old new (p.package_of s) s c all.grows all.keeps b, m)
+          ]
+
+          offered_new : (q : Requirement) (s : S) → has_candidates new.lists q ≡ true → meets same p q s ≡ true → (c : Candidate N) × Contains (candidates_in new.lists q) c × IsCandidate new (p.package_of s) s c
+          offered_new q s k m = elim (slots q) [
+            | inl is ↦
+                let (o, b, one) = meets_offer r offered s h (subst (λ x. meets same p x s ≡ true) is m) in
+                let (c, there, fits) = all.each o b in
+                (c, subst (λ x. Contains (items_or_none x) c) (sym (ap (slot_of new.lists.candidates) is ∙ here)) there, subst (λ x. IsCandidate new (p.package_of x) x c) (sym one) (given_candidate c o b fits))
+            | inr is ↦
+                let (c, there, fits) = e.offered q s (sym (ap is_some is) ∙ k) m in
+                (c, subst (λ x. Contains (items_or_none x) c) (sym is) there, candidate_grows same exact p root old new (p.package_of s) s c all.grows all.keeps fits)
+          ]
+
+          carries : Carries same exact p root old new
+          carries = record {
+            coding = all.coding;
+            grows = all.grows;
+            trail = all.trail;
+            tied = all.tied;
+            keeps = all.keeps;
+            registered = λ n s a. elim (registered_split offered given.items old.registry new.registry old.coding new.coding e.tied all n s a) [
+              | inl b ↦ inl b
+              | inr (o, c, is, one) ↦ inr (is ∙ offer_named r offered o h c ∙ ap p.package_of one, subst (λ x. is_in same p (listed (p.candidates_of (p.package_of x))) x ≡ true) one (meets_listed r o.solvable (offer_meets r offered o h c)))
+            ];
+            came = came;
+            listed = listed_new;
+            offered = offered_new;
+            fixed = fixed_keeps old new e all.coding all.grows has none;
+            queued = λ q a. queued_keeps old new e all.grows q (subst (λ qs. Contains qs q) f.queue a);
+            asked = asked_keeps old new e all.coding all.grows f.queue none;
+            gates = gates_keep old new e all.grows f.gates;
+            within = within_keeps old new e f.parents f.encoded;
+            encoded = encoded_keeps old new e all.grows f.parents f.encoded;
+          }
+
+-- what came in two steps came
+pub extends_then : {N S : Type 0} (a b c : Encoding N S) → Extends a b → Extends b c → Extends a c
+extends_then a b c f g = record { grows = grows_then a.coding b.coding c.coding f.grows g.grows; parents = g.parents ∙ f.parents; encoded = g.encoded ∙ f.encoded }
+
+pub fixes_extend : {N S : Type 0} (r : Requirement) (offered : List (Offered N S)) (old new : Encoding N S) → Fixes r offered old new → Extends old new
+fixes_extend {N} {S} r offered old new f = record {
+  grows = elim f.fixed [
+    | inl (has, is) ↦ subst (λ (x : Encoding N S). Grows old.coding x.coding) (sym is) (grows_same old.coding)
+    | inr (given, all, fixes) ↦ all.grows
+  ];
+  parents = f.parents;
+  encoded = f.encoded;
+}
+
+pub need_extends : {N S : Type 0} (x : Stated N S) (v : VariableId) (r : Requirement) (old new : Encoding N S) → StatesNeed x v r old new → Extends old new
+need_extends x v r old new s = record { grows = s.states.grows; parents = s.parents; encoded = s.encoded }

@@ -1,0 +1,236 @@
+-- The encoding stays one of the packages while the search goes on.
+use Rattle.std.proofs.Common.{◌≡◌, ℕ, ◌+◌, ◌*◌, ◌-◌, ◌^◌, ◌<◌, ◌≤◌, inl, inr, Bool, true, List, [], ◌∷◌, ◌++◌, length, Some, None, Vec, Global, HashSet, BuildHasherDefault, FoldHasher, refl, sym, ◌∙◌, ap, subst, arith}
+use Rattle.std.specs.Prelude.{slice_get, Contains}
+use Rattle.std.proofs.lemmas.List.{length-append}
+use Rattle.resolvo_pool.specs.declared.id.ClauseId.{ClauseId}
+use Rattle.resolvo_pool.specs.declared.id.VariableId.{VariableId}
+use Rattle.resolvo_pool.specs.declared.requirement.Requirement.{Requirement}
+use Rattle.resolvo_pool.specs.RuleKeeping.{Packages, Rules, IsLawful}
+use Rattle.resolvo_store.specs.Signed.{Signed, has}
+use Rattle.resolvo_store.specs.Clauses.{yes}
+use Rattle.resolvo_store.specs.Lists.{has_candidates, candidates_in}
+use Rattle.resolvo_store.specs.declared.decide_queue.NeedClause.{NeedClause}
+use Rattle.resolvo_search.specs.declared.advancing.Progress.{Progress}
+use Rattle.resolvo_search.specs.declared.state.HeldClause.{HeldClause}
+use Rattle.resolvo_search.specs.declared.state.SearchState.{SearchState}
+use Rattle.resolvo_search.specs.declared.state.VariableKind.{VariableKind}
+use Rattle.resolvo_search.specs.declared.watching.Watching.{Watching}
+use Rattle.resolvo_search.specs.Advancing.{Completes, Improves, IsProgress, weight_left}
+use Rattle.resolvo_search.specs.Entries.{weight}
+use Rattle.resolvo_search.specs.Known.{clause_at}
+use Rattle.resolvo_search.specs.State.{lists, count_of, history, clauses_of}
+use Rattle.resolvo_search.specs.Steps.{Chooses}
+use Rattle.resolvo_search.proofs.Clauses.{length-lists}
+use Rattle.resolvo_search.proofs.Improving.{extends_heavier, choice_heavier, weight_falls}
+use Rattle.resolvo_search.proofs.StepLemmas.{lists-append, clause_at_end}
+use Rattle.resolvo_rules.specs.Encoding.{IsExact, Atom, Rule, plus}
+use Rattle.resolvo_rules.specs.Ending.{HasClause, IsCalledFor}
+use Rattle.resolvo_rules.specs.Numbered.{meaning, Means, known_of, AreCalledFor}
+use Rattle.resolvo_coding.specs.declared.atom.ProofAtom.{ProofAtom}
+use Rattle.resolvo_coding.specs.declared.atom.ProofAtom.TheVariants.{Solvable}
+use Rattle.resolvo_coding.specs.declared.coding.Coding.{Coding}
+use Rattle.resolvo_coding.specs.declared.registry.Registry.{Registry}
+use Rattle.resolvo_coding.specs.declared.stated.Stated.{Stated}
+use Rattle.resolvo_coding.specs.declared.stated.Stated.TheVariants as Says
+use Rattle.resolvo_coding.specs.Atoms.{origin, StandsFor}
+use Rattle.resolvo_coding.specs.Coding.{IsCoding, Advances, KeepsCode, learnt_by}
+use Rattle.resolvo_coding.specs.Registered.{AreTied, IsTracked, IsRegistered}
+use Rattle.resolvo_coding.specs.Spelled.{AreRegistered}
+use Rattle.resolvo_coding.specs.Statements.{stated_at, rule_at}
+use Rattle.resolvo_coding.proofs.Growth.{grows_same, grows_then, stated_grows, rule_split, rules_split, spelled_grows, registered_grows, called_advances, called_chooses}
+use Rattle.resolvo_coding.proofs.Positions.{front_equal, get_last}
+use Rattle.resolvo_coding.proofs.Registering.{ties_grow}
+use Rattle.resolvo_coding.proofs.Rules.{rule_stated}
+use Rattle.resolvo_encoding.specs.declared.encoding.Encoding.{Encoding}
+use Rattle.resolvo_encoding.specs.Encoded.{IsEncoding, Registered}
+use Rattle.resolvo_encoding.specs.Encoded as E
+use Rattle.resolvo_encoding.specs.Going.{GoesOn}
+use Rattle.resolvo_encoding.specs.Steps.{SameButCoding}
+use Rattle.resolvo_encoding.proofs.Carrying.{split_at}
+use Rattle.resolvo_encoding.proofs.Requiring.{candidate_grows, queued_keeps, gates_keep, within_keeps, encoded_keeps}
+
+-- what was learnt states no rule
+nothing_stated : {N S : Type 0} (old new : Encoding N S) → GoesOn old new → (n : ℕ) (r : Rule N S) → length old.coding.search.clauses ≤ n → n < length new.coding.search.clauses → rule_at new.coding.stated.items n ≡ Some r → ⊥
+nothing_stated old new goes n r low high at = let none : None ≡ Some r = sym (rule_stated new.coding.stated.items n Says.Learnt (goes.learnt n low high)) ∙ at in absurd cc
+
+module _ {N S : Type 0} (same : S → S → Bool) (exact : IsExact same) (p : Packages N S) (root : Rules) (lawful : IsLawful p) where
+  -- The encoding stays one of the packages where solvables that clauses may make true are registered, and choices are called for.
+  stays : (old new : Encoding N S) → IsEncoding same p root old → GoesOn old new → AreRegistered (Registered same p root new) new.coding
+      → AreCalledFor (origin new.coding.atoms.keys) (IsCalledFor same p (E.rules_of new) []) (history new.coding.search) → IsEncoding same p root new
+  stays old new e goes positive called = record {
+    coding = goes.coding;
+    tied = subst (λ (t : Registry N). AreTied t new.coding) (sym goes.rest.registry) (ties_grow old.registry old.coding new.coding goes.grows e.tied);
+    spelled = spelled_grows same p old.coding new.coding e.coding goes.coding goes.grows e.spelled (λ n r low high at. absurd (nothing_stated old new goes n r low high at));
+    rule = λ r stands. e.rule r (rule_back r stands);
+    positive = positive;
+    named = λ n s a. e.named n s (registered_back n s a);
+    candidates = λ s a. e.candidates s (registered_back (p.package_of s) s a);
+    listed = λ q c a. (let (s, fits, m) = e.listed q c (subst (λ ls. Contains (candidates_in ls q) c) goes.rest.lists a) in (s, candidate_grows same exact p root old new (p.package_of s) s c goes.grows tracked fits, m));
+    offered = λ q s h m. (let (c, a, fits) = e.offered q s (subst (λ ls. has_candidates ls q ≡ true) goes.rest.lists h) m in (c, subst (λ ls. Contains (candidates_in ls q) c) (sym goes.rest.lists) a, candidate_grows same exact p root old new (p.package_of s) s c goes.grows tracked fits));
+    fixed = λ r has. subst (λ ls. has_candidates ls r ≡ true) (sym goes.rest.lists) (e.fixed r (clause_back r has));
+    queued = λ q a. queued_keeps same exact p root lawful old new e goes.grows q (subst (λ (qs : List NeedClause). Contains qs q) goes.rest.queue a);
+    asked = λ n r at a. elim (rule_split old.coding new.coding e.coding goes.coding goes.grows n r at) [
+      | inl b ↦ let (q, c, d) = e.asked n r b a in (q, subst (λ (qs : List NeedClause). Contains qs q) (sym goes.rest.queue) c, d)
+      | inr (low, high) ↦ absurd (nothing_stated old new goes n r low high at)
+    ];
+    gates = gates_keep same exact p root lawful old new e goes.grows goes.rest.gates;
+    within = within_keeps same exact p root lawful old new e goes.rest.parents goes.rest.encoded;
+    encoded = encoded_keeps same exact p root lawful old new e goes.grows goes.rest.parents goes.rest.encoded;
+    called = called;
+  }
+    where
+      tracked : (m : N) (u : VariableId) → IsTracked old.registry m u → IsTracked new.registry m u
+      tracked m u h = subst (λ (t : Registry N). IsTracked t m u) (sym goes.rest.registry) h
+
+      registered_back : (n : N) (s : S) → IsRegistered new.registry new.coding n s → IsRegistered old.registry old.coding n s
+      registered_back n s (v, stands, there) = (v, subst (λ (a : HashSet (ProofAtom N S) (BuildHasherDefault FoldHasher)). StandsFor a.keys v (Solvable s)) goes.atoms stands, subst (λ (t : Registry N). IsTracked t n v) goes.rest.registry there)
+
+      rule_back : (r : Rule N S) → E.rules_of new r → E.rules_of old r
+      rule_back r stands = elim (rules_split old.coding new.coding e.coding goes.coding goes.grows r stands) [
+        | inl a ↦ a
+        | inr (n, low, high, at) ↦ absurd (nothing_stated old new goes n r low high at)
+      ]
+
+      clause_back : (r : Requirement) → HasClause same p (E.rules_of new) r → HasClause same p (E.rules_of old) r
+      clause_back r (inl (parent, need, case, stands, is)) = inl (parent, need, case, rule_back (Rule.needs parent need case) stands, is)
+      clause_back r (inr stands) = inr (rule_back (Rule.shared r) stands)
+
+  -- what is registered stays so where only clauses came that were learnt
+  registered_on : (old new : Encoding N S) → GoesOn old new → (s : S) → Registered same p root old s → Registered same p root new s
+  registered_on old new goes s (v, stands, there) = (v, subst (λ (a : HashSet (ProofAtom N S) (BuildHasherDefault FoldHasher)). StandsFor a.keys v (Solvable s)) (sym goes.atoms) stands, subst (λ (t : Registry N). IsTracked t (p.package_of s) v) (sym goes.rest.registry) there)
+
+  -- so are the solvables that clauses may make true where each literal of a clause that came stood in an earlier one
+  positive_on : (old new : Encoding N S) → IsEncoding same p root old → GoesOn old new
+      → ((n : ℕ) (l : Signed) → length old.coding.search.clauses ≤ n → n < length new.coding.search.clauses → has (clause_at (clauses_of new.coding.search) n) l ≡ true → (k : ℕ) × (has (clause_at (clauses_of old.coding.search) k) l ≡ true))
+      → AreRegistered (Registered same p root new) new.coding
+  positive_on old new e goes from = registered_grows (Registered same p root old) (Registered same p root new) old.coding new.coding e.coding goes.coding goes.grows (registered_on old new goes) e.positive
+      (λ n l s low high h means. (let (k, stands) = from n l low high h in
+      registered_on old new goes s (e.positive k l s stands (subst (λ (a : HashSet (ProofAtom N S) (BuildHasherDefault FoldHasher)). Means (origin a.keys) l (plus (Atom.solvable s))) goes.atoms means))))
+
+-- ---- a step of the search
+
+-- a step adds no variable
+same_variables : (old new : SearchState) (v w : Watching) (q : Progress) → IsProgress old v new w q → new.variables ≡ old.variables
+same_variables old new v w Progress.Complete h = h.extends.same.variables
+same_variables old new v w (Progress.Learnt id) h = h.variables
+same_variables old new v w (Progress.Refused r) h = h.2.same.variables
+
+module _ {N S : Type 0} (old : Encoding N S) (c : Coding N S) where
+  abbrev pub went : Encoding N S
+  went = record old { coding = c }
+
+  step_rest : SameButCoding old went
+  step_rest = record { registry = refl; lists = refl; queue = refl; gates = refl; parents = refl; encoded = refl }
+
+  step_learns : (q : Progress) → IsCoding old.coding → Advances old.coding c q → (n : ℕ) → length old.coding.search.clauses ≤ n → n < length c.search.clauses → stated_at c.stated.items n ≡ Some Says.Learnt
+  step_learns q before step n low high = go q step.progress step.stated
+    where
+      go : (r : Progress) → IsProgress old.coding.search old.coding.watching c.search c.watching r → c.stated.items ≡ old.coding.stated.items ++ learnt_by r → stated_at c.stated.items n ≡ Some Says.Learnt
+      go Progress.Complete h e = let long : length c.search.clauses ≡ length old.coding.search.clauses = ap (λ (cs : List HeldClause). length cs) h.extends.same.clauses in absurd (omega arith)
+      go (Progress.Refused r) h e = let long : length c.search.clauses ≡ length old.coding.search.clauses = ap (λ (cs : List HeldClause). length cs) h.2.same.clauses in absurd (omega arith)
+      go (Progress.Learnt id) h e =
+          let long : length c.search.clauses ≡ length old.coding.search.clauses + 1 = ap (λ (cs : List HeldClause). length cs) h.added ∙ length-append old.coding.search.clauses (h.clause ∷ []) in
+          let each : length old.coding.stated.items ≡ length old.coding.search.clauses = before.each in
+          let place : length old.coding.stated.items ≡ n = omega arith in
+          subst (λ (k : ℕ). slice_get c.stated.items k ≡ Some Says.Learnt) place (subst (λ (xs : List (Stated N S)). slice_get xs (length old.coding.stated.items) ≡ Some Says.Learnt) (sym e) (get_last old.coding.stated.items Says.Learnt))
+
+  pub step_goes : (q : Progress) → IsCoding old.coding → Advances old.coding c q → GoesOn old went
+  step_goes q before step = record {
+    rest = step_rest;
+    coding = step.coding;
+    atoms = step.atoms;
+    variables = same_variables old.coding.search c.search old.coding.watching c.watching q step.progress;
+    grows = step.grows;
+    learnt = step_learns q before step;
+  }
+
+  -- each literal of a learnt clause stood in an earlier one
+  step_from : (q : Progress) → IsProgress old.coding.search old.coding.watching c.search c.watching q → (n : ℕ) (l : Signed) → length old.coding.search.clauses ≤ n → n < length c.search.clauses
+      → has (clause_at (clauses_of c.search) n) l ≡ true → (k : ℕ) × (has (clause_at (clauses_of old.coding.search) k) l ≡ true)
+  step_from Progress.Complete h n l low high stands = let long : length c.search.clauses ≡ length old.coding.search.clauses = ap (λ (cs : List HeldClause). length cs) h.extends.same.clauses in absurd (omega arith)
+  step_from (Progress.Refused r) h n l low high stands = let long : length c.search.clauses ≡ length old.coding.search.clauses = ap (λ (cs : List HeldClause). length cs) h.2.same.clauses in absurd (omega arith)
+  step_from (Progress.Learnt id) h n l low high stands =
+      let long : length c.search.clauses ≡ length old.coding.search.clauses + 1 = ap (λ (cs : List HeldClause). length cs) h.added ∙ length-append old.coding.search.clauses (h.clause ∷ []) in
+      let all : length (lists old.coding.search.clauses) ≡ length old.coding.search.clauses = length-lists old.coding.search.clauses in
+      let place : n ≡ length (lists old.coding.search.clauses) = omega arith in
+      let added : clauses_of c.search ≡ lists old.coding.search.clauses ++ h.clause.literals.items ∷ [] = ap (λ (cs : List HeldClause). lists cs) h.added ∙ lists-append old.coding.search.clauses (h.clause ∷ []) in
+      let here : clause_at (clauses_of c.search) n ≡ h.clause.literals.items = ap (λ (cs : List (List Signed)). clause_at cs n) added ∙ ap (λ (k : ℕ). clause_at (lists old.coding.search.clauses ++ h.clause.literals.items ∷ []) k) place ∙ clause_at_end (lists old.coding.search.clauses) h.clause.literals.items in
+      h.from l (subst (λ (ls : List Signed). has ls l ≡ true) here stands)
+
+  pub choice_goes : (v : VariableId) (clause : ClauseId) → Chooses v clause old.coding.search c.search → KeepsCode old.coding c → GoesOn old went
+  choice_goes v clause chosen kept = record {
+    rest = step_rest;
+    coding = kept.coding;
+    atoms = kept.atoms;
+    variables = kept.variables;
+    grows = record {
+      atoms = front_equal old.coding.atoms.keys c.atoms.keys (ap (λ (a : HashSet (ProofAtom N S) (BuildHasherDefault FoldHasher)). a.keys) kept.atoms);
+      clauses = front_equal old.coding.search.clauses c.search.clauses kept.clauses;
+      stated = front_equal old.coding.stated.items c.stated.items (ap (λ (xs : Vec (Stated N S) Global). xs.items) kept.stated);
+      floor = chosen.same.floor;
+    };
+    learnt = λ n low high. (let long : length c.search.clauses ≡ length old.coding.search.clauses = ap (λ (cs : List HeldClause). length cs) kept.clauses in absurd (omega arith));
+  }
+
+  module _ (same : S → S → Bool) (exact : IsExact same) (p : Packages N S) (root : Rules) (lawful : IsLawful p) where
+    -- a step of the search leaves the encoding one of the packages
+    pub step_keeps : (q : Progress) → Advances old.coding c q → IsEncoding same p root old → IsEncoding same p root went
+    step_keeps q step e =
+        let goes = step_goes q e.coding step in
+        stays same exact p root lawful old went e goes (positive_on same exact p root lawful old went e goes (step_from q step.progress)) (called_advances same p [] old.coding c q step e.called)
+
+    -- so does a choice that is called for
+    pub choice_keeps : (v : VariableId) (clause : ClauseId) → Chooses v clause old.coding.search c.search → KeepsCode old.coding c
+        → IsCalledFor same p (E.rules_of old) [] (known_of (origin old.coding.atoms.keys) (history old.coding.search)) (meaning (origin old.coding.atoms.keys) (yes v)) → IsEncoding same p root old → IsEncoding same p root went
+    choice_keeps v clause chosen kept now e =
+        let goes = choice_goes v clause chosen kept in
+        stays same exact p root lawful old went e goes
+        (positive_on same exact p root lawful old went e goes (λ n l low high stands. (let long : length c.search.clauses ≡ length old.coding.search.clauses = ap (λ (cs : List HeldClause). length cs) kept.clauses in absurd (omega arith))))
+        (called_chooses same p [] v clause old.coding c chosen kept now e.called)
+
+-- ---- the trail gains weight
+
+same_count : (s t : SearchState) → t.variables ≡ s.variables → count_of t ≡ count_of s
+same_count s t same = ap (λ (v : Vec VariableKind Global). length v.items) same
+
+pub learnt_heavier : (id : ClauseId) (s t : SearchState) (w : Watching) → Improves id s t w → (weight_left t < weight_left s) × (id.0 < length t.clauses)
+learnt_heavier id s t w h =
+    let long : length t.clauses ≡ length s.clauses + 1 = ap (λ (cs : List HeldClause). length cs) h.added ∙ length-append s.clauses (h.clause ∷ []) in
+    let number : id.0 ≡ length s.clauses = h.number in
+    (weight_falls s t h.ready.state (same_count s t h.variables) h.heavier, omega arith)
+
+pub choice_gains : (v : VariableId) (clause : ClauseId) (s t : SearchState) → Chooses v clause s t → weight_left t < weight_left s
+choice_gains v clause s t chosen = weight_falls s t chosen.state (same_count s t chosen.same.variables) (choice_heavier s t v clause chosen)
+
+-- what is set leaves no more to gain
+pub complete_gains : (s t : SearchState) (w : Watching) → Completes s t w → weight_left t ≤ weight_left s
+complete_gains s t w h =
+    let count : count_of t ≡ count_of s = same_count s t h.extends.same.variables in
+    let more : weight (count_of s) (history s) ≤ weight (count_of s) (history t) = extends_heavier s t (count_of s) h.extends in
+    let is : weight_left t ≡ count_of s * (count_of s + 1) ^ (count_of s + 1) - weight (count_of s) (history t) = ap (λ (n : ℕ). n * (n + 1) ^ (n + 1) - weight n (history t)) count in
+    omega arith
+
+-- ---- one step after another
+
+pub goes_none : {N S : Type 0} (e : Encoding N S) → IsCoding e.coding → GoesOn e e
+goes_none e coding = record {
+  rest = record { registry = refl; lists = refl; queue = refl; gates = refl; parents = refl; encoded = refl };
+  coding = coding;
+  atoms = refl;
+  variables = refl;
+  grows = grows_same e.coding;
+  learnt = λ n low high. absurd (omega arith);
+}
+
+pub goes_then : {N S : Type 0} (a b c : Encoding N S) → GoesOn a b → GoesOn b c → GoesOn a c
+goes_then a b c f g = record {
+  rest = record { registry = g.rest.registry ∙ f.rest.registry; lists = g.rest.lists ∙ f.rest.lists; queue = g.rest.queue ∙ f.rest.queue; gates = g.rest.gates ∙ f.rest.gates; parents = g.rest.parents ∙ f.rest.parents; encoded = g.rest.encoded ∙ f.rest.encoded };
+  coding = g.coding;
+  atoms = g.atoms ∙ f.atoms;
+  variables = g.variables ∙ f.variables;
+  grows = grows_then a.coding b.coding c.coding f.grows g.grows;
+  learnt = λ n low high. elim (split_at n (length b.coding.search.clauses)) [
+    | inl below ↦ stated_grows b.coding c.coding g.grows n Says.Learnt (f.learnt n low below)
+    | inr past ↦ g.learnt n past high
+  ];
+}

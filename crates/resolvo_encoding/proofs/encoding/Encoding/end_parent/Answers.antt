@@ -1,0 +1,5 @@
+use Rattle.resolvo_encoding.proofs.Parents.{next_keeps}
+use Rattle.resolvo_encoding.proofs.encoding.Encoding.end_parent.Goals as goal
+
+pub returns-then-self-len-clause-encoding : goal.returns-then-self-len-clause-encoding
+returns-then-self-len-clause-encoding g c = λ p root e next. next_keeps g.S.PartialEq.eq p root c.args.self.now e c.requires next

@@ -1,0 +1,69 @@
+use Rattle.std.proofs.Common.{◌<◌, ◌≤◌, Bool, subst, arith}
+use Rattle.resolvo_search.specs.declared.advancing.Progress.{Progress}
+use Rattle.resolvo_search.specs.Advancing.{weight_left}
+use Rattle.resolvo_rules.specs.Encoding.{IsExact}
+use Rattle.resolvo_coding.specs.Coding.{Advances}
+use Rattle.resolvo_encoding.specs.declared.encoding.Encoding.{Encoding}
+use Rattle.resolvo_encoding.specs.Going.{IsChoice}
+use Rattle.resolvo_encoding.proofs.Staying.{step_goes, step_keeps, learnt_heavier, complete_gains, goes_then}
+use Rattle.resolvo_encoding.proofs.encoding.Encoding.step.Goals as goal
+
+pub choose_next-requires : goal.choose_next-requires
+choose_next-requires g c =
+    let (p, root, lawful, e) = c.requires in
+    let exact : IsExact g.S.PartialEq.eq = record { one = g.met.S.Exact.exact; own = g.met.S.Eq.laws.refl } in
+    (p, root, lawful, step_keeps c.args.self.now c.advance.new.self g.S.PartialEq.eq exact p root lawful c.in_ok-refusal.field-0 c.in_ok-refusal.ensures.advanced e)
+
+pub returns-in-Refused-clause-stays : goal.returns-in-Refused-clause-stays
+returns-in-Refused-clause-stays g c = λ p root lawful e.
+    let exact : IsExact g.S.PartialEq.eq = record { one = g.met.S.Exact.exact; own = g.met.S.Eq.laws.refl } in
+    step_keeps c.args.self.now c.advance.new.self g.S.PartialEq.eq exact p root lawful c.in_ok-refusal.field-0 c.in_ok-refusal.ensures.advanced e
+
+pub returns-in-Learnt-clause-stays : goal.returns-in-Learnt-clause-stays
+returns-in-Learnt-clause-stays g c = λ p root lawful e.
+    let exact : IsExact g.S.PartialEq.eq = record { one = g.met.S.Exact.exact; own = g.met.S.Eq.laws.refl } in
+    step_keeps c.args.self.now c.advance.new.self g.S.PartialEq.eq exact p root lawful c.in_ok-refusal.field-0 c.in_ok-refusal.ensures.advanced e
+
+pub returns-in-Learnt-clause-goes_on : goal.returns-in-Learnt-clause-goes_on
+returns-in-Learnt-clause-goes_on g c =
+    let (p, root, lawful, e) = c.requires in
+    step_goes c.args.self.now c.advance.new.self c.in_ok-refusal.field-0 e.coding c.in_ok-refusal.ensures.advanced
+
+pub returns-in-Learnt-clause-step : goal.returns-in-Learnt-clause-step
+returns-in-Learnt-clause-step g c =
+    let step : Advances c.args.self.now.coding c.advance.new.self (Progress.Learnt c.in-Learnt.clause) = subst (λ (q : Progress). Advances c.args.self.now.coding c.advance.new.self q) c.in-Learnt.is c.in_ok-refusal.ensures.advanced in
+    learnt_heavier c.in-Learnt.clause c.args.self.now.coding.search c.advance.new.self.search c.advance.new.self.watching step.progress
+
+pub returns-then-has_chosen-clause-stays : goal.returns-then-has_chosen-clause-stays
+returns-then-has_chosen-clause-stays g c = λ p root lawful e.
+    let exact : IsExact g.S.PartialEq.eq = record { one = g.met.S.Exact.exact; own = g.met.S.Eq.laws.refl } in
+    c.in_ok-has_chosen-in-Complete.ensures.stays p root lawful (step_keeps c.args.self.now c.advance.new.self g.S.PartialEq.eq exact p root lawful c.in_ok-refusal.field-0 c.in_ok-refusal.ensures.advanced e)
+
+pub returns-then-has_chosen-clause-goes_on : goal.returns-then-has_chosen-clause-goes_on
+returns-then-has_chosen-clause-goes_on g c =
+    let (p, root, lawful, e) = c.requires in
+    goes_then c.args.self.now (record c.args.self.now { coding = c.advance.new.self }) c.choose_next.new.self (step_goes c.args.self.now c.advance.new.self c.in_ok-refusal.field-0 e.coding c.in_ok-refusal.ensures.advanced) c.in_ok-has_chosen-in-Complete.ensures.goes_on
+
+pub returns-then-has_chosen-clause-step : goal.returns-then-has_chosen-clause-step
+returns-then-has_chosen-clause-step g c =
+    let step : Advances c.args.self.now.coding c.advance.new.self Progress.Complete = subst (λ (q : Progress). Advances c.args.self.now.coding c.advance.new.self q) c.in-Complete.is c.in_ok-refusal.ensures.advanced in
+    let middle : Encoding _ _ = record c.args.self.now { coding = c.advance.new.self } in
+    let set : weight_left c.advance.new.self.search ≤ weight_left c.args.self.now.coding.search = complete_gains c.args.self.now.coding.search c.advance.new.self.search c.advance.new.self.watching step.progress in
+    let chosen : weight_left c.choose_next.new.self.coding.search < weight_left c.advance.new.self.search = subst (λ (b : Bool). IsChoice middle c.choose_next.new.self b) c.if-has_chosen.true c.in_ok-has_chosen-in-Complete.ensures.chosen in
+    omega arith
+
+pub returns-else-has_chosen-clause-stays : goal.returns-else-has_chosen-clause-stays
+returns-else-has_chosen-clause-stays g c = λ p root lawful e.
+    let exact : IsExact g.S.PartialEq.eq = record { one = g.met.S.Exact.exact; own = g.met.S.Eq.laws.refl } in
+    c.in_ok-has_chosen-in-Complete.ensures.stays p root lawful (step_keeps c.args.self.now c.advance.new.self g.S.PartialEq.eq exact p root lawful c.in_ok-refusal.field-0 c.in_ok-refusal.ensures.advanced e)
+
+pub returns-else-has_chosen-clause-goes_on : goal.returns-else-has_chosen-clause-goes_on
+returns-else-has_chosen-clause-goes_on g c =
+    let (p, root, lawful, e) = c.requires in
+    goes_then c.args.self.now (record c.args.self.now { coding = c.advance.new.self }) c.choose_next.new.self (step_goes c.args.self.now c.advance.new.self c.in_ok-refusal.field-0 e.coding c.in_ok-refusal.ensures.advanced) c.in_ok-has_chosen-in-Complete.ensures.goes_on
+
+pub returns-else-has_chosen-clause-step : goal.returns-else-has_chosen-clause-step
+returns-else-has_chosen-clause-step g c =
+    let step : Advances c.args.self.now.coding c.advance.new.self Progress.Complete = subst (λ (q : Progress). Advances c.args.self.now.coding c.advance.new.self q) c.in-Complete.is c.in_ok-refusal.ensures.advanced in
+    let middle : Encoding _ _ = record c.args.self.now { coding = c.advance.new.self } in
+    subst (λ (b : Bool). IsChoice middle c.choose_next.new.self b) c.if-has_chosen.false c.in_ok-has_chosen-in-Complete.ensures.chosen step.progress.quiet

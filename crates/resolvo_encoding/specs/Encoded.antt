@@ -1,0 +1,110 @@
+-- What was encoded, and what it tells of the packages.
+use Rattle.std.specs.Prelude.{◌≡◌, ℕ, ◌<◌, ◌≤◌, Bool, true, false, List, [], length, slice_get, Option, Some, None, Contains}
+use Rattle.resolvo_pool.specs.declared.id.VariableId.{VariableId}
+use Rattle.resolvo_pool.specs.declared.requirement.ConditionalRequirement.{ConditionalRequirement}
+use Rattle.resolvo_pool.specs.declared.requirement.Requirement.{Requirement}
+use Rattle.resolvo_pool.specs.declared.solver_id.SolvableIdOrRoot.{SolvableIdOrRoot}
+use Rattle.resolvo_pool.specs.ByRequirement.{slot_of}
+use Rattle.resolvo_pool.specs.Provider.{listed}
+use Rattle.resolvo_pool.specs.Text.{solvable_of}
+use Rattle.resolvo_pool.specs.RuleKeeping.{Packages, Rules, is_in, meets, rules_for, is_barred, is_unknown}
+use Rattle.resolvo_store.specs.Clauses.{root as root_variable}
+use Rattle.resolvo_store.specs.declared.decide_queue.NeedClause.{NeedClause}
+use Rattle.resolvo_store.specs.declared.lists.Candidate.{Candidate}
+use Rattle.resolvo_store.specs.Lists.{has_candidates, candidates_in}
+use Rattle.resolvo_search.specs.State.{history}
+use Rattle.resolvo_rules.specs.Encoding.{Rule, IsRule}
+use Rattle.resolvo_rules.specs.Ending.{IsNeedEncoded, HasClause, IsCalledFor}
+use Rattle.resolvo_rules.specs.Numbered.{AreCalledFor}
+use Rattle.resolvo_coding.specs.declared.atom.ProofAtom.{ProofAtom}
+use Rattle.resolvo_coding.specs.declared.atom.ProofAtom.TheVariants.{Solvable, Gate}
+use Rattle.resolvo_coding.specs.declared.stated.Stated.{Stated}
+use Rattle.resolvo_coding.specs.declared.stated.Stated.TheVariants as Says
+use Rattle.resolvo_coding.specs.Atoms.{origin, StandsFor}
+use Rattle.resolvo_coding.specs.Statements.{stated_at, rule_at, rules_in}
+use Rattle.resolvo_coding.specs.Coding.{IsCoding}
+use Rattle.resolvo_coding.specs.Registered.{AreTied, IsTracked, IsRegistered}
+use Rattle.resolvo_coding.specs.Spelled.{Spelled, AreRegistered}
+use Rattle.resolvo_encoding.specs.declared.encoding.Encoding.{Encoding}
+
+-- the rules that clauses state
+abbrev pub rules_of : {N S : Type 0} → Encoding N S → Rule N S → Type 0
+rules_of e = rules_in e.coding.stated.items
+
+-- the parent's variable: the root's, or the solvable's
+abbrev pub IsParentVariable : {N S : Type 0} → List (ProofAtom N S) → Option S → VariableId → Type 0
+IsParentVariable atoms None v = v ≡ root_variable
+IsParentVariable atoms (Some s) v = StandsFor atoms v (Solvable s)
+
+-- the candidate's literal is that the solvable, which is registered, is chosen
+pub record IsCandidate {N S : Type 0} (e : Encoding N S) (name : N) (s : S) (c : Candidate N) : Type 0 where
+  pub positive : c.literal.positive ≡ true
+  pub stands : StandsFor e.coding.atoms.keys c.literal.variable (Solvable s)
+  pub tracked : IsTracked e.registry name c.literal.variable
+
+-- decisions are made for the clause that states this: one of a need without condition, or of a gate
+abbrev pub IsQueuedFor : {N S : Type 0} → List (ProofAtom N S) → Option (Stated N S) → NeedClause → Type 0
+IsQueuedFor atoms None q = ⊥
+IsQueuedFor atoms (Some Says.Root) q = ⊥
+IsQueuedFor atoms (Some (Says.Needs parent need case)) q = (case.items ≡ []) × (q.requirement ≡ need.requirement) × (q.condition ≡ None) × IsParentVariable atoms parent q.parent
+IsQueuedFor atoms (Some (Says.Gated s r)) q = ⊥
+IsQueuedFor atoms (Some (Says.Shared r)) q = (q.requirement ≡ r) × (q.condition ≡ None) × StandsFor atoms q.parent (Gate r)
+IsQueuedFor atoms (Some (Says.Limits parent v s)) q = ⊥
+IsQueuedFor atoms (Some (Says.LimitsOutside parent v)) q = ⊥
+IsQueuedFor atoms (Some (Says.IsOut v s)) q = ⊥
+IsQueuedFor atoms (Some (Says.Locked locked s)) q = ⊥
+IsQueuedFor atoms (Some (Says.Excluded s why)) q = ⊥
+IsQueuedFor atoms (Some (Says.Digit n s bit value)) q = ⊥
+IsQueuedFor atoms (Some (Says.IsThere n s)) q = ⊥
+IsQueuedFor atoms (Some Says.Learnt) q = ⊥
+
+-- the rule's clause asks for a match of a requirement
+abbrev pub Asks : {N S : Type 0} → Rule N S → Type 0
+Asks (Rule.needs parent need case) = Unit {0}
+Asks (Rule.gated s r) = ⊥
+Asks (Rule.shared r) = Unit {0}
+Asks (Rule.limits parent v s) = ⊥
+Asks (Rule.limits_outside parent v) = ⊥
+Asks (Rule.is_out v s) = ⊥
+Asks (Rule.bars s) = ⊥
+Asks (Rule.has_digit s bit b) = ⊥
+Asks (Rule.is_there n s) = ⊥
+
+-- No requirement has a condition, nothing is limited, locked or excluded, and all dependencies are known.
+pub record IsPlain {N S : Type 0} (same : S → S → Bool) (p : Packages N S) (root : Rules) : Type 0 where
+  pub unconditional : (parent : Option S) (need : ConditionalRequirement) → Contains (rules_for same p root parent).requirements need → need.condition ≡ None
+  pub unlimited : (parent : Option S) → (rules_for same p root parent).constraints ≡ []
+  pub unbarred : (s : S) → is_barred same p s ≡ false
+  pub known : (s : S) → is_unknown (p.dependencies_of s) ≡ false
+
+module _ {N S : Type 0} (same : S → S → Bool) (p : Packages N S) (root : Rules) where
+  -- the solvable is registered as one of its package's
+  abbrev pub Registered : Encoding N S → S → Type 0
+  Registered e s = IsRegistered e.registry e.coding (p.package_of s) s
+
+  -- What holds of the encoding between its steps.
+  pub record IsEncoding (e : Encoding N S) : Type 0 where
+    pub coding : IsCoding e.coding
+    pub tied : AreTied e.registry e.coding
+    -- each clause that states a rule has its literals, and the rule is one of the problem
+    pub spelled : Spelled same p e.coding
+    pub rule : (r : Rule N S) → rules_of e r → IsRule same p root r
+    -- what clauses may make true is registered, and what is registered is a candidate of its package
+    pub positive : AreRegistered (Registered e) e.coding
+    pub named : (n : N) (s : S) → IsRegistered e.registry e.coding n s → n ≡ p.package_of s
+    pub candidates : (s : S) → Registered e s → is_in same p (listed (p.candidates_of (p.package_of s))) s ≡ true
+    -- the candidates of a requirement are the solvables that meet it
+    pub listed : (r : Requirement) (c : Candidate N) → Contains (candidates_in e.lists r) c → (s : S) × IsCandidate e (p.package_of s) s c × (meets same p r s ≡ true)
+    pub offered : (r : Requirement) (s : S) → has_candidates e.lists r ≡ true → meets same p r s ≡ true → (c : Candidate N) × Contains (candidates_in e.lists r) c × IsCandidate e (p.package_of s) s c
+    -- each need clause, and each gate's, has its candidates, and decisions are made for it
+    pub fixed : (r : Requirement) → HasClause same p (rules_of e) r → has_candidates e.lists r ≡ true
+    pub queued : (q : NeedClause) → Contains e.queue q → IsQueuedFor e.coding.atoms.keys (stated_at e.coding.stated.items q.clause.0) q
+    pub asked : (n : ℕ) (r : Rule N S) → rule_at e.coding.stated.items n ≡ Some r → Asks r → (q : NeedClause) × Contains e.queue q × (q.clause.0 ≡ n)
+    -- each gate has its clause
+    pub gates : (r : Requirement) (v : VariableId) → slot_of e.gates r ≡ Some v → StandsFor e.coding.atoms.keys v (Gate r) × rules_of e (Rule.shared r)
+    -- the needs of the first parents are clauses
+    pub within : e.encoded ≤ length e.parents.keys
+    pub encoded : (i : ℕ) (parent : SolvableIdOrRoot S) (need : ConditionalRequirement) → i < e.encoded → slice_get e.parents.keys i ≡ Some parent
+        → Contains (rules_for same p root (solvable_of parent)).requirements need → IsNeedEncoded same p (rules_of e) (solvable_of parent) need []
+    -- each choice is a match of a requirement that was asked for
+    pub called : AreCalledFor (origin e.coding.atoms.keys) (IsCalledFor same p (rules_of e) []) (history e.coding.search)

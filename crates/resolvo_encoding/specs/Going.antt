@@ -1,0 +1,67 @@
+-- The search goes on over an encoding: what it learns, chooses and comes to.
+use Rattle.std.specs.Prelude.{◌≡◌, ℕ, ◌<◌, ◌≤◌, Bool, true, false, Option, Some, None, length}
+use Rattle.resolvo_store.specs.Lists.{named_by}
+use Rattle.resolvo_store.specs.Pick.{pick_by}
+use Rattle.resolvo_store.specs.declared.decide_queue.NextDecision.{NextDecision}
+use Rattle.resolvo_search.specs.declared.analysis.Refusal.{Refusal}
+use Rattle.resolvo_search.specs.Advancing.{weight_left}
+use Rattle.resolvo_search.specs.Analysis.{IsRefusal}
+use Rattle.resolvo_search.specs.Entries.{made_true}
+use Rattle.resolvo_search.specs.Known.{clause_at}
+use Rattle.resolvo_search.specs.Propagation.{IsQuiet}
+use Rattle.resolvo_search.specs.State.{history, clauses_of}
+use Rattle.resolvo_coding.specs.declared.stated.Stated.TheVariants.{Learnt}
+use Rattle.resolvo_coding.specs.Coding.{IsCoding, Grows}
+use Rattle.resolvo_coding.specs.Statements.{stated_at}
+use Rattle.resolvo_encoding.specs.Steps.{SameButCoding}
+use Rattle.resolvo_encoding.specs.Turning.{AreValues, IsDecided}
+use Rattle.resolvo_encoding.specs.declared.choosing.Step.{Step}
+use Rattle.resolvo_encoding.specs.declared.encoding.Encoding.{Encoding}
+
+-- what the trail's values and the scores let choose next
+pub record IsNext {N S : Type 0} (score : N → ℕ) (e : Encoding N S) (next : Option NextDecision) : Type 0 where
+  pub values : ℕ → Option Bool
+  pub agree : AreValues values (made_true (history e.coding.search))
+  pub picked : pick_by (named_by e.lists) values score e.queue ≡ next
+
+-- Literals were set, and each clause that came was learnt; what variables stand for, and all but the search, is what it was.
+pub record GoesOn {N S : Type 0} (old new : Encoding N S) : Type 0 where
+  pub rest : SameButCoding old new
+  pub coding : IsCoding new.coding
+  pub atoms : new.coding.atoms ≡ old.coding.atoms
+  pub variables : new.coding.search.variables ≡ old.coding.search.variables
+  pub grows : Grows old.coding new.coding
+  pub learnt : (n : ℕ) → length old.coding.search.clauses ≤ n → n < length new.coding.search.clauses → stated_at new.coding.stated.items n ≡ Some Learnt
+
+-- each clause has a true literal, or two that are not false
+abbrev pub AreQuiet : {N S : Type 0} → Encoding N S → Type 0
+AreQuiet e = (n : ℕ) → n < length e.coding.search.clauses → IsQuiet (made_true (history e.coding.search)) (clause_at (clauses_of e.coding.search) n)
+
+-- nothing is left to set or to choose
+pub record IsSettled {N S : Type 0} (e : Encoding N S) : Type 0 where
+  pub quiet : AreQuiet e
+  pub values : ℕ → Option Bool
+  pub score : N → ℕ
+  pub agree : AreValues values (made_true (history e.coding.search))
+  pub decided : IsDecided e values score
+
+-- the trail gained weight
+abbrev pub IsHeavier : {N S : Type 0} → Encoding N S → Encoding N S → Type 0
+IsHeavier old new = weight_left new.coding.search < weight_left old.coding.search
+
+-- what one step came to
+abbrev pub IsStep : {N S : Type 0} → Encoding N S → Encoding N S → Step → Type 0
+IsStep old new Step.Settled = IsSettled new
+IsStep old new Step.Chosen = IsHeavier old new
+IsStep old new (Step.Learnt clause) = IsHeavier old new × (clause.0 < length new.coding.search.clauses)
+IsStep old new (Step.Refused r) = IsRefusal new.coding.search r.literals.items r.causes.items
+
+-- whether something was chosen, or nothing is left to choose
+abbrev pub IsChoice : {N S : Type 0} → Encoding N S → Encoding N S → Bool → Type 0
+IsChoice old new true = IsHeavier old new
+IsChoice old new false = AreQuiet old → IsSettled new
+
+-- what the search came to: nothing is left to set or to choose, or choices can't stand together
+abbrev pub IsDecision : {N S : Type 0} → Encoding N S → Option Refusal → Type 0
+IsDecision e None = IsSettled e
+IsDecision e (Some r) = IsRefusal e.coding.search r.literals.items r.causes.items

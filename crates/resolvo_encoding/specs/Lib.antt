@@ -1,0 +1,4 @@
+pub mod Encoded
+pub mod Steps
+pub mod Turning
+pub mod Going

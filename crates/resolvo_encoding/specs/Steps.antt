@@ -1,0 +1,147 @@
+-- The steps of encoding.
+use Rattle.std.specs.Prelude.{◌≡◌, ℕ, ◌<◌, ◌≤◌, ◌⊎◌, Bool, true, List, [], ◌∷◌, ◌++◌, length, Option, Some, None, Contains, Vec, slice_get}
+use Rattle.std.specs.declared.alloc.Global.{Global}
+use Rattle.resolvo_pool.specs.declared.id.ClauseId.{ClauseId}
+use Rattle.resolvo_pool.specs.declared.id.VariableId.{VariableId}
+use Rattle.resolvo_pool.specs.declared.requirement.Requirement.{Requirement}
+use Rattle.resolvo_store.specs.Clauses.{yes, no, candidate_literals}
+use Rattle.resolvo_store.specs.declared.decide_queue.NeedClause.{NeedClause}
+use Rattle.resolvo_store.specs.declared.lists.Candidate.{Candidate}
+use Rattle.resolvo_store.specs.Lists.{has_candidates, candidates_in, FixesCandidates, IsEmpty}
+use Rattle.resolvo_pool.specs.ByRequirement.{slot_of}
+use Rattle.resolvo_pool.specs.declared.solver_id.SolvableIdOrRoot.TheVariants.{Root}
+use Rattle.resolvo_answers.specs.declared.answers.Offered.{Offered}
+use Rattle.resolvo_pool.specs.RuleKeeping.{Packages, Rules, IsLawful, rules_for}
+use Rattle.resolvo_pool.specs.declared.id.VersionSetId.{VersionSetId}
+use Rattle.resolvo_pool.specs.declared.requirement.ConditionalRequirement.{ConditionalRequirement}
+use Rattle.resolvo_coding.specs.declared.atom.ProofAtom.{ProofAtom}
+use Rattle.resolvo_coding.specs.declared.atom.ProofAtom.TheVariants.{Solvable, Gate}
+use Rattle.resolvo_coding.specs.declared.stated.Stated.TheVariants as Says
+use Rattle.resolvo_pool.specs.Text.{solvable_of}
+use Rattle.resolvo_pool.specs.declared.solver_id.SolvableIdOrRoot.{SolvableIdOrRoot}
+use Rattle.resolvo_store.specs.AtMostOne.{IsFrontOf}
+use Rattle.resolvo_rules.specs.Ending.{IsNeedEncoded}
+use Rattle.resolvo_encoding.specs.Encoded.{IsParentVariable, IsEncoding, rules_of}
+use Rattle.resolvo_coding.specs.declared.stated.Stated.{Stated}
+use Rattle.resolvo_coding.specs.declared.coding.Coding.{Coding}
+use Rattle.resolvo_coding.specs.declared.registry.Registry.{Registry}
+use Rattle.resolvo_coding.specs.Atoms.{StandsFor}
+use Rattle.resolvo_coding.specs.Coding.{IsCoding, IsBegun, Grows, SameTrail, States}
+use Rattle.resolvo_coding.specs.Registered.{AreTied, IsTracked, IsDigitClause, IsNothing, Registers}
+use Rattle.resolvo_encoding.specs.declared.encoding.Encoding.{Encoding}
+
+-- the candidate's literal is that what is offered, which is registered, is chosen
+pub record IsOfferedAs {N S : Type 0} (r : Registry N) (c : Coding N S) (o : Offered N S) (candidate : Candidate N) : Type 0 where
+  pub positive : candidate.literal.positive ≡ true
+  pub stands : StandsFor c.atoms.keys candidate.literal.variable (Solvable o.solvable)
+  pub tracked : IsTracked r o.name candidate.literal.variable
+
+-- What is offered is registered, and given as a candidate.
+pub record RegistersOne {N S : Type 0} (o : Offered N S) (candidate : Candidate N) (r : Registry N) (old : Coding N S) (t : Registry N) (new : Coding N S) : Type 0 where
+  pub literal : candidate.literal.positive ≡ true
+  pub registers : Registers o.name o.solvable candidate.literal.variable r old t new
+
+-- What is offered is registered, and given as candidates; no other solvable came. Each clause that came tells a digit.
+pub record RegistersAll {N S : Type 0} (offered : List (Offered N S)) (given : List (Candidate N)) (r : Registry N) (old : Coding N S) (t : Registry N) (new : Coding N S) : Type 0 where
+  pub coding : IsCoding new
+  pub grows : Grows old new
+  pub trail : SameTrail old new
+  pub tied : AreTied t new
+  pub keeps : (m : N) (u : VariableId) → IsTracked r m u → IsTracked t m u
+  pub only : (m : N) (u : VariableId) → IsTracked t m u → IsTracked r m u ⊎ ((o : Offered N S) × Contains offered o × (m ≡ o.name) × StandsFor new.atoms.keys u (Solvable o.solvable))
+  pub digits : (n : ℕ) → length old.search.clauses ≤ n → n < length new.search.clauses → (name : N) × IsDigitClause t new name n
+  pub each : (o : Offered N S) → Contains offered o → (c : Candidate N) × Contains given c × IsOfferedAs t new o c
+  pub all : (c : Candidate N) → Contains given c → (o : Offered N S) × Contains offered o × IsOfferedAs t new o c
+
+-- what is offered became the requirement's candidates, unless it had them
+pub record Fixes {N S : Type 0} (r : Requirement) (offered : List (Offered N S)) (old new : Encoding N S) : Type 0 where
+  pub queue : new.queue ≡ old.queue
+  pub gates : new.gates ≡ old.gates
+  pub parents : new.parents ≡ old.parents
+  pub encoded : new.encoded ≡ old.encoded
+  pub fixed : ((has_candidates old.lists r ≡ true) × (new ≡ old))
+      ⊎ ((given : Vec (Candidate N) Global) × RegistersAll offered given.items old.registry old.coding new.registry new.coding × FixesCandidates r given old.lists new.lists)
+
+-- A clause came that states this of a variable: it is false, or one of the requirement's candidates is chosen. Decisions
+-- are made for it.
+pub record StatesNeed {N S : Type 0} (stated : Stated N S) (v : VariableId) (r : Requirement) (old new : Encoding N S) : Type 0 where
+  pub number : ClauseId
+  pub states : States stated (no v ∷ candidate_literals (candidates_in old.lists r)) number old.coding new.coding
+  pub queue : new.queue ≡ old.queue ++ (let q : NeedClause = record { parent = v; requirement = r; condition = None; clause = number } in q) ∷ []
+  pub registry : new.registry ≡ old.registry
+  pub lists : new.lists ≡ old.lists
+  pub gates : new.gates ≡ old.gates
+  pub parents : new.parents ≡ old.parents
+  pub encoded : new.encoded ≡ old.encoded
+
+-- The clause of a parent's need, which has no condition, or of the requirement's gate; the variable is the parent's or the
+-- gate's.
+abbrev pub IsNeed : {N S : Type 0} → (S → S → Bool) → Packages N S → Rules → List (ProofAtom N S) → Stated N S → VariableId → Requirement → Type 0
+IsNeed same p root atoms Says.Root v r = ⊥
+IsNeed same p root atoms (Says.Needs parent need case) v r = (case.items ≡ []) × (need.requirement ≡ r) × IsParentVariable atoms parent v × Contains (rules_for same p root parent).requirements need × (need.condition ≡ None)
+IsNeed same p root atoms (Says.Gated s w) v r = ⊥
+IsNeed same p root atoms (Says.Shared w) v r = (w ≡ r) × StandsFor atoms v (Gate w)
+IsNeed same p root atoms (Says.Limits parent w s) v r = ⊥
+IsNeed same p root atoms (Says.LimitsOutside parent w) v r = ⊥
+IsNeed same p root atoms (Says.IsOut w s) v r = ⊥
+IsNeed same p root atoms (Says.Locked locked s) v r = ⊥
+IsNeed same p root atoms (Says.Excluded s why) v r = ⊥
+IsNeed same p root atoms (Says.Digit n s bit value) v r = ⊥
+IsNeed same p root atoms (Says.IsThere n s) v r = ⊥
+IsNeed same p root atoms Says.Learnt v r = ⊥
+
+-- only the clauses, variables and what these mean changed
+pub record SameButCoding {N S : Type 0} (old new : Encoding N S) : Type 0 where
+  pub registry : new.registry ≡ old.registry
+  pub lists : new.lists ≡ old.lists
+  pub queue : new.queue ≡ old.queue
+  pub gates : new.gates ≡ old.gates
+  pub parents : new.parents ≡ old.parents
+  pub encoded : new.encoded ≡ old.encoded
+
+-- the encoding is that of some packages
+abbrev pub HasEncoding : {N S : Type 0} → (S → S → Bool) → Encoding N S → Type 0
+HasEncoding {N} {S} same e = (p : Packages N S) × (root : Rules) × IsLawful p × IsEncoding same p root e
+
+-- the parent has the need, without condition
+pub record Needs {N S : Type 0} (same : S → S → Bool) (p : Packages N S) (root : Rules) (parent : Option S) (need : ConditionalRequirement) : Type 0 where
+  pub listed : Contains (rules_for same p root parent).requirements need
+  pub free : need.condition ≡ None
+
+-- clauses and what they state came, and the parents stay
+pub record Extends {N S : Type 0} (old new : Encoding N S) : Type 0 where
+  pub grows : Grows old.coding new.coding
+  pub parents : new.parents ≡ old.parents
+  pub encoded : new.encoded ≡ old.encoded
+
+-- the clause of the parent's need came
+pub record NeedsDirectly {N S : Type 0} (parent : Option S) (need : ConditionalRequirement) (v : VariableId) (old new : Encoding N S) : Type 0 where
+  pub case : Vec VersionSetId Global
+  pub none : case.items ≡ []
+  pub states : StatesNeed (Says.Needs parent need case) v need.requirement old new
+
+-- the clause that the solvable opens the gate came
+pub record Opens {N S : Type 0} (s : S) (v gate : VariableId) (r : Requirement) (old new : Encoding N S) : Type 0 where
+  pub number : ClauseId
+  pub states : States (Says.Gated s r) (no v ∷ yes gate ∷ []) number old.coding new.coding
+  pub rest : SameButCoding old new
+
+-- the root alone is there, and its needs are to be encoded
+pub record IsBegunEncoding {N S : Type 0} (e : Encoding N S) : Type 0 where
+  pub coding : IsBegun e.coding
+  pub registry : IsNothing e.registry
+  pub lists : IsEmpty e.lists
+  pub queue : e.queue ≡ []
+  pub gates : (r : Requirement) → slot_of e.gates r ≡ None
+  pub parents : e.parents.keys ≡ Root ∷ []
+  pub encoded : e.encoded ≡ 0
+
+-- parents came behind the others, or none
+pub record AddsParent {N S : Type 0} (old new : Encoding N S) : Type 0 where
+  pub front : IsFrontOf old.parents.keys new.parents.keys
+  pub rest : new ≡ record old { parents = new.parents }
+
+-- each need of the next parent is a clause
+abbrev pub IsNextEncoded : {N S : Type 0} → (S → S → Bool) → Packages N S → Rules → Encoding N S → Type 0
+IsNextEncoded {N} {S} same p root e = (parent : SolvableIdOrRoot S) (need : ConditionalRequirement) → slice_get e.parents.keys e.encoded ≡ Some parent
+    → Contains (rules_for same p root (solvable_of parent)).requirements need → IsNeedEncoded same p (rules_of e) (solvable_of parent) need []

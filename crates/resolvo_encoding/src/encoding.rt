@@ -1,0 +1,318 @@
+//! What was encoded: the clauses with what they state, the registered solvables, the candidates of
+//! requirements, the need clauses in their order, and the parents whose needs are encoded in turn.
+ghost use Rattle.std.specs.Prelude.{◌≡◌, ◌<◌, ◌∷◌, [], true, Some, OnOk, IfOk, IsSome, slice_get, length, ◌+◌};
+ghost use Rattle.resolvo_pool.specs.RuleKeeping.{Packages, Rules, IsLawful};
+ghost use Rattle.resolvo_store.specs.AtMostOne.{IsFrontOf};
+ghost use Rattle.resolvo_store.specs.Clauses.{no, candidate_literals};
+ghost use Rattle.resolvo_store.specs.Lists.{has_candidates, candidates_in};
+ghost use Rattle.resolvo_search.specs.State.{count_of};
+ghost use Rattle.resolvo_search.specs.Steps.{AreInRange};
+ghost use Rattle.resolvo_answers.specs.Answering.{AreOffered};
+ghost use Rattle.resolvo_rules.specs.Encoding.{Rule};
+ghost use Rattle.resolvo_rules.specs.Ending.{IsNeedEncoded};
+ghost use Rattle.resolvo_coding.specs.declared.atom.ProofAtom.TheVariants.{Gate};
+ghost use Rattle.resolvo_coding.specs.Atoms.{StandsFor};
+ghost use Rattle.resolvo_encoding.specs.Encoded.{rules_of, IsEncoding};
+ghost use Rattle.resolvo_coding.specs.Statements.{rule_of};
+ghost use Rattle.resolvo_coding.specs.Coding.{IsCoding};
+ghost use Rattle.resolvo_coding.specs.Registered.{AreTied};
+ghost use Rattle.resolvo_encoding.specs.Steps.{RegistersOne, RegistersAll, Fixes, StatesNeed, HasEncoding, Needs, Extends, NeedsDirectly, Opens, IsBegunEncoding, AddsParent, IsNextEncoded};
+
+use indexmap::IndexSet;
+use resolvo_answers::answers::Offered;
+use resolvo_coding::atom::ProofAtom;
+use resolvo_coding::coding::Coding;
+use resolvo_coding::registry::Registry;
+use resolvo_coding::stated::Stated;
+use resolvo_pool::id::{ClauseId, VariableId};
+use resolvo_pool::requirement::{ConditionalRequirement, Requirement, RequirementMap};
+use resolvo_pool::solver_id::{SolvableIdOrRoot, SolverId};
+use resolvo_pool::want::R;
+use resolvo_store::decide_queue::{DecideQueue, NeedClause};
+use resolvo_store::lists::{Candidate, FixedLists};
+use resolvo_store::literal::Literal;
+use std::alloc::Global;
+use std::hash::Hash;
+
+/// From so many candidates on a gate stands between a requirement and those that ask for it.
+const GATED: usize = 4;
+
+/// What was encoded so far.
+#[derive(Drop)]
+pub struct Encoding<N: Eq + Hash, S: Eq + Hash> {
+    pub coding: Coding<N, S>,
+    pub registry: Registry<N>,
+    pub lists: FixedLists<N>,
+    pub queue: DecideQueue,
+    /// The gate of each requirement that has one.
+    pub gates: RequirementMap<VariableId>,
+    /// The parents whose needs are to be encoded, first come first.
+    pub parents: IndexSet<SolvableIdOrRoot<S>>,
+    /// How many of them were.
+    pub encoded: usize,
+}
+
+impl<N: SolverId + Drop, S: SolverId> Encoding<N, S> {
+    /// Nothing but the root, whose needs are to be encoded.
+    pub fn begin(alloc: Global) -> R<Encoding<N, S>>
+        ensures begun { IfOk result IsBegunEncoding }
+        ensures encoding { IfOk result (λ e. (p : Packages N S) (root : Rules) → IsLawful p → IsEncoding S.eq p root e) }
+    {
+        let mut parents = IndexSet::new(alloc);
+        parents.insert(SolvableIdOrRoot::Root)?;
+        Ok(Encoding {
+            coding: Coding::begin(alloc)?,
+            registry: Registry::new(alloc),
+            lists: FixedLists::new(alloc)?,
+            queue: DecideQueue::new(alloc),
+            gates: RequirementMap::new(alloc)?,
+            parents,
+            encoded: 0,
+        })
+    }
+
+    /// States that a parent needs one of the candidates that are offered for its requirement, which has
+    /// no condition. Where they are many, and the parent is not the root, a gate stands between.
+    pub fn require(
+        &mut self,
+        alloc: Global,
+        parent: Option<S>,
+        need: ConditionalRequirement,
+        offered: &[Offered<N, S>],
+    ) -> R<()>
+        requires { (p : Packages N S) × (root : Rules) × IsLawful p × IsEncoding S.eq p root self.old × AreOffered S.eq p need.requirement offered.now }
+        ensures encoded { OnOk result ((p : Packages N S) (root : Rules) → IsLawful p → IsEncoding S.eq p root self.old → AreOffered S.eq p need.requirement offered.now → Needs S.eq p root parent need → IsEncoding S.eq p root self.new × IsNeedEncoded S.eq p (rules_of self.new) parent need []) }
+        ensures kept { OnOk result (Extends self.old self.new) }
+    {
+        self.fix_candidates(alloc, need.requirement, offered)?;
+        match parent {
+            None => {
+                self.need_directly(alloc, VariableId::root(), None, need)?;
+                Ok(())
+            }
+            Some(solvable) => {
+                self.require_of(alloc, solvable, need, offered.len())?;
+                Ok(())
+            }
+        }
+    }
+
+    /// States that a solvable needs one of the candidates of its requirement, of which there are so many.
+    fn require_of(
+        &mut self,
+        alloc: Global,
+        solvable: S,
+        need: ConditionalRequirement,
+        count: usize,
+    ) -> R<()>
+        requires { HasEncoding S.eq self.old }
+        ensures encoded { OnOk result ((p : Packages N S) (root : Rules) → IsLawful p → IsEncoding S.eq p root self.old → has_candidates self.old.lists need.requirement ≡ true → Needs S.eq p root (Some solvable) need → IsEncoding S.eq p root self.new × IsNeedEncoded S.eq p (rules_of self.new) (Some solvable) need []) }
+        ensures kept { OnOk result (Extends self.old self.new) }
+    {
+        let variable = self.coding.variable(ProofAtom::Solvable(solvable))?;
+        if count < GATED {
+            self.need_directly(alloc, variable, Some(solvable), need)?;
+            return Ok(());
+        }
+        let gate = self.gate(alloc, need.requirement)?;
+        self.open_gate(alloc, solvable, variable, gate, need.requirement)?;
+        Ok(())
+    }
+
+    /// Registers what is offered for a requirement, and notes it as its candidates, once.
+    fn fix_candidates(
+        &mut self,
+        alloc: Global,
+        requirement: Requirement,
+        offered: &[Offered<N, S>],
+    ) -> R<()>
+        requires coding { IsCoding self.old.coding }
+        requires tied { AreTied self.old.registry self.old.coding }
+        ensures fixed { OnOk result (Fixes requirement offered.now self.old self.new) }
+    {
+        if self.lists.candidates(requirement).is_some() {
+            return Ok(());
+        }
+        let candidates = register_all(alloc, &mut self.registry, &mut self.coding, offered)?;
+        self.lists.fix_candidates(requirement, candidates)?;
+        Ok(())
+    }
+
+    /// States a need without a gate.
+    fn need_directly(
+        &mut self,
+        alloc: Global,
+        variable: VariableId,
+        parent: Option<S>,
+        need: ConditionalRequirement,
+    ) -> R<()>
+        requires encoding { HasEncoding S.eq self.old }
+        requires in_range { variable.0 < count_of self.old.coding.search }
+        ensures needed { OnOk result (NeedsDirectly parent need variable self.old self.new) }
+    {
+        let stated = Stated::Needs {
+            parent,
+            need,
+            case: Vec::new(alloc),
+        };
+        self.state_need(alloc, stated, variable, need.requirement)?;
+        Ok(())
+    }
+
+    /// States that a variable is false or one of the requirement's candidates is chosen, and lets
+    /// decisions be made for it.
+    fn state_need(
+        &mut self,
+        alloc: Global,
+        stated: Stated<N, S>,
+        variable: VariableId,
+        requirement: Requirement,
+    ) -> R<()>
+        requires coding { IsCoding self.old.coding }
+        requires rule { IsSome (rule_of stated) }
+        requires in_range { AreInRange (count_of self.old.coding.search) (no variable ∷ candidate_literals (candidates_in self.old.lists requirement)) }
+        ensures stated { OnOk result (StatesNeed stated variable requirement self.old self.new) }
+    {
+        let literals = self.literals_of(alloc, variable, requirement)?;
+        let clause = self.coding.state(stated, literals)?;
+        self.queue.register_clause(NeedClause {
+            parent: variable,
+            requirement,
+            condition: None,
+            clause,
+        })
+    }
+
+    /// The variable of the requirement's gate, with its clause.
+    fn gate(&mut self, alloc: Global, requirement: Requirement) -> R<VariableId>
+        requires { HasEncoding S.eq self.old }
+        ensures encoded { OnOk result ((p : Packages N S) (root : Rules) → IsLawful p → IsEncoding S.eq p root self.old → has_candidates self.old.lists requirement ≡ true → IsEncoding S.eq p root self.new × rules_of self.new (Rule.shared requirement)) }
+        ensures stands { IfOk result (λ gate. StandsFor self.new.coding.atoms.keys gate (Gate requirement)) }
+        ensures coding { OnOk result (IsCoding self.new.coding) }
+        ensures kept { OnOk result (Extends self.old self.new) }
+    {
+        if let Some(gate) = self.gates.get(requirement) {
+            return Ok(*gate);
+        }
+        let gate = self.coding.variable(ProofAtom::Gate(requirement))?;
+        self.state_need(alloc, Stated::Shared { requirement }, gate, requirement)?;
+        self.gates.insert(requirement, gate)?;
+        Ok(gate)
+    }
+
+    /// States that a solvable opens a gate.
+    fn open_gate(
+        &mut self,
+        alloc: Global,
+        solvable: S,
+        variable: VariableId,
+        gate: VariableId,
+        requirement: Requirement,
+    ) -> R<()>
+        requires coding { IsCoding self.old.coding }
+        requires in_range { variable.0 < count_of self.old.coding.search }
+        requires gate_in_range { gate.0 < count_of self.old.coding.search }
+        ensures opened { OnOk result (Opens solvable variable gate requirement self.old self.new) }
+    {
+        let mut literals = Vec::new(alloc);
+        literals.push(Literal::new(variable, true))?;
+        literals.push(Literal::new(gate, false))?;
+        let stated = Stated::Gated {
+            solvable,
+            requirement,
+        };
+        self.coding.state(stated, literals)?;
+        Ok(())
+    }
+
+    /// The literals that a parent, or a gate, has not come or that a candidate has.
+    fn literals_of(
+        &self,
+        alloc: Global,
+        variable: VariableId,
+        requirement: Requirement,
+    ) -> R<Vec<Literal>>
+        requires { variable.0 < 2147483648 }
+        ensures literals { IfOk result (λ v. v.items ≡ no variable ∷ candidate_literals (candidates_in self.now.lists requirement)) }
+    {
+        let mut literals = Vec::new(alloc);
+        literals.push(Literal::new(variable, true))?;
+        if let Some(candidates) = self.lists.candidates(requirement) {
+            for candidate in candidates {
+                literals.push(candidate.literal)?;
+            }
+        }
+        Ok(literals)
+    }
+
+    /// The parent whose needs are to be encoded next, if one is left.
+    pub fn next_parent(&self) -> Option<SolvableIdOrRoot<S>>
+        ensures { result ≡ slice_get self.now.parents.keys self.now.encoded }
+    {
+        self.parents.get_index(self.encoded).copied()
+    }
+
+    /// Lets the needs of a solvable be encoded in their turn, unless they were or will be.
+    pub fn add_parent(&mut self, solvable: S) -> R<()>
+        ensures added { OnOk result (AddsParent self.old self.new) }
+        ensures encoding { OnOk result ((p : Packages N S) (root : Rules) → IsEncoding S.eq p root self.old → IsEncoding S.eq p root self.new) }
+    {
+        add_key(&mut self.parents, SolvableIdOrRoot::Solvable(solvable))?;
+        Ok(())
+    }
+
+    /// The needs of the next parent were encoded.
+    pub fn end_parent(&mut self)
+        requires { self.old.encoded < length self.old.parents.keys }
+        ensures next { self.new ≡ record self.old { encoded = self.old.encoded + 1 } }
+        ensures encoding { (p : Packages N S) (root : Rules) → IsEncoding S.eq p root self.old → IsNextEncoded S.eq p root self.old → IsEncoding S.eq p root self.new }
+    {
+        if self.encoded < self.parents.len() {
+            self.encoded += 1;
+        }
+    }
+}
+
+/// Registers what is offered, and gives it as candidates.
+fn register_all<N: SolverId, S: SolverId>(
+    alloc: Global,
+    registry: &mut Registry<N>,
+    coding: &mut Coding<N, S>,
+    offered: &[Offered<N, S>],
+) -> R<Vec<Candidate<N>>>
+    requires coding { IsCoding coding.old }
+    requires tied { AreTied registry.old coding.old }
+    ensures registered { IfOk result (λ v. RegistersAll offered.now v.items registry.old coding.old registry.new coding.new) }
+{
+    let mut candidates = Vec::new(alloc);
+    for one in offered {
+        let candidate = register_one(registry, coding, *one)?;
+        candidates.push(candidate)?;
+    }
+    Ok(candidates)
+}
+
+/// Registers what is offered, and gives it as a candidate.
+fn register_one<N: SolverId, S: SolverId>(
+    registry: &mut Registry<N>,
+    coding: &mut Coding<N, S>,
+    one: Offered<N, S>,
+) -> R<Candidate<N>>
+    requires coding { IsCoding coding.old }
+    requires tied { AreTied registry.old coding.old }
+    ensures registered { IfOk result (λ c. RegistersOne one c registry.old coding.old registry.new coding.new) }
+{
+    let variable = registry.register(coding, one.name, one.solvable)?;
+    Ok(Candidate {
+        literal: Literal::new(variable, false),
+        package: one.name,
+    })
+}
+
+/// Puts a value behind the others, unless it stands there.
+fn add_key<K: Copy + Eq + Hash + Drop>(keys: &mut IndexSet<K>, key: K) -> R<()>
+    ensures { OnOk result (IsFrontOf keys.old.keys keys.new.keys) }
+{
+    keys.insert(key)?;
+    Ok(())
+}

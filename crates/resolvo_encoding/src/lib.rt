@@ -1,0 +1,6 @@
+//! The encoder's clauses: what a parent's need, or the gate of its requirement, states, over the candidates
+//! that a provider offers. The encoding of a provider's packages stays one, step by step.
+#![tactic(auto)]
+
+pub mod choosing;
+pub mod encoding;

@@ -1,0 +1,46 @@
+use Rattle.std.proofs.Common.{◌≡◌, ◌∙◌, ◌++◌, ◌∷◌, [], Some, ap, sym, refl, reverse, arith}
+use Rattle.std.proofs.lemmas.List.{nil_from_length}
+use Rattle.std.proofs.lemmas.List.Elements.{All-pop, All-same}
+use Rattle.resolvo_graph.specs.Kept.{findings}
+use Rattle.resolvo_graph.specs.Runs.{runs_of}
+use Rattle.resolvo_graph.specs.Tree.{siblings, in_rank}
+use Rattle.resolvo_graph.proofs.TreeLemmas.{IsKnown, reached, reached_own, reached_edges, put_first, known_start, known_next, smaller, starts, steps, ends}
+use Rattle.resolvo_graph.proofs.tree.Findings.tree.Goals as goal
+
+pub loop-entry-init : goal.loop-entry-init
+loop-entry-init g c =
+    let f = findings g.S.PartialEq.eq c.args.self.now.graph.now c.args.self.now.installable.keys c.args.self.now.merged in
+    let es = c.args.edges.now in
+    let put : c.place.new.stack.items ≡ [] ++ reverse (siblings (record { levels = []; top_level_indent = c.args.top_level_indent }) [] (reverse (in_rank f (runs_of es)))) =
+    put_first c.place.new.stack.items c.new-2.result.items c.new-top.result (record { levels = []; top_level_indent = c.args.top_level_indent }) c.as_slice.result.now c.in_ok-ops.ops.items (in_rank f (runs_of es)) c.in_ok-place.ensures c.new-2.ensures.items c.new-top.ensures (c.as_slice.ensures.value ∙ c.new-above.ensures.items) (c.in_ok-ops.ensures ∙ ap (in_rank f) c.in_ok-runs.ensures.runs) in
+    record {
+      known = known_start f (reached c.args.self.now.graph.now es) (record { levels = []; top_level_indent = c.args.top_level_indent }) c.place.new.stack.items es (reached_own c.args.self.now.graph.now es) put;
+      gives = starts f (siblings (record { levels = []; top_level_indent = c.args.top_level_indent }) [] (reverse (in_rank f (runs_of es)))) c.place.new.stack.items c.new.result.keys c.new-3.result.items put c.new.ensures.empty c.new-3.ensures.items;
+    }
+
+pub loop-entry-smaller : goal.loop-entry-smaller
+loop-entry-smaller g c =
+    let f = findings g.S.PartialEq.eq c.args.self.now.graph.now c.args.self.now.installable.keys c.args.self.now.merged in
+    let us = reached c.args.self.now.graph.now c.args.edges.now in
+    let below = c.pop.new.self.items in
+    let e = c.in-Some.entry in
+    let parts = All-pop (λ d. IsKnown f us d.op) (below ++ e ∷ []) below (Some e) refl (All-same (λ d. IsKnown f us d.op) (below ++ e ∷ []) c.loop-entry.telling.stack.items (sym c.in-Some.ensures.items) c.loop-entry.invariant.known) in
+    smaller f us c.loop-entry.telling.stack.items below c.tell.new.telling.stack.items c.loop-entry.telling.told.keys e parts.1 c.in-Some.ensures.items c.in_ok-tell.ensures.stack
+
+pub loop-entry-preserved : goal.loop-entry-preserved
+loop-entry-preserved g c =
+    let f = findings g.S.PartialEq.eq c.args.self.now.graph.now c.args.self.now.installable.keys c.args.self.now.merged in
+    let es = c.args.edges.now in
+    let us = reached c.args.self.now.graph.now es in
+    let below = c.pop.new.self.items in
+    let e = c.in-Some.entry in
+    let parts = All-pop (λ d. IsKnown f us d.op) (below ++ e ∷ []) below (Some e) refl (All-same (λ d. IsKnown f us d.op) (below ++ e ∷ []) c.loop-entry.telling.stack.items (sym c.in-Some.ensures.items) c.loop-entry.invariant.known) in
+    record {
+      known = known_next f us (reached_edges c.args.self.now.graph.now es) below c.tell.new.telling.stack.items c.loop-entry.telling.told.keys e parts.0 parts.1 c.in_ok-tell.ensures.stack;
+      gives = steps f (siblings (record { levels = []; top_level_indent = c.args.top_level_indent }) [] (reverse (in_rank f (runs_of es)))) c.loop-entry.telling.stack.items below c.tell.new.telling.stack.items c.loop-entry.telling.told.keys c.tell.new.telling.told.keys c.loop-entry.telling.lines.items c.tell.new.telling.lines.items e c.loop-entry.invariant.gives c.in-Some.ensures.items c.in_ok-tell.ensures.stack c.in_ok-tell.ensures.told c.in_ok-tell.ensures.lines;
+    }
+
+pub returns : goal.returns
+returns g c =
+    let f = findings g.S.PartialEq.eq c.args.self.now.graph.now c.args.self.now.installable.keys c.args.self.now.merged in
+    ends f (siblings (record { levels = []; top_level_indent = c.args.top_level_indent }) [] (reverse (in_rank f (runs_of c.args.edges.now)))) c.loop-entry.telling.stack.items c.loop-entry.telling.told.keys c.loop-entry.telling.lines.items c.loop-entry.invariant.gives (nil_from_length c.loop-entry.telling.stack.items (omega (arith, c.loop-entry.telling.stack.ok, c.in_default.ensures.cases)))

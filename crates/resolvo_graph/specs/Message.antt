@@ -1,0 +1,65 @@
+-- The whole message, told over a conflict graph alone.
+use Rattle.std.specs.Prelude.{◌≡◌, ℕ, ◌++◌, Bool, true, false, not, List, [], ◌∷◌, Option, filter}
+use Rattle.std.specs.List.{flat_map}
+use Rattle.resolvo_graph.specs.declared.graph.NodeIndex.{NodeIndex}
+use Rattle.resolvo_graph.specs.declared.graph.Edge.{Edge}
+use Rattle.resolvo_graph.specs.declared.graph.ConflictCause.TheVariants as Causes
+use Rattle.resolvo_graph.specs.declared.graph.ConflictEdge.{ConflictEdge}
+use Rattle.resolvo_graph.specs.declared.graph.ConflictEdge.TheVariants as Edges
+use Rattle.resolvo_graph.specs.declared.line.Verdict.TheVariants.{Locked}
+use Rattle.resolvo_graph.specs.declared.line.Sentence.TheVariants as Says
+use Rattle.resolvo_graph.specs.declared.line.MessageLine.{MessageLine}
+use Rattle.resolvo_graph.specs.Graph.{Graph, edges_of}
+use Rattle.resolvo_graph.specs.Indent.{Indent}
+use Rattle.resolvo_graph.specs.Merging.{IsMerged}
+use Rattle.resolvo_graph.specs.Outlook.{installable_in, missing_in}
+use Rattle.resolvo_graph.specs.Runs.{runs_of}
+use Rattle.resolvo_graph.specs.Tree.{Findings, IsTree, order_before}
+use Rattle.resolvo_graph.specs.Walk.{IsPostOrder, is_among}
+use Rattle.resolvo_graph.specs.Wording.{Meaning, line_text}
+
+-- the line of a conflict of the problem itself: of a constraint, or of a lock
+abbrev pub conflict_line : {S : Type 0} → ConflictEdge S → Indent → List (MessageLine S)
+conflict_line (Edges.Requires q) i = []
+conflict_line (Edges.Conflict (Causes.Locked s)) i = record { indenter = i; sentence = Says.Versions (s ∷ []) Locked } ∷ []
+conflict_line (Edges.Conflict (Causes.Constrains v)) i = record { indenter = i; sentence = Says.Constraint v } ∷ []
+conflict_line (Edges.Conflict Causes.ForbidMultipleInstances) i = []
+conflict_line (Edges.Conflict Causes.Excluded) i = []
+
+-- the lines of the problem's own conflicts; the last of all its edges has the sign of a last one
+abbrev pub conflict_lines : {S : Type 0} → List (Edge S) → List (MessageLine S)
+conflict_lines [] = []
+conflict_lines (e ∷ es) = conflict_line e.weight (record { levels = order_before es ∷ []; top_level_indent = true }) ++ conflict_lines es
+
+abbrev pub heading : {S : Type 0} → MessageLine S
+heading = record { indenter = record { levels = []; top_level_indent = true }; sentence = Says.Incompatible }
+
+-- the edge leads to a node that misses a candidate
+abbrev pub misses : {S : Type 0} → List NodeIndex → Edge S → Bool
+misses missing e = is_among missing e.target
+
+abbrev pub fits : {S : Type 0} → List NodeIndex → Edge S → Bool
+fits missing e = not (is_among missing e.target)
+
+module _ {S : Type 0} (f : Findings S) where
+  -- the second part, over the edges that don't miss a candidate and all edges of the problem: a heading,
+  -- the tree, and the problem's own conflicts
+  abbrev pub IsSecondPart : List (Edge S) → List (Edge S) → List (MessageLine S) → Type 0
+  IsSecondPart [] all lines = lines ≡ []
+  IsSecondPart (e ∷ es) all lines = (tree : List (MessageLine S)) × IsTree f true (runs_of (e ∷ es)) tree × (lines ≡ heading ∷ tree ++ conflict_lines all)
+
+  -- over the edges of the problem: the tree of what misses a candidate, and then the second part
+  abbrev pub AreParts : List NodeIndex → List (Edge S) → List (MessageLine S) → Type 0
+  AreParts missing es lines = (first second : List (MessageLine S)) × IsTree f false (runs_of (filter (misses missing) es)) first × IsSecondPart (filter (fits missing) es) es second × (lines ≡ first ++ second)
+
+-- the lines of the message over a graph
+pub record IsMessage {N S : Type 0} (same_name : N → N → Bool) (same : S → S → Bool) (name_of : S → N) (g : Graph S) (lines : List (MessageLine S)) : Type 0 where
+  pub order : List NodeIndex
+  pub merged : S → Option (List S)
+  pub walked : IsPostOrder g order
+  pub told_as_one : IsMerged same_name same g name_of merged
+  pub parts : AreParts (record { graph = g; same = same; installable = installable_in g order; merged = merged }) (missing_in g order) (edges_of g (record { 0 = 0 })) lines
+
+-- the bytes of these lines
+abbrev pub text_of : {N S : Type 0} → Meaning N S → List (MessageLine S) → List ℕ
+text_of m lines = flat_map (line_text m) lines

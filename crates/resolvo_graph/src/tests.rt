@@ -1,0 +1,6 @@
+//! What no clause says: that each call succeeds with ample memory, and messages worked out by hand.
+
+mod graphs;
+mod indents;
+mod messages;
+mod sample;

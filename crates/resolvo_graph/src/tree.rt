@@ -1,0 +1,472 @@
+//! The trees of the message: runs of a requirement, below these versions, below these what they need.
+//! What is left to tell is a stack of entries, taken from its end; an entry puts those one level below
+//! it on top. An entry knows the versions above it, and a version that stands below itself is passed
+//! over, so a tree ends on graphs with cycles.
+ghost use Rattle.std.specs.Prelude.{◌≡◌, ◌++◌, ◌∷◌, [], IfOk, OnOk, filter, reverse, unwrap_or, slice_get};
+ghost use Rattle.std.specs.List.{list_any, dedup};
+ghost use Rattle.resolvo_graph.specs.declared.tree.DisplayOp.{DisplayOp};
+ghost use Rattle.resolvo_graph.specs.Graph.{edges_of, is_forbidden};
+ghost use Rattle.resolvo_graph.specs.Kept.{findings, kept_with};
+ghost use Rattle.resolvo_graph.specs.Walk.{is_among};
+ghost use Rattle.resolvo_graph.specs.Runs.{runs_of};
+ghost use Rattle.resolvo_graph.specs.Tree.{siblings, is_missing, candidates_at, reason_in, is_admitting, admitted_in, same_set, verdict_for, admitted_lines, further_lines, outlook_of, shown_of, told_with, firsts_after, in_rank, verdict_of, needs_of, is_passed, version_lines, lines_at, entries_below, told_after, IsTree, solvable_at_node, order_before};
+
+use crate::graph::{ConflictGraph, ConflictNode, Edge, NodeIndex};
+use crate::indenter::{ChildOrder, Indenter};
+use crate::line::{MessageLine, Outlook, Sentence, Verdict, Versions};
+use crate::merging::MergedConflictNode;
+use crate::outlook::has_some;
+use crate::runs::{Run, runs};
+use indexmap::IndexSet;
+use resolvo_pool::id::{SolvableId, StringId, VersionSetId};
+use resolvo_pool::solver_id::SolverId;
+use resolvo_pool::want::R;
+use std::alloc::Global;
+use std::collections::HashMap;
+use std::marker::Model;
+use std::rc::Rc;
+
+/// What is told at a place of a tree.
+#[derive(Drop)]
+pub(crate) enum DisplayOp<S = SolvableId> {
+    /// A requirement, with the candidates to which its edges lead.
+    Requirement(Run),
+    /// A version, at its node.
+    Candidate(NodeIndex, S),
+}
+
+/// A place of a tree: what is told there, its indent, and the versions that it stands below.
+#[derive(Drop)]
+pub(crate) struct Entry<S = SolvableId> {
+    op: DisplayOp<S>,
+    indenter: Indenter,
+    above: Vec<NodeIndex>,
+}
+
+impl<S> Model for Entry<S> {
+    ghost use Rattle.resolvo_graph.specs.Runs.{runs_of};
+    ghost use Rattle.resolvo_graph.specs.Tree.{Entry};
+
+    ghost Value = { Entry S };
+
+    ghost view = { λ e. record { op = e.op; indent = e.indenter; above = e.above.items } };
+}
+
+/// What a message is told of: the graph, which nodes can be installed, which versions are told as one.
+#[derive(Drop)]
+pub(crate) struct Findings<'a, S: SolverId> {
+    pub(crate) graph: &'a ConflictGraph<S>,
+    pub(crate) installable: IndexSet<NodeIndex>,
+    pub(crate) merged: HashMap<S, Rc<MergedConflictNode<S>>>,
+}
+
+/// A tree that is being told.
+#[derive(Drop)]
+struct Telling<S: SolverId> {
+    /// The versions that were told as parts of merged ones.
+    told: IndexSet<S>,
+    /// What is left to tell, the next one at the end.
+    stack: Vec<Entry<S>>,
+    lines: Vec<MessageLine<S>>,
+}
+
+impl<S: SolverId> Findings<'_, S> {
+    /// The lines of the tree of the runs of some edges.
+    pub(crate) fn tree(
+        &self,
+        alloc: Global,
+        edges: &[Edge<S>],
+        top_level_indent: bool,
+    ) -> R<Vec<MessageLine<S>>>
+        ensures { IfOk result (λ v. IsTree (findings S.eq self.now.graph.now self.now.installable.keys self.now.merged) top_level_indent (runs_of edges.now) v.items) }
+    {
+        let mut telling = Telling {
+            told: IndexSet::new(alloc),
+            stack: Vec::new(alloc),
+            lines: Vec::new(alloc),
+        };
+        let top = Indenter::new(alloc, top_level_indent);
+        let above = Vec::new(alloc);
+        let ops = self.in_rank(alloc, runs(alloc, edges)?)?;
+        place(alloc, ops, &top, above.as_slice(), &mut telling.stack)?;
+        while let Some(entry) = telling.stack.pop() {
+            self.tell(alloc, entry, &mut telling)?;
+        }
+        Ok(telling.lines)
+    }
+
+    /// Tells an entry's own lines, and puts the entries below it on top of the stack.
+    fn tell(&self, alloc: Global, entry: Entry<S>, telling: &mut Telling<S>) -> R<()>
+        ensures told { OnOk result (telling.new.told.keys ≡ told_after (findings S.eq self.now.graph.now self.now.installable.keys self.now.merged) telling.old.told.keys entry.op entry.above) }
+        ensures stack { OnOk result (telling.new.stack.items ≡ telling.old.stack.items ++ reverse (entries_below (findings S.eq self.now.graph.now self.now.installable.keys self.now.merged) telling.old.told.keys entry.op entry.indent entry.above)) }
+        ensures lines { OnOk result (telling.new.lines.items ≡ telling.old.lines.items ++ lines_at (findings S.eq self.now.graph.now self.now.installable.keys self.now.merged) telling.old.told.keys entry.op entry.indent entry.above) }
+    {
+        let Entry {
+            op,
+            indenter,
+            above,
+        } = entry;
+        match op {
+            DisplayOp::Requirement(run) => self.tell_run(
+                alloc,
+                &run,
+                indenter,
+                above.as_slice(),
+                telling,
+            ),
+            DisplayOp::Candidate(node, version) => {
+                if self.is_passed(&telling.told, node, version, above.as_slice()) {
+                    return Ok(());
+                }
+                self.tell_version(alloc, node, version, indenter, above, telling)
+            }
+        }
+    }
+
+    /// Whether a version was told as part of a merged one, or stands below itself.
+    fn is_passed(
+        &self,
+        told: &IndexSet<S>,
+        node: NodeIndex,
+        version: S,
+        above: &[NodeIndex],
+    ) -> bool
+        ensures { result ≡ is_passed (findings S.eq self.now.graph.now self.now.installable.keys self.now.merged) told.now.keys node version above.now }
+    {
+        told.contains(&version) || above.contains(&node)
+    }
+
+    /// Tells a run, and puts its candidates on top of the stack.
+    fn tell_run(
+        &self,
+        alloc: Global,
+        run: &Run,
+        indenter: Indenter,
+        above: &[NodeIndex],
+        telling: &mut Telling<S>,
+    ) -> R<()>
+        ensures told { telling.new.told.keys ≡ telling.old.told.keys }
+        ensures stack { OnOk result (telling.new.stack.items ≡ telling.old.stack.items ++ reverse (entries_below (findings S.eq self.now.graph.now self.now.installable.keys self.now.merged) [] (DisplayOp.Requirement run.now) indenter above.now)) }
+        ensures lines { OnOk result (telling.new.lines.items ≡ telling.old.lines.items ++ lines_at (findings S.eq self.now.graph.now self.now.installable.keys self.now.merged) [] (DisplayOp.Requirement run.now) indenter above.now) }
+    {
+        let outlook = self.outlook(run);
+        let options = self.options(alloc, run, outlook)?;
+        place(alloc, options, &indenter, above, &mut telling.stack)?;
+        telling.lines.push(MessageLine {
+            indenter,
+            sentence: Sentence::Requirement(run.requirement(), outlook),
+        })?;
+        Ok(())
+    }
+
+    /// Tells a version with those that are merged with it, and puts what it needs on top of the stack.
+    fn tell_version(
+        &self,
+        alloc: Global,
+        node: NodeIndex,
+        version: S,
+        indenter: Indenter,
+        above: Vec<NodeIndex>,
+        telling: &mut Telling<S>,
+    ) -> R<()>
+        ensures told { OnOk result (telling.new.told.keys ≡ told_with (findings S.eq self.now.graph.now self.now.installable.keys self.now.merged) telling.old.told.keys version) }
+        ensures stack { OnOk result (telling.new.stack.items ≡ telling.old.stack.items ++ reverse (siblings indenter (above.items ++ node ∷ []) (reverse (needs_of (findings S.eq self.now.graph.now self.now.installable.keys self.now.merged) (verdict_of (findings S.eq self.now.graph.now self.now.installable.keys self.now.merged) node) (edges_of self.now.graph.now node))))) }
+        ensures lines { OnOk result (telling.new.lines.items ≡ telling.old.lines.items ++ version_lines (findings S.eq self.now.graph.now self.now.installable.keys self.now.merged) node version indenter) }
+    {
+        let edges = self.graph.edges(alloc, node)?;
+        let verdict = self.verdict(&edges);
+        let further = further_lines(alloc, verdict, &indenter, &edges)?;
+        let mut above = above;
+        above.push(node)?;
+        let needs = self.needs(alloc, verdict, &edges)?;
+        place(
+            alloc,
+            needs,
+            &indenter,
+            above.as_slice(),
+            &mut telling.stack,
+        )?;
+        self.mark(version, &mut telling.told)?;
+        telling.lines.push(MessageLine {
+            indenter,
+            sentence: Sentence::Versions(self.told_as(alloc, version)?, verdict),
+        })?;
+        let mut further = further;
+        telling.lines.append(&mut further)?;
+        Ok(())
+    }
+
+    /// What is told of a run.
+    fn outlook(&self, run: &Run) -> Outlook
+        ensures { result ≡ outlook_of (findings S.eq self.now.graph.now self.now.installable.keys self.now.merged) run.now }
+    {
+        if self.is_missing(run.targets()) {
+            Outlook::Missing
+        } else if has_some(run, &self.installable) {
+            Outlook::Installable
+        } else {
+            Outlook::Hopeless
+        }
+    }
+
+    /// Whether these are the unresolved node alone.
+    fn is_missing(&self, targets: &[NodeIndex]) -> bool
+        ensures { result ≡ is_missing self.now.graph.now targets.now }
+    {
+        match targets {
+            [target] => self.graph.is_unresolved(*target),
+            _ => false,
+        }
+    }
+
+    /// The versions that stand below a run.
+    fn options(&self, alloc: Global, run: &Run, outlook: Outlook) -> R<Vec<DisplayOp<S>>>
+        ensures { IfOk result (λ v. v.items ≡ firsts_after (findings S.eq self.now.graph.now self.now.installable.keys self.now.merged) [] (shown_of (findings S.eq self.now.graph.now self.now.installable.keys self.now.merged) outlook run.now)) }
+    {
+        match outlook {
+            Outlook::Missing => Ok(Vec::new(alloc)),
+            Outlook::Installable => {
+                let targets = self.installable_targets(alloc, run)?;
+                self.firsts(alloc, &self.candidates(alloc, &targets)?)
+            }
+            Outlook::Hopeless => self.firsts(alloc, &self.candidates(alloc, run.targets())?),
+        }
+    }
+
+    /// The targets of a run that can be installed.
+    fn installable_targets(&self, alloc: Global, run: &Run) -> R<Vec<NodeIndex>>
+        ensures { IfOk result (λ v. v.items ≡ filter (is_among self.now.installable.keys) run.now.targets) }
+    {
+        let mut found = Vec::new(alloc);
+        for target in run.targets() {
+            if self.installable.contains(target) {
+                found.push(*target)?;
+            }
+        }
+        Ok(found)
+    }
+
+    /// Those of some nodes that are versions.
+    fn candidates(&self, alloc: Global, nodes: &[NodeIndex]) -> R<Vec<(NodeIndex, S)>>
+        ensures { IfOk result (λ v. v.items ≡ candidates_at self.now.graph.now nodes.now) }
+    {
+        let mut found = Vec::new(alloc);
+        for node in nodes {
+            if let Some(version) = self.version(*node) {
+                found.push((*node, version))?;
+            }
+        }
+        Ok(found)
+    }
+
+    /// The version of a node, if it stands for one.
+    fn version(&self, node: NodeIndex) -> Option<S>
+        ensures { result ≡ solvable_at_node (slice_get self.now.graph.now.nodes node.0) }
+    {
+        match self.graph.node(node) {
+            Some(node) => node.solvable(),
+            None => None,
+        }
+    }
+
+    /// Of versions that are merged only the first.
+    fn firsts(&self, alloc: Global, candidates: &[(NodeIndex, S)]) -> R<Vec<DisplayOp<S>>>
+        ensures { IfOk result (λ v. v.items ≡ firsts_after (findings S.eq self.now.graph.now self.now.installable.keys self.now.merged) [] candidates.now) }
+    {
+        let mut told = IndexSet::new(alloc);
+        let mut found = Vec::new(alloc);
+        for (node, version) in candidates {
+            if !told.contains(version) {
+                self.mark(*version, &mut told)?;
+                found.push(DisplayOp::Candidate(*node, *version))?;
+            }
+        }
+        Ok(found)
+    }
+
+    /// Puts the versions that are told with one among the told ones.
+    fn mark(&self, version: S, told: &mut IndexSet<S>) -> R<()>
+        ensures { OnOk result (told.new.keys ≡ told_with (findings S.eq self.now.graph.now self.now.installable.keys self.now.merged) told.old.keys version) }
+    {
+        if let Some(group) = self.merged.get(&version) {
+            for id in &group.ids {
+                told.insert_full(*id)?;
+            }
+        }
+        Ok(())
+    }
+
+    /// The versions that are told with one, or that one alone.
+    fn told_as(&self, alloc: Global, version: S) -> R<Versions<S>>
+        ensures { IfOk result (λ v. v ≡ unwrap_or (kept_with S.eq self.now.merged version) (version ∷ [])) }
+    {
+        if let Some(group) = self.merged.get(&version) {
+            return Ok(Versions::new(Vec::from_slice(alloc, group.ids.as_slice())?));
+        }
+        let mut ids = Vec::new(alloc);
+        ids.push(version)?;
+        Ok(Versions::new(ids))
+    }
+
+    /// What is told of a version with these edges.
+    fn verdict(&self, edges: &[Edge<S>]) -> Verdict
+        ensures { result ≡ verdict_for (reason_in self.now.graph.now edges.now) edges.now }
+    {
+        if let Some(reason) = self.reason(edges) {
+            Verdict::Excluded(reason)
+        } else if edges.is_empty() {
+            Verdict::Alone
+        } else if has_forbidden(edges) {
+            Verdict::Conflicts
+        } else if has_admitted(edges) {
+            Verdict::Constrains
+        } else {
+            Verdict::Requires
+        }
+    }
+
+    /// The reason to which the first of these edges that is an exclusion leads.
+    fn reason(&self, edges: &[Edge<S>]) -> Option<StringId>
+        ensures { result ≡ reason_in self.now.graph.now edges.now }
+    {
+        for edge in edges {
+            if edge.weight.is_exclusion() {
+                if let Some(ConflictNode::Excluded(reason)) = self.graph.node(edge.target) {
+                    return Some(reason);
+                }
+            }
+        }
+        None
+    }
+
+    /// The runs that stand below a version with this verdict and these edges.
+    fn needs(&self, alloc: Global, verdict: Verdict, edges: &[Edge<S>]) -> R<Vec<DisplayOp<S>>>
+        ensures { IfOk result (λ v. v.items ≡ needs_of (findings S.eq self.now.graph.now self.now.installable.keys self.now.merged) verdict edges.now) }
+    {
+        match verdict {
+            Verdict::Requires => self.in_rank(alloc, runs(alloc, edges)?),
+            _ => Ok(Vec::new(alloc)),
+        }
+    }
+
+    /// Runs with a target that can be installed behind the others.
+    fn in_rank(&self, alloc: Global, runs: Vec<Run>) -> R<Vec<DisplayOp<S>>>
+        ensures { IfOk result (λ v. v.items ≡ in_rank (findings S.eq self.now.graph.now self.now.installable.keys self.now.merged) runs.items) }
+    {
+        let mut ranked = Vec::new(alloc);
+        let mut installable = Vec::new(alloc);
+        for run in runs {
+            if has_some(&run, &self.installable) {
+                installable.push(DisplayOp::Requirement(run))?;
+            } else {
+                ranked.push(DisplayOp::Requirement(run))?;
+            }
+        }
+        ranked.append(&mut installable)?;
+        Ok(ranked)
+    }
+}
+
+/// Puts siblings one level below an indent on top of the stack, so that the first is told last.
+fn place<S: SolverId>(
+    alloc: Global,
+    ops: Vec<DisplayOp<S>>,
+    indenter: &Indenter,
+    above: &[NodeIndex],
+    stack: &mut Vec<Entry<S>>,
+) -> R<()>
+    ensures { OnOk result (stack.new.items ≡ stack.old.items ++ reverse (siblings indenter.now above.now (reverse ops.items))) }
+{
+    let mut order = ChildOrder::Last;
+    for op in ops {
+        stack.push(Entry {
+            op,
+            indenter: indenter.push_level(alloc, order)?,
+            above: Vec::from_slice(alloc, above)?,
+        })?;
+        order = ChildOrder::HasRemainingSiblings;
+    }
+    Ok(())
+}
+
+/// What a version with this verdict and these edges tells on lines of its own.
+fn further_lines<S: SolverId>(
+    alloc: Global,
+    verdict: Verdict,
+    indenter: &Indenter,
+    edges: &[Edge<S>],
+) -> R<Vec<MessageLine<S>>>
+    ensures { IfOk result (λ v. v.items ≡ further_lines verdict indenter.now edges.now) }
+{
+    match verdict {
+        Verdict::Constrains => admitted_lines(alloc, indenter, &admitted(alloc, edges)?),
+        _ => Ok(Vec::new(alloc)),
+    }
+}
+
+/// Whether one of these edges says that both ends are versions of one package.
+fn has_forbidden<S: SolverId>(edges: &[Edge<S>]) -> bool
+    ensures { result ≡ list_any (λ e. is_forbidden e.weight) edges.now }
+{
+    edges.iter().any(|edge| edge.weight.is_forbidden())
+}
+
+/// Whether the source of one of these edges admits some versions alone.
+fn has_admitted<S: SolverId>(edges: &[Edge<S>]) -> bool
+    ensures { result ≡ list_any is_admitting edges.now }
+{
+    edges.iter().any(|edge| edge.weight.admitted().is_some())
+}
+
+/// The version sets that a node with these edges admits alone, of neighbours alike one.
+fn admitted<S: SolverId>(alloc: Global, edges: &[Edge<S>]) -> R<Vec<VersionSetId>>
+    ensures { IfOk result (λ v. v.items ≡ dedup same_set (admitted_in edges.now)) }
+{
+    let mut found = all_admitted(alloc, edges)?;
+    found.dedup();
+    Ok(found)
+}
+
+/// The version sets that a node with these edges admits alone.
+fn all_admitted<S: SolverId>(alloc: Global, edges: &[Edge<S>]) -> R<Vec<VersionSetId>>
+    ensures { IfOk result (λ v. v.items ≡ admitted_in edges.now) }
+{
+    let mut found = Vec::new(alloc);
+    for edge in edges {
+        if let Some(version_set) = edge.weight.admitted() {
+            found.push(version_set)?;
+        }
+    }
+    Ok(found)
+}
+
+/// A line for each version set that a version admits alone, one level deeper.
+fn admitted_lines<S: SolverId>(
+    alloc: Global,
+    indenter: &Indenter,
+    version_sets: &[VersionSetId],
+) -> R<Vec<MessageLine<S>>>
+    ensures { IfOk result (λ v. v.items ≡ admitted_lines indenter.now version_sets.now) }
+{
+    let mut lines = Vec::new(alloc);
+    let mut rest = version_sets;
+    while let Some((version_set, below)) = rest.split_first() {
+        lines.push(MessageLine {
+            indenter: indenter.push_level(alloc, order_before(below))?,
+            sentence: Sentence::Admitted(*version_set),
+        })?;
+        rest = below;
+    }
+    Ok(lines)
+}
+
+/// Whether an entry with these siblings below it is the last one.
+pub(crate) fn order_before<T>(below: &[T]) -> ChildOrder
+    ensures { result ≡ order_before below.now }
+{
+    if below.is_empty() {
+        ChildOrder::Last
+    } else {
+        ChildOrder::HasRemainingSiblings
+    }
+}

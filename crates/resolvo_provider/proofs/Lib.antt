@@ -1,0 +1,14 @@
+pub mod Equal
+pub mod Interning
+pub mod Standing
+pub mod Steps
+pub mod Telling
+pub mod Places
+pub mod Marking
+pub mod Listing
+pub mod Covering
+pub mod Passing
+pub mod Elements
+pub mod Alike
+pub mod RulesKept
+pub mod KeptAlike

@@ -1,0 +1,11 @@
+//! A catalogue as a provider: what the solver asks, answered from the lines.
+#![tactic(auto)]
+
+pub mod id_table;
+mod lawful;
+pub mod marks;
+pub mod provider;
+#[cfg(test)]
+mod tests;
+pub mod told;
+pub mod versions;

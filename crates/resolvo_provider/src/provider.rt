@@ -1,0 +1,184 @@
+//! The provider over a catalogue: made once from the lines, then asked by the solver.
+//! Its model is what was interned and what the lines say of each version (`specs/Provider.antt`).
+
+ghost use Rattle.std.specs.Prelude.{map, IfOk};
+ghost use Rattle.resolvo_provider.specs.Ids.{Interns};
+ghost use Rattle.resolvo_provider.specs.Told.{told_of};
+ghost use Rattle.resolvo_provider.specs.Over.{AreTold};
+
+use crate::id_table::IdTable;
+use crate::marks::{Marks, marks_of};
+use crate::told::Told;
+use crate::versions::list_versions;
+use resolvo_catalogue::{Catalogue, Request, Spec, VersionNo};
+use resolvo_pool::id::{NameId, SolvableId, VersionSetId};
+use resolvo_pool::requirement::{ConditionalRequirement, Requirement};
+use resolvo_pool::want::{R, Want};
+use std::alloc::Global;
+use std::marker::Model;
+
+/// For which candidates of a package the dependencies are said to be at hand.
+#[derive(Clone, Copy, Debug, PartialEq, Eq)]
+pub enum Hint {
+    None,
+    All,
+}
+
+/// A catalogue as a provider.
+#[derive(Drop)]
+pub struct CatalogueProvider {
+    pub(crate) ids: IdTable,
+    /// The versions of each package, by its id, in the order of their lines.
+    pub(crate) packages: Vec<Vec<SolvableId>>,
+    pub(crate) told: Vec<Told>,
+    pub(crate) marks: Vec<Marks>,
+    pub(crate) hint: Hint,
+    alloc: Global,
+}
+
+impl Model for CatalogueProvider {
+    ghost use Rattle.std.specs.Prelude.{map};
+    ghost use Rattle.resolvo_provider.specs.Told.{told_of};
+    ghost use Rattle.resolvo_provider.specs.Ids.{AreByPackage};
+    ghost use Rattle.resolvo_provider.specs.Provider.{Provider};
+
+    ghost Value = { Provider };
+
+    ghost view = { λ p. record { ids = p.ids; told = map told_of p.told.items; marks = p.marks.items; hint = p.hint } };
+
+    ghost invariant = { λ p. AreByPackage p.ids p.packages.items };
+}
+
+/// What a request says, as ids of a provider.
+#[derive(Drop)]
+pub struct RequestIds {
+    pub requirements: Vec<ConditionalRequirement>,
+    pub constraints: Vec<VersionSetId>,
+    /// The wished versions, in the order of their lines.
+    pub wishes: Vec<SolvableId>,
+}
+
+impl CatalogueProvider {
+    ghost use Rattle.std.specs.Prelude.{◌≡◌, List, map, IfOk};
+    ghost use Rattle.resolvo_text.specs.Line as says;
+    ghost use Rattle.resolvo_text.specs.View.{spec_of, specs_of};
+    ghost use Rattle.resolvo_provider.specs.Ids.{IsSpec, AreAlternatives, solvable_id};
+    ghost use Rattle.resolvo_provider.specs.Known.{spec_at, alternatives_at};
+    ghost use Rattle.resolvo_provider.specs.Over.{IsOver, AreAsked, ChangesIds};
+    ghost use Rattle.resolvo_provider.specs.Keeping.{KeepsAlike, KeepsAlikeExempt, root_of};
+    ghost use Rattle.resolvo_catalogue.specs.Grammar.{AreRequestLines};
+
+    /// The provider of a catalogue.
+    pub fn new(alloc: Global, catalogue: &Catalogue, hint: Hint) -> R<CatalogueProvider>
+        ensures over { IfOk result (λ p. IsOver catalogue.now p) }
+        ensures hint { IfOk result (λ p. p.hint ≡ hint) }
+    {
+        catalogue.lines_are_in_place();
+        let mut ids = IdTable::new(alloc);
+        let packages = list_versions(alloc, &mut ids, catalogue.versions())?;
+        let told = lines_told(alloc, &mut ids, catalogue)?;
+        let marks = marks_of(alloc, &mut ids, catalogue)?;
+        ids.ids_are_once();
+        Ok(CatalogueProvider {
+            ids,
+            packages,
+            told,
+            marks,
+            hint,
+            alloc,
+        })
+    }
+
+    /// What a request over the catalogue says, as ids. Where it is refused, more may be interned.
+    /// A set keeps the rules of the provider and of these ids exactly if it keeps those of the two texts.
+    pub fn intern_request(&mut self, request: &Request) -> R<RequestIds>
+        ensures asked { IfOk result (λ asked. AreAsked self.new.ids request.now asked) }
+        ensures interns { ChangesIds self.old self.new }
+        ensures over { (catalogue : List says.Line) → IsOver catalogue self.old → IsOver catalogue self.new }
+        ensures rules { IfOk result (λ asked. (catalogue : List says.Line) → IsOver catalogue self.old → AreRequestLines catalogue request.now.lines → KeepsAlike catalogue request.now.lines self.new (root_of asked)) }
+        ensures exempt { IfOk result (λ asked. (catalogue : List says.Line) → IsOver catalogue self.old → AreRequestLines catalogue request.now.lines → KeepsAlikeExempt catalogue request.now.lines self.new (root_of asked) asked.wishes.items) }
+    {
+        let told = Told::of_request(self.alloc, &mut self.ids, request);
+        self.ids.ids_are_once();
+        let told = told?;
+        let mut wishes = Vec::new(self.alloc);
+        for (_, version) in request.wishes() {
+            wishes.push(SolvableId::from_raw(version.0))?;
+        }
+        let Told {
+            requirements,
+            constrains,
+            ..
+        } = told;
+        Ok(RequestIds {
+            requirements,
+            constraints: constrains,
+            wishes,
+        })
+    }
+
+    /// The number in the catalogue of a solvable's version.
+    pub fn version_of(&self, solvable: SolvableId) -> VersionNo
+        ensures { result.0 ≡ solvable.raw }
+    {
+        VersionNo(solvable.into_raw())
+    }
+
+    /// The solvable of a version, by its number in the catalogue.
+    pub fn solvable_of(&self, version: VersionNo) -> SolvableId
+        ensures { result ≡ solvable_id version.0 }
+    {
+        SolvableId::from_raw(version.0)
+    }
+
+    /// The SPEC of a version set.
+    #[tactic(auto, using(crate::proofs::Covering::spec_stands))]
+    pub fn spec_of(&self, version_set: VersionSetId) -> R<Spec>
+        ensures spec { IfOk result (λ found. spec_of found ≡ spec_at self.now.ids version_set) }
+        ensures stands { (s : says.Spec) → IsSpec self.now.ids version_set s → spec_at self.now.ids version_set ≡ s }
+    {
+        let name = self.ids.name(self.ids.set_package(version_set));
+        Ok(Spec {
+            name: String::from_str(self.alloc, name)?,
+            span: self.ids.span(version_set),
+        })
+    }
+
+    /// The alternatives of a requirement, in order.
+    #[tactic(auto, using(crate::proofs::Covering::alternatives_stand))]
+    pub fn alternatives_of(&self, requirement: Requirement) -> R<Vec<Spec>>
+        ensures specs { IfOk result (λ found. specs_of found.items ≡ alternatives_at self.now.ids requirement) }
+        ensures stands { (ss : List says.Spec) → AreAlternatives self.now.ids requirement ss → alternatives_at self.now.ids requirement ≡ ss }
+    {
+        match requirement {
+            Requirement::Single(version_set) => self.specs_of(&[version_set]),
+            Requirement::Union(union) => self.specs_of(self.ids.members(union)),
+        }
+    }
+
+    fn specs_of(&self, version_sets: &[VersionSetId]) -> R<Vec<Spec>>
+        ensures { IfOk result (λ found. specs_of found.items ≡ map (spec_at self.now.ids) version_sets.now) }
+    {
+        let mut specs = Vec::new(self.alloc);
+        for version_set in version_sets {
+            specs.push(self.spec_of(*version_set)?)?;
+        }
+        Ok(specs)
+    }
+}
+
+/// What the lines of each version say, by its number.
+fn lines_told(alloc: Global, ids: &mut IdTable, catalogue: &Catalogue) -> R<Vec<Told>>
+    ensures told { IfOk result (λ told. AreTold ids.new catalogue.now (map told_of told.items)) }
+    ensures interns { Interns ids.old ids.new }
+{
+    let mut told = Vec::new(alloc);
+    let Ok(count) = u32::try_from(catalogue.versions().len()) else {
+        return Err(Want::Ids);
+    };
+    for number in 0..count {
+        let lines = catalogue.lines_of(VersionNo(number));
+        told.push(Told::of_lines(alloc, ids, catalogue, lines)?)?;
+    }
+    Ok(told)
+}
