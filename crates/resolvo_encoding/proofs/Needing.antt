@@ -70,7 +70,7 @@ is_choice (Atom.any_of n) = false
 is_choice (Atom.digit n bit) = false
 
 -- a literal of candidates is one's own
-literal_in : {N : Type 0} (cs : List (Candidate N)) (l : Signed) → has (literals_in cs) l ≡ true → (c : Candidate N) × Contains cs c × (c.literal ≡ l)
+pub literal_in : {N : Type 0} (cs : List (Candidate N)) (l : Signed) → has (literals_in cs) l ≡ true → (c : Candidate N) × Contains cs c × (c.literal ≡ l)
 literal_in [] l h = absurd (both_ways false refl h)
 literal_in (c ∷ cs) l h = elim (has-cons c.literal (literals_in cs) l h) [
   | inl e ↦ (c, contains_first c c cs refl, e)
@@ -414,16 +414,6 @@ module _ {N S : Type 0} (same : S → S → Bool) (exact : IsExact same) (p : Pa
     encoded = e.encoded;
     called = e.called;
   })
-
-  -- the literals of a need's clause have variables
-  pub need_in_range : (e : Encoding N S) (v : VariableId) (r : Requirement) → IsEncoding same p root e → v.0 < count_of e.coding.search → AreInRange (count_of e.coding.search) (no v ∷ literals_in (candidates_in e.lists r))
-  need_in_range e v r holds below l h = elim (has-cons (no v) (literals_in (candidates_in e.lists r)) l h) [
-    | inl is ↦ subst (λ (y : Signed). y.variable.0 < count_of e.coding.search) is below
-    | inr a ↦
-        let (c, stands, one) = literal_in (candidates_in e.lists r) l a in
-        let (s, fits, m) = holds.listed r c stands in
-        subst (λ (y : Signed). y.variable.0 < count_of e.coding.search) one (stands_in_range e.coding c.literal.variable (Solvable s) holds.coding fits.stands)
-  ]
 
   -- At its start the encoding is one of any packages.
   pub begun_encodes : (e : Encoding N S) → IsBegunEncoding e → IsEncoding same p root e
