@@ -10,7 +10,7 @@ use Rattle.resolvo_search.specs.State.{count_of}
 use Rattle.resolvo_rules.specs.Numbered.{Spells}
 use Rattle.resolvo_rules.proofs.Lists.{contains_none, contains_left, contains_right, contains_only, contains_one, contains_parts}
 use Rattle.resolvo_rules.proofs.Growing.{spells_agree}
-use Rattle.resolvo_answers.specs.declared.answers.Offered.{Offered}
+use Rattle.resolvo_answers.specs.declared.answering.Offered.{Offered}
 use Rattle.resolvo_coding.specs.declared.atom.ProofAtom.TheVariants.{Solvable}
 use Rattle.resolvo_coding.specs.declared.stated.Stated.TheVariants.{Digit}
 use Rattle.resolvo_coding.specs.declared.coding.Coding.{Coding}

@@ -1,5 +1,5 @@
 -- The next decision is one of the queue's clauses', and called for.
-use Rattle.std.proofs.Common.{◌≡◌, ℕ, ◌<◌, ◌⊎◌, inl, inr, Bool, true, false, not, cond, List, [], ◌∷◌, Option, Some, None, option_map, find, reverse, refl, sym, ◌∙◌, ap, subst}
+use Rattle.std.proofs.Common.{◌≡◌, ℕ, ◌⊎◌, inl, inr, Bool, true, false, not, cond, List, [], ◌∷◌, Option, Some, None, option_map, find, reverse, refl, sym, ◌∙◌, ap, subst}
 use Rattle.std.specs.Prelude.{Contains}
 use Rattle.std.specs.List.{list_any}
 use Rattle.std.proofs.Math.Bool.{beq}
@@ -35,7 +35,6 @@ use Rattle.resolvo_coding.specs.Atoms.{atom_of, origin, StandsFor}
 use Rattle.resolvo_coding.specs.Statements.{stated_at}
 use Rattle.resolvo_coding.proofs.Rules.{rule_stated}
 use Rattle.resolvo_coding.proofs.Origins.{means_atom, solvable_means}
-use Rattle.resolvo_coding.proofs.Growth.{stands_in_range}
 use Rattle.resolvo_encoding.specs.Encoded.{IsParentVariable, IsQueuedFor, IsEncoding}
 use Rattle.resolvo_encoding.specs.Encoded as E
 use Rattle.resolvo_encoding.specs.Turning.{AreValues}
@@ -270,24 +269,20 @@ module _ {N S : Type 0} (same : S → S → Bool) (p : Packages N S) (root : Rul
   queue_asks q (Some (Says.IsThere n s)) at h t = absurd h
   queue_asks q (Some Says.Learnt) at h t = absurd h
 
-  -- The next decision is for an undecided variable of the search, and called for: it chooses a match of what is asked for.
+  -- The next decision is called for: it chooses a match of what is asked for.
   pub choice_called : IsEncoding same p root e → (values : ℕ → Option Bool) (score : N → ℕ) (d : NextDecision) → AreValues values (made_true (history e.coding.search)) → pick_by (named_by e.lists) values score e.queue ≡ Some d
-      → IsUndecided (made_true (history e.coding.search)) (yes d.candidate) × (d.candidate.0 < count_of e.coding.search)
-      × IsCalledFor same p (E.rules_of e) [] (known_of (origin e.coding.atoms.keys) (history e.coding.search)) (meaning (origin e.coding.atoms.keys) (yes d.candidate))
+      → IsCalledFor same p (E.rules_of e) [] (known_of (origin e.coding.atoms.keys) (history e.coding.search)) (meaning (origin e.coding.atoms.keys) (yes d.candidate))
   choice_called holds values score d agree h =
       let (q, stands, offered) = picked (named_by e.lists) values score e.queue d h in
       let (eligible, (c, listed, undecided, is)) = offers (named_by e.lists) values score q d offered in
       let (s, fits, meets_it) = holds.listed q.requirement c listed in
       let parent : has (made_true (history e.coding.search)) (yes q.parent) ≡ true = parent_known values (made_true (history e.coding.search)) agree q.parent (and_parts (is_true (values q.parent.0)) _ eligible).0 in
       let literal : c.literal ≡ yes d.candidate = λ i. record { variable = is i; positive = fits.positive i } in
-      let means : Means (origin e.coding.atoms.keys) (yes d.candidate) (plus (Atom.solvable s)) = subst (λ (x : Signed). Means (origin e.coding.atoms.keys) x (plus (Atom.solvable s))) literal (solvable_means e.coding.atoms.keys c.literal s fits.positive fits.stands) in (
-        subst (λ (x : Signed). IsUndecided (made_true (history e.coding.search)) x) literal (open_undecided values (made_true (history e.coding.search)) agree c.literal undecided),
-        subst (λ (v : VariableId). v.0 < count_of e.coding.search) is (stands_in_range e.coding c.literal.variable (Solvable s) holds.coding fits.stands),
-        inr (record {
-          requirement = q.requirement;
-          asked = queue_asks q (stated_at e.coding.stated.items q.clause.0) refl (holds.queued q stands) parent;
-          solvable = s;
-          is = sym means.1;
-          offered = meets_it;
-        }),
-      )
+      let means : Means (origin e.coding.atoms.keys) (yes d.candidate) (plus (Atom.solvable s)) = subst (λ (x : Signed). Means (origin e.coding.atoms.keys) x (plus (Atom.solvable s))) literal (solvable_means e.coding.atoms.keys c.literal s fits.positive fits.stands) in
+      inr (record {
+        requirement = q.requirement;
+        asked = queue_asks q (stated_at e.coding.stated.items q.clause.0) refl (holds.queued q stands) parent;
+        solvable = s;
+        is = sym means.1;
+        offered = meets_it;
+      })

@@ -4,5 +4,6 @@ pub mod Needing
 pub mod Parents
 pub mod Deciding
 pub mod Digits
+pub mod Building
 pub mod Turning
 pub mod Staying

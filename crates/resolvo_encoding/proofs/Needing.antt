@@ -17,11 +17,10 @@ use Rattle.resolvo_store.specs.declared.decide_queue.NeedClause.{NeedClause}
 use Rattle.resolvo_store.specs.declared.lists.Candidate.{Candidate}
 use Rattle.resolvo_search.specs.declared.state.HeldClause.{HeldClause}
 use Rattle.resolvo_search.specs.Known.{clause_at}
-use Rattle.resolvo_search.specs.State.{lists, clauses_of, count_of, history}
+use Rattle.resolvo_search.specs.State.{lists, clauses_of, history}
 use Rattle.resolvo_store.specs.declared.decision.Entry.{Entry}
 use Rattle.resolvo_search.specs.Entries.{StandsOn}
 use Rattle.resolvo_search.specs.Beginning.{IsRootClause, root_entry}
-use Rattle.resolvo_search.specs.Steps.{AreInRange}
 use Rattle.resolvo_search.proofs.Literals.{has-cons, has_here, has_later}
 use Rattle.resolvo_search.proofs.Clauses.{literals_at}
 use Rattle.resolvo_rules.specs.Encoding.{IsExact, Atom, Rule, plus, minus, IsRule, literals_of, parent_literals, candidate_literals, cases_under, asks, has_condition, same_requirement}
@@ -45,7 +44,7 @@ use Rattle.resolvo_encoding.specs.declared.encoding.Encoding.{Encoding}
 use Rattle.resolvo_coding.proofs.Positions.{get_last}
 use Rattle.resolvo_coding.proofs.Origins.{means_solvable, solvable_means, means_atom, solvable_stands}
 use Rattle.resolvo_coding.proofs.Rules.{rule_stated}
-use Rattle.resolvo_coding.proofs.Growth.{stands_in_range, rule_split, rules_split}
+use Rattle.resolvo_coding.proofs.Growth.{rule_split, rules_split}
 use Rattle.resolvo_coding.proofs.Registering.{digits_same, digits_more, ties_grow, nothing_tied}
 use Rattle.resolvo_encoding.proofs.Requiring.{Came, Carries, carried, candidate_grows, queued_keeps, within_keeps, encoded_keeps, gates_keep, put_at, put_other, NoneAsks, kept_carries, some_one}
 
@@ -70,7 +69,7 @@ is_choice (Atom.any_of n) = false
 is_choice (Atom.digit n bit) = false
 
 -- a literal of candidates is one's own
-literal_in : {N : Type 0} (cs : List (Candidate N)) (l : Signed) → has (literals_in cs) l ≡ true → (c : Candidate N) × Contains cs c × (c.literal ≡ l)
+pub literal_in : {N : Type 0} (cs : List (Candidate N)) (l : Signed) → has (literals_in cs) l ≡ true → (c : Candidate N) × Contains cs c × (c.literal ≡ l)
 literal_in [] l h = absurd (both_ways false refl h)
 literal_in (c ∷ cs) l h = elim (has-cons c.literal (literals_in cs) l h) [
   | inl e ↦ (c, contains_first c c cs refl, e)
@@ -421,16 +420,6 @@ module _ {N S : Type 0} (same : S → S → Bool) (exact : IsExact same) (p : Pa
     encoded = e.encoded;
     called = e.called;
   })
-
-  -- the literals of a need's clause have variables
-  pub need_in_range : (e : Encoding N S) (v : VariableId) (r : Requirement) → IsEncoding same p root e → v.0 < count_of e.coding.search → AreInRange (count_of e.coding.search) (no v ∷ literals_in (candidates_in e.lists r))
-  need_in_range e v r holds below l h = elim (has-cons (no v) (literals_in (candidates_in e.lists r)) l h) [
-    | inl is ↦ subst (λ (y : Signed). y.variable.0 < count_of e.coding.search) is below
-    | inr a ↦
-        let (c, stands, one) = literal_in (candidates_in e.lists r) l a in
-        let (s, fits, m) = holds.listed r c stands in
-        subst (λ (y : Signed). y.variable.0 < count_of e.coding.search) one (stands_in_range e.coding c.literal.variable (Solvable s) holds.coding fits.stands)
-  ]
 
   -- At its start the encoding is one of any packages.
   pub begun_encodes : (e : Encoding N S) → IsBegunEncoding e → IsEncoding same p root e

@@ -29,7 +29,7 @@ use Rattle.resolvo_rules.specs.Numbered.{meaning, Means, Spells}
 use Rattle.resolvo_rules.proofs.Lists.{contains_none, contains_cases, contains_one, contains_map, map_contains}
 use Rattle.resolvo_rules.proofs.Members.{candidate_named, in_contained, contained_in}
 use Rattle.resolvo_rules.proofs.Lists.{any_contained}
-use Rattle.resolvo_answers.specs.declared.answers.Offered.{Offered}
+use Rattle.resolvo_answers.specs.declared.answering.Offered.{Offered}
 use Rattle.resolvo_answers.specs.Answering.{offered_solvables, AreOffered}
 use Rattle.resolvo_coding.specs.declared.atom.ProofAtom.TheVariants.{Solvable, Gate}
 use Rattle.resolvo_coding.specs.declared.stated.Stated.{Stated}
@@ -130,7 +130,7 @@ module _ {N S : Type 0} (same : S → S → Bool) (exact : IsExact same) (p : Pa
   candidate_grows old new n s c grows keeps h = record { positive = h.positive; stands = stands_grow old.coding new.coding c.literal.variable (Solvable s) grows h.stands; tracked = keeps n c.literal.variable h.tracked }
 
   -- a need that is encoded stays so
-  need_grows : (old new : Encoding N S) (parent : Option S) (need : ConditionalRequirement) (case : List VersionSetId) → Grows old.coding new.coding → IsNeedEncoded same p (E.rules_of old) parent need case → IsNeedEncoded same p (E.rules_of new) parent need case
+  pub need_grows : (old new : Encoding N S) (parent : Option S) (need : ConditionalRequirement) (case : List VersionSetId) → Grows old.coding new.coding → IsNeedEncoded same p (E.rules_of old) parent need case → IsNeedEncoded same p (E.rules_of new) parent need case
   need_grows old new parent need case grows (inl a) = inl (rules_grow old.coding new.coding grows (Rule.needs parent need case) a)
   need_grows old new parent need case grows (inr (inl (s, e, a, b))) = inr (inl (s, e, rules_grow old.coding new.coding grows (Rule.gated s need.requirement) a, rules_grow old.coding new.coding grows (Rule.shared need.requirement) b))
   need_grows old new parent need case grows (inr (inr a)) = inr (inr a)
@@ -154,11 +154,11 @@ put_other m n (Union u) (Union w) x f = elim (cases_Bool (w.0 == u.0)) [
 ]
 
 -- the candidates of a requirement that got them
-fix_at : {N : Type 0} (r : Requirement) (given : Vec (Candidate N) Global) (old new : FixedLists N) → FixesCandidates r given old new → slot_of new.candidates r ≡ Some given
+pub fix_at : {N : Type 0} (r : Requirement) (given : Vec (Candidate N) Global) (old new : FixedLists N) → FixesCandidates r given old new → slot_of new.candidates r ≡ Some given
 fix_at r given old new f = put_at old.candidates new.candidates r given f.put
 
 -- another requirement has those that it had
-fix_other : {N : Type 0} (r q : Requirement) (given : Vec (Candidate N) Global) (old new : FixedLists N) → FixesCandidates r given old new → (q ≡ r) ⊎ (slot_of new.candidates q ≡ slot_of old.candidates q)
+pub fix_other : {N : Type 0} (r q : Requirement) (given : Vec (Candidate N) Global) (old new : FixedLists N) → FixesCandidates r given old new → (q ≡ r) ⊎ (slot_of new.candidates q ≡ slot_of old.candidates q)
 fix_other r q given old new f = put_other old.candidates new.candidates r q given f.put
 
 each_of : {X : Type 0} (P : X → Type 0) (xs : List X) (x : X) → AllByRecursion P xs → Contains xs x → P x

@@ -8,15 +8,11 @@ use Rattle.resolvo_encoding.specs.Steps.{SameButCoding, Extends}
 use Rattle.resolvo_coding.proofs.Growth.{stands_grow, rules_grow, stands_in_range}
 use Rattle.resolvo_encoding.proofs.Requiring.{extends_then, need_extends}
 use Rattle.resolvo_encoding.proofs.Needing.{need_keeps, gated_keeps, gives_keeps}
+use Rattle.resolvo_encoding.proofs.Building.{built_gives, built_opens, built_states}
 use Rattle.resolvo_encoding.proofs.encoding.Encoding.require_of.Goals as goal
 
-pub need_directly-requires-clause-encoding : goal.need_directly-requires-clause-encoding
-need_directly-requires-clause-encoding g c =
-    let (p, root, lawful, e) = c.requires in
-    let exact : IsExact g.S.PartialEq.eq = record { one = g.met.S.Exact.exact; own = g.met.S.Eq.laws.refl } in
-    let middle : Encoding _ _ = record c.args.self.now { coding = c.variable.new.self } in
-    let rest : SameButCoding c.args.self.now middle = record { registry = refl; lists = refl; queue = refl; gates = refl; parents = refl; encoded = refl } in
-    (p, root, lawful, gives_keeps g.S.PartialEq.eq exact p root lawful (Solvable c.args.solvable) c.in_ok-variable.variable c.args.self.now middle e c.in_ok-variable.ensures.given rest)
+pub need_directly-requires-clause-built : goal.need_directly-requires-clause-built
+need_directly-requires-clause-built g c = built_gives (Solvable c.args.solvable) c.in_ok-variable.variable c.args.self.now c.variable.new.self c.requires c.in_ok-variable.ensures.given
 
 pub need_directly-requires-clause-in_range : goal.need_directly-requires-clause-in_range
 need_directly-requires-clause-in_range g c = stands_in_range c.variable.new.self c.in_ok-variable.variable (Solvable c.args.solvable) c.in_ok-variable.ensures.given.coding c.in_ok-variable.ensures.given.stands
@@ -40,21 +36,16 @@ returns-then-count-lt-GATED-clause-kept g c =
     extends_then c.args.self.now middle c.need_directly.new.self first (need_extends (Says.Needs (Some c.args.solvable) c.args.need needed.case) c.in_ok-variable.variable c.args.need.requirement middle c.need_directly.new.self needed.states)
 
 pub gate-requires : goal.gate-requires
-gate-requires g c =
-    let (p, root, lawful, e) = c.requires in
-    let exact : IsExact g.S.PartialEq.eq = record { one = g.met.S.Exact.exact; own = g.met.S.Eq.laws.refl } in
-    let middle : Encoding _ _ = record c.args.self.now { coding = c.variable.new.self } in
-    let rest : SameButCoding c.args.self.now middle = record { registry = refl; lists = refl; queue = refl; gates = refl; parents = refl; encoded = refl } in
-    (p, root, lawful, gives_keeps g.S.PartialEq.eq exact p root lawful (Solvable c.args.solvable) c.in_ok-variable.variable c.args.self.now middle e c.in_ok-variable.ensures.given rest)
+gate-requires g c = built_gives (Solvable c.args.solvable) c.in_ok-variable.variable c.args.self.now c.variable.new.self c.requires c.in_ok-variable.ensures.given
 
 pub open_gate-requires-clause-coding : goal.open_gate-requires-clause-coding
-open_gate-requires-clause-coding g c = c.in_ok-gate.ensures.coding
+open_gate-requires-clause-coding g c = c.in_ok-gate.ensures.built.coding
 
 pub open_gate-requires-clause-in_range : goal.open_gate-requires-clause-in_range
-open_gate-requires-clause-in_range g c = stands_in_range c.gate.new.self.coding c.in_ok-variable.variable (Solvable c.args.solvable) c.in_ok-gate.ensures.coding (stands_grow c.variable.new.self c.gate.new.self.coding c.in_ok-variable.variable (Solvable c.args.solvable) c.in_ok-gate.ensures.kept.grows c.in_ok-variable.ensures.given.stands)
+open_gate-requires-clause-in_range g c = stands_in_range c.gate.new.self.coding c.in_ok-variable.variable (Solvable c.args.solvable) c.in_ok-gate.ensures.built.coding (stands_grow c.variable.new.self c.gate.new.self.coding c.in_ok-variable.variable (Solvable c.args.solvable) c.in_ok-gate.ensures.kept.grows c.in_ok-variable.ensures.given.stands)
 
 pub open_gate-requires-clause-gate_in_range : goal.open_gate-requires-clause-gate_in_range
-open_gate-requires-clause-gate_in_range g c = stands_in_range c.gate.new.self.coding c.in_ok-gate.gate (Gate c.args.need.requirement) c.in_ok-gate.ensures.coding c.in_ok-gate.ensures.stands
+open_gate-requires-clause-gate_in_range g c = stands_in_range c.gate.new.self.coding c.in_ok-gate.gate (Gate c.args.need.requirement) c.in_ok-gate.ensures.built.coding c.in_ok-gate.ensures.stands
 
 pub returns-clause-encoded : goal.returns-clause-encoded
 returns-clause-encoded g c = λ p root lawful e has needs.
@@ -76,3 +67,14 @@ returns-clause-kept g c =
     let opened = c.in_ok-open_gate.ensures.opened in
     let last : Extends c.gate.new.self c.open_gate.new.self = record { grows = opened.states.grows; parents = opened.rest.parents; encoded = opened.rest.encoded } in
     extends_then c.args.self.now middle c.open_gate.new.self first (extends_then middle c.gate.new.self c.open_gate.new.self c.in_ok-gate.ensures.kept last)
+
+pub returns-clause-built : goal.returns-clause-built
+returns-clause-built g c =
+    built_opens c.args.solvable c.in_ok-variable.variable c.in_ok-gate.gate c.args.need.requirement c.gate.new.self c.open_gate.new.self c.in_ok-gate.ensures.built c.in_ok-open_gate.ensures.opened
+
+pub returns-then-count-lt-GATED-clause-built : goal.returns-then-count-lt-GATED-clause-built
+returns-then-count-lt-GATED-clause-built g c =
+    let middle : Encoding _ _ = record c.args.self.now { coding = c.variable.new.self } in
+    let needed = c.in_ok-need_directly.ensures.needed in
+    built_states (Says.Needs (Some c.args.solvable) c.args.need needed.case) c.in_ok-variable.variable c.args.need.requirement middle c.need_directly.new.self
+    (built_gives (Solvable c.args.solvable) c.in_ok-variable.variable c.args.self.now c.variable.new.self c.requires c.in_ok-variable.ensures.given) tt needed.states
