@@ -266,7 +266,7 @@ module _ {N S : Type 0} (same : S → S → Bool) (p : Packages N S) (root : Rul
   queue_asks q (Some (Says.IsOut v s)) at h t = absurd h
   queue_asks q (Some (Says.Locked locked s)) at h t = absurd h
   queue_asks q (Some (Says.Excluded s why)) at h t = absurd h
-  queue_asks q (Some (Says.Digit n s bit value)) at h t = absurd h
+  queue_asks q (Some (Says.Digit n s place bit)) at h t = absurd h
   queue_asks q (Some (Says.IsThere n s)) at h t = absurd h
   queue_asks q (Some Says.Learnt) at h t = absurd h
 

@@ -4,5 +4,6 @@ pub mod Needing
 pub mod Parents
 pub mod Deciding
 pub mod Building
+pub mod Digits
 pub mod Turning
 pub mod Staying

@@ -37,9 +37,9 @@ use Rattle.resolvo_coding.specs.Coding.{IsCoding, Advances, KeepsCode, learnt_by
 use Rattle.resolvo_coding.specs.Registered.{AreTied, IsTracked, IsRegistered}
 use Rattle.resolvo_coding.specs.Spelled.{AreRegistered}
 use Rattle.resolvo_coding.specs.Statements.{stated_at, rule_at}
-use Rattle.resolvo_coding.proofs.Growth.{grows_same, grows_then, stated_grows, rule_split, rules_split, spelled_grows, registered_grows, called_advances, called_undoes, called_chooses}
+use Rattle.resolvo_coding.proofs.Growth.{grows_same, grows_then, stated_grows, stated_split, rule_split, rules_split, spelled_grows, registered_grows, called_advances, called_undoes, called_chooses}
 use Rattle.resolvo_coding.proofs.Positions.{front_equal, get_last}
-use Rattle.resolvo_coding.proofs.Registering.{ties_grow}
+use Rattle.resolvo_coding.proofs.Registering.{KeepsDigits, ties_grow}
 use Rattle.resolvo_coding.proofs.Rules.{rule_stated}
 use Rattle.resolvo_encoding.specs.declared.encoding.Encoding.{Encoding}
 use Rattle.resolvo_encoding.specs.Encoded.{IsEncoding, Registered}
@@ -53,13 +53,20 @@ use Rattle.resolvo_encoding.proofs.Requiring.{candidate_grows, queued_keeps, gat
 nothing_stated : {N S : Type 0} (old new : Encoding N S) → GoesOn old new → (n : ℕ) (r : Rule N S) → length old.coding.search.clauses ≤ n → n < length new.coding.search.clauses → rule_at new.coding.stated.items n ≡ Some r → ⊥
 nothing_stated old new goes n r low high at = let none : None ≡ Some r = sym (rule_stated new.coding.stated.items n Says.Learnt (goes.learnt n low high)) ∙ at in absurd cc
 
+-- nor any digit
+digits_kept : {N S : Type 0} (old new : Encoding N S) → IsCoding old.coding → GoesOn old new → KeepsDigits old.coding new.coding
+digits_kept old new coding goes n name s place bit h = elim (stated_split old.coding new.coding coding goes.coding goes.grows n (Says.Digit name s place bit) h) [
+  | inl a ↦ a
+  | inr (low, high) ↦ let learnt : stated_at new.coding.stated.items n ≡ Some Says.Learnt = goes.learnt n low high in absurd cc
+]
+
 module _ {N S : Type 0} (same : S → S → Bool) (exact : IsExact same) (p : Packages N S) (root : Rules) (lawful : IsLawful p) where
   -- The encoding stays one of the packages where solvables that clauses may make true are registered, and choices are called for.
   stays : (old new : Encoding N S) → IsEncoding same p root old → GoesOn old new → AreRegistered (Registered same p root new) new.coding
       → AreCalledFor (origin new.coding.atoms.keys) (IsCalledFor same p (E.rules_of new) []) (history new.coding.search) → IsEncoding same p root new
   stays old new e goes positive called = record {
     coding = goes.coding;
-    tied = subst (λ (t : Registry N). AreTied t new.coding) (sym goes.rest.registry) (ties_grow old.registry old.coding new.coding goes.grows e.tied);
+    tied = subst (λ (t : Registry N). AreTied t new.coding) (sym goes.rest.registry) (ties_grow old.registry old.coding new.coding goes.grows (digits_kept old new e.coding goes) e.tied);
     spelled = spelled_grows same p old.coding new.coding e.coding goes.coding goes.grows e.spelled (λ n r low high at. absurd (nothing_stated old new goes n r low high at));
     rule = λ r stands. e.rule r (rule_back r stands);
     positive = positive;

@@ -86,7 +86,7 @@ IsNeed same p root atoms (Says.LimitsOutside parent w) v r = ⊥
 IsNeed same p root atoms (Says.IsOut w s) v r = ⊥
 IsNeed same p root atoms (Says.Locked locked s) v r = ⊥
 IsNeed same p root atoms (Says.Excluded s why) v r = ⊥
-IsNeed same p root atoms (Says.Digit n s bit value) v r = ⊥
+IsNeed same p root atoms (Says.Digit n s place bit) v r = ⊥
 IsNeed same p root atoms (Says.IsThere n s) v r = ⊥
 IsNeed same p root atoms Says.Learnt v r = ⊥
 
