@@ -23,12 +23,13 @@ use Rattle.resolvo_coding.specs.declared.atom.ProofAtom.TheVariants.{Solvable, G
 use Rattle.resolvo_coding.specs.declared.coding.Coding.{Coding}
 use Rattle.resolvo_coding.specs.declared.registry.Registry.{Registry}
 use Rattle.resolvo_coding.specs.declared.stated.Stated.{Stated}
+use Rattle.resolvo_coding.specs.declared.stated.Stated.TheVariants.{Digit}
 use Rattle.resolvo_coding.specs.Atoms.{StandsFor}
 use Rattle.resolvo_coding.specs.Coding.{IsCoding, Grows}
 use Rattle.resolvo_coding.specs.Registered.{AreTied}
 use Rattle.resolvo_coding.proofs.Growth.{stands_grow, stands_in_range}
 use Rattle.resolvo_coding.proofs.Positions.{front_long}
-use Rattle.resolvo_coding.proofs.Registering.{ties_grow, nothing_tied}
+use Rattle.resolvo_coding.proofs.Registering.{KeepsDigits, digits_more, ties_grow, nothing_tied}
 use Rattle.resolvo_rules.proofs.Lists.{contains_none}
 use Rattle.resolvo_encoding.specs.Encoded.{IsEncoding}
 use Rattle.resolvo_encoding.specs.Steps.{RegistersAll, Fixes, StatesNeed, SameButCoding, IsBuilt, IsBegunEncoding, AddsParent}
@@ -40,20 +41,20 @@ use Rattle.resolvo_encoding.proofs.Requiring.{put_at, put_other, fix_at, fix_oth
 
 -- where only clauses, variables and the queue change
 pub built_grows : {N S : Type 0} (old new : Encoding N S) → IsBuilt old → IsCoding new.coding → Grows old.coding new.coding → new.registry ≡ old.registry → new.lists ≡ old.lists → new.gates ≡ old.gates
-    → new.parents ≡ old.parents → new.encoded ≡ old.encoded → IsBuilt new
-built_grows {N} {S} old new b coding grows registry lists gates parents encoded = record {
+    → new.parents ≡ old.parents → new.encoded ≡ old.encoded → KeepsDigits old.coding new.coding → IsBuilt new
+built_grows {N} {S} old new b coding grows registry lists gates parents encoded digits = record {
   coding = coding;
-  tied = subst (λ (t : Registry N). AreTied t new.coding) (sym registry) (ties_grow old.registry old.coding new.coding grows b.tied);
+  tied = subst (λ (t : Registry N). AreTied t new.coding) (sym registry) (ties_grow old.registry old.coding new.coding grows digits b.tied);
   candidates = λ r c a. (let (positive, (s, stands)) = b.candidates r c (subst (λ ls. Contains (candidates_in ls r) c) lists a) in (positive, (s, stands_grow old.coding new.coding c.literal.variable (Solvable s) grows stands)));
   gates = λ r v at. stands_grow old.coding new.coding v (Gate r) grows (b.gates r v (sym (ap (λ gs. slot_of gs r) gates) ∙ at));
   within = subst (λ n. n ≤ length new.parents.keys) (sym encoded) (subst (λ ps. old.encoded ≤ length ps.keys) (sym parents) b.within);
 }
 
-pub built_rest : {N S : Type 0} (old new : Encoding N S) → IsBuilt old → IsCoding new.coding → Grows old.coding new.coding → SameButCoding old new → IsBuilt new
-built_rest old new b coding grows rest = built_grows old new b coding grows rest.registry rest.lists rest.gates rest.parents rest.encoded
+pub built_rest : {N S : Type 0} (old new : Encoding N S) → IsBuilt old → IsCoding new.coding → Grows old.coding new.coding → KeepsDigits old.coding new.coding → SameButCoding old new → IsBuilt new
+built_rest old new b coding grows digits rest = built_grows old new b coding grows rest.registry rest.lists rest.gates rest.parents rest.encoded digits
 
-pub built_states : {N S : Type 0} (x : Stated N S) (v : VariableId) (r : Requirement) (old new : Encoding N S) → IsBuilt old → StatesNeed x v r old new → IsBuilt new
-built_states x v r old new b s = built_grows old new b s.states.coding s.states.grows s.registry s.lists s.gates s.parents s.encoded
+pub built_states : {N S : Type 0} (x : Stated N S) (v : VariableId) (r : Requirement) (old new : Encoding N S) → IsBuilt old → ((name : N) (s : S) (place bit : ℕ) → x ≡ Digit name s place bit → ⊥) → StatesNeed x v r old new → IsBuilt new
+built_states x v r old new b other s = built_grows old new b s.states.coding s.states.grows s.registry s.lists s.gates s.parents s.encoded (digits_more x old.coding new.coding s.states.stated other)
 
 -- where what is offered became candidates
 pub built_fixes : {N S : Type 0} (r : Requirement) (offered : List (Offered N S)) (old new : Encoding N S) → IsBuilt old → Fixes r offered old new → IsBuilt new
@@ -114,7 +115,7 @@ built_next e b below = record { coding = b.coding; tied = b.tied; candidates = b
 pub built_begun : {N S : Type 0} (e : Encoding N S) → IsBegunEncoding e → IsBuilt e
 built_begun {N} {S} e begun = record {
   coding = begun.coding.coding;
-  tied = nothing_tied e.registry e.coding begun.registry.names begun.registry.trackers;
+  tied = nothing_tied e.registry e.coding begun.registry.names begun.registry.trackers begun.coding.stated;
   candidates = λ r c a. absurd (contains_none c (subst (λ x. Contains (items_or_none x) c) (begun.lists.candidates r) a));
   gates = λ r v at. (let none : None ≡ Some v = sym (begun.gates r) ∙ at in absurd cc);
   within = (let none : e.encoded ≡ 0 = begun.encoded in omega arith);

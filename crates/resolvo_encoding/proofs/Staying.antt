@@ -54,7 +54,7 @@ nothing_stated : {N S : Type 0} (old new : Encoding N S) → GoesOn old new → 
 nothing_stated old new goes n r low high at = let none : None ≡ Some r = sym (rule_stated new.coding.stated.items n Says.Learnt (goes.learnt n low high)) ∙ at in absurd cc
 
 -- nor any digit
-digits_kept : {N S : Type 0} (old new : Encoding N S) → IsCoding old.coding → GoesOn old new → KeepsDigits old.coding new.coding
+pub digits_kept : {N S : Type 0} (old new : Encoding N S) → IsCoding old.coding → GoesOn old new → KeepsDigits old.coding new.coding
 digits_kept old new coding goes n name s place bit h = elim (stated_split old.coding new.coding coding goes.coding goes.grows n (Says.Digit name s place bit) h) [
   | inl a ↦ a
   | inr (low, high) ↦ let learnt : stated_at new.coding.stated.items n ≡ Some Says.Learnt = goes.learnt n low high in absurd cc
