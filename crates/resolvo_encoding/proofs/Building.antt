@@ -1,15 +1,17 @@
 -- What the calls rest on stays, step by step.
-use Rattle.std.proofs.Common.{◌≡◌, ℕ, ◌+◌, ◌<◌, ◌≤◌, ◌⊎◌, inl, inr, Bool, true, List, [], ◌∷◌, ◌++◌, length, Option, Some, None, Vec, Global, refl, sym, ◌∙◌, ap, subst, arith}
+use Rattle.std.proofs.Common.{◌≡◌, ℕ, ◌+◌, ◌<◌, ◌≤◌, ◌⊎◌, inl, inr, Bool, true, List, [], ◌∷◌, length, Option, Some, None, Vec, Global, HashSet, BuildHasherDefault, FoldHasher, refl, sym, ◌∙◌, ap, subst, arith}
 use Rattle.std.specs.Prelude.{Contains}
 use Rattle.resolvo_store.specs.Lists.{items_or_none}
 use Rattle.resolvo_pool.specs.declared.id.VariableId.{VariableId}
 use Rattle.resolvo_pool.specs.declared.requirement.Requirement.{Requirement}
+use Rattle.resolvo_pool.specs.declared.solver_id.SolvableIdOrRoot.{SolvableIdOrRoot}
 use Rattle.resolvo_pool.specs.ByRequirement.{slot_of, PutsAt}
 use Rattle.resolvo_store.specs.Signed.{Signed, has}
 use Rattle.resolvo_store.specs.Clauses.{yes, no, candidate_literals as literals_in}
-use Rattle.resolvo_store.specs.Lists.{named_by, candidates_in, has_candidates, FixesCandidates}
+use Rattle.resolvo_store.specs.Lists.{Named, named_by, candidates_in, has_candidates, FixesCandidates, IsEmpty}
 use Rattle.resolvo_store.specs.Pick.{pick_by}
 use Rattle.resolvo_store.specs.declared.lists.Candidate.{Candidate}
+use Rattle.resolvo_store.specs.declared.decide_queue.NeedClause.{NeedClause}
 use Rattle.resolvo_store.specs.declared.decide_queue.NextDecision.{NextDecision}
 use Rattle.resolvo_search.specs.Entries.{made_true}
 use Rattle.resolvo_search.specs.Known.{IsUndecided}
@@ -17,74 +19,42 @@ use Rattle.resolvo_search.specs.State.{history, count_of}
 use Rattle.resolvo_search.specs.Steps.{AreInRange}
 use Rattle.resolvo_search.proofs.Literals.{has-cons}
 use Rattle.resolvo_answers.specs.declared.answering.Offered.{Offered}
-use Rattle.resolvo_coding.specs.declared.atom.ProofAtom.{ProofAtom}
 use Rattle.resolvo_coding.specs.declared.atom.ProofAtom.TheVariants.{Solvable, Gate}
 use Rattle.resolvo_coding.specs.declared.coding.Coding.{Coding}
 use Rattle.resolvo_coding.specs.declared.registry.Registry.{Registry}
 use Rattle.resolvo_coding.specs.declared.stated.Stated.{Stated}
-use Rattle.resolvo_coding.specs.declared.stated.Stated.TheVariants as Says
+use Rattle.resolvo_coding.specs.declared.stated.Stated.TheVariants.{Digit}
 use Rattle.resolvo_coding.specs.Atoms.{StandsFor}
-use Rattle.resolvo_coding.specs.Coding.{IsCoding, Grows, Gives}
+use Rattle.resolvo_coding.specs.Coding.{IsCoding, Grows}
 use Rattle.resolvo_coding.specs.Registered.{AreTied}
 use Rattle.resolvo_coding.proofs.Growth.{stands_grow, stands_in_range}
 use Rattle.resolvo_coding.proofs.Positions.{front_long}
-use Rattle.resolvo_coding.proofs.Registering.{KeepsDigits, digits_same, digits_more, ties_grow, nothing_tied}
+use Rattle.resolvo_coding.proofs.Registering.{KeepsDigits, digits_more, ties_grow, nothing_tied}
 use Rattle.resolvo_rules.proofs.Lists.{contains_none}
-use Rattle.resolvo_encoding.specs.Steps.{RegistersAll, Fixes, StatesNeed, SameButCoding, Opens, IsBuilt, IsBegunEncoding, AddsParent}
-use Rattle.resolvo_encoding.specs.Going.{GoesOn}
+use Rattle.resolvo_encoding.specs.Encoded.{IsEncoding}
+use Rattle.resolvo_encoding.specs.Steps.{RegistersAll, Fixes, StatesNeed, SameButCoding, IsBuilt, IsBegunEncoding, AddsParent}
 use Rattle.resolvo_encoding.specs.Turning.{AreValues}
 use Rattle.resolvo_encoding.specs.declared.encoding.Encoding.{Encoding}
 use Rattle.resolvo_encoding.proofs.Deciding.{picked, offers, open_undecided}
 use Rattle.resolvo_encoding.proofs.Needing.{literal_in}
-use Rattle.resolvo_encoding.proofs.Staying.{digits_kept}
 use Rattle.resolvo_encoding.proofs.Requiring.{put_at, put_other, fix_at, fix_other, some_one}
 
 -- where only clauses, variables and the queue change
-pub built_grows : {N S : Type 0} (old new : Encoding N S) → IsBuilt old → IsCoding new.coding → Grows old.coding new.coding → KeepsDigits old.coding new.coding → new.registry ≡ old.registry → new.lists ≡ old.lists → new.gates ≡ old.gates
-    → new.parents ≡ old.parents → new.encoded ≡ old.encoded → IsBuilt new
-built_grows {N} {S} old new b coding grows kept registry lists gates parents encoded = record {
+pub built_grows : {N S : Type 0} (old new : Encoding N S) → IsBuilt old → IsCoding new.coding → Grows old.coding new.coding → new.registry ≡ old.registry → new.lists ≡ old.lists → new.gates ≡ old.gates
+    → new.parents ≡ old.parents → new.encoded ≡ old.encoded → KeepsDigits old.coding new.coding → IsBuilt new
+built_grows {N} {S} old new b coding grows registry lists gates parents encoded digits = record {
   coding = coding;
-  tied = subst (λ (t : Registry N). AreTied t new.coding) (sym registry) (ties_grow old.registry old.coding new.coding grows kept b.tied);
+  tied = subst (λ (t : Registry N). AreTied t new.coding) (sym registry) (ties_grow old.registry old.coding new.coding grows digits b.tied);
   candidates = λ r c a. (let (positive, (s, stands)) = b.candidates r c (subst (λ ls. Contains (candidates_in ls r) c) lists a) in (positive, (s, stands_grow old.coding new.coding c.literal.variable (Solvable s) grows stands)));
   gates = λ r v at. stands_grow old.coding new.coding v (Gate r) grows (b.gates r v (sym (ap (λ gs. slot_of gs r) gates) ∙ at));
   within = subst (λ n. n ≤ length new.parents.keys) (sym encoded) (subst (λ ps. old.encoded ≤ length ps.keys) (sym parents) b.within);
 }
 
 pub built_rest : {N S : Type 0} (old new : Encoding N S) → IsBuilt old → IsCoding new.coding → Grows old.coding new.coding → KeepsDigits old.coding new.coding → SameButCoding old new → IsBuilt new
-built_rest old new b coding grows kept rest = built_grows old new b coding grows kept rest.registry rest.lists rest.gates rest.parents rest.encoded
+built_rest old new b coding grows digits rest = built_grows old new b coding grows rest.registry rest.lists rest.gates rest.parents rest.encoded digits
 
--- where a variable came, or nothing
-pub built_gives : {N S : Type 0} (a : ProofAtom N S) (v : VariableId) (e : Encoding N S) (c : Coding N S) → IsBuilt e → Gives a v e.coding c → IsBuilt (record e { coding = c })
-built_gives a v e c b gives = built_grows e (record e { coding = c }) b gives.coding gives.grows (digits_same e.coding c gives.stated) refl refl refl refl refl
-
--- where the search went on
-pub built_goes : {N S : Type 0} (old new : Encoding N S) → IsBuilt old → GoesOn old new → IsBuilt new
-built_goes old new b goes = built_rest old new b goes.coding goes.grows (digits_kept old new b.coding goes) goes.rest
-
--- what is stated is no digit
-abbrev pub IsNoDigit : {N S : Type 0} → Stated N S → Type 0
-IsNoDigit Says.Root = Unit {0}
-IsNoDigit (Says.Needs parent need case) = Unit {0}
-IsNoDigit (Says.Gated s r) = Unit {0}
-IsNoDigit (Says.Shared r) = Unit {0}
-IsNoDigit (Says.Limits parent v s) = Unit {0}
-IsNoDigit (Says.LimitsOutside parent v) = Unit {0}
-IsNoDigit (Says.IsOut v s) = Unit {0}
-IsNoDigit (Says.Locked locked s) = Unit {0}
-IsNoDigit (Says.Excluded s why) = Unit {0}
-IsNoDigit (Says.Digit n s place bit) = ⊥
-IsNoDigit (Says.IsThere n s) = Unit {0}
-IsNoDigit Says.Learnt = Unit {0}
-
-stated_kept : {N S : Type 0} (x : Stated N S) (old new : Coding N S) → IsNoDigit x → new.stated.items ≡ old.stated.items ++ x ∷ [] → KeepsDigits old new
-stated_kept x old new other is = digits_more x old new is (λ m t at bit same. subst IsNoDigit same other)
-
--- where a clause came that states no digit
-pub built_states : {N S : Type 0} (x : Stated N S) (v : VariableId) (r : Requirement) (old new : Encoding N S) → IsBuilt old → IsNoDigit x → StatesNeed x v r old new → IsBuilt new
-built_states x v r old new b other s = built_grows old new b s.states.coding s.states.grows (stated_kept x old.coding new.coding other s.states.stated) s.registry s.lists s.gates s.parents s.encoded
-
-pub built_opens : {N S : Type 0} (s : S) (v gate : VariableId) (r : Requirement) (old new : Encoding N S) → IsBuilt old → Opens s v gate r old new → IsBuilt new
-built_opens s v gate r old new b opened = built_rest old new b opened.states.coding opened.states.grows (stated_kept (Says.Gated s r) old.coding new.coding tt opened.states.stated) opened.rest
+pub built_states : {N S : Type 0} (x : Stated N S) (v : VariableId) (r : Requirement) (old new : Encoding N S) → IsBuilt old → ((name : N) (s : S) (place bit : ℕ) → x ≡ Digit name s place bit → ⊥) → StatesNeed x v r old new → IsBuilt new
+built_states x v r old new b other s = built_grows old new b s.states.coding s.states.grows s.registry s.lists s.gates s.parents s.encoded (digits_more x old.coding new.coding s.states.stated other)
 
 -- where what is offered became candidates
 pub built_fixes : {N S : Type 0} (r : Requirement) (offered : List (Offered N S)) (old new : Encoding N S) → IsBuilt old → Fixes r offered old new → IsBuilt new

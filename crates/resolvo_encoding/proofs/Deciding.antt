@@ -1,5 +1,5 @@
 -- The next decision is one of the queue's clauses', and called for.
-use Rattle.std.proofs.Common.{◌≡◌, ℕ, ◌⊎◌, inl, inr, Bool, true, false, not, cond, List, [], ◌∷◌, Option, Some, None, option_map, find, reverse, refl, sym, ◌∙◌, ap, subst}
+use Rattle.std.proofs.Common.{◌≡◌, ℕ, ◌<◌, ◌⊎◌, inl, inr, Bool, true, false, not, cond, List, [], ◌∷◌, Option, Some, None, option_map, find, reverse, refl, sym, ◌∙◌, ap, subst}
 use Rattle.std.specs.Prelude.{Contains}
 use Rattle.std.specs.List.{list_any}
 use Rattle.std.proofs.Math.Bool.{beq}
@@ -35,6 +35,7 @@ use Rattle.resolvo_coding.specs.Atoms.{atom_of, origin, StandsFor}
 use Rattle.resolvo_coding.specs.Statements.{stated_at}
 use Rattle.resolvo_coding.proofs.Rules.{rule_stated}
 use Rattle.resolvo_coding.proofs.Origins.{means_atom, solvable_means}
+use Rattle.resolvo_coding.proofs.Growth.{stands_in_range}
 use Rattle.resolvo_encoding.specs.Encoded.{IsParentVariable, IsQueuedFor, IsEncoding}
 use Rattle.resolvo_encoding.specs.Encoded as E
 use Rattle.resolvo_encoding.specs.Turning.{AreValues}

@@ -11,7 +11,7 @@ use Rattle.resolvo_store.specs.Lists.{has_candidates, candidates_in, FixesCandid
 use Rattle.resolvo_pool.specs.ByRequirement.{slot_of}
 use Rattle.resolvo_pool.specs.declared.solver_id.SolvableIdOrRoot.TheVariants.{Root}
 use Rattle.resolvo_answers.specs.declared.answering.Offered.{Offered}
-use Rattle.resolvo_pool.specs.RuleKeeping.{Packages, Rules, rules_for}
+use Rattle.resolvo_pool.specs.RuleKeeping.{Packages, Rules, IsLawful, rules_for}
 use Rattle.resolvo_pool.specs.declared.id.VersionSetId.{VersionSetId}
 use Rattle.resolvo_pool.specs.declared.requirement.ConditionalRequirement.{ConditionalRequirement}
 use Rattle.resolvo_coding.specs.declared.atom.ProofAtom.{ProofAtom}
@@ -21,7 +21,7 @@ use Rattle.resolvo_pool.specs.Text.{solvable_of}
 use Rattle.resolvo_pool.specs.declared.solver_id.SolvableIdOrRoot.{SolvableIdOrRoot}
 use Rattle.resolvo_store.specs.AtMostOne.{IsFrontOf}
 use Rattle.resolvo_rules.specs.Ending.{IsNeedEncoded}
-use Rattle.resolvo_encoding.specs.Encoded.{IsParentVariable, rules_of}
+use Rattle.resolvo_encoding.specs.Encoded.{IsParentVariable, IsEncoding, rules_of}
 use Rattle.resolvo_coding.specs.declared.stated.Stated.{Stated}
 use Rattle.resolvo_coding.specs.declared.coding.Coding.{Coding}
 use Rattle.resolvo_coding.specs.declared.registry.Registry.{Registry}

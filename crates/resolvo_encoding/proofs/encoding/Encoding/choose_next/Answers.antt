@@ -2,8 +2,8 @@ use Rattle.std.proofs.Common.{◌∙◌}
 use Rattle.resolvo_store.specs.Lists.{named_by}
 use Rattle.resolvo_rules.specs.Encoding.{IsExact}
 use Rattle.resolvo_encoding.proofs.Deciding.{choice_called, none_picked}
-use Rattle.resolvo_encoding.proofs.Building.{built_choice, built_goes}
-use Rattle.resolvo_encoding.proofs.Staying.{choice_goes, choice_keeps, choice_gains}
+use Rattle.resolvo_encoding.proofs.Building.{built_choice, built_rest}
+use Rattle.resolvo_encoding.proofs.Staying.{digits_kept, choice_goes, choice_keeps, choice_gains}
 use Rattle.resolvo_encoding.proofs.encoding.Encoding.choose_next.Goals as goal
 
 pub choose-requires-clause-in_range : goal.choose-requires-clause-in_range
@@ -43,4 +43,4 @@ returns-in_ok-choose-in-Some-clause-chosen g c = choice_gains c.in-Some.next.can
 pub returns-in_ok-choose-in-Some-clause-built : goal.returns-in_ok-choose-in-Some-clause-built
 returns-in_ok-choose-in-Some-clause-built g c =
     let goes = choice_goes c.args.self.now c.choose.new.self c.in-Some.next.candidate c.in-Some.next.clause_id c.in_ok-choose-in-Some.ensures.chosen c.in_ok-choose-in-Some.ensures.kept in
-    built_goes c.args.self.now (record c.args.self.now { coding = c.choose.new.self }) c.requires goes
+    built_rest c.args.self.now (record c.args.self.now { coding = c.choose.new.self }) c.requires goes.coding goes.grows (digits_kept c.args.self.now (record c.args.self.now { coding = c.choose.new.self }) c.requires.coding goes) goes.rest

@@ -52,4 +52,4 @@ pub returns-in_ok-need_directly-in-None-clause-built : goal.returns-in_ok-need_d
 returns-in_ok-need_directly-in-None-clause-built g c =
     let needed = c.in_ok-need_directly-in-None.ensures.needed in
     built_states (Says.Needs None c.args.need needed.case) c.root.result c.args.need.requirement c.fix_candidates.new.self c.need_directly.new.self
-    (built_fixes c.args.need.requirement c.args.offered.now c.args.self.now c.fix_candidates.new.self c.requires c.in_ok-fix_candidates.ensures.fixed) tt needed.states
+    (built_fixes c.args.need.requirement c.args.offered.now c.args.self.now c.fix_candidates.new.self c.requires c.in_ok-fix_candidates.ensures.fixed) (λ name s place bit h. absurd cc) needed.states

@@ -6,13 +6,17 @@ use Rattle.resolvo_encoding.specs.declared.encoding.Encoding.{Encoding}
 use Rattle.resolvo_encoding.specs.Encoded.{rules_of}
 use Rattle.resolvo_encoding.specs.Steps.{SameButCoding, Extends}
 use Rattle.resolvo_coding.proofs.Growth.{stands_grow, rules_grow, stands_in_range}
+use Rattle.resolvo_coding.proofs.Registering.{digits_same, digits_more}
 use Rattle.resolvo_encoding.proofs.Requiring.{extends_then, need_extends}
 use Rattle.resolvo_encoding.proofs.Needing.{need_keeps, gated_keeps, gives_keeps}
-use Rattle.resolvo_encoding.proofs.Building.{built_gives, built_opens, built_states}
+use Rattle.resolvo_encoding.proofs.Building.{built_grows, built_rest, built_states}
 use Rattle.resolvo_encoding.proofs.encoding.Encoding.require_of.Goals as goal
 
 pub need_directly-requires-clause-built : goal.need_directly-requires-clause-built
-need_directly-requires-clause-built g c = built_gives (Solvable c.args.solvable) c.in_ok-variable.variable c.args.self.now c.variable.new.self c.requires c.in_ok-variable.ensures.given
+need_directly-requires-clause-built g c =
+    let middle : Encoding _ _ = record c.args.self.now { coding = c.variable.new.self } in
+    let gives = c.in_ok-variable.ensures.given in
+    built_grows c.args.self.now middle c.requires gives.coding gives.grows refl refl refl refl refl (digits_same c.args.self.now.coding c.variable.new.self gives.stated)
 
 pub need_directly-requires-clause-in_range : goal.need_directly-requires-clause-in_range
 need_directly-requires-clause-in_range g c = stands_in_range c.variable.new.self c.in_ok-variable.variable (Solvable c.args.solvable) c.in_ok-variable.ensures.given.coding c.in_ok-variable.ensures.given.stands
@@ -36,7 +40,10 @@ returns-then-count-lt-GATED-clause-kept g c =
     extends_then c.args.self.now middle c.need_directly.new.self first (need_extends (Says.Needs (Some c.args.solvable) c.args.need needed.case) c.in_ok-variable.variable c.args.need.requirement middle c.need_directly.new.self needed.states)
 
 pub gate-requires : goal.gate-requires
-gate-requires g c = built_gives (Solvable c.args.solvable) c.in_ok-variable.variable c.args.self.now c.variable.new.self c.requires c.in_ok-variable.ensures.given
+gate-requires g c =
+    let middle : Encoding _ _ = record c.args.self.now { coding = c.variable.new.self } in
+    let gives = c.in_ok-variable.ensures.given in
+    built_grows c.args.self.now middle c.requires gives.coding gives.grows refl refl refl refl refl (digits_same c.args.self.now.coding c.variable.new.self gives.stated)
 
 pub open_gate-requires-clause-coding : goal.open_gate-requires-clause-coding
 open_gate-requires-clause-coding g c = c.in_ok-gate.ensures.built.coding
@@ -70,11 +77,14 @@ returns-clause-kept g c =
 
 pub returns-clause-built : goal.returns-clause-built
 returns-clause-built g c =
-    built_opens c.args.solvable c.in_ok-variable.variable c.in_ok-gate.gate c.args.need.requirement c.gate.new.self c.open_gate.new.self c.in_ok-gate.ensures.built c.in_ok-open_gate.ensures.opened
+    let opened = c.in_ok-open_gate.ensures.opened in
+    built_rest c.gate.new.self c.open_gate.new.self c.in_ok-gate.ensures.built opened.states.coding opened.states.grows
+    (digits_more (Says.Gated c.args.solvable c.args.need.requirement) c.gate.new.self.coding c.open_gate.new.self.coding opened.states.stated (λ name s place bit h. absurd cc)) opened.rest
 
 pub returns-then-count-lt-GATED-clause-built : goal.returns-then-count-lt-GATED-clause-built
 returns-then-count-lt-GATED-clause-built g c =
     let middle : Encoding _ _ = record c.args.self.now { coding = c.variable.new.self } in
+    let gives = c.in_ok-variable.ensures.given in
     let needed = c.in_ok-need_directly.ensures.needed in
     built_states (Says.Needs (Some c.args.solvable) c.args.need needed.case) c.in_ok-variable.variable c.args.need.requirement middle c.need_directly.new.self
-    (built_gives (Solvable c.args.solvable) c.in_ok-variable.variable c.args.self.now c.variable.new.self c.requires c.in_ok-variable.ensures.given) tt needed.states
+    (built_grows c.args.self.now middle c.requires gives.coding gives.grows refl refl refl refl refl (digits_same c.args.self.now.coding c.variable.new.self gives.stated)) (λ name s place bit h. absurd cc) needed.states

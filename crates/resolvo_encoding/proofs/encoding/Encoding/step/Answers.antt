@@ -5,14 +5,14 @@ use Rattle.resolvo_rules.specs.Encoding.{IsExact}
 use Rattle.resolvo_coding.specs.Coding.{Advances}
 use Rattle.resolvo_encoding.specs.declared.encoding.Encoding.{Encoding}
 use Rattle.resolvo_encoding.specs.Going.{IsChoice}
-use Rattle.resolvo_encoding.proofs.Building.{built_goes}
-use Rattle.resolvo_encoding.proofs.Staying.{step_goes, step_keeps, learnt_heavier, complete_gains, goes_then}
+use Rattle.resolvo_encoding.proofs.Building.{built_rest}
+use Rattle.resolvo_encoding.proofs.Staying.{digits_kept, step_goes, step_keeps, learnt_heavier, complete_gains, goes_then}
 use Rattle.resolvo_encoding.proofs.encoding.Encoding.step.Goals as goal
 
 pub choose_next-requires : goal.choose_next-requires
 choose_next-requires g c =
     let goes = step_goes c.args.self.now c.advance.new.self c.in_ok-refusal.field-0 c.requires.coding c.in_ok-refusal.ensures.advanced in
-    built_goes c.args.self.now (record c.args.self.now { coding = c.advance.new.self }) c.requires goes
+    built_rest c.args.self.now (record c.args.self.now { coding = c.advance.new.self }) c.requires goes.coding goes.grows (digits_kept c.args.self.now (record c.args.self.now { coding = c.advance.new.self }) c.requires.coding goes) goes.rest
 
 pub returns-in-Refused-clause-stays : goal.returns-in-Refused-clause-stays
 returns-in-Refused-clause-stays g c = λ p root lawful e.
@@ -68,9 +68,9 @@ returns-else-has_chosen-clause-step g c =
 pub returns-in-Refused-clause-built : goal.returns-in-Refused-clause-built
 returns-in-Refused-clause-built g c =
     let goes = step_goes c.args.self.now c.advance.new.self c.in_ok-refusal.field-0 c.requires.coding c.in_ok-refusal.ensures.advanced in
-    built_goes c.args.self.now (record c.args.self.now { coding = c.advance.new.self }) c.requires goes
+    built_rest c.args.self.now (record c.args.self.now { coding = c.advance.new.self }) c.requires goes.coding goes.grows (digits_kept c.args.self.now (record c.args.self.now { coding = c.advance.new.self }) c.requires.coding goes) goes.rest
 
 pub returns-in-Learnt-clause-built : goal.returns-in-Learnt-clause-built
 returns-in-Learnt-clause-built g c =
     let goes = step_goes c.args.self.now c.advance.new.self c.in_ok-refusal.field-0 c.requires.coding c.in_ok-refusal.ensures.advanced in
-    built_goes c.args.self.now (record c.args.self.now { coding = c.advance.new.self }) c.requires goes
+    built_rest c.args.self.now (record c.args.self.now { coding = c.advance.new.self }) c.requires goes.coding goes.grows (digits_kept c.args.self.now (record c.args.self.now { coding = c.advance.new.self }) c.requires.coding goes) goes.rest

@@ -1,6 +1,6 @@
 use Rattle.resolvo_rules.specs.Encoding.{IsExact}
-use Rattle.resolvo_encoding.proofs.Building.{built_goes}
-use Rattle.resolvo_encoding.proofs.Staying.{kept_goes, undo_keeps}
+use Rattle.resolvo_encoding.proofs.Building.{built_rest}
+use Rattle.resolvo_encoding.proofs.Staying.{digits_kept, kept_goes, undo_keeps}
 use Rattle.resolvo_encoding.proofs.encoding.Encoding.undo_until.Goals as goal
 
 pub returns-clause-stays : goal.returns-clause-stays
@@ -14,4 +14,4 @@ returns-clause-goes_on g c = kept_goes c.args.self.now c.undo_until.new.self c.u
 pub returns-clause-built : goal.returns-clause-built
 returns-clause-built g c =
     let goes = returns-clause-goes_on g c in
-    built_goes c.args.self.now _ c.requires.built goes
+    built_rest c.args.self.now _ c.requires.built goes.coding goes.grows (digits_kept c.args.self.now _ c.requires.built.coding goes) goes.rest
