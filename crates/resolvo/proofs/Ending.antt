@@ -1,0 +1,107 @@
+-- The end of a turn, and what it tells.
+use Rattle.std.proofs.Common.{◌≡◌, ℕ, ◌<◌, ◌≤◌, inl, inr, Bool, true, false, List, [], ◌∷◌, ◌++◌, length, Option, Some, None, refl, sym, ◌∙◌, ap, subst, arith}
+use Rattle.std.specs.Prelude.{slice_get, Contains, is_some}
+use Rattle.std.proofs.lemmas.Bool.{false≢true}
+use Rattle.std.proofs.lemmas.Option.{slice_get_within}
+use Rattle.resolvo_pool.specs.declared.solver_id.SolvableIdOrRoot.{SolvableIdOrRoot}
+use Rattle.resolvo_pool.specs.declared.solver_id.SolvableIdOrRoot.TheVariants as Place
+use Rattle.resolvo_search.specs.Entries.{made_true}
+use Rattle.resolvo_search.specs.State.{history}
+use Rattle.resolvo_coding.specs.Chosen.{AreChosen}
+use Rattle.resolvo_coding.proofs.Growth.{below_or_not}
+use Rattle.resolvo_coding.proofs.Positions.{contains_get, front_get, front_long, get_below}
+use Rattle.resolvo_encoding.specs.declared.encoding.Encoding.{Encoding}
+use Rattle.resolvo_encoding.specs.Steps.{AddsParent}
+use Rattle.resolvo_encoding.specs.Turning.{AreAmongEncoded}
+use Rattle.resolvo_encoding.specs.Going.{IsSettled, GoesOn}
+use Rattle.resolvo_store.specs.AtMostOne.{IsFrontOf}
+use Rattle.resolvo_rules.proofs.Lists.{contains_one, contains_left, contains_parts}
+use Rattle.resolvo_coding.specs.declared.coding.Coding.{Coding}
+use Rattle.resolvo.specs.Encoder.{AddsParents, AddsAll}
+use Rattle.resolvo.specs.declared.turn.Round.TheVariants as Round
+use Rattle.resolvo.specs.Turn.{AddsChosen, IsNextRound, IsRound, IsTurn, IsWhole}
+use Rattle.resolvo.proofs.Adding.{all_then, goes_parents, needs_parents, parents_needs, parents_coding, parents_encoded}
+
+-- nothing stands from the end on
+pub past_end : {X : Type 0} (xs : List X) (n : ℕ) → slice_get xs n ≡ None → length xs ≤ n
+past_end xs n none = elim (below_or_not n (length xs)) [
+  | inl below ↦ let (x, at) = get_below xs n below in let no : None ≡ Some x = sym none ∙ at in absurd cc
+  | inr past ↦ past
+]
+
+-- parents more leave it settled
+pub settled_parents : {N S : Type 0} (a b : Encoding N S) → AddsParent a b → IsSettled a → IsSettled b
+settled_parents {N} {S} a b f s = subst (λ (x : Encoding N S). IsSettled x) (sym f.rest) (record { quiet = s.quiet; values = s.values; score = s.score; agree = s.agree; decided = s.decided })
+
+-- where the chosen solvables are parents, and no parent is left, their needs are clauses
+pub turn_whole : {N S : Type 0} (a b : Encoding N S) → AddsChosen a b → slice_get b.parents.keys 0 ≡ Some Place.Root → slice_get b.parents.keys b.encoded ≡ None → IsWhole b
+turn_whole {N} {S} a b f rooted none = λ members chosen. record {
+  root = (0, (let x : 0 < length b.parents.keys = slice_get_within b.parents.keys 0 Place.Root rooted in let y : length b.parents.keys ≤ b.encoded = past_end b.parents.keys b.encoded none in omega arith), rooted);
+  each = λ s h. (
+      let (k, at) = contains_get b.parents.keys (Place.Solvable s) (f.chosen members chosen s h) in
+      let x : k < length b.parents.keys = slice_get_within b.parents.keys k (Place.Solvable s) at in
+      let y : length b.parents.keys ≤ b.encoded = past_end b.parents.keys b.encoded none in
+      (k, omega arith, at));
+}
+
+-- what stands in a list stands in one that it begins
+pub contains_longer : {X : Type 0} (xs ys : List X) (x : X) → IsFrontOf xs ys → Contains xs x → Contains ys x
+contains_longer xs ys x (more, is) h = subst (λ (zs : List _). Contains zs x) (sym is) (contains_left x xs more h)
+
+-- one parent more is there
+pub among_more : {N S : Type 0} (a b : Encoding N S) (done : List S) (last : S) → AddsParent a b → ((s : S) → Contains done s → Contains a.parents.keys (Place.Solvable s)) → Contains b.parents.keys (Place.Solvable last)
+    → (s : S) → Contains (done ++ last ∷ []) s → Contains b.parents.keys (Place.Solvable s)
+among_more a b done last added before now s h = elim (contains_parts s done (last ∷ []) h) [
+  | inl c ↦ contains_longer a.parents.keys b.parents.keys (Place.Solvable s) added.front (before s c)
+  | inr c ↦ subst (λ x. Contains b.parents.keys (Place.Solvable x)) (sym (contains_one s last c)) now
+]
+
+-- the chosen solvables are among the parents where those of one list that holds them are
+pub chosen_added : {N S : Type 0} (a b : Encoding N S) (list : List S) → AddsParent a b → AreChosen a.coding.atoms.keys (made_true (history a.coding.search)) list → ((s : S) → Contains list s → Contains b.parents.keys (Place.Solvable s)) → AddsChosen a b
+chosen_added {N} {S} a b list added are among = record {
+  added = added;
+  chosen = λ members others s h. (
+      let (l, known, means) = (subst (λ (x : Coding N S). AreChosen x.atoms.keys (made_true (history x.search)) members) (parents_coding a b added) others).each s h in
+      among s (are.all l s known means));
+}
+
+-- where the search went on after all parents were encoded, they still are
+pub all_goes : {N S : Type 0} (a b c : Encoding N S) → AddsAll a b → GoesOn b c → AddsAll a c
+all_goes a b c f g = record {
+  adds = all_then a b c f.adds (goes_parents b c g);
+  all = g.rest.encoded ∙ f.all ∙ sym (ap (λ ks. length ks.keys) g.rest.parents);
+}
+
+none_is : {X : Type 0} (o : Option X) → is_some o ≡ false → o ≡ None
+none_is None h = refl
+none_is (Some x) h = absurd (false≢true (sym h))
+
+some_is : {X : Type 0} (o : Option X) → is_some o ≡ true → (x : X) × (o ≡ Some x)
+some_is None h = absurd (false≢true h)
+some_is (Some x) h = (x, refl)
+
+module _ {N S : Type 0} (a b c : Encoding N S) (next : IsNextRound a) (all : AddsAll a b) (chosen : AddsChosen b c) where
+  pub round_adds : AddsParents a c
+  round_adds = all_then a b c all.adds (needs_parents b c (parents_needs b c chosen.added))
+
+  -- the root is the first parent
+  rooted : slice_get c.parents.keys 0 ≡ Some Place.Root
+  rooted = front_get a.parents.keys c.parents.keys 0 Place.Root round_adds.parents next.rooted
+
+  -- where nothing waits, the turn has ended
+  pub round_whole : IsSettled b → is_some (slice_get c.parents.keys c.encoded) ≡ false → IsTurn c None
+  round_whole settled none = (settled_parents b c chosen.added settled, turn_whole b c chosen rooted (none_is (slice_get c.parents.keys c.encoded) none))
+
+  -- where a parent waits, the next round has one
+  pub round_goes : is_some (slice_get c.parents.keys c.encoded) ≡ true → c.encoded < 18446744073709551616 → IsRound a c Round.Goes
+  round_goes some small =
+      let (x, at) = some_is (slice_get c.parents.keys c.encoded) some in
+      let low : a.encoded < length a.parents.keys = next.waiting in
+      let long : length a.parents.keys ≤ length b.parents.keys = front_long a.parents.keys b.parents.keys all.adds.parents in
+      let whole : b.encoded ≡ length b.parents.keys = all.all in
+      let stays : c.encoded ≡ b.encoded = parents_encoded b c chosen.added in
+      (omega arith, small, slice_get_within c.parents.keys c.encoded x at)
+
+-- the next round after one
+pub next_round : {N S : Type 0} (a b : Encoding N S) → IsNextRound a → AddsParents a b → b.encoded < length b.parents.keys → IsNextRound b
+next_round a b next adds waiting = record { rooted = front_get a.parents.keys b.parents.keys 0 Place.Root adds.parents next.rooted; waiting = waiting }

@@ -1,0 +1,13 @@
+use Rattle.std.proofs.Common.{◌≡◌, subst}
+use Rattle.resolvo_pool.specs.RuleKeeping.{Rules}
+use Rattle.resolvo_encoding.specs.Encoded.{IsEncoding}
+use Rattle.resolvo.proofs.Ending.{all_goes}
+use Rattle.resolvo.proofs.turn.encode_and_decide.Goals as goal
+
+pub returns-clause-stays : goal.returns-clause-stays
+returns-clause-stays g c = λ root is plain e.
+    (subst (λ (a : g.row.A.Denot). (root : Rules) → IsEncoding g.A.SolvableId.PartialEq.eq (g.A.Answering.packages a) root c.encode.new.encoding → IsEncoding g.A.SolvableId.PartialEq.eq (g.A.Answering.packages a) root c.decide.new.encoding) c.in_ok-encode.ensures.same c.in_ok-refusal.ensures.stays)
+    root (c.in_ok-encode.ensures.encoded root is plain e)
+
+pub returns-clause-all : goal.returns-clause-all
+returns-clause-all g c = all_goes c.args.encoding.now c.encode.new.encoding c.decide.new.encoding c.in_ok-encode.ensures.all c.in_ok-refusal.ensures.goes_on

@@ -1,0 +1,10 @@
+//! The solver: it encodes what a problem needs as it goes, sets what follows, learns from what clashes, and chooses
+//! until every need is met or none can be.
+#![tactic(auto)]
+
+pub mod deciding;
+pub mod encoder;
+pub mod error;
+pub mod problem;
+pub mod search;
+pub mod turn;

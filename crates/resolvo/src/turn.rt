@@ -1,0 +1,158 @@
+//! The root's turn: what was asked for is encoded, then decisions are made; what was chosen and isn't encoded yet is, in
+//! the order of the trail, until nothing is left to encode.
+ghost use Rattle.std.specs.Prelude.{◌≡◌, IfOk, IfErr, OnOk};
+ghost use Rattle.resolvo_pool.specs.Cached.{IsCancelledBy};
+ghost use Rattle.resolvo_pool.specs.RuleKeeping.{Rules};
+ghost use Rattle.resolvo_encoding.specs.Encoded.{IsEncoding, IsPlain};
+ghost use Rattle.resolvo_encoding.specs.Steps.{IsBuilt, AddsParent};
+ghost use Rattle.resolvo_encoding.specs.Going.{IsDecision};
+ghost use Rattle.resolvo.specs.Encoder.{AddsParents, AddsAll};
+ghost use Rattle.resolvo.specs.Turn.{AddsChosen, IsNextRound, IsRound, IsTurn};
+
+use crate::deciding::{Activity, decide};
+use crate::encoder::encode_parents;
+use resolvo_answers::answering::Answering;
+use resolvo_encoding::encoding::Encoding;
+use resolvo_pool::cache::CacheFault;
+use resolvo_pool::requirement::ConditionalRequirement;
+use resolvo_pool::solver_id::SolverId;
+use resolvo_pool::want::R;
+use resolvo_search::analysis::Refusal;
+use resolvo_search::state::SearchState;
+use std::alloc::Global;
+
+/// The level of the root.
+const FIRST_LEVEL: u32 = 1;
+
+/// Lets the needs of each chosen solvable be encoded in its turn, in the order of the trail.
+fn add_chosen<N: SolverId, S: SolverId>(alloc: Global, encoding: &mut Encoding<N, S>) -> R<()>
+    requires { IsBuilt encoding.old }
+    ensures { OnOk result (AddsChosen encoding.old encoding.new) }
+{
+    let chosen = encoding.coding.chosen(alloc)?;
+    for solvable in &chosen {
+        encoding.add_parent(*solvable)?;
+    }
+    Ok(())
+}
+
+/// Whether some clause from this number on has no literal that is true or open.
+fn is_any_broken(search: &SearchState, from: usize) -> bool {
+    let values = search.tracker.map();
+    search.clauses.iter().skip(from).any(|(_, clause)| {
+        clause.literals.iter().all(|literal| literal.eval(values) == Some(false))
+    })
+}
+
+/// Encodes what is asked for. Where a clause that came is broken by choices, these are taken away.
+fn encode<A: Answering>(
+    alloc: Global,
+    answers: &mut A,
+    encoding: &mut Encoding<A::NameId, A::SolvableId>,
+    requirements: &[ConditionalRequirement],
+) -> Result<(), CacheFault<A::Cancel>>
+    requires { IsBuilt encoding.old }
+    ensures same { answers.new ≡ answers.old }
+    ensures encoded { OnOk result ((root : Rules) → root.requirements ≡ requirements.now → IsPlain A.SolvableId.eq (A.packages answers.old) root → IsEncoding A.SolvableId.eq (A.packages answers.old) root encoding.old → IsEncoding A.SolvableId.eq (A.packages answers.old) root encoding.new) }
+    ensures all { OnOk result (AddsAll encoding.old encoding.new) }
+    ensures built { OnOk result (IsBuilt encoding.new) }
+    ensures cancelled { IfErr result (IsCancelledBy (A.may_cancel answers.old)) }
+{
+    let before = encoding.coding.search.clauses.len();
+    encode_parents(alloc, answers, encoding, requirements)?;
+    if !is_any_broken(&encoding.coding.search, before) {
+        return Ok(());
+    }
+    encoding.undo_until(FIRST_LEVEL);
+    Ok(())
+}
+
+/// Encodes what is asked for, and decides.
+fn encode_and_decide<A: Answering>(
+    alloc: Global,
+    answers: &mut A,
+    encoding: &mut Encoding<A::NameId, A::SolvableId>,
+    scores: &mut <A::NameId as SolverId>::Scores,
+    activity: Activity,
+    requirements: &[ConditionalRequirement],
+) -> Result<Option<Refusal>, CacheFault<A::Cancel>>
+    requires { IsBuilt encoding.old }
+    ensures same { answers.new ≡ answers.old }
+    ensures stays { OnOk result ((root : Rules) → root.requirements ≡ requirements.now → IsPlain A.SolvableId.eq (A.packages answers.old) root → IsEncoding A.SolvableId.eq (A.packages answers.old) root encoding.old → IsEncoding A.SolvableId.eq (A.packages answers.old) root encoding.new) }
+    ensures all { OnOk result (AddsAll encoding.old encoding.new) }
+    ensures decided { IfOk result (IsDecision encoding.new) }
+    ensures built { OnOk result (IsBuilt encoding.new) }
+    ensures cancelled { IfErr result (IsCancelledBy (A.may_cancel answers.old)) }
+{
+    encode(alloc, answers, encoding, requirements)?;
+    let refusal = decide(alloc, answers, encoding, scores, activity)?;
+    Ok(refusal)
+}
+
+/// What a round came to.
+#[derive(Debug, Drop)]
+enum Round {
+    /// A chosen solvable is to be encoded.
+    Goes,
+    /// Nothing is left to set, to choose or to encode.
+    Whole,
+    /// Choices can't stand together.
+    Refused(Refusal),
+}
+
+/// Encodes what is asked for, decides, and lets what was chosen be encoded in the next round.
+fn run_round<A: Answering>(
+    alloc: Global,
+    answers: &mut A,
+    encoding: &mut Encoding<A::NameId, A::SolvableId>,
+    scores: &mut <A::NameId as SolverId>::Scores,
+    activity: Activity,
+    requirements: &[ConditionalRequirement],
+) -> Result<Round, CacheFault<A::Cancel>>
+    requires built { IsBuilt encoding.old }
+    requires next { IsNextRound encoding.old }
+    ensures same { answers.new ≡ answers.old }
+    ensures stays { OnOk result ((root : Rules) → root.requirements ≡ requirements.now → IsPlain A.SolvableId.eq (A.packages answers.old) root → IsEncoding A.SolvableId.eq (A.packages answers.old) root encoding.old → IsEncoding A.SolvableId.eq (A.packages answers.old) root encoding.new) }
+    ensures adds { OnOk result (AddsParents encoding.old encoding.new) }
+    ensures round { IfOk result (IsRound encoding.old encoding.new) }
+    ensures built { OnOk result (IsBuilt encoding.new) }
+    ensures cancelled { IfErr result (IsCancelledBy (A.may_cancel answers.old)) }
+{
+    let decided =
+        encode_and_decide(alloc, answers, encoding, scores, activity, requirements)?;
+    if let Some(refusal) = decided {
+        return Ok(Round::Refused(refusal));
+    }
+    add_chosen(alloc, encoding)?;
+    if encoding.next_parent().is_none() {
+        Ok(Round::Whole)
+    } else {
+        Ok(Round::Goes)
+    }
+}
+
+/// Goes round after round, until nothing is left to encode or to choose, or choices can't stand together.
+pub fn run_turn<A: Answering>(
+    alloc: Global,
+    answers: &mut A,
+    encoding: &mut Encoding<A::NameId, A::SolvableId>,
+    scores: &mut <A::NameId as SolverId>::Scores,
+    activity: Activity,
+    requirements: &[ConditionalRequirement],
+) -> Result<Option<Refusal>, CacheFault<A::Cancel>>
+    requires built { IsBuilt encoding.old }
+    requires next { IsNextRound encoding.old }
+    ensures same { answers.new ≡ answers.old }
+    ensures stays { OnOk result ((root : Rules) → root.requirements ≡ requirements.now → IsPlain A.SolvableId.eq (A.packages answers.old) root → IsEncoding A.SolvableId.eq (A.packages answers.old) root encoding.old → IsEncoding A.SolvableId.eq (A.packages answers.old) root encoding.new) }
+    ensures adds { OnOk result (AddsParents encoding.old encoding.new) }
+    ensures turn { IfOk result (IsTurn encoding.new) }
+    ensures cancelled { IfErr result (IsCancelledBy (A.may_cancel answers.old)) }
+{
+    loop {
+        match run_round(alloc, answers, encoding, scores, activity, requirements)? {
+            Round::Goes => {}
+            Round::Whole => return Ok(None),
+            Round::Refused(refusal) => return Ok(Some(refusal)),
+        }
+    }
+}
