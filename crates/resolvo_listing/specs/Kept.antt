@@ -168,9 +168,9 @@ pub record Extends (catalogue request : List Line) (chosen : Set) (before after 
 -- The second has what the turn lists besides the answers of the first.
 pub record TakesTurn (catalogue request : List Line) (chosen : Set) (wish : Option (ℕ × Version)) (before after : Listing) : Type 0 where
   pub listing : IsListing catalogue request after chosen
-  pub answers : List answers.Answer
-  pub more : answers_in catalogue after ≡ answers_in catalogue before ++ answers
-  pub turn : IsTurn catalogue request chosen (entries_in catalogue before) wish answers
+  pub others : List answers.Answer
+  pub more : answers_in catalogue after ≡ answers_in catalogue before ++ others
+  pub turn : IsTurn catalogue request chosen (entries_in catalogue before) wish others
 
 -- the request's lines up to line n
 abbrev pub lines_to : ℕ → List Reason

@@ -24,7 +24,7 @@ IsAsked catalogue entries (Wished n) = ⊥
 pub record MayGive (catalogue request : List Line) (chosen entries : Set) (reason : Reason) (v : Version) : Type 0 where
   pub asked : IsAsked catalogue entries reason
   pub needed : IsNeededBy entries (line_named catalogue request reason) v
-  pub chosen : Contains chosen v
+  pub is_chosen : Contains chosen v
   pub unlisted : Contains entries v → ⊥
 
 -- ---- their order
@@ -103,15 +103,12 @@ AreTurns catalogue request chosen entries (t ∷ turns) answers = (first : List 
 -- ---- reached versions
 
 -- the wishes of the turns
-abbrev pub wish_of : Turn → List Version
-wish_of t = wished_by t.wish
-  where
-    wished_by : Option (ℕ × Version) → List Version
-    wished_by None = []
-    wished_by (Some w) = w.1 ∷ []
+abbrev pub wished_by : Option (ℕ × Version) → List Version
+wished_by None = []
+wished_by (Some w) = w.1 ∷ []
 
 abbrev pub wishes_in : List Turn → Set
-wishes_in turns = flat_map wish_of turns
+wishes_in turns = flat_map (λ t. wished_by t.wish) turns
 
 -- The part of the chosen versions holds the wishes, and each chosen match of a line of the request or of a member whose
 -- condition holds in the part.

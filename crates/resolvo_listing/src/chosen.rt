@@ -3,11 +3,12 @@
 
 ghost use Rattle.std.specs.Prelude.{◌≡◌, ◌++◌, ◌∷◌, [], ◌+◌, true, Contains, slice_get, Some, List, Option, IfOk, OnOk, IfSome};
 ghost use Rattle.std.specs.HashMap.{get_by_text};
-ghost use Rattle.std.specs.Option.{option_copied};
+ghost use Rattle.std.specs.Option.{option_copied, option_map};
 ghost use Rattle.resolvo_text.specs.Line as says;
 ghost use Rattle.resolvo_text.specs.Matching.{Set, is_met, holds, condition_holds};
 ghost use Rattle.resolvo_text.specs.View.{spec_of, specs_of, cond_of, condition_of};
-ghost use Rattle.resolvo_catalogue.specs.Listed.{listed, members};
+ghost use Rattle.resolvo_catalogue.specs.Listed.{listed, members, pair_version, version_at};
+ghost use Rattle.resolvo_catalogue.specs.Questions.{States};
 ghost use Rattle.resolvo_listing.specs.Kept.{Holds, AreOneEach, IsChosenMatch, IsUnlistedMatch, IsFirstMatch, IsRuleAt, IsLook, IfGives, is_unlisted, unlisted};
 
 use resolvo_catalogue::{Catalogue, Cond, Rule, Spec, VersionNo};
@@ -22,6 +23,13 @@ pub enum Look {
     /// Nothing yet, since its condition doesn't hold.
     Waiting,
     Gives(VersionNo),
+}
+
+/// The listed version of this number.
+fn version_at(catalogue: &Catalogue, version: VersionNo) -> Option<&(String, u32)>
+    ensures { option_map (λ p. pair_version p.now) result ≡ version_at catalogue.now version.0 }
+{
+    catalogue.versions().get(version.0 as usize)
 }
 
 #[derive(Drop)]
@@ -48,7 +56,7 @@ impl Chosen {
     pub fn add(&mut self, catalogue: &Catalogue, version: VersionNo) -> Result<(), AllocError>
         ensures { OnOk result ((chosen entries : Set) → Holds (listed catalogue.now) self.old chosen entries → AreOneEach (chosen ++ members (listed catalogue.now) (version ∷ [])) → Holds (listed catalogue.now) self.new (chosen ++ members (listed catalogue.now) (version ∷ [])) entries) }
     {
-        if let Some(listed) = catalogue.versions().get(version.0 as usize) {
+        if let Some(listed) = version_at(catalogue, version) {
             self.picks.insert(listed.0.clone()?, version)?;
         }
         Ok(())
@@ -194,20 +202,32 @@ impl Chosen {
         }
     }
 
-    /// What the line of this rule gives. A line without a need gives nothing.
+    /// What the line of this rule gives. A rule that is no need gives nothing.
+    fn look_at_rule(&self, catalogue: &Catalogue, rule: &Rule) -> Look
+        ensures unlisted { IfGives result (λ n. is_unlisted self.now.listed.items n.0 ≡ true) }
+        ensures looked { (chosen entries : Set) (versions : List says.Version) (owner : Option says.Version) (line : says.Line) → Holds (listed catalogue.now) self.now chosen entries → States versions rule.now owner line → IsLook (listed catalogue.now) chosen entries (Some line) result }
+    {
+        match rule {
+            Rule::Needs {
+                alternatives,
+                condition,
+                ..
+            } => self.look_at_need(catalogue, alternatives, condition),
+            Rule::Limits { .. }
+            | Rule::Lock { .. }
+            | Rule::Exclude { .. }
+            | Rule::Unknown { .. } => Look::Spent,
+        }
+    }
+
+    /// What the line of this rule gives. A line without a rule gives nothing.
     pub fn look(&self, catalogue: &Catalogue, rule: Option<&Rule>) -> Look
         ensures unlisted { IfGives result (λ n. is_unlisted self.now.listed.items n.0 ≡ true) }
         ensures looked { (chosen entries : Set) (line : Option says.Line) → Holds (listed catalogue.now) self.now chosen entries → IsRuleAt line (option_copied rule.entry) → IsLook (listed catalogue.now) chosen entries line result }
     {
         match rule {
-            Some(
-                Rule::Needs {
-                    alternatives,
-                    condition,
-                    ..
-                },
-            ) => self.look_at_need(catalogue, alternatives, condition),
-            _ => Look::Spent,
+            Some(rule) => self.look_at_rule(catalogue, rule),
+            None => Look::Spent,
         }
     }
 }

@@ -1,7 +1,7 @@
 //! Which lines are left to look at. All lines stand in one list; those that wait for their condition are looked at again
 //! after each entry. Used by `listing`.
 
-ghost use Rattle.std.specs.Prelude.{◌≡◌, ◌++◌, ◌∷◌, [], ◌≤◌, length, OnOk, IfSome, Some, None};
+ghost use Rattle.std.specs.Prelude.{◌≡◌, ◌++◌, ◌∷◌, [], ◌≤◌, length, OnOk, IfSome, None, List};
 ghost use Rattle.resolvo_listing.specs.Kept.{left_of};
 
 use crate::entry::Reason;

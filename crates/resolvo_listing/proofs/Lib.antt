@@ -1,0 +1,5 @@
+pub mod Elements
+pub mod Picking
+pub mod Remaining
+pub mod LineLemmas
+pub mod Following
