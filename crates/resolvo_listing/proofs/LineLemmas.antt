@@ -63,7 +63,7 @@ line_to (suc n) r c = elim (Contains-push_cases (lines_to n) (reason.ForRequest 
 
 to_line : (n k : ℕ) → k < n → Contains (lines_to n) (reason.ForRequest (suc k))
 to_line zero k lt = absurd (omega (arith, lt))
-to_line (suc n) k lt = of (below_or n k lt)
+to_line (suc n) k lt = of (below_or n k lt) (λ less. to_line n k less)
   where
     below_or : (n k : ℕ) → k < suc n → (k < n) ⊎ (k ≡ n)
     below_or zero zero lt = inr refl
@@ -71,9 +71,9 @@ to_line (suc n) k lt = of (below_or n k lt)
     below_or (suc n) zero lt = inl (omega arith)
     below_or (suc n) (suc k) lt = elim (below_or n k (omega (arith, lt))) [ inl less ↦ inl (omega (arith, less)) | inr same ↦ inr (ap (λ (m : ℕ). suc m) same) ]
 
-    of : (k < n) ⊎ (k ≡ n) → Contains (lines_to (suc n)) (reason.ForRequest (suc k))
-    of (inl less) = Contains-append_left (lines_to n) (reason.ForRequest (suc n) ∷ []) (reason.ForRequest (suc k)) (to_line n k less)
-    of (inr same) = subst (λ (m : ℕ). Contains (lines_to (suc n)) (reason.ForRequest (suc m))) (sym same) (Contains-push (lines_to n) (reason.ForRequest (suc n)))
+    of : (k < n) ⊎ (k ≡ n) → (k < n → Contains (lines_to n) (reason.ForRequest (suc k))) → Contains (lines_to (suc n)) (reason.ForRequest (suc k))
+    of (inl less) rest = Contains-append_left (lines_to n) (reason.ForRequest (suc n) ∷ []) (reason.ForRequest (suc k)) (rest less)
+    of (inr same) rest = subst (λ (m : ℕ). Contains (lines_to (suc n)) (reason.ForRequest (suc m))) (sym same) (Contains-push (lines_to n) (reason.ForRequest (suc n)))
 
 ordered_to : (versions : List Version) (entries : Set) (n : ℕ) → AreOrdered (λ a b. Precedes entries (reason_of versions a) (reason_of versions b)) (lines_to n)
 ordered_to versions entries zero = tt
@@ -164,7 +164,7 @@ more_lines catalogue request entries lines n v numbers at all old = record {
     each (answers.ForVersion w k) ss c asked is = elim (Contains-push_cases entries v w asked.0) [
       | inl before ↦ kept (answers.ForVersion w k) (old.each (answers.ForVersion w k) ss c (before, asked.1) is)
       | inr same ↦
-          let has = (all.all k).1 (v, at, Needs ss c, is, asked.1 ∙ ap Some (sym same)) in
+          let has = (all.all k).1 (v, at, (Needs ss c, is, asked.1 ∙ ap Some (sym same))) in
           (reason.ForVersion n k, Contains-append_right lines (lines_for n numbers) (reason.ForVersion n k) (map_element (λ (j : ℕ). reason.ForVersion n j) numbers k has),
             ap (λ (x : Version). answers.ForVersion x k) (numbered (listed catalogue) n v at ∙ same))
     ]

@@ -103,7 +103,8 @@ impl Listing {
             &mut self.lines,
             entry.version,
             catalogue.lines_of(entry.version),
-        )
+        )?;
+        Ok(())
     }
 
     /// The next entry: what the first line that may give a version gives.
@@ -185,7 +186,8 @@ impl Listing {
     {
         self.chosen.add_all(catalogue, turn.chosen)?;
         self.begin(catalogue, turn.wish)?;
-        self.finish(alloc, catalogue, request)
+        self.finish(alloc, catalogue, request)?;
+        Ok(())
     }
 }
 

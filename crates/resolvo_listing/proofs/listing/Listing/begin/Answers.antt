@@ -1,0 +1,1 @@
+use Rattle.resolvo_listing.proofs.listing.Listing.begin.Goals as goal
