@@ -6,3 +6,4 @@ pub mod Following
 pub mod Giving
 pub mod Looking
 pub mod TurnLemmas
+pub mod Finishing

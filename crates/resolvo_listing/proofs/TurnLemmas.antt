@@ -18,7 +18,7 @@ use Rattle.resolvo_listing.proofs.Elements.{no_element, first_element, element_c
 pub entries_append : (one two : List Answer) → entries_of (one ++ two) ≡ entries_of one ++ entries_of two
 entries_append one two = flat_map-append entry_of one two
 
-after_both : (set : Set) (one two : List Answer) → set ++ entries_of (one ++ two) ≡ (set ++ entries_of one) ++ entries_of two
+pub after_both : (set : Set) (one two : List Answer) → set ++ entries_of (one ++ two) ≡ (set ++ entries_of one) ++ entries_of two
 after_both set one two = ap (λ (xs : Set). set ++ xs) (entries_append one two) ∙ sym (append_assoc set (entries_of one) (entries_of two))
 
 after_entry : (set : Set) (v : Version) (reason : Reason) (answers : List Answer) → set ++ entries_of (Entry v reason ∷ answers) ≡ (set ++ v ∷ []) ++ entries_of answers

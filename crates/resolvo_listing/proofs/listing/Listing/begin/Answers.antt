@@ -1,1 +1,0 @@
-use Rattle.resolvo_listing.proofs.listing.Listing.begin.Goals as goal
