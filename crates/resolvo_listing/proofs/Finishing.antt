@@ -141,3 +141,9 @@ lists_more catalogue request turns i t before after lt is h took =
           (turns_more catalogue request [] [] (turns_of vs (take i turns)) (answers_in catalogue before) (turn_of vs t) took.others h.turns_listed
           (subst (λ (ts : List order.Turn). IsTurn catalogue request (chosen_in ts) (entries_in catalogue before) (turn_of vs t).wish took.others) next took.turn)));
     }
+
+-- an element that is there, whatever the default
+pub any_default : {X : Type 0} (xs : List X) (i : ℕ) (d e : X) → i < length xs → get_or xs i d ≡ get_or xs i e
+any_default [] i d e lt = absurd (omega (arith, lt))
+any_default (x ∷ xs) zero d e lt = refl
+any_default (x ∷ xs) (suc i) d e lt = any_default xs i d e (omega (arith, lt))

@@ -5,8 +5,8 @@ use Rattle.resolvo_listing.specs.Kept.{Holds, AreOneEach, IsListing, entries_in}
 use Rattle.resolvo_listing.proofs.Finishing.{turn_taken}
 use Rattle.resolvo_listing.proofs.listing.Listing.take_turn.Goals as goal
 
-pub returns-in_ok-finish : goal.returns-in_ok-finish
-returns-in_ok-finish c = λ before chosen is h one accepted.
+pub returns : goal.returns
+returns c = λ before chosen is h one accepted.
     let catalogue = c.args.catalogue.now in
     let request = c.args.request.now.lines in
     let x = c.args.self.now in
