@@ -1,5 +1,5 @@
 -- Entries one after the other, and turns one after the other.
-use Rattle.std.proofs.Common.{◌≡◌, ◌⊎◌, inl, inr, ℕ, zero, suc, ◌+◌, ◌<◌, List, [], ◌∷◌, ◌++◌, map, length, take, drop, get_or, reverse, Option, Some, None, refl, sym, ap, subst, ◌∙◌, append_assoc, add-one, arith}
+use Rattle.std.proofs.Common.{◌≡◌, ℕ, zero, suc, ◌+◌, ◌<◌, List, [], ◌∷◌, ◌++◌, length, take, drop, get_or, reverse, Option, Some, None, refl, sym, ap, subst, ◌∙◌, append_assoc, add-one, arith}
 use Rattle.std.specs.Prelude.{Contains, slice_get}
 use Rattle.std.specs.Option.{option_map}
 use Rattle.std.proofs.lemmas.Grind.{flat_map-append}
@@ -18,7 +18,7 @@ use Rattle.resolvo_catalogue.proofs.TableSteps.{numbered}
 use Rattle.resolvo_listing.specs.Order as order
 use Rattle.resolvo_listing.specs.Order.{IsNext, AreInOrder, IsComplete, IsTurn, AreTurns, wish_entry, chosen_in}
 use Rattle.resolvo_listing.specs.View.{reason_of, answer_of, turn_of, turns_of, IsAccepted, AreAccepted}
-use Rattle.resolvo_listing.specs.Kept.{AreOneEach, IsListing, AreLeft, IsLeft, IsFound, Extends, TakesTurn, IsSpentAt, Remains, answers_in, entries_in, left_of}
+use Rattle.resolvo_listing.specs.Kept.{AreOneEach, IsListing, IsLeft, IsFound, Extends, TakesTurn, IsSpentAt, Remains, answers_in, entries_in, left_of}
 use Rattle.resolvo_listing.specs.declared.entry.Entry.{Entry}
 use Rattle.resolvo_listing.specs.declared.entry.Reason.{Reason}
 use Rattle.resolvo_listing.specs.declared.entry.Turn.{Turn}

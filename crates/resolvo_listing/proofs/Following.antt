@@ -1,5 +1,5 @@
 -- The next entry, from what is left to look at.
-use Rattle.std.proofs.Common.{◌≡◌, ◌⊎◌, inl, inr, true, false, List, [], ◌∷◌, ◌++◌, Option, Some, refl, sym, ap, subst, ◌∙◌}
+use Rattle.std.proofs.Common.{◌≡◌, ◌⊎◌, inl, inr, List, ◌∷◌, sym, ap, subst, ◌∙◌}
 use Rattle.std.specs.Prelude.{Contains}
 use Rattle.std.proofs.lemmas.Bool.{false≢true}
 use Rattle.std.proofs.lemmas.List.Elements.{Contains-append_right, Contains-append_cases}
@@ -45,11 +45,11 @@ next_found catalogue request chosen entries lines waiting r v are split waits in
       elim (Contains-append_cases split.above (r ∷ split.below) e.0 (subst (λ (xs : List Reason). Contains xs e.0) split.is e.1)) [
         | inl above ↦ absurd (none_given catalogue request chosen entries waiting e.0 other w e.2 waits (split.each e.0 above) g)
         | inr rest ↦ elim (element_cases r split.below e.0 rest) [
-            | inl same ↦ inl (ap (λ (x : Reason). reason_of (listed catalogue) x) same ∙ e.2)
-            | inr below ↦ inr (subst (Precedes entries (reason_of (listed catalogue) r)) e.2
-                (ordered_below (λ a b. Precedes entries (reason_of (listed catalogue) a) (reason_of (listed catalogue) b)) split.above r split.below
-                (subst (AreOrdered (λ a b. Precedes entries (reason_of (listed catalogue) a) (reason_of (listed catalogue) b))) split.is are.ordered) e.0 below))
-          ]
+          | inl same ↦ inl (ap (λ (x : Reason). reason_of (listed catalogue) x) same ∙ e.2)
+          | inr below ↦ inr (subst (Precedes entries (reason_of (listed catalogue) r)) e.2
+              (ordered_below (λ a b. Precedes entries (reason_of (listed catalogue) a) (reason_of (listed catalogue) b)) split.above r split.below
+              (subst (AreOrdered (λ a b. Precedes entries (reason_of (listed catalogue) a) (reason_of (listed catalogue) b))) split.is are.ordered) e.0 below))
+        ]
       ];
   first_alternative = of_first;
 }

@@ -1,6 +1,6 @@
 -- A listing with one more entry.
-use Rattle.std.proofs.Common.{◌≡◌, ◌⊎◌, inl, inr, ℕ, ◌<◌, false, if◌then◌else◌, List, [], ◌∷◌, ◌++◌, length, Option, Some, None, refl, sym, ap, subst, ◌∙◌, arith}
-use Rattle.std.specs.Prelude.{Contains, slice_get, not}
+use Rattle.std.proofs.Common.{◌≡◌, inl, inr, ℕ, ◌<◌, false, if◌then◌else◌, List, [], ◌∷◌, ◌++◌, length, Some, sym, ap, subst, ◌∙◌}
+use Rattle.std.specs.Prelude.{slice_get, not}
 use Rattle.std.proofs.lemmas.Bool.{false≢true, cases_Bool}
 use Rattle.std.proofs.lemmas.Grind.{flat_map-append}
 use Rattle.std.proofs.lemmas.List.{append-nil, map-append}
@@ -16,11 +16,10 @@ use Rattle.resolvo_catalogue.specs.declared.rule.VersionNo.{VersionNo}
 use Rattle.resolvo_catalogue.proofs.Pushed.{get_push}
 use Rattle.resolvo_catalogue.proofs.TableSteps.{numbered}
 use Rattle.resolvo_listing.specs.Order.{wish_entry}
-use Rattle.resolvo_listing.specs.View.{reason_of, answer_of, answers_of, IsAccepted}
+use Rattle.resolvo_listing.specs.View.{answer_of, answers_of, IsAccepted}
 use Rattle.resolvo_listing.specs.Kept.{Holds, AreLines, IsListing, answers_in, entries_in, lines_to, lines_for, is_unlisted}
 use Rattle.resolvo_listing.specs.declared.entry.Entry.{Entry}
 use Rattle.resolvo_listing.specs.declared.listing.Listing.{Listing}
-use Rattle.resolvo_listing.proofs.Elements.{from_member}
 use Rattle.resolvo_listing.proofs.LineLemmas.{first_lines, more_lines}
 use Rattle.resolvo_listing.proofs.Picking.{flag_says}
 

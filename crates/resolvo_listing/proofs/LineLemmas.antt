@@ -1,18 +1,16 @@
 -- The lines that ask for versions, in their order.
-use Rattle.std.proofs.Common.{◌≡◌, ◌⊎◌, inl, inr, ℕ, zero, suc, ◌<◌, ◌≤◌, List, [], ◌∷◌, ◌++◌, map, length, Option, Some, None, refl, sym, ap, subst, ◌∙◌, append_assoc, arith}
-use Rattle.std.specs.Prelude.{Contains, slice_get, slice_index_or}
+use Rattle.std.proofs.Common.{◌≡◌, ◌⊎◌, inl, inr, ℕ, zero, suc, ◌<◌, ◌≤◌, List, [], ◌∷◌, ◌++◌, map, length, Option, Some, refl, sym, ap, subst, ◌∙◌, append_assoc, arith}
+use Rattle.std.specs.Prelude.{Contains, slice_get}
 use Rattle.std.specs.List.{AllPairs}
-use Rattle.std.specs.List.Sorted.{IsStrictlyIncreasing}
 use Rattle.std.proofs.lemmas.List.Elements.{Contains-append_left, Contains-append_right, Contains-append_cases, Contains-push, Contains-push_cases}
 use Rattle.std.proofs.lemmas.List.Kept.{AllPairs-from_increasing}
 use Rattle.std.proofs.lemmas.Option.{slice_get_within}
 use Rattle.resolvo_text.specs.Line.{Version, Spec, Cond, Line, Needs}
 use Rattle.resolvo_text.specs.Matching.{Set}
 use Rattle.resolvo_catalogue.specs.Answers as answers
-use Rattle.resolvo_catalogue.specs.Grammar.{line_at, owner_of}
+use Rattle.resolvo_catalogue.specs.Grammar.{owner_of}
 use Rattle.resolvo_catalogue.specs.Listed.{listed}
 use Rattle.resolvo_catalogue.specs.Questions.{AreAll, SaysOf, BelongsTo}
-use Rattle.resolvo_catalogue.specs.Table.{nth}
 use Rattle.resolvo_catalogue.specs.declared.rule.VersionNo.{VersionNo}
 use Rattle.resolvo_catalogue.proofs.TableLemmas.{belongs_owner}
 use Rattle.resolvo_catalogue.proofs.TableSteps.{numbered}
@@ -131,8 +129,7 @@ line_for : (catalogue : List Line) (n : VersionNo) (v : Version) (numbers : List
 line_for catalogue n v numbers r at all c =
     let m = mapped_element (λ (k : ℕ). reason.ForVersion n k) numbers r c in
     let says = (all.all m.0).0 m.1 in
-    let same : says.0 ≡ v = (let e : slice_get (listed catalogue) n.0 ≡ Some says.0 = says.1 in cc) in
-    (
+    let same : says.0 ≡ v = (let e : slice_get (listed catalogue) n.0 ≡ Some says.0 = says.1 in cc) in (
       m.0,
       ap (λ (x : Reason). reason_of (listed catalogue) x) (sym m.2) ∙ ap (λ (w : Version). answers.ForVersion w m.0) (numbered (listed catalogue) n v at),
       subst (λ (w : Version). owner_of catalogue m.0 ≡ Some w) same (belongs_owner says.0 catalogue m.0 says.2),
@@ -164,8 +161,10 @@ more_lines catalogue request entries lines n v numbers at all old = record {
     each (answers.ForVersion w k) ss c asked is = elim (Contains-push_cases entries v w asked.0) [
       | inl before ↦ kept (answers.ForVersion w k) (old.each (answers.ForVersion w k) ss c (before, asked.1) is)
       | inr same ↦
-          let has = (all.all k).1 (v, at, (Needs ss c, is, asked.1 ∙ ap Some (sym same))) in
-          (reason.ForVersion n k, Contains-append_right lines (lines_for n numbers) (reason.ForVersion n k) (map_element (λ (j : ℕ). reason.ForVersion n j) numbers k has),
-            ap (λ (x : Version). answers.ForVersion x k) (numbered (listed catalogue) n v at ∙ same))
+          let has = (all.all k).1 (v, at, (Needs ss c, is, asked.1 ∙ ap Some (sym same))) in (
+            reason.ForVersion n k,
+            Contains-append_right lines (lines_for n numbers) (reason.ForVersion n k) (map_element (λ (j : ℕ). reason.ForVersion n j) numbers k has),
+            ap (λ (x : Version). answers.ForVersion x k) (numbered (listed catalogue) n v at ∙ same),
+          )
     ]
     each (answers.Wished k) ss c asked is = absurd asked

@@ -1,18 +1,17 @@
 -- What is left to look at, after a look at a line.
-use Rattle.std.proofs.Common.{◌≡◌, ◌⊎◌, inl, inr, ℕ, ◌≤◌, List, [], ◌∷◌, ◌++◌, length, drop, reverse, Option, Some, None, refl, sym, ap, subst, ◌∙◌, append_assoc, length-append, arith}
-use Rattle.std.specs.Prelude.{Contains, slice_get}
+use Rattle.std.proofs.Common.{◌≡◌, inl, inr, ℕ, ◌≤◌, List, [], ◌∷◌, ◌++◌, length, drop, reverse, Some, sym, ap, subst, ◌∙◌, append_assoc, length-append, arith}
+use Rattle.std.specs.Prelude.{Contains}
 use Rattle.std.proofs.lemmas.List.{append-nil, drop-append-le}
 use Rattle.std.proofs.lemmas.List.Elements.{Contains-append_left, Contains-push_cases}
 use Rattle.std.proofs.lemmas.Option.{slice_get_within}
 use Rattle.resolvo_text.specs.Line.{Version, Line}
 use Rattle.resolvo_text.specs.Matching.{Set}
 use Rattle.resolvo_catalogue.specs.Listed.{listed}
-use Rattle.resolvo_catalogue.specs.Table.{nth}
 use Rattle.resolvo_catalogue.specs.declared.rule.VersionNo.{VersionNo}
 use Rattle.resolvo_catalogue.proofs.TableSteps.{numbered}
 use Rattle.resolvo_listing.specs.Order.{line_named, IsNext, IsComplete}
 use Rattle.resolvo_listing.specs.View.{reason_of}
-use Rattle.resolvo_listing.specs.Kept.{IsLook, IsSpent, IsSpentAt, IsWaiting, IsListing, AreLeft, IsLeft, IsFound, Remains, left_of, entries_in}
+use Rattle.resolvo_listing.specs.Kept.{IsLook, IsSpentAt, IsWaiting, IsListing, AreLeft, IsLeft, IsFound, Remains, left_of, entries_in}
 use Rattle.resolvo_listing.specs.declared.chosen.Look.TheVariants as look
 use Rattle.resolvo_listing.specs.declared.entry.Reason.{Reason}
 use Rattle.resolvo_listing.specs.declared.listing.Listing.{Listing}
@@ -81,9 +80,9 @@ pub given_next : (catalogue request : List Line) (x : Listing) (chosen : Set) (b
 given_next catalogue request x chosen before after r n taken h listing is = (
   slice_get_within (listed catalogue) n.0 is.0 is.1,
   subst (IsNext catalogue request chosen (entries_in catalogue x) (reason_of (listed catalogue) r)) (sym (numbered (listed catalogue) n is.0 is.1))
-  (next_found catalogue request chosen (entries_in catalogue x) x.lines.items after.waiting.items r is.0 listing.lines
-  (remains_split (IsSpentAt catalogue request chosen (entries_in catalogue x)) x.lines.items after.waiting.items r (left_of after x.lines.items) (remain_taken catalogue request x chosen before after r taken h))
-  (waiting_taken catalogue request x chosen before after r taken h) is.2 is.3 is.4 is.5),
+      (next_found catalogue request chosen (entries_in catalogue x) x.lines.items after.waiting.items r is.0 listing.lines
+      (remains_split (IsSpentAt catalogue request chosen (entries_in catalogue x)) x.lines.items after.waiting.items r (left_of after x.lines.items) (remain_taken catalogue request x chosen before after r taken h))
+      (waiting_taken catalogue request x chosen before after r taken h) is.2 is.3 is.4 is.5),
 )
 
 pub none_left : (catalogue request : List Line) (x : Listing) (chosen : Set) (places : Places) → left_of places x.lines.items ≡ [] → AreLeft catalogue request x chosen places → IsListing catalogue request x chosen → IsComplete catalogue request chosen (entries_in catalogue x)

@@ -1,13 +1,12 @@
 -- The chosen versions by their packages, and which of them are entries.
-use Rattle.std.proofs.Common.{◌≡◌, ◌⊎◌, inl, inr, ℕ, zero, suc, ◌+◌, ◌<◌, Bool, true, false, not, ◌||◌, ◌&&◌, if◌then◌else◌, List, [], ◌∷◌, ◌++◌, map, length, Option, Some, None, refl, sym, ap, subst, ◌∙◌, set, get_or, take, drop, append_assoc, arith}
-use Rattle.std.specs.Prelude.{slice_get, Contains, IsTrue, option_to_list}
+use Rattle.std.proofs.Common.{◌≡◌, ◌⊎◌, inl, inr, ℕ, zero, suc, ◌+◌, ◌<◌, Bool, true, false, not, if◌then◌else◌, List, [], ◌∷◌, ◌++◌, length, Option, Some, None, refl, sym, ap, subst, ◌∙◌, set, get_or, take, drop, append_assoc, arith}
+use Rattle.std.specs.Prelude.{slice_get, Contains, option_to_list}
 use Rattle.std.specs.Option.{option_map_or}
-use Rattle.std.specs.List.{list_any, sum_by}
+use Rattle.std.specs.List.{list_any}
 use Rattle.std.specs.Str.{bytes_eq}
 use Rattle.std.specs.HashMap.{get_by_text}
-use Rattle.std.proofs.lemmas.Bool.{false≢true, cases_Bool, and_parts, or_left, or_right}
+use Rattle.std.proofs.lemmas.Bool.{false≢true, cases_Bool, and_parts}
 use Rattle.std.proofs.lemmas.List.Elements.{Contains-append_left, Contains-append_right, Contains-push, Contains-push_cases}
-use Rattle.std.proofs.lemmas.List.Folds.{list_any-append}
 use Rattle.std.proofs.lemmas.List.Sums.{sum_by-set}
 use Rattle.std.proofs.lemmas.List.{append-nil, take_more, take-append-drop, drop_more, map-append}
 use Rattle.std.proofs.lemmas.Grind.{flat_map-append}
@@ -16,11 +15,10 @@ use Rattle.std.proofs.lemmas.Slice.Eq.{bytes_eq-Decides}
 use Rattle.resolvo_text.specs.Line.{Version, Spec, Cond, Line, Needs}
 use Rattle.resolvo_text.specs.View.{spec_of, specs_of}
 use Rattle.resolvo_text.specs.declared.spec.Spec as code
-use Rattle.resolvo_text.specs.Matching.{Set, matches, is_member, is_met, same_version, is_in_span, condition_holds}
-use Rattle.resolvo_catalogue.specs.Listed.{is_match, AreDistinct, members}
+use Rattle.resolvo_text.specs.Matching.{Set, matches, is_member, is_met, is_in_span, condition_holds}
+use Rattle.resolvo_catalogue.specs.Listed.{is_match, members}
 use Rattle.resolvo_catalogue.specs.Questions.{is_rule}
 use Rattle.resolvo_catalogue.specs.declared.rule.VersionNo.{VersionNo}
-use Rattle.resolvo_catalogue.proofs.TableSteps.{same_version_is}
 use Rattle.resolvo_listing.specs.Kept.{AreOneEach, IsPick, is_unlisted, weight, unlisted, Holds, IsChosenMatch, IsUnlistedMatch, IsFirstMatch, IsLook, IsWaiting, IsSpent}
 use Rattle.resolvo_listing.specs.declared.chosen.Look.TheVariants as look
 use Rattle.resolvo_listing.specs.declared.chosen.Chosen.{Chosen}

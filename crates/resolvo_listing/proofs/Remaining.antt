@@ -1,5 +1,5 @@
 -- Lists of which some elements were dropped.
-use Rattle.std.proofs.Common.{◌≡◌, ◌⊎◌, inl, inr, List, [], ◌∷◌, ◌++◌, refl, sym, ap, subst, ◌∙◌}
+use Rattle.std.proofs.Common.{◌≡◌, ◌⊎◌, inl, inr, List, [], ◌∷◌, ◌++◌, refl, sym, ap, subst}
 use Rattle.std.specs.Prelude.{Contains}
 use Rattle.resolvo_listing.specs.Kept.{Remains}
 use Rattle.resolvo_listing.proofs.Elements.{no_element, first_element, later_element, element_cases}

@@ -1,8 +1,6 @@
 -- What one turn after the other lists.
-use Rattle.std.proofs.Common.{◌≡◌, ◌⊎◌, ◌↔◌, inl, inr, ℕ, Bool, true, false, if◌then◌else◌, List, [], ◌∷◌, ◌++◌, map, Option, Some, None, refl, sym, ap, subst, ◌∙◌, append_assoc}
+use Rattle.std.proofs.Common.{◌≡◌, ◌⊎◌, ◌↔◌, inl, inr, ℕ, Bool, true, false, if◌then◌else◌, List, [], ◌∷◌, ◌++◌, Option, Some, None, refl, sym, ap, subst, ◌∙◌, append_assoc}
 use Rattle.std.specs.Prelude.{Contains, ⊤}
-use Rattle.std.specs.List.{flat_map}
-use Rattle.std.specs.Option.{option_map}
 use Rattle.std.proofs.lemmas.Bool.{cases_Bool}
 use Rattle.std.proofs.lemmas.Grind.{flat_map-append}
 use Rattle.std.proofs.lemmas.List.{append-nil}
@@ -12,7 +10,7 @@ use Rattle.resolvo_text.specs.Matching.{Set, is_member}
 use Rattle.resolvo_catalogue.specs.Answers.{Reason, ForRequest, ForVersion, Wished, Answer, Entry, LeftOut, entry_of, entries_of, IsReason, IsReasoned, IsNeededBy}
 use Rattle.resolvo_catalogue.specs.Grammar.{line_at}
 use Rattle.resolvo_listing.specs.Order.{line_named, IsAsked, MayGive, IsNext, AreInOrder, IsComplete, Turn, chosen_in, wish_entry, IsTurn, AreTurns, wished_by, wishes_in, IsClosed, AreReached}
-use Rattle.resolvo_listing.proofs.Elements.{no_element, first_element, element_cases, from_member, member_from, none_from_member}
+use Rattle.resolvo_listing.proofs.Elements.{no_element, first_element, element_cases, from_member, none_from_member}
 
 -- the entries, part by part
 pub entries_append : (one two : List Answer) → entries_of (one ++ two) ≡ entries_of one ++ entries_of two
@@ -37,8 +35,7 @@ pub turns_more : (catalogue request : List Line) (chosen entries : Set) (turns :
     → IsTurn catalogue request (chosen ++ chosen_in (turns ++ t ∷ [])) (entries ++ entries_of answers) t.wish more → AreTurns catalogue request chosen entries (turns ++ t ∷ []) (answers ++ more)
 turns_more catalogue request chosen entries [] answers t more h turn =
     let all : chosen ++ chosen_in (t ∷ []) ≡ chosen ++ t.chosen = ap (λ (set : Set). chosen ++ set) (append-nil t.chosen) in
-    let none : entries ++ entries_of answers ≡ entries = ap (λ (as' : List Answer). entries ++ entries_of as') h ∙ append-nil entries in
-    (
+    let none : entries ++ entries_of answers ≡ entries = ap (λ (as' : List Answer). entries ++ entries_of as') h ∙ append-nil entries in (
       more,
       [],
       ap (λ (as' : List Answer). as' ++ more) h ∙ sym (append-nil more),
@@ -47,15 +44,14 @@ turns_more catalogue request chosen entries [] answers t more h turn =
     )
 turns_more catalogue request chosen entries (u ∷ turns) answers t more h turn =
     let all : chosen ++ chosen_in (u ∷ (turns ++ t ∷ [])) ≡ (chosen ++ u.chosen) ++ chosen_in (turns ++ t ∷ []) = sym (append_assoc chosen u.chosen (chosen_in (turns ++ t ∷ []))) in
-    let those : entries ++ entries_of answers ≡ (entries ++ entries_of h.0) ++ entries_of h.1 = ap (λ (as' : List Answer). entries ++ entries_of as') h.2 ∙ after_both entries h.0 h.1 in
-    (
+    let those : entries ++ entries_of answers ≡ (entries ++ entries_of h.0) ++ entries_of h.1 = ap (λ (as' : List Answer). entries ++ entries_of as') h.2 ∙ after_both entries h.0 h.1 in (
       h.0,
       h.1 ++ more,
       ap (λ (as' : List Answer). as' ++ more) h.2 ∙ append_assoc h.0 h.1 more,
       h.3,
       turns_more catalogue request (chosen ++ u.chosen) (entries ++ entries_of h.0) turns h.1 t more h.4
-      (subst (λ (set : Set). IsTurn catalogue request set ((entries ++ entries_of h.0) ++ entries_of h.1) t.wish more) all
-      (subst (λ (set : Set). IsTurn catalogue request (chosen ++ chosen_in (u ∷ (turns ++ t ∷ []))) set t.wish more) those turn)),
+          (subst (λ (set : Set). IsTurn catalogue request set ((entries ++ entries_of h.0) ++ entries_of h.1) t.wish more) all
+          (subst (λ (set : Set). IsTurn catalogue request (chosen ++ chosen_in (u ∷ (turns ++ t ∷ []))) set t.wish more) those turn)),
     )
 
 -- ---- accepted wishes
@@ -101,7 +97,7 @@ reasoned_turns catalogue request chosen entries (t ∷ turns) answers h accepted
     let wish = wish_entry t.wish entries in
     let turn = h.3 in
     let one = subst (IsReasoned catalogue request entries) (sym turn.wish_first)
-      (reasoned_both catalogue request entries wish turn.others (reasoned_wish catalogue request (chosen ++ t.chosen) entries t.wish accepted.0) (reasoned_order catalogue request (chosen ++ t.chosen) (entries ++ entries_of wish) turn.others turn.in_order)) in
+    (reasoned_both catalogue request entries wish turn.others (reasoned_wish catalogue request (chosen ++ t.chosen) entries t.wish accepted.0) (reasoned_order catalogue request (chosen ++ t.chosen) (entries ++ entries_of wish) turn.others turn.in_order)) in
     subst (IsReasoned catalogue request entries) (sym h.2)
     (reasoned_both catalogue request entries h.0 h.1 one (reasoned_turns catalogue request (chosen ++ t.chosen) (entries ++ entries_of h.0) turns h.1 h.4 accepted.1))
 

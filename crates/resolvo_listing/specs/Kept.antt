@@ -1,5 +1,5 @@
 -- What the lister keeps: the chosen versions by their packages, the lines in their order, and those left to look at.
-use Rattle.std.specs.Prelude.{◌≡◌, ℕ, zero, suc, ◌+◌, ◌<◌, ◌≤◌, IsTrue, Bool, true, false, not, ⊤, ◌⊎◌, List, [], ◌∷◌, ◌++◌, length, map, reverse, drop, Option, Some, None, Contains, slice_get}
+use Rattle.std.specs.Prelude.{◌≡◌, ℕ, zero, suc, ◌<◌, ◌≤◌, IsTrue, Bool, true, false, not, ⊤, ◌⊎◌, List, [], ◌∷◌, ◌++◌, length, map, reverse, drop, Option, Some, None, Contains, slice_get}
 use Rattle.std.specs.Option.{option_map_or}
 use Rattle.std.specs.HashMap.{get_by_text}
 use Rattle.std.specs.List.{list_any, sum_by}
@@ -7,7 +7,6 @@ use Rattle.resolvo_text.specs.Line.{Version, Spec, Cond, Line, Needs}
 use Rattle.resolvo_text.specs.Matching.{Set, is_member, matches, condition_holds}
 use Rattle.resolvo_catalogue.specs.Answers as answers
 use Rattle.resolvo_catalogue.specs.Answers.{entries_of, IsNeededBy}
-use Rattle.resolvo_catalogue.specs.Grammar.{line_at}
 use Rattle.resolvo_catalogue.specs.Listed.{listed, AreDistinct}
 use Rattle.resolvo_catalogue.specs.Questions.{States, is_rule}
 use Rattle.resolvo_catalogue.specs.Table.{nth}
@@ -71,7 +70,7 @@ abbrev pub IsFirstMatch : List Version → Set → Set → List Spec → Option 
 IsFirstMatch versions chosen entries alternatives None = (t : Spec) (w : Version) → Contains alternatives t → IsTrue (matches t w) → Contains chosen w → Contains entries w
 IsFirstMatch versions chosen entries alternatives (Some n) = (v : Version) × (slice_get versions n.0 ≡ Some v) × Contains chosen v × (Contains entries v → ⊥)
     × ((above : List Spec) × (s : Spec) × (below : List Spec) × (alternatives ≡ above ++ s ∷ below) × IsTrue (matches s v)
-      × ((t : Spec) (w : Version) → Contains above t → IsTrue (matches t w) → Contains chosen w → Contains entries w))
+    × ((t : Spec) (w : Version) → Contains above t → IsTrue (matches t w) → Contains chosen w → Contains entries w))
 
 -- ---- one line
 

@@ -213,10 +213,8 @@ impl Chosen {
                 condition,
                 ..
             } => self.look_at_need(catalogue, alternatives, condition),
-            Rule::Limits { .. }
-            | Rule::Lock { .. }
-            | Rule::Exclude { .. }
-            | Rule::Unknown { .. } => Look::Spent,
+            Rule::Limits { .. } | Rule::Lock { .. } | Rule::Exclude { .. } | Rule::Unknown { .. } =>
+                Look::Spent,
         }
     }
 

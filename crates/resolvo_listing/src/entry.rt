@@ -7,18 +7,11 @@ use resolvo_catalogue::VersionNo;
 #[derive(Clone, Copy, Debug)]
 pub enum Reason {
     /// A need in a line of the request.
-    ForRequest {
-        line: u32,
-    },
+    ForRequest { line: u32 },
     /// A need in a line of the catalogue, which belongs to an entry above.
-    ForVersion {
-        version: VersionNo,
-        line: u32,
-    },
+    ForVersion { version: VersionNo, line: u32 },
     /// A wish in a line of the request.
-    Wished {
-        line: u32,
-    },
+    Wished { line: u32 },
 }
 
 /// A version that is listed, and why.

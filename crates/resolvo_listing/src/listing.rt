@@ -58,11 +58,7 @@ fn push_lines(
 }
 
 /// What the line states, if it states a rule.
-fn rule_at<'a>(
-    catalogue: &'a Catalogue,
-    request: &'a Request,
-    reason: Reason,
-) -> Option<&'a Rule>
+fn rule_at<'a>(catalogue: &'a Catalogue, request: &'a Request, reason: Reason) -> Option<&'a Rule>
     ensures { IsRuleAt (line_named catalogue.now request.now.lines (reason_of (listed catalogue.now) reason)) (option_copied result) }
 {
     match reason {
@@ -74,11 +70,7 @@ fn rule_at<'a>(
 
 impl Listing {
     /// No entry yet, and no version chosen.
-    fn new(
-        alloc: Global,
-        catalogue: &Catalogue,
-        request: &Request,
-    ) -> Result<Listing, AllocError>
+    fn new(alloc: Global, catalogue: &Catalogue, request: &Request) -> Result<Listing, AllocError>
         ensures none { IfOk result (λ x. x.entries.items ≡ []) }
         ensures listing { IfOk result (λ x. IsListing catalogue.now request.now.lines x []) }
     {

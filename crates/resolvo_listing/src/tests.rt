@@ -93,12 +93,10 @@ fn lines_in_order(rt: HostRuntime) -> Result<(), Fail> {
         rt.alloc(),
         MARKET,
         "#\nneeds b\nneeds a 1\n",
-        &[
-            (
-                None,
-                &[("e", 2), ("d", 1), ("c", 1), ("b", 1), ("a", 1), ("f", 1)],
-            ),
-        ],
+        &[(
+            None,
+            &[("e", 2), ("d", 1), ("c", 1), ("b", 1), ("a", 1), ("f", 1)],
+        )],
     )?;
     let expected =
         "b=1 for request line 2\na=1 for request line 3\nd=1 for b=1 line 6\ne=2 for b=1 line 7\nc=1 for b=1 line 7\nf=1 for e=2 line 13\n";
@@ -112,9 +110,7 @@ fn conditions_in_time(rt: HostRuntime) -> Result<(), Fail> {
         rt.alloc(),
         "version a 1\nneeds b\nneeds e\nversion b 1\nversion c 1\nversion d 1\nversion e 1\n",
         "needs c | d if b\nneeds e if c\nneeds a\n",
-        &[
-            (None, &[("a", 1), ("b", 1), ("c", 1), ("d", 1), ("e", 1)]),
-        ],
+        &[(None, &[("a", 1), ("b", 1), ("c", 1), ("d", 1), ("e", 1)])],
     )?;
     let expected =
         "a=1 for request line 3\nb=1 for a=1 line 2\nc=1 for request line 1\nd=1 for request line 1\ne=1 for request line 2\n";
@@ -143,6 +139,9 @@ fn wishes_in_turn(rt: HostRuntime) -> Result<(), Fail> {
 #[test]
 fn nothing_to_list(rt: HostRuntime) -> Result<(), Fail> {
     assert_eq!(rt; listed(rt.alloc(), "", "", &[])?.as_str(), "");
-    assert_eq!(rt; listed(rt.alloc(), "version a 1\n", "needs a\n", &[(None, &[])])?.as_str(), "");
+    assert_eq!(rt;
+        listed(rt.alloc(), "version a 1\n", "needs a\n", &[(None, &[])])?.as_str(),
+        ""
+    );
     Ok(())
 }

@@ -1,4 +1,4 @@
-use Rattle.std.proofs.Common.{◌≡◌, ◌∙◌, ℕ, ◌+◌, ◌++◌, ◌∷◌, [], take, get_or, append_assoc, sym, ap, arith}
+use Rattle.std.proofs.Common.{◌∙◌, ℕ, ◌++◌, ◌∷◌, [], take, get_or, append_assoc, sym, ap, arith}
 use Rattle.std.proofs.lemmas.List.{append-nil, take_all, take_more, map-append}
 use Rattle.resolvo_listing.specs.Kept.{lines_for}
 use Rattle.resolvo_listing.specs.declared.entry.Reason.TheVariants as reason

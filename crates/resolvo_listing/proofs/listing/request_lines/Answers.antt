@@ -1,4 +1,4 @@
-use Rattle.std.proofs.Common.{◌≡◌, ◌∙◌, ℕ, suc, ◌+◌, ◌++◌, ◌∷◌, [], sym, ap, add-one, arith}
+use Rattle.std.proofs.Common.{◌≡◌, ◌∙◌, ℕ, ◌+◌, ◌++◌, ◌∷◌, [], sym, ap, add-one, arith}
 use Rattle.resolvo_listing.specs.Kept.{lines_to}
 use Rattle.resolvo_listing.specs.declared.entry.Reason.TheVariants as reason
 use Rattle.resolvo_listing.proofs.listing.request_lines.Goals as goal

@@ -1,4 +1,4 @@
-use Rattle.std.proofs.Common.{◌≡◌, ◌∙◌, Bool, true, false, ◌&&◌, ◌||◌, sym, ap, subst}
+use Rattle.std.proofs.Common.{◌≡◌, ◌∙◌, Bool, true, false, ◌&&◌, ◌||◌, sym, ap}
 use Rattle.resolvo_text.specs.Matching.{holds}
 use Rattle.resolvo_text.specs.View.{cond_of}
 use Rattle.resolvo_listing.proofs.chosen.Chosen.+holds.Goals as goal

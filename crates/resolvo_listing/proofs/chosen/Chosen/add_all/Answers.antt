@@ -16,7 +16,7 @@ loop-version-preserved c = λ chosen entries h one.
     let numbers = c.args.versions.now in
     let item = get_or numbers i (record { 0 = 0 }) in
     let more : chosen ++ members vs (take (i + 1) numbers) ≡ (chosen ++ members vs (take i numbers)) ++ members vs (item ∷ []) =
-      ap (λ (set : Set). chosen ++ set) (members_more vs numbers i (record { 0 = 0 }) c.loop-version-test.true) ∙ sym (append_assoc chosen (members vs (take i numbers)) (members vs (item ∷ []))) in
+    ap (λ (set : Set). chosen ++ set) (members_more vs numbers i (record { 0 = 0 }) c.loop-version-test.true) ∙ sym (append_assoc chosen (members vs (take i numbers)) (members vs (item ∷ []))) in
     subst (λ (set : Set). Holds vs c.add.new.self set entries) (sym more)
     (c.in_ok-add.ensures (chosen ++ members vs (take i numbers)) entries (c.loop-version.invariant chosen entries h one) (subst AreOneEach more (one_each_first vs chosen numbers (i + 1) one)))
 

@@ -1,8 +1,7 @@
-use Rattle.std.proofs.Common.{◌≡◌, ◌∙◌, Option, Some, None, ℕ, List, sym, ap, subst}
+use Rattle.std.proofs.Common.{◌≡◌, ◌∙◌, Some, None, ℕ, List, sym, ap, subst}
 use Rattle.std.specs.HashMap.{get_by_text}
 use Rattle.resolvo_text.specs.View.{spec_of}
 use Rattle.resolvo_catalogue.specs.Listed.{listed}
-use Rattle.resolvo_catalogue.specs.declared.rule.VersionNo.{VersionNo}
 use Rattle.resolvo_listing.specs.Kept.{IsPick}
 use Rattle.resolvo_listing.proofs.Picking.{picked_match, picked_other, picked_none}
 use Rattle.resolvo_listing.proofs.chosen.Chosen.chosen_match.Goals as goal

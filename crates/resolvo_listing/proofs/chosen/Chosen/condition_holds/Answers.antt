@@ -1,4 +1,4 @@
-use Rattle.std.proofs.Common.{◌≡◌, ◌∙◌, sym, ap}
+use Rattle.std.proofs.Common.{◌∙◌, sym, ap}
 use Rattle.resolvo_text.specs.Matching.{condition_holds}
 use Rattle.resolvo_text.specs.View.{condition_of}
 use Rattle.resolvo_listing.proofs.chosen.Chosen.condition_holds.Goals as goal

@@ -1,4 +1,4 @@
-use Rattle.std.proofs.Common.{◌≡◌, Some, None, sym, subst, arith}
+use Rattle.std.proofs.Common.{None, subst, arith}
 use Rattle.std.proofs.lemmas.List.{take_all}
 use Rattle.resolvo_text.specs.View.{spec_of, specs_of}
 use Rattle.resolvo_catalogue.specs.Listed.{listed}

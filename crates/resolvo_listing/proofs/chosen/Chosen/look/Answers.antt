@@ -1,4 +1,4 @@
-use Rattle.std.proofs.Common.{◌≡◌, Option, Some, None, sym, ap, subst}
+use Rattle.std.proofs.Common.{sym, subst}
 use Rattle.std.specs.Option.{option_copied}
 use Rattle.resolvo_catalogue.specs.Listed.{listed}
 use Rattle.resolvo_listing.specs.Kept.{IsRuleAt, IsLook}

@@ -1,4 +1,4 @@
-use Rattle.std.proofs.Common.{◌≡◌, ◌∙◌, Some, None, sym, subst}
+use Rattle.std.proofs.Common.{◌∙◌, sym, subst}
 use Rattle.resolvo_text.specs.View.{specs_of, condition_of}
 use Rattle.resolvo_catalogue.specs.Listed.{listed}
 use Rattle.resolvo_listing.specs.Kept.{IsFirstMatch}

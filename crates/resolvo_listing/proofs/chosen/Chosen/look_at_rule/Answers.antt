@@ -1,4 +1,4 @@
-use Rattle.std.proofs.Common.{◌≡◌, ◌∙◌, Some, sym, ap, subst}
+use Rattle.std.proofs.Common.{◌∙◌, Some, sym, ap, subst}
 use Rattle.resolvo_text.specs.Line.{Needs}
 use Rattle.resolvo_text.specs.View.{specs_of, condition_of}
 use Rattle.resolvo_catalogue.specs.Listed.{listed}

@@ -1,4 +1,4 @@
-use Rattle.std.proofs.Common.{◌≡◌, refl}
+use Rattle.std.proofs.Common.{refl}
 use Rattle.resolvo_listing.proofs.Picking.{fewer_unlisted, marks}
 use Rattle.resolvo_listing.proofs.chosen.Chosen.mark.Goals as goal
 

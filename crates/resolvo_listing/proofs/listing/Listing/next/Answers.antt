@@ -1,4 +1,4 @@
-use Rattle.std.proofs.Common.{◌≡◌, ◌∷◌, [], List, ap, subst, sym, ◌∙◌}
+use Rattle.std.proofs.Common.{◌≡◌, [], List, subst}
 use Rattle.resolvo_catalogue.specs.Listed.{listed}
 use Rattle.resolvo_listing.specs.Order.{line_named}
 use Rattle.resolvo_listing.specs.View.{reason_of}
@@ -18,7 +18,7 @@ loop-reason-preserved-in-Spent c = λ chosen h left.
     let E = entries_in catalogue x in
     let line = line_named catalogue request (reason_of (listed catalogue) c.in-Some.reason) in
     let taken = subst (λ (lines : List Reason). IsTaken lines c.loop-reason.places c.take.new.self c.in-Some.reason) c.deref.ensures.value
-      (record { waiting = c.in-Some.ensures.waiting; left = c.in-Some.ensures.taken; within = c.in-Some.ensures.within }) in
+    (record { waiting = c.in-Some.ensures.waiting; left = c.in-Some.ensures.taken; within = c.in-Some.ensures.within }) in
     spent_left catalogue request x chosen c.loop-reason.places c.take.new.self c.in-Some.reason taken (c.loop-reason.invariant chosen h left)
     (subst (IsLook (listed catalogue) chosen E line) c.in-Spent.is (c.look.ensures.looked chosen E line h.holds c.rule_at.ensures))
 
@@ -30,7 +30,7 @@ loop-reason-preserved c = λ chosen h left.
     let E = entries_in catalogue x in
     let line = line_named catalogue request (reason_of (listed catalogue) c.in-Some.reason) in
     let taken = subst (λ (lines : List Reason). IsTaken lines c.loop-reason.places c.take.new.self c.in-Some.reason) c.deref.ensures.value
-      (record { waiting = c.in-Some.ensures.waiting; left = c.in-Some.ensures.taken; within = c.in-Some.ensures.within }) in
+    (record { waiting = c.in-Some.ensures.waiting; left = c.in-Some.ensures.taken; within = c.in-Some.ensures.within }) in
     let put = c.in_ok-wait-in-Waiting.ensures in
     waiting_left catalogue request x chosen c.loop-reason.places c.take.new.self c.wait.new.self c.in-Some.reason taken (c.loop-reason.invariant chosen h left)
     (subst (IsLook (listed catalogue) chosen E line) c.in-Waiting.is (c.look.ensures.looked chosen E line h.holds c.rule_at.ensures)) put.waiting put.again put.below
@@ -43,7 +43,7 @@ returns-in-Gives-clause-found c = λ chosen h left.
     let E = entries_in catalogue x in
     let line = line_named catalogue request (reason_of (listed catalogue) c.in-Some.reason) in
     let taken = subst (λ (lines : List Reason). IsTaken lines c.loop-reason.places c.take.new.self c.in-Some.reason) c.deref.ensures.value
-      (record { waiting = c.in-Some.ensures.waiting; left = c.in-Some.ensures.taken; within = c.in-Some.ensures.within }) in
+    (record { waiting = c.in-Some.ensures.waiting; left = c.in-Some.ensures.taken; within = c.in-Some.ensures.within }) in
     given_next catalogue request x chosen c.loop-reason.places c.take.new.self c.in-Some.reason c.in-Gives.version taken (c.loop-reason.invariant chosen h left) h
     (subst (IsLook (listed catalogue) chosen E line) c.in-Gives.is (c.look.ensures.looked chosen E line h.holds c.rule_at.ensures))
 
@@ -53,7 +53,7 @@ returns-in-Gives-clause-left c = λ chosen h left.
     let request = c.args.request.now.lines in
     let x = c.args.self.now in
     let taken = subst (λ (lines : List Reason). IsTaken lines c.loop-reason.places c.take.new.self c.in-Some.reason) c.deref.ensures.value
-      (record { waiting = c.in-Some.ensures.waiting; left = c.in-Some.ensures.taken; within = c.in-Some.ensures.within }) in
+    (record { waiting = c.in-Some.ensures.waiting; left = c.in-Some.ensures.taken; within = c.in-Some.ensures.within }) in
     let put = c.in_ok-rewind-in-Gives.ensures in
     given_left catalogue request x chosen c.loop-reason.places c.take.new.self c.rewind.new.self c.in-Some.reason taken (c.loop-reason.invariant chosen h left) put.waiting put.left put.below
 

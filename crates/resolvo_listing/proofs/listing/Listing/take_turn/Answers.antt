@@ -1,6 +1,6 @@
-use Rattle.std.proofs.Common.{◌≡◌, ◌++◌, subst, sym}
+use Rattle.std.proofs.Common.{subst, sym}
 use Rattle.resolvo_text.specs.Matching.{Set}
-use Rattle.resolvo_catalogue.specs.Listed.{listed, members}
+use Rattle.resolvo_catalogue.specs.Listed.{listed}
 use Rattle.resolvo_listing.specs.Kept.{Holds, AreOneEach, IsListing, entries_in}
 use Rattle.resolvo_listing.proofs.Finishing.{turn_taken}
 use Rattle.resolvo_listing.proofs.listing.Listing.take_turn.Goals as goal
