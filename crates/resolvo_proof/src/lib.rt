@@ -5,4 +5,6 @@
 
 pub mod proof;
 pub mod step;
+#[cfg(test)]
+mod tests;
 mod writing;
