@@ -12,7 +12,7 @@ use Rattle.resolvo_pool.specs.declared.requirement.Requirement.{Requirement}
 use Rattle.resolvo_pool.specs.Provider.{listed, kept, matching_in, favoured_first, IsTried, IsTriedFor, tried_first}
 use Rattle.resolvo_pool.specs.Text.{alternatives_of}
 use Rattle.resolvo_pool.specs.RuleKeeping.{Packages, is_in, is_match}
-use Rattle.resolvo_answers.specs.declared.answers.Offered.{Offered}
+use Rattle.resolvo_answers.specs.declared.answering.Offered.{Offered}
 use Rattle.resolvo_answers.specs.Answering.{offer_by, offered_solvables, AreOffered}
 
 both_false : (b : Bool) → (b && false) ≡ false

@@ -8,7 +8,7 @@ use Rattle.resolvo_pool.specs.declared.condition.Condition.{Condition}
 use Rattle.resolvo_pool.specs.declared.requirement.Requirement.{Requirement}
 use Rattle.resolvo_pool.specs.Provider.{Listing, Needs}
 use Rattle.resolvo_pool.specs.RuleKeeping.{Packages, is_in, meets}
-use Rattle.resolvo_answers.specs.declared.answers.Offered.{Offered}
+use Rattle.resolvo_answers.specs.declared.answering.Offered.{Offered}
 
 -- what a provider says of its packages, by its ghost members
 abbrev pub packages_by : {P N S : Type 0} → (P → S → N) → (P → VersionSetId → N) → (P → VersionSetUnionId → List VersionSetId) → (P → ConditionId → Condition) → (P → N → Option (Listing S)) → (P → VersionSetId → S → Bool) → (P → S → Needs) → P → Packages N S

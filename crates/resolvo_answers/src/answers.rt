@@ -1,24 +1,15 @@
 //! Answers by value, over a cache of the provider's.
-ghost use Rattle.std.specs.Prelude.{◌≡◌, IfOk, IfErr, map};
+ghost use Rattle.std.specs.Prelude.{◌≡◌, IfOk, map};
 ghost use Rattle.resolvo_pool.specs.Provider.{needs_of};
-ghost use Rattle.resolvo_pool.specs.Cached.{IsCancelledBy};
-ghost use Rattle.resolvo_pool.specs.RuleKeeping.{IsLawful};
-ghost use Rattle.resolvo_answers.specs.Answering.{packages_by, offer_by, AreOffered};
+ghost use Rattle.resolvo_answers.specs.Answering.{packages_by, offer_by};
 
+use crate::answering::{Answering, Offered};
 use resolvo_pool::cache::{CacheFault, SolverCache};
-use resolvo_pool::id::VersionSetId;
 use resolvo_pool::provider::{Dependencies, DependencyProvider, KnownDependencies};
 use resolvo_pool::requirement::Requirement;
 use resolvo_pool::want::R;
 use std::alloc::Global;
 use std::marker::Model;
-
-/// A candidate of a requirement, with its package.
-#[derive(Clone, Copy, Debug)]
-pub struct Offered<N, S> {
-    pub solvable: S,
-    pub name: N,
-}
 
 /// A provider's answers, each asked for once.
 #[derive(Drop)]
@@ -51,47 +42,6 @@ impl<D: DependencyProvider> Answers<D> {
         self.cache.provider()
     }
 
-    /// The law of a provider: a condition's operands have smaller ids, and candidates have the name of
-    /// their package.
-    pub fn say_lawful(&self)
-        ensures { IsLawful (packages_by D.name_of_solvable D.name_of_version_set D.members_of D.condition_of D.candidates_of D.matches D.dependencies_of self.now) }
-    {}
-
-    /// The package of a solvable.
-    pub fn package(&self, solvable: D::SolvableId) -> D::NameId
-        ensures { result ≡ D.name_of_solvable self.now solvable }
-    {
-        self.cache.provider().solvable_name(solvable)
-    }
-
-    /// What a solvable needs and limits.
-    pub fn dependencies(
-        &mut self,
-        solvable: D::SolvableId,
-    ) -> Result<Dependencies, CacheFault<D::Cancel>>
-        ensures same { self.new ≡ self.old }
-        ensures answer { IfOk result (λ d. needs_of d ≡ D.dependencies_of self.old solvable) }
-        ensures cancelled { IfErr result (IsCancelledBy (D.may_cancel self.old)) }
-    {
-        self.cache.cache_dependencies(solvable)?;
-        let found = copy_of(self.alloc, self.cache.dependencies(solvable))?;
-        Ok(found)
-    }
-
-    /// The candidates that match a requirement, in the order in which they are tried.
-    pub fn candidates(
-        &mut self,
-        requirement: Requirement,
-    ) -> Result<Vec<Offered<D::NameId, D::SolvableId>>, CacheFault<D::Cancel>>
-        ensures same { self.new ≡ self.old }
-        ensures offered { IfOk result (λ v. AreOffered D.SolvableId.eq (packages_by D.name_of_solvable D.name_of_version_set D.members_of D.condition_of D.candidates_of D.matches D.dependencies_of self.old) requirement v.items) }
-        ensures cancelled { IfErr result (IsCancelledBy (D.may_cancel self.old)) }
-    {
-        self.cache.cache_sorted_candidates(requirement)?;
-        let offered = self.offered(self.cache.sorted_candidates(requirement))?;
-        Ok(offered)
-    }
-
     /// These solvables, each with its package.
     fn offered(&self, solvables: &[D::SolvableId]) -> R<Vec<Offered<D::NameId, D::SolvableId>>>
         ensures { IfOk result (λ v. v.items ≡ map (offer_by (D.name_of_solvable self.now)) solvables.now) }
@@ -100,14 +50,56 @@ impl<D: DependencyProvider> Answers<D> {
         for solvable in solvables {
             offered.push(Offered {
                 solvable: *solvable,
-                name: self.package(*solvable),
+                name: self.cache.provider().solvable_name(*solvable),
             })?;
         }
         Ok(offered)
     }
+}
 
-    /// Whether a solvable's dependencies are at hand. It decides when they are asked for, not what they are.
-    pub fn are_dependencies_available_for(&self, solvable: D::SolvableId) -> bool {
+impl<D: DependencyProvider> Answering for Answers<D> {
+    type NameId = D::NameId;
+
+    type SolvableId = D::SolvableId;
+
+    type Cancel = D::Cancel;
+
+    ghost packages = { λ p. packages_by D.name_of_solvable D.name_of_version_set D.members_of D.condition_of D.candidates_of D.matches D.dependencies_of p };
+
+    ghost may_cancel = { λ p. D.may_cancel p };
+
+    ghost lawful = { λ p. record { below = D.operands_below p; named = D.candidates_named p } };
+
+    fn check(&self) -> Result<(), CacheFault<D::Cancel>> {
+        match self.cache.provider().should_cancel_with_value() {
+            Some(value) => Err(CacheFault::Cancelled(value)),
+            None => Ok(()),
+        }
+    }
+
+    fn package(&self, solvable: D::SolvableId) -> D::NameId {
+        self.cache.provider().solvable_name(solvable)
+    }
+
+    fn dependencies(
+        &mut self,
+        solvable: D::SolvableId,
+    ) -> Result<Dependencies, CacheFault<D::Cancel>> {
+        self.cache.cache_dependencies(solvable)?;
+        let found = copy_of(self.alloc, self.cache.dependencies(solvable))?;
+        Ok(found)
+    }
+
+    fn candidates(
+        &mut self,
+        requirement: Requirement,
+    ) -> Result<Vec<Offered<D::NameId, D::SolvableId>>, CacheFault<D::Cancel>> {
+        self.cache.cache_sorted_candidates(requirement)?;
+        let offered = self.offered(self.cache.sorted_candidates(requirement))?;
+        Ok(offered)
+    }
+
+    fn are_dependencies_available_for(&self, solvable: D::SolvableId) -> bool {
         self.cache.are_dependencies_available_for(solvable)
     }
 }

@@ -2,4 +2,5 @@
 //! The model is the provider with what it says of its packages, and no call changes it.
 #![tactic(auto)]
 
+pub mod answering;
 pub mod answers;

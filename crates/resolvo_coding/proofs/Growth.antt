@@ -202,7 +202,7 @@ no_rule (LimitsOutside parent v) h = absurd cc
 no_rule (IsOut v s) h = absurd cc
 no_rule (Locked locked s) h = absurd cc
 no_rule (Excluded s reason) h = absurd cc
-no_rule (Digit n s bit value) h = absurd cc
+no_rule (Digit n s place bit) h = absurd cc
 no_rule (IsThere n s) h = absurd cc
 no_rule Learnt h = inr refl
 

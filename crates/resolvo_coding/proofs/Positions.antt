@@ -1,5 +1,5 @@
 -- Lemmas on lists by place.
-use Rattle.std.proofs.Common.{◌≡◌, ℕ, zero, suc, ◌+◌, ◌<◌, ◌≤◌, ◌⊎◌, inl, inr, List, [], ◌∷◌, ◌++◌, length, Some, refl, sym, ◌∙◌, ap, subst, arith}
+use Rattle.std.proofs.Common.{◌≡◌, ℕ, zero, suc, ◌+◌, ◌<◌, ◌≤◌, ◌⊎◌, inl, inr, List, [], ◌∷◌, ◌++◌, map, length, Some, refl, sym, ◌∙◌, ap, subst, arith}
 use Rattle.std.specs.Prelude.{slice_get, slice_set, Contains}
 use Rattle.std.proofs.lemmas.List.{length-append}
 use Rattle.resolvo_store.specs.AtMostOne.{IsFrontOf}
@@ -94,3 +94,15 @@ get_set_other (x ∷ xs) zero zero y other = absurd (other refl)
 get_set_other (x ∷ xs) zero (suc k) y other = refl
 get_set_other (x ∷ xs) (suc i) zero y other = refl
 get_set_other (x ∷ xs) (suc i) (suc k) y other = get_set_other xs i k y (λ e. other (ap suc e))
+
+-- an item of two lists, one behind the other
+pub get_parts : {X : Type 0} (xs ys : List X) (i : ℕ) (x : X) → slice_get (xs ++ ys) i ≡ Some x → (slice_get xs i ≡ Some x) ⊎ ((j : ℕ) × (i ≡ length xs + j) × (slice_get ys j ≡ Some x))
+get_parts [] ys i x h = inr (i, omega arith, h)
+get_parts (z ∷ xs) ys zero x h = inl h
+get_parts (z ∷ xs) ys (suc i) x h = elim (get_parts xs ys i x h) [ inl a ↦ inl a | inr (j, e, at) ↦ (let same : i ≡ length xs + j = e in inr (j, omega arith, at)) ]
+
+-- an item of a list that was mapped
+pub get_mapped : {X Y : Type 0} (f : X → Y) (xs : List X) (i : ℕ) (y : Y) → slice_get (map f xs) i ≡ Some y → (x : X) × (slice_get xs i ≡ Some x) × (f x ≡ y)
+get_mapped f [] i y h = absurd cc
+get_mapped f (x ∷ xs) zero y h = (x, refl, cc)
+get_mapped f (x ∷ xs) (suc i) y h = get_mapped f xs i y h

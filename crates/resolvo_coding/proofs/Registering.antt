@@ -1,12 +1,12 @@
 -- A solvable more is registered.
-use Rattle.std.proofs.Common.{◌≡◌, ℕ, ◌^◌, ◌<◌, ◌≤◌, ◌==◌, ◌⊎◌, inl, inr, Bool, true, false, not, List, [], ◌∷◌, length, Some, refl, sym, ◌∙◌, ap, subst, arith, eqb-true, eq-eqb}
+use Rattle.std.proofs.Common.{◌≡◌, ℕ, zero, suc, ◌^◌, ◌<◌, ◌≤◌, ◌==◌, ◌⊎◌, inl, inr, Bool, true, false, not, List, [], ◌∷◌, ◌++◌, length, Some, Vec, Global, refl, sym, ◌∙◌, ap, subst, arith, eqb-true, eq-eqb}
 use Rattle.std.specs.Prelude.{slice_get, Contains}
 use Rattle.std.proofs.lemmas.Bool.{both_ways, cases_Bool}
 use Rattle.std.proofs.lemmas.Option.{slice_get_within}
 use Rattle.resolvo_pool.specs.declared.id.VariableId.{VariableId}
 use Rattle.resolvo_pool.specs.OnePass.{Literal}
 use Rattle.resolvo_pool.specs.RuleKeeping.{Packages}
-use Rattle.resolvo_store.specs.AtMostOne.{Tracking, digit}
+use Rattle.resolvo_store.specs.AtMostOne.{Tracking, IsFrontOf, digit}
 use Rattle.resolvo_store.specs.Clauses.{no}
 use Rattle.resolvo_store.specs.Signed.{Signed, has}
 use Rattle.resolvo_search.specs.Known.{clause_at}
@@ -19,17 +19,18 @@ use Rattle.resolvo_rules.proofs.Lists.{contains_none, contains_one, contains_cas
 use Rattle.resolvo_rules.proofs.Places.{told_by_digit}
 use Rattle.resolvo_rules.proofs.Members.{twice}
 use Rattle.resolvo_coding.specs.declared.atom.ProofAtom.TheVariants.{Solvable, Bit}
-use Rattle.resolvo_coding.specs.declared.stated.Stated.TheVariants.{Digit}
+use Rattle.resolvo_coding.specs.declared.stated.Stated.{Stated}
+use Rattle.resolvo_coding.specs.declared.stated.Stated.TheVariants.{Root, Digit}
 use Rattle.resolvo_coding.specs.declared.coding.Coding.{Coding}
 use Rattle.resolvo_coding.specs.declared.registry.Registry.{Registry}
 use Rattle.resolvo_coding.specs.Atoms.{origin, StandsFor}
 use Rattle.resolvo_coding.specs.Keys.{AreOnce}
-use Rattle.resolvo_coding.specs.Statements.{rule_at, rules_in}
-use Rattle.resolvo_coding.specs.Coding.{Grows, Gives}
-use Rattle.resolvo_coding.specs.Registered.{digit_literals, IsTied, AreTied, IsTracked, IsRegistered, IsDigitClause, Registers, PlacesName, StatesTie, Tracks}
-use Rattle.resolvo_coding.proofs.Positions.{get_old, get_contains, contains_get, front_get}
+use Rattle.resolvo_coding.specs.Statements.{stated_at, rule_at, rules_in}
+use Rattle.resolvo_coding.specs.Coding.{IsCoding, Grows, Gives}
+use Rattle.resolvo_coding.specs.Registered.{digit_literals, IsTied, IsPlaced, AreTied, IsTracked, IsRegistered, IsDigitClause, Registers, PlacesName, StatesTie, Tracks}
+use Rattle.resolvo_coding.proofs.Positions.{get_old, get_push, get_contains, contains_get, front_get, front_same, once_none}
 use Rattle.resolvo_coding.proofs.Origins.{stands_same, one_variable, means_atom}
-use Rattle.resolvo_coding.proofs.Growth.{grows_then, trail_then, stands_grow, rules_grow, below_or_not}
+use Rattle.resolvo_coding.proofs.Growth.{grows_then, trail_then, stands_grow, stands_once, rules_grow, stated_split, below_or_not}
 use Rattle.resolvo_coding.proofs.Rules.{rule_stated}
 use Rattle.resolvo_coding.proofs.TieLemmas.{tie_literals}
 
@@ -39,6 +40,7 @@ tied_grows {N} {S} name t a c grows tied = record {
   solvables = λ v h. (let (s, f) = tied.solvables v h in (s, stands_grow a c v (Solvable s) grows f));
   digits = λ i v h. stands_grow a c v (Bit name i) grows (tied.digits i v h);
   room = tied.room;
+  once = tied.once;
   told = λ place i v u at f below. (
       let (s, there) = tied.solvables v (get_contains t.variables place v at) in
       let one = stands_same c.atoms.keys v (Solvable s) (Solvable u) (stands_grow a c v (Solvable s) grows there) f in
@@ -52,17 +54,45 @@ tied_none {N} {S} name t c none helpers = record {
   solvables = λ v h. absurd (contains_none v (subst (λ (xs : List VariableId). Contains xs v) none h));
   digits = λ i v h. absurd (nothing i v (subst (λ (xs : List VariableId). slice_get xs i ≡ Some v) helpers h));
   room = (let a : length t.variables ≡ 0 = ap length none in omega arith);
+  once = once_none t.variables none;
   told = λ place i v s at f below. absurd (nothing place v (subst (λ (xs : List VariableId). slice_get xs place ≡ Some v) none at));
 }
   where
     nothing : (i : ℕ) (v : VariableId) → slice_get [] i ≡ Some v → ⊥
     nothing i v h = absurd cc
 
-pub ties_grow : {N S : Type 0} (r : Registry N) (a c : Coding N S) → Grows a c → AreTied r a → AreTied r c
-ties_grow r a c grows tied = record {
+-- each digit that clauses state was stated before
+abbrev pub KeepsDigits : {N S : Type 0} → Coding N S → Coding N S → Type 0
+KeepsDigits {N} {S} a c = (n : ℕ) (name : N) (s : S) (place bit : ℕ) → stated_at c.stated.items n ≡ Some (Digit name s place bit) → stated_at a.stated.items n ≡ Some (Digit name s place bit)
+
+-- so it is where nothing came to be stated, or something else did
+pub digits_same : {N S : Type 0} (a c : Coding N S) → c.stated ≡ a.stated → KeepsDigits a c
+digits_same {N} {S} a c e n name s place bit h = subst (λ (xs : Vec (Stated N S) Global). stated_at xs.items n ≡ Some (Digit name s place bit)) e h
+
+pub digits_more : {N S : Type 0} (x : Stated N S) (a c : Coding N S) → c.stated.items ≡ a.stated.items ++ x ∷ [] → ((name : N) (s : S) (place bit : ℕ) → x ≡ Digit name s place bit → ⊥) → KeepsDigits a c
+digits_more {N} {S} x a c e other n name s place bit h = elim (get_push a.stated.items x (Digit name s place bit) n (subst (λ (xs : List (Stated N S)). slice_get xs n ≡ Some (Digit name s place bit)) e h)) [
+  | inl old ↦ old
+  | inr (last, is) ↦ absurd (other name s place bit (sym is))
+]
+
+-- places stay where packages and their trackers do
+placed_stays : {N S : Type 0} (r t : Registry N) (a c : Coding N S) (name : N) (place : ℕ) (s : S) → IsFrontOf r.names.keys t.names.keys → IsFrontOf r.trackers.items t.trackers.items → Grows a c → IsPlaced r a name place s → IsPlaced t c name place s
+placed_stays r t a c name place s names trackers grows h = record {
+  number = h.number;
+  tracker = h.tracker;
+  variable = h.variable;
+  named = front_get r.names.keys t.names.keys h.number name names h.named;
+  tracked = front_get r.trackers.items t.trackers.items h.number h.tracker trackers h.tracked;
+  stands = h.stands;
+  means = stands_grow a c h.variable (Solvable s) grows h.means;
+}
+
+pub ties_grow : {N S : Type 0} (r : Registry N) (a c : Coding N S) → Grows a c → KeepsDigits a c → AreTied r a → AreTied r c
+ties_grow r a c grows kept tied = record {
   each = tied.each;
   once = tied.once;
   tied = λ k name t n h. tied_grows name t a c grows (tied.tied k name t n h);
+  placed = λ n name s place bit h. placed_stays r r a c name place s (front_same r.names.keys) (front_same r.trackers.items) grows (tied.placed n name s place bit (kept n name s place bit h));
 }
 
 -- registered solvables stay registered
@@ -70,15 +100,20 @@ pub registered_stays : {N S : Type 0} (r : Registry N) (a c : Coding N S) (name 
 registered_stays r a c name s grows (v, f, h) = (v, stands_grow a c v (Solvable s) grows f, h)
 
 -- no solvable is registered at first
-pub nothing_tied : {N S : Type 0} (r : Registry N) (c : Coding N S) → r.names.keys ≡ [] → r.trackers.items ≡ [] → AreTied r c
-nothing_tied {N} {S} r c names trackers = record {
+pub nothing_tied : {N S : Type 0} (r : Registry N) (c : Coding N S) → r.names.keys ≡ [] → r.trackers.items ≡ [] → c.stated.items ≡ Root ∷ [] → AreTied r c
+nothing_tied {N} {S} r c names trackers stated = record {
   each = ap length names ∙ sym (ap length trackers);
   once = λ i j x a b. absurd (nothing i x (subst (λ (xs : List N). slice_get xs i ≡ Some x) names a));
   tied = λ k name t n h. absurd (nothing k name (subst (λ (xs : List N). slice_get xs k ≡ Some name) names n));
+  placed = λ n name s place bit h. absurd (no_digit n name s place bit (subst (λ (xs : List (Stated N S)). slice_get xs n ≡ Some (Digit name s place bit)) stated h));
 }
   where
     nothing : (i : ℕ) (x : N) → slice_get [] i ≡ Some x → ⊥
     nothing i x h = absurd cc
+
+    no_digit : (n : ℕ) (name : N) (s : S) (place bit : ℕ) → slice_get (Root ∷ []) n ≡ Some (Digit name s place bit) → ⊥
+    no_digit zero name s place bit h = absurd cc
+    no_digit (suc n) name s place bit h = absurd cc
 
 pub nothing_registered : {N S : Type 0} (r : Registry N) (c : Coding N S) (name : N) (s : S) → r.names.keys ≡ [] → IsRegistered r c name s → ⊥
 nothing_registered {N} {S} r c name s none (v, f, h) = let at : slice_get [] h.place ≡ Some name = subst (λ (xs : List N). slice_get xs h.place ≡ Some name) none h.named in absurd cc
@@ -100,14 +135,15 @@ module _ {N S : Type 0} (name : N) (place : ℕ) (r r1 : Registry N) (a : Coding
   ]
 
   -- the trackers are tied where the package has its place
-  pub named_tied : (b : Coding N S) → Grows a b → AreTied r1 b
-  named_tied b grows = record {
+  pub named_tied : (b : Coding N S) → Grows a b → KeepsDigits a b → AreTied r1 b
+  named_tied b grows kept = record {
     each = places.each;
     once = places.once tied.once;
     tied = λ k m t named tracked. elim (old_or_empty k m t named tracked) [
       | inl (n, h) ↦ tied_grows m t a b grows (tied.tied k m t n h)
       | inr (none, helpers) ↦ tied_none m t b none helpers
     ];
+    placed = λ n m s at bit h. placed_stays r r1 a b m at s places.names places.trackers grows (tied.placed n m s at bit (kept n m s at bit h));
   }
 
   old_tracked : (k : ℕ) (m : N) (t : Tracking VariableId) (w : VariableId) → slice_get r1.names.keys k ≡ Some m → slice_get r1.trackers.items k ≡ Some t → Contains t.variables w → IsTracked r m w
@@ -117,8 +153,8 @@ module _ {N S : Type 0} (name : N) (place : ℕ) (r r1 : Registry N) (a : Coding
   ]
 
 -- the clause of a tie tells the digit of its solvable
-pub tie_spells : {N S : Type 0} (name : N) (tie : VariableId × VariableId × Bool) (c : Coding N S) (n : ℕ) → (st : StatesTie name tie c n) → Spells (origin c.atoms.keys) (clause_at (clauses_of c.search) n) (digit_literals name st.is.solvable st.is.bit tie.2)
-tie_spells {N} {S} name tie c n st = subst (λ (clause : List Signed). Spells (origin c.atoms.keys) clause (digit_literals name st.is.solvable st.is.bit tie.2)) (sym st.clause) (record { only = only; each = each })
+pub tie_spells : {N S : Type 0} (name : N) (place : ℕ) (tie : VariableId × VariableId × Bool) (c : Coding N S) (n : ℕ) → (st : StatesTie name place tie c n) → Spells (origin c.atoms.keys) (clause_at (clauses_of c.search) n) (digit_literals name st.is.solvable st.is.bit tie.2)
+tie_spells {N} {S} name place tie c n st = subst (λ (clause : List Signed). Spells (origin c.atoms.keys) clause (digit_literals name st.is.solvable st.is.bit tie.2)) (sym st.clause) (record { only = only; each = each })
   where
     first : Signed
     first = no tie.0
@@ -169,11 +205,59 @@ module _ {N S : Type 0} (name : N) (s : S) (v : VariableId) (place : ℕ) (r r1 
   named k m h = subst (λ n. slice_get n.keys k ≡ Some m) names h
 
   tied_before : AreTied r1 b
-  tied_before = named_tied name place r r1 a tied places b gives.grows
+  tied_before = named_tied name place r r1 a tied places b gives.grows (digits_same a b gives.stated)
 
   -- at the package's place stands its tracker as it is now
   at_place : (m : N) (w : Tracking VariableId) → slice_get r2.names.keys place ≡ Some m → slice_get r2.trackers.items place ≡ Some w → (m ≡ name) × (w ≡ u)
   at_place m w n h = (let x : slice_get r1.names.keys place ≡ Some m = named place m n in let y : slice_get r1.names.keys place ≡ Some name = places.stands in cc, cc)
+
+  renamed : (k : ℕ) (m : N) → slice_get r1.names.keys k ≡ Some m → slice_get r2.names.keys k ≡ Some m
+  renamed k m h = subst (λ n. slice_get n.keys k ≡ Some m) (sym names) h
+
+  -- places of tracked solvables stay
+  placed_after : (m : N) (at : ℕ) (x : S) → IsPlaced r1 b m at x → IsPlaced r2 c m at x
+  placed_after m at x h = elim (same_or_other h.number place) [
+    | inl e ↦
+        let f : slice_get r1.trackers.items place ≡ Some h.tracker = subst (λ j. slice_get r1.trackers.items j ≡ Some h.tracker) e h.tracked in
+        let one : h.tracker ≡ t = cc in
+        record {
+          number = place;
+          tracker = u;
+          variable = h.variable;
+          named = renamed place m (subst (λ j. slice_get r1.names.keys j ≡ Some m) e h.named);
+          tracked = here;
+          stands = front_get t.variables u.variables at h.variable tracks.front (subst (λ (z : Tracking VariableId). slice_get z.variables at ≡ Some h.variable) one h.stands);
+          means = stands_grow b c h.variable (Solvable x) tracks.grows h.means;
+        }
+    | inr other ↦ record {
+      number = h.number;
+      tracker = h.tracker;
+      variable = h.variable;
+      named = renamed h.number m h.named;
+      tracked = others h.number other ∙ h.tracked;
+      stands = h.stands;
+      means = stands_grow b c h.variable (Solvable x) tracks.grows h.means;
+    }
+  ]
+
+  -- a digit that came is one of a place of the package's tracker
+  placed_came : (n : ℕ) (m : N) (x : S) (at bit : ℕ) → length b.search.clauses ≤ n → n < length c.search.clauses → stated_at c.stated.items n ≡ Some (Digit m x at bit) → IsPlaced r2 c m at x
+  placed_came n m x at bit low high h =
+      let same : length b.search.clauses ≡ length a.search.clauses = ap length gives.clauses in
+      let (k, tie, stands, st) = tracks.digits n low high in
+      let stated : stated_at c.stated.items n ≡ Some (Digit name st.is.solvable k st.is.bit) = st.stated in
+      let one : name ≡ m = cc in
+      let it : st.is.solvable ≡ x = cc in
+      let there : k ≡ at = cc in
+      subst (λ (y : N). IsPlaced r2 c y at x) one (subst (λ (y : S). IsPlaced r2 c name at y) it (subst (λ j. IsPlaced r2 c name j st.is.solvable) there (record {
+        number = place;
+        tracker = u;
+        variable = tie.0;
+        named = renamed place name places.stands;
+        tracked = here;
+        stands = stands;
+        means = st.is.stands;
+      })))
 
   tied_after : AreTied r2 c
   tied_after = record {
@@ -185,13 +269,17 @@ module _ {N S : Type 0} (name : N) (s : S) (v : VariableId) (place : ℕ) (r r1 
           subst (λ (z : N). IsTied z w c) (sym x) (subst (λ (z : Tracking VariableId). IsTied name z c) (sym y) tracks.tied)
       | inr other ↦ tied_grows m w b c tracks.grows (tied_before.tied k m w (named k m n) (sym (others k other) ∙ h))
     ];
+    placed = λ n m x at bit h. elim (stated_split b c gives.coding tracks.coding tracks.grows n (Digit m x at bit) h) [
+      | inl old ↦ placed_after m at x (tied_before.placed n m x at bit old)
+      | inr (low, high) ↦ placed_came n m x at bit low high h
+    ];
   }
-
-  renamed : (k : ℕ) (m : N) → slice_get r1.names.keys k ≡ Some m → slice_get r2.names.keys k ≡ Some m
-  renamed k m h = subst (λ n. slice_get n.keys k ≡ Some m) (sym names) h
 
   in_place : (w : VariableId) → Contains u.variables w → IsTracked r2 name w
   in_place w h = record { place = place; tracker = u; named = renamed place name places.stands; tracked = here; stands = h }
+
+  keeps_tracked : (w : VariableId) → Contains t.variables w → Contains u.variables w
+  keeps_tracked w h = let (k, at) = contains_get t.variables w h in get_contains u.variables k w (front_get t.variables u.variables k w tracks.front at)
 
   tracked_keeps : (m : N) (w : VariableId) → IsTracked r m w → IsTracked r2 m w
   tracked_keeps m w h = elim (same_or_other h.place place) [
@@ -201,7 +289,7 @@ module _ {N S : Type 0} (name : N) (s : S) (v : VariableId) (place : ℕ) (r r1 
         let same : name ≡ m = cc in
         let f : slice_get r1.trackers.items place ≡ Some h.tracker = subst (λ j. slice_get r1.trackers.items j ≡ Some h.tracker) e (front_get r.trackers.items r1.trackers.items h.place h.tracker places.trackers h.tracked) in
         let one : h.tracker ≡ t = cc in
-        subst (λ (z : N). IsTracked r2 z w) same (in_place w (tracks.keeps w (subst (λ (z : Tracking VariableId). Contains z.variables w) one h.stands)))
+        subst (λ (z : N). IsTracked r2 z w) same (in_place w (keeps_tracked w (subst (λ (z : Tracking VariableId). Contains z.variables w) one h.stands)))
     | inr other ↦ record {
       place = h.place;
       tracker = h.tracker;
@@ -225,8 +313,15 @@ module _ {N S : Type 0} (name : N) (s : S) (v : VariableId) (place : ℕ) (r r1 
   digit_clauses : (n : ℕ) → length a.search.clauses ≤ n → n < length c.search.clauses → IsDigitClause r2 c name n
   digit_clauses n low below =
       let same : length b.search.clauses ≡ length a.search.clauses = ap length gives.clauses in
-      let (tie, h, st) = tracks.digits n (omega arith) below in
-      record { solvable = st.is.solvable; bit = st.is.bit; value = tie.2; registered = (tie.0, st.is.stands, in_place tie.0 h); stated = st.stated; spells = tie_spells name tie c n st }
+      let (k, tie, at, st) = tracks.digits n (omega arith) below in
+      record {
+        solvable = st.is.solvable;
+        place = k;
+        bit = st.is.bit;
+        registered = (tie.0, st.is.stands, in_place tie.0 (get_contains u.variables k tie.0 at));
+        stated = st.stated;
+        spells = subst (λ value. Spells (origin c.atoms.keys) (clause_at (clauses_of c.search) n) (digit_literals name st.is.solvable st.is.bit value)) st.is.value (tie_spells name k tie c n st);
+      }
 
   unchanged : IsRegistered r a name s → c ≡ a
   unchanged (w, (k, e, at), h) =
@@ -277,13 +372,43 @@ told {N} {S} r c name s t tied (v, f, h) (w, g, k) =
           inr (bit, digit i bit, is.told i bit v s at f below, subst (λ b. rules_in c.stated.items (Rule.has_digit t bit b)) other (is.told j bit w t bt g below))
     ]
 
+module _ {N S : Type 0} (r : Registry N) (c : Coding N S) (name : N) where
+  -- a solvable that has a place is registered
+  pub placed_registered : (place : ℕ) (s : S) → IsPlaced r c name place s → IsRegistered r c name s
+  placed_registered place s h = (h.variable, h.means, record { place = h.number; tracker = h.tracker; named = h.named; tracked = h.tracked; stands = get_contains h.tracker.variables place h.variable h.stands })
+
+  -- the package has one tracker
+  one_tracker : {p q : ℕ} {s t : S} → AreTied r c → (h : IsPlaced r c name p s) → (k : IsPlaced r c name q t) → k.tracker ≡ h.tracker
+  one_tracker tied h k =
+      let same : k.number ≡ h.number = tied.once k.number h.number name k.named h.named in
+      let there : slice_get r.trackers.items h.number ≡ Some k.tracker = subst (λ j. slice_get r.trackers.items j ≡ Some k.tracker) same k.tracked in
+      let here : slice_get r.trackers.items h.number ≡ Some h.tracker = h.tracked in
+      cc
+
+  -- a solvable has one place, and a place one solvable
+  pub one_place : (p q : ℕ) (s : S) → IsCoding c → AreTied r c → IsPlaced r c name p s → IsPlaced r c name q s → p ≡ q
+  one_place p q s coding tied h k =
+      let one : k.tracker ≡ h.tracker = one_tracker tied h k in
+      let is : k.variable ≡ h.variable = stands_once c k.variable h.variable (Solvable s) coding k.means h.means in
+      let at : slice_get h.tracker.variables q ≡ Some k.variable = subst (λ (z : Tracking VariableId). slice_get z.variables q ≡ Some k.variable) one k.stands in
+      (tied.tied h.number name h.tracker h.named h.tracked).once p q h.variable h.stands (at ∙ ap Some is)
+
+  pub one_solvable : (p : ℕ) (s t : S) → AreTied r c → IsPlaced r c name p s → IsPlaced r c name p t → s ≡ t
+  one_solvable p s t tied h k =
+      let one : k.tracker ≡ h.tracker = one_tracker tied h k in
+      let at : slice_get h.tracker.variables p ≡ Some k.variable = subst (λ (z : Tracking VariableId). slice_get z.variables p ≡ Some k.variable) one k.stands in
+      let here : slice_get h.tracker.variables p ≡ Some h.variable = h.stands in
+      let is : h.variable ≡ k.variable = cc in
+      let both = stands_same c.atoms.keys k.variable (Solvable s) (Solvable t) (subst (λ (z : VariableId). StandsFor c.atoms.keys z (Solvable s)) is h.means) k.means in
+      cc
+
 -- a clause that tells a digit makes no solvable true
 pub digit_denies : {N S : Type 0} (r : Registry N) (c : Coding N S) (name : N) (n : ℕ) (l : Signed) (s : S) → IsDigitClause r c name n → has (clause_at (clauses_of c.search) n) l ≡ true → Means (origin c.atoms.keys) l (plus (Atom.solvable s)) → ⊥
 digit_denies {N} {S} r c name n l s d h (other, m) = elim (d.spells.only l h) [
   | inl e ↦ (let z : l.variable.0 ≡ 0 = ap (λ (x : Signed). x.variable.0) e in omega arith)
-  | inr (o, k) ↦ elim (contains_cases (meaning (origin c.atoms.keys) l) (minus (Atom.solvable d.solvable)) ((let x : Literal (Atom N S) = record { atom = Atom.digit name d.bit; positive = d.value } in x) ∷ []) k) [
+  | inr (o, k) ↦ elim (contains_cases (meaning (origin c.atoms.keys) l) (minus (Atom.solvable d.solvable)) ((let x : Literal (Atom N S) = record { atom = Atom.digit name d.bit; positive = digit d.place d.bit } in x) ∷ []) k) [
     | inl e ↦ both_ways false refl (ap (λ (x : Literal (Atom N S)). x.positive) (sym (m ∙ e)))
-    | inr g ↦ (let e = contains_one (meaning (origin c.atoms.keys) l) (record { atom = Atom.digit name d.bit; positive = d.value }) g in let f : Atom.solvable s ≡ Atom.digit name d.bit = ap (λ (x : Literal (Atom N S)). x.atom) (m ∙ e) in absurd cc)
+    | inr g ↦ (let e = contains_one (meaning (origin c.atoms.keys) l) (record { atom = Atom.digit name d.bit; positive = digit d.place d.bit }) g in let f : Atom.solvable s ≡ Atom.digit name d.bit = ap (λ (x : Literal (Atom N S)). x.atom) (m ∙ e) in absurd cc)
   ]
 ]
 
@@ -313,7 +438,7 @@ module _ {N S : Type 0} (name : N) (s : S) (v : VariableId) (r : Registry N) (ol
 pub digit_spelled : {N S : Type 0} (same : S → S → Bool) (p : Packages N S) (r : Registry N) (c : Coding N S) (name : N) (n : ℕ) (rule : Rule N S) → ((s : S) → IsRegistered r c name s → p.package_of s ≡ name)
     → IsDigitClause r c name n → rule_at c.stated.items n ≡ Some rule → Spells (origin c.atoms.keys) (clause_at (clauses_of c.search) n) (literals_of same p rule)
 digit_spelled {N} {S} same p r c name n rule own d h =
-    let said = rule_stated c.stated.items n (Digit name d.solvable d.bit d.value) d.stated in
-    let is : Rule.has_digit d.solvable d.bit d.value ≡ rule = cc in
+    let said = rule_stated c.stated.items n (Digit name d.solvable d.place d.bit) d.stated in
+    let is : Rule.has_digit d.solvable d.bit (digit d.place d.bit) ≡ rule = cc in
     subst (λ (x : Rule N S). Spells (origin c.atoms.keys) (clause_at (clauses_of c.search) n) (literals_of same p x)) is
-    (subst (λ (m : N). Spells (origin c.atoms.keys) (clause_at (clauses_of c.search) n) (digit_literals m d.solvable d.bit d.value)) (sym (own d.solvable d.registered)) d.spells)
+    (subst (λ (m : N). Spells (origin c.atoms.keys) (clause_at (clauses_of c.search) n) (digit_literals m d.solvable d.bit (digit d.place d.bit))) (sym (own d.solvable d.registered)) d.spells)

@@ -1,8 +1,9 @@
 -- Lemmas on what clauses state.
-use Rattle.std.proofs.Common.{◌≡◌, ℕ, zero, suc, List, [], ◌∷◌, Some, refl, ◌∙◌, ap}
-use Rattle.resolvo_store.specs.AtMostOne.{IsFrontOf}
+use Rattle.std.proofs.Common.{◌≡◌, ℕ, zero, suc, Bool, List, [], ◌∷◌, Some, refl, sym, ◌∙◌, ap}
+use Rattle.resolvo_store.specs.AtMostOne.{IsFrontOf, digit}
 use Rattle.resolvo_rules.specs.Encoding.{Rule}
 use Rattle.resolvo_coding.specs.declared.stated.Stated.{Stated}
+use Rattle.resolvo_coding.specs.declared.stated.Stated.TheVariants.{Root, Needs, Gated, Shared, Limits, LimitsOutside, IsOut, Locked, Excluded, Digit, IsThere, Learnt}
 use Rattle.resolvo_coding.specs.Statements.{rule_of, stated_at, rule_at, rules_in}
 use Rattle.resolvo_coding.proofs.Positions.{front_get}
 
@@ -23,3 +24,25 @@ rule_front stated more n r f h = let (x, at, is) = stated_rule stated n r h in r
 
 pub rules_front : {N S : Type 0} (stated more : List (Stated N S)) (r : Rule N S) → IsFrontOf stated more → rules_in stated r → rules_in more r
 rules_front stated more r f (n, h) = (n, rule_front stated more n r f h)
+
+-- a clause that states a digit states that of a place
+pub digit_stated : {N S : Type 0} (stated : List (Stated N S)) (n : ℕ) (s : S) (bit : ℕ) (b : Bool) → rule_at stated n ≡ Some (Rule.has_digit s bit b) → (name : N) × (place : ℕ) × (stated_at stated n ≡ Some (Digit name s place bit)) × (b ≡ digit place bit)
+digit_stated {N} {S} stated n s bit b h = let (x, at, is) = stated_rule stated n (Rule.has_digit s bit b) h in go x at is
+  where
+    go : (x : Stated N S) → stated_at stated n ≡ Some x → rule_of x ≡ Some (Rule.has_digit s bit b) → (name : N) × (place : ℕ) × (stated_at stated n ≡ Some (Digit name s place bit)) × (b ≡ digit place bit)
+    go Root at is = absurd cc
+    go (Needs parent need case) at is = absurd cc
+    go (Gated t r) at is = absurd cc
+    go (Shared r) at is = absurd cc
+    go (Limits parent v t) at is = absurd cc
+    go (LimitsOutside parent v) at is = absurd cc
+    go (IsOut v t) at is = absurd cc
+    go (Locked locked t) at is = absurd cc
+    go (Excluded t reason) at is = absurd cc
+    go (Digit name t place k) at is =
+        let one : t ≡ s = cc in
+        let same : k ≡ bit = cc in
+        let told : digit place k ≡ b = cc in
+        (name, place, at ∙ (λ i. Some (Digit name (one i) place (same i))), sym told ∙ ap (digit place) same)
+    go (IsThere name t) at is = absurd cc
+    go Learnt at is = absurd cc

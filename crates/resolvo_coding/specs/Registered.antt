@@ -1,5 +1,5 @@
 -- Which solvables of each package are registered, and what ties them to the digits of their places.
-use Rattle.std.specs.Prelude.{◌≡◌, ℕ, ◌+◌, ◌^◌, ◌==◌, ◌<◌, ◌≤◌, ◌⊎◌, Bool, List, [], ◌∷◌, length, slice_get, Option, Some, None, Contains}
+use Rattle.std.specs.Prelude.{◌≡◌, ℕ, ◌+◌, ◌^◌, ◌==◌, ◌<◌, ◌≤◌, ◌⊎◌, Bool, min, List, [], ◌∷◌, length, slice_get, Option, Some, None, Contains}
 use Rattle.resolvo_pool.specs.declared.id.VariableId.{VariableId}
 use Rattle.resolvo_pool.specs.OnePass.{Literal}
 use Rattle.resolvo_store.specs.Clauses.{no}
@@ -32,13 +32,25 @@ pub record IsTied {N S : Type 0} (name : N) (t : Tracking VariableId) (c : Codin
   pub solvables : (v : VariableId) → Contains t.variables v → (s : S) × StandsFor c.atoms.keys v (Solvable s)
   pub digits : (i : ℕ) (v : VariableId) → slice_get t.helpers i ≡ Some v → StandsFor c.atoms.keys v (Bit name i)
   pub room : length t.variables ≤ 2 ^ length t.helpers
+  pub once : AreOnce t.variables
   pub told : (place i : ℕ) (v : VariableId) (s : S) → slice_get t.variables place ≡ Some v → StandsFor c.atoms.keys v (Solvable s) → i < length t.helpers → rules_in c.stated.items (Rule.has_digit s i (digit place i))
 
--- each package has one tracker, and each is tied
+-- at this place of the package's tracker stands the solvable's variable
+pub record IsPlaced {N S : Type 0} (r : Registry N) (c : Coding N S) (name : N) (place : ℕ) (s : S) : Type 0 where
+  pub number : ℕ
+  pub tracker : Tracking VariableId
+  pub variable : VariableId
+  pub named : slice_get r.names.keys number ≡ Some name
+  pub tracked : slice_get r.trackers.items number ≡ Some tracker
+  pub stands : slice_get tracker.variables place ≡ Some variable
+  pub means : StandsFor c.atoms.keys variable (Solvable s)
+
+-- Each package has one tracker, and each is tied. A clause that states a digit of a place states it of the solvable there.
 pub record AreTied {N S : Type 0} (r : Registry N) (c : Coding N S) : Type 0 where
   pub each : length r.names.keys ≡ length r.trackers.items
   pub once : AreOnce r.names.keys
   pub tied : (k : ℕ) (name : N) (t : Tracking VariableId) → slice_get r.names.keys k ≡ Some name → slice_get r.trackers.items k ≡ Some t → IsTied name t c
+  pub placed : (n : ℕ) (name : N) (s : S) (place bit : ℕ) → stated_at c.stated.items n ≡ Some (Digit name s place bit) → IsPlaced r c name place s
 
 -- the variable is in the package's tracker
 pub record IsTracked {N : Type 0} (r : Registry N) (name : N) (v : VariableId) : Type 0 where
@@ -60,11 +72,11 @@ pub record IsNothing {N : Type 0} (r : Registry N) : Type 0 where
 -- the clause of this number tells a digit of a registered solvable of the package
 pub record IsDigitClause {N S : Type 0} (r : Registry N) (c : Coding N S) (name : N) (n : ℕ) : Type 0 where
   pub solvable : S
+  pub place : ℕ
   pub bit : ℕ
-  pub value : Bool
   pub registered : IsRegistered r c name solvable
-  pub stated : stated_at c.stated.items n ≡ Some (Digit name solvable bit value)
-  pub spells : Spells (origin c.atoms.keys) (clause_at (clauses_of c.search) n) (digit_literals name solvable bit value)
+  pub stated : stated_at c.stated.items n ≡ Some (Digit name solvable place bit)
+  pub spells : Spells (origin c.atoms.keys) (clause_at (clauses_of c.search) n) (digit_literals name solvable bit (digit place bit))
 
 -- The solvable is registered, with this variable; no other one came. Each clause that came tells a digit.
 pub record Registers {N S : Type 0} (name : N) (s : S) (v : VariableId) (r : Registry N) (old : Coding N S) (t : Registry N) (new : Coding N S) : Type 0 where
@@ -98,46 +110,57 @@ pub record GivesDigit {N S : Type 0} (name : N) (count : ℕ) (given : Option Va
   pub stands : (v : VariableId) → given ≡ Some v → StandsFor new.atoms.keys v (Bit name count)
   pub same : given ≡ None → new ≡ old
 
--- the two variables stand for a solvable and for a digit of the package
-pub record IsTie {N S : Type 0} (name : N) (atoms : List (ProofAtom N S)) (tie : VariableId × VariableId × Bool) : Type 0 where
+-- the place that the first tie is of: the first one where a helper came, else that of the variable that comes
+abbrev pub first_of : {V : Type 0} → Option V → ℕ → ℕ
+first_of None count = count
+first_of (Some v) count = 0
+
+-- the place that a tie is of: from the first on one after another, up to the last
+abbrev pub place_from : ℕ → ℕ → ℕ → ℕ
+place_from first last i = min (first + i) last
+
+-- the two variables stand for a solvable and for a digit of the package, and the value is that of the place's digit
+pub record IsTie {N S : Type 0} (name : N) (atoms : List (ProofAtom N S)) (place : ℕ) (tie : VariableId × VariableId × Bool) : Type 0 where
   pub solvable : S
   pub bit : ℕ
   pub stands : StandsFor atoms tie.0 (Solvable solvable)
   pub tells : StandsFor atoms tie.1 (Bit name bit)
+  pub value : tie.2 ≡ digit place bit
 
 -- the clause of this number states the tie
-pub record StatesTie {N S : Type 0} (name : N) (tie : VariableId × VariableId × Bool) (c : Coding N S) (n : ℕ) : Type 0 where
-  pub is : IsTie name c.atoms.keys tie
-  pub stated : stated_at c.stated.items n ≡ Some (Digit name is.solvable is.bit tie.2)
+pub record StatesTie {N S : Type 0} (name : N) (place : ℕ) (tie : VariableId × VariableId × Bool) (c : Coding N S) (n : ℕ) : Type 0 where
+  pub is : IsTie name c.atoms.keys place tie
+  pub stated : stated_at c.stated.items n ≡ Some (Digit name is.solvable place is.bit)
   pub clause : clause_at (clauses_of c.search) n ≡ no tie.0 ∷ (let l : Signed = record { variable = tie.1; positive = tie.2 } in l) ∷ []
 
 -- the tie came as a clause
-pub record StatesOne {N S : Type 0} (name : N) (tie : VariableId × VariableId × Bool) (old new : Coding N S) : Type 0 where
+pub record StatesOne {N S : Type 0} (name : N) (place : ℕ) (tie : VariableId × VariableId × Bool) (old new : Coding N S) : Type 0 where
   pub coding : IsCoding new
   pub grows : Grows old new
   pub trail : SameTrail old new
   pub atoms : new.atoms ≡ old.atoms
-  pub states : StatesTie name tie new (length old.search.clauses)
+  pub states : StatesTie name place tie new (length old.search.clauses)
   pub one : length new.search.clauses ≡ length old.search.clauses + 1
 
 -- each tie came as a clause, and nothing else came
-pub record StatesAll {N S : Type 0} (name : N) (ties : List (VariableId × VariableId × Bool)) (old new : Coding N S) : Type 0 where
+pub record StatesAll {N S : Type 0} (name : N) (ties : List (VariableId × VariableId × Bool)) (first last : ℕ) (old new : Coding N S) : Type 0 where
   pub coding : IsCoding new
   pub grows : Grows old new
   pub trail : SameTrail old new
   pub atoms : new.atoms ≡ old.atoms
-  pub each : (tie : VariableId × VariableId × Bool) → Contains ties tie → (n : ℕ) × (n < length new.search.clauses) × StatesTie name tie new n
-  pub only : (n : ℕ) → length old.search.clauses ≤ n → n < length new.search.clauses → (tie : VariableId × VariableId × Bool) × Contains ties tie × StatesTie name tie new n
+  pub each : (i : ℕ) (tie : VariableId × VariableId × Bool) → slice_get ties i ≡ Some tie → (n : ℕ) × (n < length new.search.clauses) × StatesTie name (place_from first last i) tie new n
+  pub only : (n : ℕ) → length old.search.clauses ≤ n → n < length new.search.clauses → (i : ℕ) × (tie : VariableId × VariableId × Bool) × (slice_get ties i ≡ Some tie) × StatesTie name (place_from first last i) tie new n
   pub same : ties ≡ [] → new ≡ old
 
--- The variable is tracked, and no other one came. Each clause that came tells a digit of a tracked one.
+-- The variable is tracked, behind the others, and no other one came. Each clause that came tells a digit of a tracked one,
+-- by its place.
 pub record Tracks {N S : Type 0} (name : N) (v : VariableId) (t : Tracking VariableId) (old : Coding N S) (u : Tracking VariableId) (new : Coding N S) : Type 0 where
   pub coding : IsCoding new
   pub grows : Grows old new
   pub trail : SameTrail old new
   pub tied : IsTied name u new
   pub tracked : Contains u.variables v
-  pub keeps : (w : VariableId) → Contains t.variables w → Contains u.variables w
+  pub front : IsFrontOf t.variables u.variables
   pub only : (w : VariableId) → Contains u.variables w → Contains t.variables w ⊎ (w ≡ v)
-  pub digits : (n : ℕ) → length old.search.clauses ≤ n → n < length new.search.clauses → (tie : VariableId × VariableId × Bool) × Contains u.variables tie.0 × StatesTie name tie new n
+  pub digits : (n : ℕ) → length old.search.clauses ≤ n → n < length new.search.clauses → (place : ℕ) × (tie : VariableId × VariableId × Bool) × (slice_get u.variables place ≡ Some tie.0) × StatesTie name place tie new n
   pub same : Contains t.variables v → new ≡ old

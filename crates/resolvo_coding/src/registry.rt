@@ -1,14 +1,14 @@
 //! Which solvables of each package are registered: at most one of them is true.
 //! Each package has a tracker of its solvables' variables, whose places are told by binary digits, each
-//! digit a variable of its own. A clause says of each registered solvable and each digit of its package
-//! which value the digit has where the solvable is true.
-ghost use Rattle.std.specs.Prelude.{◌≡◌, Bool, length, is_some, Contains, IfOk, OnOk};
+//! digit a variable of its own. A clause says of each registered solvable, with its place, and of each
+//! digit of its package which value the digit has where the solvable is true.
+ghost use Rattle.std.specs.Prelude.{◌≡◌, ℕ, ◌≤◌, ◌+◌, Bool, Some, min, length, slice_get, is_some, IfOk, OnOk};
 ghost use Rattle.resolvo_pool.specs.declared.id.VariableId.{VariableId};
 ghost use Rattle.resolvo_store.specs.AtMostOne.{needs_helper};
 ghost use Rattle.resolvo_coding.specs.declared.atom.ProofAtom.TheVariants.{Solvable, Bit};
 ghost use Rattle.resolvo_coding.specs.Atoms.{StandsFor};
 ghost use Rattle.resolvo_coding.specs.Coding.{IsCoding};
-ghost use Rattle.resolvo_coding.specs.Registered.{same_variable, IsNothing, AreTied, Registers, PlacesName, IsTied, Tracks, GivesDigit, IsTie, StatesOne, StatesAll};
+ghost use Rattle.resolvo_coding.specs.Registered.{same_variable, IsNothing, AreTied, Registers, PlacesName, IsTied, Tracks, GivesDigit, IsTie, first_of, place_from, StatesOne, StatesAll};
 
 use crate::atom::ProofAtom;
 use crate::coding::Coding;
@@ -94,10 +94,23 @@ fn track<N: SolverId, S: SolverId>(
     ensures tracked { OnOk result (Tracks name variable tracker.old coding.old tracker.new coding.new) }
 {
     let digit = next_digit(tracker, coding, name, variable)?;
+    let last = tracker.variables().len() as u32;
+    let first = first_place(digit, last);
     let mut ties = Vec::new(alloc);
     tracker.add(variable, digit, &mut ties)?;
-    state_ties(alloc, coding, name, ties.as_slice())?;
+    state_ties(alloc, coding, name, ties.as_slice(), first, last)?;
     Ok(())
+}
+
+/// The place that the first tie is of: with a new digit the first one, else that of the variable that
+/// comes, behind so many.
+fn first_place(digit: Option<VariableId>, count: u32) -> u32
+    ensures { result ≡ first_of digit count }
+{
+    match digit {
+        None => count,
+        Some(_) => 0,
+    }
 }
 
 /// The variable of the digit that a variable takes with it, if it takes one.
@@ -121,33 +134,47 @@ fn next_digit<N: SolverId, S: SolverId>(
     Ok(Some(digit))
 }
 
-/// States each tie of solvables of a package to its digits.
+/// States each tie of solvables of a package to its digits. The first tie is of this place, and each
+/// next one of the next place, up to the last place, of which all that are left are.
 fn state_ties<N: SolverId, S: SolverId>(
     alloc: Global,
     coding: &mut Coding<N, S>,
     name: N,
     ties: &[Tie],
+    first: u32,
+    last: u32,
 ) -> R<()>
     requires coding { IsCoding coding.old }
-    requires ties { (tie : VariableId × VariableId × Bool) → Contains ties.now tie → IsTie name coding.old.atoms.keys tie }
-    ensures stated { OnOk result (StatesAll name ties.now coding.old coding.new) }
+    requires places { first ≤ last }
+    requires ties { (i : ℕ) (tie : VariableId × VariableId × Bool) → slice_get ties.now i ≡ Some tie → IsTie name coding.old.atoms.keys (place_from first last i) tie }
+    ensures stated { OnOk result (StatesAll name ties.now first last coding.old coding.new) }
 {
+    let mut place = first;
     for tie in ties {
-        state_tie(alloc, coding, name, *tie)?;
+        state_tie(alloc, coding, name, *tie, place)?;
+        place = next_place(place, last);
     }
     Ok(())
 }
 
-/// States what ties a solvable to a digit of its package.
+/// The next place, up to the last one.
+fn next_place(place: u32, last: u32) -> u32
+    ensures { result ≡ min (place + 1) last }
+{
+    if place < last { place + 1 } else { last }
+}
+
+/// States what ties a solvable at a place to a digit of its package.
 fn state_tie<N: SolverId, S: SolverId>(
     alloc: Global,
     coding: &mut Coding<N, S>,
     name: N,
     tie: Tie,
+    place: u32,
 ) -> R<()>
     requires coding { IsCoding coding.old }
-    requires tie { IsTie name coding.old.atoms.keys tie }
-    ensures stated { OnOk result (StatesOne name tie coding.old coding.new) }
+    requires tie { IsTie name coding.old.atoms.keys place tie }
+    ensures stated { OnOk result (StatesOne name place tie coding.old coding.new) }
 {
     let (variable, digit, value) = tie;
     let mut literals = Vec::new(alloc);
@@ -159,8 +186,8 @@ fn state_tie<N: SolverId, S: SolverId>(
     let stated = Stated::Digit {
         name,
         solvable,
+        place,
         bit,
-        value,
     };
     coding.state(stated, literals)?;
     Ok(())

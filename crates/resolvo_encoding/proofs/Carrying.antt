@@ -4,12 +4,13 @@ use Rattle.std.proofs.lemmas.Bool.{ltb-true, ltb-false, cases_Bool}
 use Rattle.std.proofs.lemmas.Option.{slice_get_within}
 use Rattle.resolvo_pool.specs.declared.id.VariableId.{VariableId}
 use Rattle.resolvo_store.specs.declared.lists.Candidate.{Candidate}
+use Rattle.resolvo_store.specs.AtMostOne.{digit}
 use Rattle.resolvo_store.specs.Signed.{Signed}
 use Rattle.resolvo_search.specs.State.{count_of}
 use Rattle.resolvo_rules.specs.Numbered.{Spells}
 use Rattle.resolvo_rules.proofs.Lists.{contains_none, contains_left, contains_right, contains_only, contains_one, contains_parts}
 use Rattle.resolvo_rules.proofs.Growing.{spells_agree}
-use Rattle.resolvo_answers.specs.declared.answers.Offered.{Offered}
+use Rattle.resolvo_answers.specs.declared.answering.Offered.{Offered}
 use Rattle.resolvo_coding.specs.declared.atom.ProofAtom.TheVariants.{Solvable}
 use Rattle.resolvo_coding.specs.declared.stated.Stated.TheVariants.{Digit}
 use Rattle.resolvo_coding.specs.declared.coding.Coding.{Coding}
@@ -41,17 +42,17 @@ registers_none r c coding tied = record {
 -- a clause that tells a digit goes on to do so
 digit_stays : {N S : Type 0} (r t : Registry N) (old new : Coding N S) (name : N) (n : ℕ) → IsCoding old → Grows old new → ((m : N) (u : VariableId) → IsTracked r m u → IsTracked t m u) → IsDigitClause r old name n → IsDigitClause t new name n
 digit_stays {N} {S} r t old new name n coding grows keeps d =
-    let within : n < length old.stated.items = slice_get_within old.stated.items n (Digit name d.solvable d.bit d.value) d.stated in
+    let within : n < length old.stated.items = slice_get_within old.stated.items n (Digit name d.solvable d.place d.bit) d.stated in
     let long : length old.stated.items ≡ length old.search.clauses = coding.each in
     let (v, stands, tracked) = d.registered in
     record {
       solvable = d.solvable;
+      place = d.place;
       bit = d.bit;
-      value = d.value;
       registered = (v, stands_grow old new v (Solvable d.solvable) grows stands, keeps name v tracked);
-      stated = stated_grows old new grows n (Digit name d.solvable d.bit d.value) d.stated;
-      spells = subst (λ (clause : List Signed). Spells (origin new.atoms.keys) clause (digit_literals name d.solvable d.bit d.value)) (sym (clause_grows old new grows n (omega arith)))
-          (spells_agree (origin old.atoms.keys) (origin new.atoms.keys) (count_of old.search) (origin_grows old new coding grows) _ (digit_literals name d.solvable d.bit d.value) (coding.ready.state.in_range n) d.spells);
+      stated = stated_grows old new grows n (Digit name d.solvable d.place d.bit) d.stated;
+      spells = subst (λ (clause : List Signed). Spells (origin new.atoms.keys) clause (digit_literals name d.solvable d.bit (digit d.place d.bit))) (sym (clause_grows old new grows n (omega arith)))
+          (spells_agree (origin old.atoms.keys) (origin new.atoms.keys) (count_of old.search) (origin_grows old new coding grows) _ (digit_literals name d.solvable d.bit (digit d.place d.bit)) (coding.ready.state.in_range n) d.spells);
     }
 
 offered_stays : {N S : Type 0} (r t : Registry N) (old new : Coding N S) (o : Offered N S) (c : Candidate N) → Grows old new → ((m : N) (u : VariableId) → IsTracked r m u → IsTracked t m u) → IsOfferedAs r old o c → IsOfferedAs t new o c

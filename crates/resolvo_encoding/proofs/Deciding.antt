@@ -266,28 +266,24 @@ module _ {N S : Type 0} (same : S → S → Bool) (p : Packages N S) (root : Rul
   queue_asks q (Some (Says.IsOut v s)) at h t = absurd h
   queue_asks q (Some (Says.Locked locked s)) at h t = absurd h
   queue_asks q (Some (Says.Excluded s why)) at h t = absurd h
-  queue_asks q (Some (Says.Digit n s bit value)) at h t = absurd h
+  queue_asks q (Some (Says.Digit n s place bit)) at h t = absurd h
   queue_asks q (Some (Says.IsThere n s)) at h t = absurd h
   queue_asks q (Some Says.Learnt) at h t = absurd h
 
-  -- The next decision is for an undecided variable of the search, and called for: it chooses a match of what is asked for.
+  -- The next decision is called for: it chooses a match of what is asked for.
   pub choice_called : IsEncoding same p root e → (values : ℕ → Option Bool) (score : N → ℕ) (d : NextDecision) → AreValues values (made_true (history e.coding.search)) → pick_by (named_by e.lists) values score e.queue ≡ Some d
-      → IsUndecided (made_true (history e.coding.search)) (yes d.candidate) × (d.candidate.0 < count_of e.coding.search)
-      × IsCalledFor same p (E.rules_of e) [] (known_of (origin e.coding.atoms.keys) (history e.coding.search)) (meaning (origin e.coding.atoms.keys) (yes d.candidate))
+      → IsCalledFor same p (E.rules_of e) [] (known_of (origin e.coding.atoms.keys) (history e.coding.search)) (meaning (origin e.coding.atoms.keys) (yes d.candidate))
   choice_called holds values score d agree h =
       let (q, stands, offered) = picked (named_by e.lists) values score e.queue d h in
       let (eligible, (c, listed, undecided, is)) = offers (named_by e.lists) values score q d offered in
       let (s, fits, meets_it) = holds.listed q.requirement c listed in
       let parent : has (made_true (history e.coding.search)) (yes q.parent) ≡ true = parent_known values (made_true (history e.coding.search)) agree q.parent (and_parts (is_true (values q.parent.0)) _ eligible).0 in
       let literal : c.literal ≡ yes d.candidate = λ i. record { variable = is i; positive = fits.positive i } in
-      let means : Means (origin e.coding.atoms.keys) (yes d.candidate) (plus (Atom.solvable s)) = subst (λ (x : Signed). Means (origin e.coding.atoms.keys) x (plus (Atom.solvable s))) literal (solvable_means e.coding.atoms.keys c.literal s fits.positive fits.stands) in (
-        subst (λ (x : Signed). IsUndecided (made_true (history e.coding.search)) x) literal (open_undecided values (made_true (history e.coding.search)) agree c.literal undecided),
-        subst (λ (v : VariableId). v.0 < count_of e.coding.search) is (stands_in_range e.coding c.literal.variable (Solvable s) holds.coding fits.stands),
-        inr (record {
-          requirement = q.requirement;
-          asked = queue_asks q (stated_at e.coding.stated.items q.clause.0) refl (holds.queued q stands) parent;
-          solvable = s;
-          is = sym means.1;
-          offered = meets_it;
-        }),
-      )
+      let means : Means (origin e.coding.atoms.keys) (yes d.candidate) (plus (Atom.solvable s)) = subst (λ (x : Signed). Means (origin e.coding.atoms.keys) x (plus (Atom.solvable s))) literal (solvable_means e.coding.atoms.keys c.literal s fits.positive fits.stands) in
+      inr (record {
+        requirement = q.requirement;
+        asked = queue_asks q (stated_at e.coding.stated.items q.clause.0) refl (holds.queued q stands) parent;
+        solvable = s;
+        is = sym means.1;
+        offered = meets_it;
+      })

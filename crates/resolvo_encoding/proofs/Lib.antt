@@ -3,5 +3,7 @@ pub mod Requiring
 pub mod Needing
 pub mod Parents
 pub mod Deciding
+pub mod Building
+pub mod Digits
 pub mod Turning
 pub mod Staying

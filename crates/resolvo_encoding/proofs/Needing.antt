@@ -46,7 +46,7 @@ use Rattle.resolvo_coding.proofs.Positions.{get_last}
 use Rattle.resolvo_coding.proofs.Origins.{means_solvable, solvable_means, means_atom, solvable_stands}
 use Rattle.resolvo_coding.proofs.Rules.{rule_stated}
 use Rattle.resolvo_coding.proofs.Growth.{stands_in_range, rule_split, rules_split}
-use Rattle.resolvo_coding.proofs.Registering.{ties_grow, nothing_tied}
+use Rattle.resolvo_coding.proofs.Registering.{digits_same, digits_more, ties_grow, nothing_tied}
 use Rattle.resolvo_encoding.proofs.Requiring.{Came, Carries, carried, candidate_grows, queued_keeps, within_keeps, encoded_keeps, gates_keep, put_at, put_other, NoneAsks, kept_carries, some_one}
 
 -- the requirement that a rule's clause asks for a match of
@@ -70,7 +70,7 @@ is_choice (Atom.any_of n) = false
 is_choice (Atom.digit n bit) = false
 
 -- a literal of candidates is one's own
-literal_in : {N : Type 0} (cs : List (Candidate N)) (l : Signed) → has (literals_in cs) l ≡ true → (c : Candidate N) × Contains cs c × (c.literal ≡ l)
+pub literal_in : {N : Type 0} (cs : List (Candidate N)) (l : Signed) → has (literals_in cs) l ≡ true → (c : Candidate N) × Contains cs c × (c.literal ≡ l)
 literal_in [] l h = absurd (both_ways false refl h)
 literal_in (c ∷ cs) l h = elim (has-cons c.literal (literals_in cs) l h) [
   | inl e ↦ (c, contains_first c c cs refl, e)
@@ -150,7 +150,7 @@ module _ {N S : Type 0} (same : S → S → Bool) (exact : IsExact same) (p : Pa
   need_rule e holds (Says.IsOut w s) v r has_list h q one = absurd h
   need_rule e holds (Says.Locked locked s) v r has_list h q one = absurd h
   need_rule e holds (Says.Excluded s why) v r has_list h q one = absurd h
-  need_rule e holds (Says.Digit n s bit value) v r has_list h q one = absurd h
+  need_rule e holds (Says.Digit n s place bit) v r has_list h q one = absurd h
   need_rule e holds (Says.IsThere n s) v r has_list h q one = absurd h
   need_rule e holds Says.Learnt v r has_list h q one = absurd h
 
@@ -165,7 +165,7 @@ module _ {N S : Type 0} (same : S → S → Bool) (exact : IsExact same) (p : Pa
   need_queued atoms (Says.IsOut w s) v r number h = absurd h
   need_queued atoms (Says.Locked locked s) v r number h = absurd h
   need_queued atoms (Says.Excluded s why) v r number h = absurd h
-  need_queued atoms (Says.Digit n s bit value) v r number h = absurd h
+  need_queued atoms (Says.Digit n s place bit) v r number h = absurd h
   need_queued atoms (Says.IsThere n s) v r number h = absurd h
   need_queued atoms Says.Learnt v r number h = absurd h
 
@@ -182,7 +182,7 @@ module _ {N S : Type 0} (same : S → S → Bool) (exact : IsExact same) (p : Pa
   asks_need atoms (Says.IsOut w s) v r h q a = absurd h
   asks_need atoms (Says.Locked locked s) v r h q a = absurd h
   asks_need atoms (Says.Excluded s why) v r h q a = absurd h
-  asks_need atoms (Says.Digit n s bit value) v r h q a = absurd h
+  asks_need atoms (Says.Digit n s place bit) v r h q a = absurd h
   asks_need atoms (Says.IsThere n s) v r h q a = absurd h
   asks_need atoms Says.Learnt v r h q a = absurd h
 
@@ -279,12 +279,15 @@ module _ {N S : Type 0} (same : S → S → Bool) (exact : IsExact same) (p : Pa
             (subst (λ ks. IsQueuedFor ks (Some x) next) (sym atoms) (need_queued old.coding.atoms.keys x v r came.number need)))
       ]
 
+      no_digit : (m : N) (t : S) (at bit : ℕ) → x ≡ Says.Digit m t at bit → ⊥
+      no_digit m t at bit is = subst (λ (y : Stated N S). IsNeed same p root old.coding.atoms.keys y v r) is need
+
       carries : Carries same exact p root old new
       carries = record {
         coding = came.states.coding;
         grows = came.states.grows;
         trail = came.states.trail;
-        tied = subst (λ t. AreTied t new.coding) (sym came.registry) (ties_grow old.registry old.coding new.coding came.states.grows e.tied);
+        tied = subst (λ t. AreTied t new.coding) (sym came.registry) (ties_grow old.registry old.coding new.coding came.states.grows (digits_more x old.coding new.coding came.states.stated no_digit) e.tied);
         keeps = tracked;
         registered = λ n s (u, stands, there). inl (u, subst (λ ks. StandsFor ks u (Solvable s)) atoms stands, subst (λ t. IsTracked t n u) came.registry there);
         came = λ n low high. subst (λ k. Came same exact p root new k) (sym (place n low high)) right;
@@ -378,13 +381,17 @@ module _ {N S : Type 0} (same : S → S → Bool) (exact : IsExact same) (p : Pa
           let one : Rule.gated s r ≡ q = some_one (Rule.gated s r) q (sym (rule_stated new.coding.stated.items (length old.coding.search.clauses) x stated_here) ∙ subst (λ k. rule_at new.coding.stated.items k ≡ Some q) (place n low high) at) in
           subst Asks (sym one) a
 
+      no_digit : (m : N) (t : S) (at bit : ℕ) → Says.Gated s r ≡ Says.Digit m t at bit → ⊥
+      no_digit m t at bit is = absurd cc
+
       carries : Carries same exact p root old new
       carries = kept_carries same exact p root lawful old new e states.coding states.grows states.trail rest (λ n low high. subst (λ k. Came same exact p root new k) (sym (place n low high)) right) none
+          (digits_more x old.coding new.coding states.stated no_digit)
 
   -- a variable came, or nothing
   pub gives_keeps : (a : ProofAtom N S) (v : VariableId) (old new : Encoding N S) → IsEncoding same p root old → Gives a v old.coding new.coding → SameButCoding old new → IsEncoding same p root new
   gives_keeps a v old new e gives rest = carried same exact p root old new e
-      (kept_carries same exact p root lawful old new e gives.coding gives.grows gives.trail rest (λ n low high. absurd (nothing n low high)) (λ n q low high at b. nothing n low high))
+      (kept_carries same exact p root lawful old new e gives.coding gives.grows gives.trail rest (λ n low high. absurd (nothing n low high)) (λ n q low high at b. nothing n low high) (digits_same old.coding new.coding gives.stated))
     where
       nothing : (n : ℕ) → length old.coding.search.clauses ≤ n → n < length new.coding.search.clauses → ⊥
       nothing n low high = let same_length : length new.coding.search.clauses ≡ length old.coding.search.clauses = ap length gives.clauses in omega arith
@@ -415,21 +422,11 @@ module _ {N S : Type 0} (same : S → S → Bool) (exact : IsExact same) (p : Pa
     called = e.called;
   })
 
-  -- the literals of a need's clause have variables
-  pub need_in_range : (e : Encoding N S) (v : VariableId) (r : Requirement) → IsEncoding same p root e → v.0 < count_of e.coding.search → AreInRange (count_of e.coding.search) (no v ∷ literals_in (candidates_in e.lists r))
-  need_in_range e v r holds below l h = elim (has-cons (no v) (literals_in (candidates_in e.lists r)) l h) [
-    | inl is ↦ subst (λ (y : Signed). y.variable.0 < count_of e.coding.search) is below
-    | inr a ↦
-        let (c, stands, one) = literal_in (candidates_in e.lists r) l a in
-        let (s, fits, m) = holds.listed r c stands in
-        subst (λ (y : Signed). y.variable.0 < count_of e.coding.search) one (stands_in_range e.coding c.literal.variable (Solvable s) holds.coding fits.stands)
-  ]
-
   -- At its start the encoding is one of any packages.
   pub begun_encodes : (e : Encoding N S) → IsBegunEncoding e → IsEncoding same p root e
   begun_encodes e b = record {
     coding = b.coding.coding;
-    tied = nothing_tied e.registry e.coding b.registry.names b.registry.trackers;
+    tied = nothing_tied e.registry e.coding b.registry.names b.registry.trackers b.coding.stated;
     spelled = λ n r h. absurd (no_rule n r h);
     rule = λ r (n, h). absurd (no_rule n r h);
     positive = λ n l s h (other, m). absurd (rootless n l h other);

@@ -1,11 +1,12 @@
 -- Parents come, and their needs are encoded in turn.
 use Rattle.std.proofs.Common.{◌≡◌, ℕ, ◌+◌, ◌<◌, ◌≤◌, ◌⊎◌, inl, inr, Bool, true, false, List, [], ◌∷◌, ◌++◌, length, cond, Some, refl, sym, subst, arith}
-use Rattle.std.specs.Prelude.{slice_get}
+use Rattle.std.specs.Prelude.{slice_get, Contains}
 use Rattle.std.specs.List.{list_any}
 use Rattle.indexmap.specs.IndexSet.{insert_key}
 use Rattle.resolvo_pool.specs.declared.solver_id.SolvableIdOrRoot.{SolvableIdOrRoot}
 use Rattle.resolvo_pool.specs.RuleKeeping.{Packages, Rules}
 use Rattle.resolvo_store.specs.AtMostOne.{IsFrontOf}
+use Rattle.resolvo_rules.proofs.Lists.{any_contained, contains_first, contains_right}
 use Rattle.resolvo_coding.proofs.Positions.{get_old, front_long, front_same}
 use Rattle.resolvo_encoding.proofs.Carrying.{split_at}
 use Rattle.resolvo_encoding.specs.Encoded.{IsEncoding}
@@ -19,6 +20,14 @@ front_insert {X} eq xs x = go (list_any (eq x) xs)
     go : (b : Bool) → IsFrontOf xs (cond b xs (xs ++ x ∷ []))
     go true = front_same xs
     go false = (x ∷ [], refl)
+
+-- what is put into a list stands there
+pub inserted : {X : Type 0} (eq : X → X → Bool) (xs : List X) (x : X) → ((y : X) → eq x y ≡ true → y ≡ x) → Contains (insert_key eq xs x) x
+inserted {X} eq xs x exact = go (list_any (eq x) xs) refl
+  where
+    go : (b : Bool) → list_any (eq x) xs ≡ b → Contains (cond b xs (xs ++ x ∷ [])) x
+    go true h = let (y, stands, same) = any_contained (eq x) xs h in subst (Contains xs) (exact y same) stands
+    go false h = contains_right x xs (x ∷ []) (contains_first x x [] refl)
 
 module _ {N S : Type 0} (same : S → S → Bool) (p : Packages N S) (root : Rules) where
   -- more parents leave the encoding one

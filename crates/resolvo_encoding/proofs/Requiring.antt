@@ -15,6 +15,7 @@ use Rattle.resolvo_pool.specs.OnePass.{Literal}
 use Rattle.resolvo_pool.specs.Provider.{listed}
 use Rattle.resolvo_pool.specs.Text.{solvable_of, alternatives_of}
 use Rattle.resolvo_pool.specs.RuleKeeping.{Packages, Rules, IsLawful, is_in, is_match, meets, rules_for}
+use Rattle.resolvo_store.specs.AtMostOne.{digit}
 use Rattle.resolvo_store.specs.Signed.{Signed, has}
 use Rattle.resolvo_store.specs.Lists.{has_candidates, candidates_in, items_or_none, FixesCandidates}
 use Rattle.resolvo_store.specs.declared.decide_queue.NeedClause.{NeedClause}
@@ -28,7 +29,7 @@ use Rattle.resolvo_rules.specs.Numbered.{meaning, Means, Spells}
 use Rattle.resolvo_rules.proofs.Lists.{contains_none, contains_cases, contains_one, contains_map, map_contains}
 use Rattle.resolvo_rules.proofs.Members.{candidate_named, in_contained, contained_in}
 use Rattle.resolvo_rules.proofs.Lists.{any_contained}
-use Rattle.resolvo_answers.specs.declared.answers.Offered.{Offered}
+use Rattle.resolvo_answers.specs.declared.answering.Offered.{Offered}
 use Rattle.resolvo_answers.specs.Answering.{offered_solvables, AreOffered}
 use Rattle.resolvo_coding.specs.declared.atom.ProofAtom.TheVariants.{Solvable, Gate}
 use Rattle.resolvo_coding.specs.declared.stated.Stated.{Stated}
@@ -44,7 +45,7 @@ use Rattle.resolvo_encoding.specs.Encoded as E
 use Rattle.resolvo_encoding.specs.Steps.{IsOfferedAs, RegistersAll, Fixes, StatesNeed, SameButCoding, Extends}
 use Rattle.resolvo_encoding.specs.declared.encoding.Encoding.{Encoding}
 use Rattle.resolvo_coding.proofs.Origins.{solvable_stands}
-use Rattle.resolvo_coding.proofs.Registering.{ties_grow}
+use Rattle.resolvo_coding.proofs.Registering.{KeepsDigits, ties_grow}
 use Rattle.resolvo_coding.proofs.Rules.{rule_stated}
 use Rattle.resolvo_coding.proofs.Growth.{grows_same, grows_then, stands_grow, rules_grow, stated_grows, rule_split, rules_split, spelled_grows, registered_grows, called_grows_trail}
 
@@ -61,7 +62,7 @@ queued_grows old new (Some (Says.LimitsOutside parent v)) q grows h = h
 queued_grows old new (Some (Says.IsOut v s)) q grows h = h
 queued_grows old new (Some (Says.Locked locked s)) q grows h = h
 queued_grows old new (Some (Says.Excluded s why)) q grows h = h
-queued_grows old new (Some (Says.Digit n s bit value)) q grows h = h
+queued_grows old new (Some (Says.Digit n s place bit)) q grows h = h
 queued_grows old new (Some (Says.IsThere n s)) q grows h = h
 queued_grows old new (Some Says.Learnt) q grows h = h
 
@@ -129,7 +130,7 @@ module _ {N S : Type 0} (same : S → S → Bool) (exact : IsExact same) (p : Pa
   candidate_grows old new n s c grows keeps h = record { positive = h.positive; stands = stands_grow old.coding new.coding c.literal.variable (Solvable s) grows h.stands; tracked = keeps n c.literal.variable h.tracked }
 
   -- a need that is encoded stays so
-  need_grows : (old new : Encoding N S) (parent : Option S) (need : ConditionalRequirement) (case : List VersionSetId) → Grows old.coding new.coding → IsNeedEncoded same p (E.rules_of old) parent need case → IsNeedEncoded same p (E.rules_of new) parent need case
+  pub need_grows : (old new : Encoding N S) (parent : Option S) (need : ConditionalRequirement) (case : List VersionSetId) → Grows old.coding new.coding → IsNeedEncoded same p (E.rules_of old) parent need case → IsNeedEncoded same p (E.rules_of new) parent need case
   need_grows old new parent need case grows (inl a) = inl (rules_grow old.coding new.coding grows (Rule.needs parent need case) a)
   need_grows old new parent need case grows (inr (inl (s, e, a, b))) = inr (inl (s, e, rules_grow old.coding new.coding grows (Rule.gated s need.requirement) a, rules_grow old.coding new.coding grows (Rule.shared need.requirement) b))
   need_grows old new parent need case grows (inr (inr a)) = inr (inr a)
@@ -153,11 +154,11 @@ put_other m n (Union u) (Union w) x f = elim (cases_Bool (w.0 == u.0)) [
 ]
 
 -- the candidates of a requirement that got them
-fix_at : {N : Type 0} (r : Requirement) (given : Vec (Candidate N) Global) (old new : FixedLists N) → FixesCandidates r given old new → slot_of new.candidates r ≡ Some given
+pub fix_at : {N : Type 0} (r : Requirement) (given : Vec (Candidate N) Global) (old new : FixedLists N) → FixesCandidates r given old new → slot_of new.candidates r ≡ Some given
 fix_at r given old new f = put_at old.candidates new.candidates r given f.put
 
 -- another requirement has those that it had
-fix_other : {N : Type 0} (r q : Requirement) (given : Vec (Candidate N) Global) (old new : FixedLists N) → FixesCandidates r given old new → (q ≡ r) ⊎ (slot_of new.candidates q ≡ slot_of old.candidates q)
+pub fix_other : {N : Type 0} (r q : Requirement) (given : Vec (Candidate N) Global) (old new : FixedLists N) → FixesCandidates r given old new → (q ≡ r) ⊎ (slot_of new.candidates q ≡ slot_of old.candidates q)
 fix_other r q given old new f = put_other old.candidates new.candidates r q given f.put
 
 each_of : {X : Type 0} (P : X → Type 0) (xs : List X) (x : X) → AllByRecursion P xs → Contains xs x → P x
@@ -242,12 +243,12 @@ module _ {N S : Type 0} (same : S → S → Bool) (exact : IsExact same) (p : Pa
 
   -- where registered solvables, lists, queue and parents stay, and what came with each clause is right
   pub kept_carries : (old new : Encoding N S) → IsEncoding same p root old → IsCoding new.coding → Grows old.coding new.coding → SameTrail old.coding new.coding → SameButCoding old new
-      → ((n : ℕ) → length old.coding.search.clauses ≤ n → n < length new.coding.search.clauses → Came same exact p root new n) → NoneAsks old new → Carries same exact p root old new
-  kept_carries old new e coding grows trail rest came none = record {
+      → ((n : ℕ) → length old.coding.search.clauses ≤ n → n < length new.coding.search.clauses → Came same exact p root new n) → NoneAsks old new → KeepsDigits old.coding new.coding → Carries same exact p root old new
+  kept_carries old new e coding grows trail rest came none kept = record {
     coding = coding;
     grows = grows;
     trail = trail;
-    tied = subst (λ t. AreTied t new.coding) (sym rest.registry) (ties_grow old.registry old.coding new.coding grows e.tied);
+    tied = subst (λ t. AreTied t new.coding) (sym rest.registry) (ties_grow old.registry old.coding new.coding grows kept e.tied);
     keeps = tracked;
     registered = λ n s a. (let (u, stands, there) = registered_back n s a in inl (u, stands, there));
     came = came;
@@ -274,12 +275,12 @@ module _ {N S : Type 0} (same : S → S → Bool) (exact : IsExact same) (p : Pa
   -- a clause that tells a digit comes right
   digit_came : (old new : Encoding N S) (name : N) (n : ℕ) → (d : IsDigitClause new.registry new.coding name n) → name ≡ p.package_of d.solvable → Came same exact p root new n
   digit_came old new name n d e = record {
-    stated = Says.Digit name d.solvable d.bit d.value;
+    stated = Says.Digit name d.solvable d.place d.bit;
     at = d.stated;
     rule = λ r is.
-        let one : Rule.has_digit d.solvable d.bit d.value ≡ r = some_one (Rule.has_digit d.solvable d.bit d.value) r is in
+        let one : Rule.has_digit d.solvable d.bit (digit d.place d.bit) ≡ r = some_one (Rule.has_digit d.solvable d.bit (digit d.place d.bit)) r is in
         subst (λ (x : Rule N S). IsRule same p root x × Spells (origin new.coding.atoms.keys) (clause_at (clauses_of new.coding.search) n) (literals_of same p x)) one
-        (tt, subst (λ m. Spells (origin new.coding.atoms.keys) (clause_at (clauses_of new.coding.search) n) (digit_literals m d.solvable d.bit d.value)) e d.spells);
+        (tt, subst (λ m. Spells (origin new.coding.atoms.keys) (clause_at (clauses_of new.coding.search) n) (digit_literals m d.solvable d.bit (digit d.place d.bit))) e d.spells);
     positive = λ l s a (other, m). absurd (elim (d.spells.only l a) [
       | inl z ↦ (let same_variable : l.variable.0 ≡ 0 = ap (λ (x : Signed). x.variable.0) z in omega arith)
       | inr (z, c) ↦ elim (contains_cases (meaning (origin new.coding.atoms.keys) l) (minus (Atom.solvable d.solvable)) (told ∷ []) c) [
@@ -290,7 +291,7 @@ module _ {N S : Type 0} (same : S → S → Bool) (exact : IsExact same) (p : Pa
   }
     where
       told : Literal (Atom N S)
-      told = record { atom = Atom.digit name d.bit; positive = d.value }
+      told = record { atom = Atom.digit name d.bit; positive = digit d.place d.bit }
 
       solvable_no_digit : (s : S) (m : N) (bit : ℕ) → Atom.solvable s ≡ Atom.digit m bit → ⊥
       solvable_no_digit s m bit e = cc
@@ -315,7 +316,7 @@ module _ {N S : Type 0} (same : S → S → Bool) (exact : IsExact same) (p : Pa
           none : NoneAsks old new
           none n q low high at a =
               let (name, d) = all.digits n low high in
-              let one : Rule.has_digit d.solvable d.bit d.value ≡ q = some_one (Rule.has_digit d.solvable d.bit d.value) q (sym (rule_stated new.coding.stated.items n (Says.Digit name d.solvable d.bit d.value) d.stated) ∙ at) in
+              let one : Rule.has_digit d.solvable d.bit (digit d.place d.bit) ≡ q = some_one (Rule.has_digit d.solvable d.bit (digit d.place d.bit)) q (sym (rule_stated new.coding.stated.items n (Says.Digit name d.solvable d.place d.bit) d.stated) ∙ at) in
               subst Asks (sym one) a
 
           slots : (q : Requirement) → (q ≡ r) ⊎ (slot_of new.lists.candidates q ≡ slot_of old.lists.candidates q)

@@ -19,7 +19,7 @@ use Rattle.resolvo_search.specs.Advancing.{Completes, Improves, IsProgress, weig
 use Rattle.resolvo_search.specs.Entries.{weight}
 use Rattle.resolvo_search.specs.Known.{clause_at}
 use Rattle.resolvo_search.specs.State.{lists, count_of, history, clauses_of}
-use Rattle.resolvo_search.specs.Steps.{Chooses}
+use Rattle.resolvo_search.specs.Steps.{Chooses, Undoes}
 use Rattle.resolvo_search.proofs.Clauses.{length-lists}
 use Rattle.resolvo_search.proofs.Improving.{extends_heavier, choice_heavier, weight_falls}
 use Rattle.resolvo_search.proofs.StepLemmas.{lists-append, clause_at_end}
@@ -37,9 +37,9 @@ use Rattle.resolvo_coding.specs.Coding.{IsCoding, Advances, KeepsCode, learnt_by
 use Rattle.resolvo_coding.specs.Registered.{AreTied, IsTracked, IsRegistered}
 use Rattle.resolvo_coding.specs.Spelled.{AreRegistered}
 use Rattle.resolvo_coding.specs.Statements.{stated_at, rule_at}
-use Rattle.resolvo_coding.proofs.Growth.{grows_same, grows_then, stated_grows, rule_split, rules_split, spelled_grows, registered_grows, called_advances, called_chooses}
+use Rattle.resolvo_coding.proofs.Growth.{grows_same, grows_then, stated_grows, stated_split, rule_split, rules_split, spelled_grows, registered_grows, called_advances, called_undoes, called_chooses}
 use Rattle.resolvo_coding.proofs.Positions.{front_equal, get_last}
-use Rattle.resolvo_coding.proofs.Registering.{ties_grow}
+use Rattle.resolvo_coding.proofs.Registering.{KeepsDigits, ties_grow}
 use Rattle.resolvo_coding.proofs.Rules.{rule_stated}
 use Rattle.resolvo_encoding.specs.declared.encoding.Encoding.{Encoding}
 use Rattle.resolvo_encoding.specs.Encoded.{IsEncoding, Registered}
@@ -53,13 +53,20 @@ use Rattle.resolvo_encoding.proofs.Requiring.{candidate_grows, queued_keeps, gat
 nothing_stated : {N S : Type 0} (old new : Encoding N S) → GoesOn old new → (n : ℕ) (r : Rule N S) → length old.coding.search.clauses ≤ n → n < length new.coding.search.clauses → rule_at new.coding.stated.items n ≡ Some r → ⊥
 nothing_stated old new goes n r low high at = let none : None ≡ Some r = sym (rule_stated new.coding.stated.items n Says.Learnt (goes.learnt n low high)) ∙ at in absurd cc
 
+-- nor any digit
+pub digits_kept : {N S : Type 0} (old new : Encoding N S) → IsCoding old.coding → GoesOn old new → KeepsDigits old.coding new.coding
+digits_kept old new coding goes n name s place bit h = elim (stated_split old.coding new.coding coding goes.coding goes.grows n (Says.Digit name s place bit) h) [
+  | inl a ↦ a
+  | inr (low, high) ↦ let learnt : stated_at new.coding.stated.items n ≡ Some Says.Learnt = goes.learnt n low high in absurd cc
+]
+
 module _ {N S : Type 0} (same : S → S → Bool) (exact : IsExact same) (p : Packages N S) (root : Rules) (lawful : IsLawful p) where
   -- The encoding stays one of the packages where solvables that clauses may make true are registered, and choices are called for.
   stays : (old new : Encoding N S) → IsEncoding same p root old → GoesOn old new → AreRegistered (Registered same p root new) new.coding
       → AreCalledFor (origin new.coding.atoms.keys) (IsCalledFor same p (E.rules_of new) []) (history new.coding.search) → IsEncoding same p root new
   stays old new e goes positive called = record {
     coding = goes.coding;
-    tied = subst (λ (t : Registry N). AreTied t new.coding) (sym goes.rest.registry) (ties_grow old.registry old.coding new.coding goes.grows e.tied);
+    tied = subst (λ (t : Registry N). AreTied t new.coding) (sym goes.rest.registry) (ties_grow old.registry old.coding new.coding goes.grows (digits_kept old new e.coding goes) e.tied);
     spelled = spelled_grows same p old.coding new.coding e.coding goes.coding goes.grows e.spelled (λ n r low high at. absurd (nothing_stated old new goes n r low high at));
     rule = λ r stands. e.rule r (rule_back r stands);
     positive = positive;
@@ -157,8 +164,9 @@ module _ {N S : Type 0} (old : Encoding N S) (c : Coding N S) where
       let here : clause_at (clauses_of c.search) n ≡ h.clause.literals.items = ap (λ (cs : List (List Signed)). clause_at cs n) added ∙ ap (λ (k : ℕ). clause_at (lists old.coding.search.clauses ++ h.clause.literals.items ∷ []) k) place ∙ clause_at_end (lists old.coding.search.clauses) h.clause.literals.items in
       h.from l (subst (λ (ls : List Signed). has ls l ≡ true) here stands)
 
-  pub choice_goes : (v : VariableId) (clause : ClauseId) → Chooses v clause old.coding.search c.search → KeepsCode old.coding c → GoesOn old went
-  choice_goes v clause chosen kept = record {
+  -- where clauses, variables, and what they stand for and state, are what they were
+  pub kept_goes : KeepsCode old.coding c → c.search.floor ≡ old.coding.search.floor → GoesOn old went
+  kept_goes kept floor = record {
     rest = step_rest;
     coding = kept.coding;
     atoms = kept.atoms;
@@ -167,10 +175,13 @@ module _ {N S : Type 0} (old : Encoding N S) (c : Coding N S) where
       atoms = front_equal old.coding.atoms.keys c.atoms.keys (ap (λ (a : HashSet (ProofAtom N S) (BuildHasherDefault FoldHasher)). a.keys) kept.atoms);
       clauses = front_equal old.coding.search.clauses c.search.clauses kept.clauses;
       stated = front_equal old.coding.stated.items c.stated.items (ap (λ (xs : Vec (Stated N S) Global). xs.items) kept.stated);
-      floor = chosen.same.floor;
+      floor = floor;
     };
     learnt = λ n low high. (let long : length c.search.clauses ≡ length old.coding.search.clauses = ap (λ (cs : List HeldClause). length cs) kept.clauses in absurd (omega arith));
   }
+
+  pub choice_goes : (v : VariableId) (clause : ClauseId) → Chooses v clause old.coding.search c.search → KeepsCode old.coding c → GoesOn old went
+  choice_goes v clause chosen kept = kept_goes kept chosen.same.floor
 
   module _ (same : S → S → Bool) (exact : IsExact same) (p : Packages N S) (root : Rules) (lawful : IsLawful p) where
     -- a step of the search leaves the encoding one of the packages
@@ -187,6 +198,14 @@ module _ {N S : Type 0} (old : Encoding N S) (c : Coding N S) where
         stays same exact p root lawful old went e goes
         (positive_on same exact p root lawful old went e goes (λ n l low high stands. (let long : length c.search.clauses ≡ length old.coding.search.clauses = ap (λ (cs : List HeldClause). length cs) kept.clauses in absurd (omega arith))))
         (called_chooses same p [] v clause old.coding c chosen kept now e.called)
+
+    -- so do entries that are taken away
+    pub undo_keeps : (level : ℕ) → Undoes level old.coding.search c.search → KeepsCode old.coding c → IsEncoding same p root old → IsEncoding same p root went
+    undo_keeps level undoes kept e =
+        let goes = kept_goes kept undoes.same.floor in
+        stays same exact p root lawful old went e goes
+        (positive_on same exact p root lawful old went e goes (λ n l low high stands. (let long : length c.search.clauses ≡ length old.coding.search.clauses = ap (λ (cs : List HeldClause). length cs) kept.clauses in absurd (omega arith))))
+        (called_undoes same p [] level old.coding c undoes kept e.called)
 
 -- ---- the trail gains weight
 

@@ -1,8 +1,8 @@
 -- The end of a turn, for what was encoded of plain packages.
-use Rattle.std.proofs.Common.{◌≡◌, ℕ, zero, suc, ◌<◌, ◌≤◌, ◌==◌, ◌&&◌, ◌⊎◌, inl, inr, Bool, true, false, cond, List, [], ◌∷◌, ◌++◌, length, Option, Some, None, unwrap_or, refl, sym, ◌∙◌, ap, subst, arith, eqb-true, eq-eqb}
+use Rattle.std.proofs.Common.{◌≡◌, ℕ, suc, ◌<◌, ◌≤◌, ◌⊎◌, inl, inr, Bool, true, false, List, [], ◌∷◌, ◌++◌, length, Option, Some, None, refl, sym, ◌∙◌, ap, subst, arith}
 use Rattle.std.specs.Prelude.{Contains}
 use Rattle.std.specs.List.{list_all}
-use Rattle.std.proofs.lemmas.Bool.{both_ways, cases_Bool, and_from, and_parts}
+use Rattle.std.proofs.lemmas.Bool.{both_ways, cases_Bool, and_from}
 use Rattle.std.proofs.lemmas.Option.{slice_get_within}
 use Rattle.resolvo_pool.specs.declared.id.ClauseId.{ClauseId}
 use Rattle.resolvo_pool.specs.declared.id.VersionSetId.{VersionSetId}
@@ -39,7 +39,7 @@ use Rattle.resolvo_coding.specs.declared.atom.ProofAtom.TheVariants.{Solvable, G
 use Rattle.resolvo_coding.specs.declared.stated.Stated.{Stated}
 use Rattle.resolvo_coding.specs.declared.stated.Stated.TheVariants as Says
 use Rattle.resolvo_coding.specs.Atoms.{atom_of, origin, StandsFor}
-use Rattle.resolvo_coding.specs.Statements.{rule_of, rule_at, rules_in, stated_at}
+use Rattle.resolvo_coding.specs.Statements.{rule_of, rule_at, stated_at}
 use Rattle.resolvo_coding.specs.Chosen.{AreChosen}
 use Rattle.resolvo_coding.proofs.Rules.{stated_rule}
 use Rattle.resolvo_coding.proofs.Origins.{coding_once, means_atom, means_solvable, solvable_means}
@@ -48,7 +48,8 @@ use Rattle.resolvo_coding.proofs.Registering.{told}
 use Rattle.resolvo_coding.specs.Registered.{IsRegistered}
 use Rattle.resolvo_encoding.specs.Encoded.{IsParentVariable, IsCandidate, IsQueuedFor, Asks, IsEncoding, IsPlain, Registered}
 use Rattle.resolvo_encoding.specs.Encoded as E
-use Rattle.resolvo_encoding.specs.Turning.{AreValues, IsDecided, AreAmongEncoded, digit_in, digit_told, TellOneDigit}
+use Rattle.resolvo_encoding.specs.Turning.{AreValues, IsDecided, AreAmongEncoded}
+use Rattle.resolvo_encoding.proofs.Digits.{digit_told, digits_agree}
 use Rattle.resolvo_encoding.proofs.Deciding.{nothing_offered, known_parent, value_known, open_or_known}
 use Rattle.resolvo_encoding.specs.declared.encoding.Encoding.{Encoding}
 
@@ -188,7 +189,7 @@ module _ {N S : Type 0} (same : S → S → Bool) (exact : IsExact same) (p : Pa
   queue_fits holds r k q (Says.IsOut v s) h said = absurd h
   queue_fits holds r k q (Says.Locked locked s) h said = absurd h
   queue_fits holds r k q (Says.Excluded s why) h said = absurd h
-  queue_fits holds r k q (Says.Digit n s bit value) h said = absurd h
+  queue_fits holds r k q (Says.Digit n s place bit) h said = absurd h
   queue_fits holds r k q (Says.IsThere n s) h said = absurd h
   queue_fits holds r k q Says.Learnt h said = absurd h
 
@@ -291,9 +292,9 @@ module _ {N S : Type 0} (same : S → S → Bool) (exact : IsExact same) (p : Pa
 
   -- A clause that denies choices of the first level alone, by clauses that digits of places agree with, leaves no
   -- rule-keeping set.
-  pub refused : (same_name : N → N → Bool) → IsExact same_name → IsEncoding same p root e → e.coding.search.floor ≡ 1 → (literals : List Signed) (causes : List ClauseId) → IsRefusal e.coding.search literals causes
+  refused_by : (same_name : N → N → Bool) → IsExact same_name → IsEncoding same p root e → e.coding.search.floor ≡ 1 → (literals : List Signed) (causes : List ClauseId) → IsRefusal e.coding.search literals causes
       → (bits : S → ℕ → Bool) → AgreeWith (E.rules_of e) bits → (chosen : List S) → IsRuleKeeping same p root chosen → ⊥
-  refused same_name names holds first literals causes refusal bits agree chosen keeping =
+  refused_by same_name names holds first literals causes refusal bits agree chosen keeping =
       turn_refused same exact same_name names p root (origin e.coding.atoms.keys) (E.rules_of e) (Registered same p root e) (count_of e.coding.search) e.coding.search.clauses literals causes bits [] chosen
       (coding_coded same p (Registered same p root e) e.coding holds.coding holds.spelled holds.positive) holds.rule agree refusal.derived (λ l h. inl (root_denied l h)) keeping (λ s h. absurd (both_ways false refl h))
     where
@@ -310,39 +311,8 @@ module _ {N S : Type 0} (same : S → S → Bool) (exact : IsExact same) (p : Pa
             ]
           ]
 
-  -- where clauses tell a digit, some clause tells the one that is read off them
-  told_stands : (stated : List (Stated N S)) (n : ℕ) (s : S) (bit : ℕ) (b : Bool) → rule_at stated n ≡ Some (Rule.has_digit s bit b) → rules_in stated (Rule.has_digit s bit (digit_told same stated s bit))
-  told_stands [] n s bit b h = absurd cc
-  told_stands (x ∷ stated) zero s bit b h =
-      let told : digit_told same (x ∷ stated) s bit ≡ b = ap (λ (o : Option (Rule N S)). unwrap_or (digit_in same o s bit) (digit_told same stated s bit)) h
-      ∙ ap (λ (z : Bool). unwrap_or (cond z (Some b) None) (digit_told same stated s bit)) (and_from _ _ (exact.own s) (eq-eqb bit bit refl)) in
-      (zero, h ∙ ap (λ (v : Bool). Some (Rule.has_digit s bit v)) (sym told))
-  told_stands (x ∷ stated) (suc n) s bit b h = go (rule_of x) refl (told_stands stated n s bit b h)
-    where
-      go : (o : Option (Rule N S)) → rule_of x ≡ o → rules_in stated (Rule.has_digit s bit (digit_told same stated s bit)) → rules_in (x ∷ stated) (Rule.has_digit s bit (unwrap_or (digit_in same o s bit) (digit_told same stated s bit)))
-      go None e (m, i) = (suc m, i)
-      go (Some (Rule.needs parent need case)) e (m, i) = (suc m, i)
-      go (Some (Rule.gated t r)) e (m, i) = (suc m, i)
-      go (Some (Rule.shared r)) e (m, i) = (suc m, i)
-      go (Some (Rule.limits parent v t)) e (m, i) = (suc m, i)
-      go (Some (Rule.limits_outside parent v)) e (m, i) = (suc m, i)
-      go (Some (Rule.is_out v t)) e (m, i) = (suc m, i)
-      go (Some (Rule.bars t)) e (m, i) = (suc m, i)
-      go (Some (Rule.is_there name t)) e (m, i) = (suc m, i)
-      go (Some (Rule.has_digit t k v)) e (m, i) = elim (cases_Bool (same t s && (k == bit))) [
-        | inl y ↦
-            let (one, digit) = and_parts (same t s) (k == bit) y in
-            let is : t ≡ s = exact.one t s one in
-            let place : k ≡ bit = eqb-true k bit digit in
-            let told : v ≡ unwrap_or (cond (same t s && (k == bit)) (Some v) None) (digit_told same stated s bit) = sym (ap (λ (z : Bool). unwrap_or (cond z (Some v) None) (digit_told same stated s bit)) y) in
-            (zero, e ∙ (λ i. Some (Rule.has_digit (is i) (place i) (told i))))
-        | inr n ↦
-            let told : digit_told same stated s bit ≡ unwrap_or (cond (same t s && (k == bit)) (Some v) None) (digit_told same stated s bit) = sym (ap (λ (z : Bool). unwrap_or (cond z (Some v) None) (digit_told same stated s bit)) n) in
-            (suc m, i ∙ ap (λ (z : Bool). Some (Rule.has_digit s bit z)) told)
-      ]
-
-  -- the same where no two clauses tell different digits of one place
-  pub refused_told : (same_name : N → N → Bool) → IsExact same_name → IsEncoding same p root e → e.coding.search.floor ≡ 1 → (literals : List Signed) (causes : List ClauseId) → IsRefusal e.coding.search literals causes
-      → TellOneDigit e → (chosen : List S) → IsRuleKeeping same p root chosen → ⊥
-  refused_told same_name names holds first literals causes refusal one chosen keeping =
-      refused same_name names holds first literals causes refusal (digit_told same e.coding.stated.items) (λ s bit b (n, h). one s bit (digit_told same e.coding.stated.items s bit) b (told_stands e.coding.stated.items n s bit b h) (n, h)) chosen keeping
+  -- A clause that denies choices of the first level alone leaves no rule-keeping set.
+  pub refused : (same_name : N → N → Bool) → IsExact same_name → IsEncoding same p root e → e.coding.search.floor ≡ 1 → (literals : List Signed) (causes : List ClauseId) → IsRefusal e.coding.search literals causes
+      → (chosen : List S) → IsRuleKeeping same p root chosen → ⊥
+  refused same_name names holds first literals causes refusal chosen keeping =
+      refused_by same_name names holds first literals causes refusal (digit_told same e.coding.stated.items) (digits_agree same exact p root e holds) chosen keeping

@@ -54,7 +54,7 @@ IsQueuedFor atoms (Some (Says.LimitsOutside parent v)) q = ⊥
 IsQueuedFor atoms (Some (Says.IsOut v s)) q = ⊥
 IsQueuedFor atoms (Some (Says.Locked locked s)) q = ⊥
 IsQueuedFor atoms (Some (Says.Excluded s why)) q = ⊥
-IsQueuedFor atoms (Some (Says.Digit n s bit value)) q = ⊥
+IsQueuedFor atoms (Some (Says.Digit n s place bit)) q = ⊥
 IsQueuedFor atoms (Some (Says.IsThere n s)) q = ⊥
 IsQueuedFor atoms (Some Says.Learnt) q = ⊥
 

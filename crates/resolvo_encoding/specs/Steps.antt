@@ -10,7 +10,7 @@ use Rattle.resolvo_store.specs.declared.lists.Candidate.{Candidate}
 use Rattle.resolvo_store.specs.Lists.{has_candidates, candidates_in, FixesCandidates, IsEmpty}
 use Rattle.resolvo_pool.specs.ByRequirement.{slot_of}
 use Rattle.resolvo_pool.specs.declared.solver_id.SolvableIdOrRoot.TheVariants.{Root}
-use Rattle.resolvo_answers.specs.declared.answers.Offered.{Offered}
+use Rattle.resolvo_answers.specs.declared.answering.Offered.{Offered}
 use Rattle.resolvo_pool.specs.RuleKeeping.{Packages, Rules, IsLawful, rules_for}
 use Rattle.resolvo_pool.specs.declared.id.VersionSetId.{VersionSetId}
 use Rattle.resolvo_pool.specs.declared.requirement.ConditionalRequirement.{ConditionalRequirement}
@@ -86,7 +86,7 @@ IsNeed same p root atoms (Says.LimitsOutside parent w) v r = ⊥
 IsNeed same p root atoms (Says.IsOut w s) v r = ⊥
 IsNeed same p root atoms (Says.Locked locked s) v r = ⊥
 IsNeed same p root atoms (Says.Excluded s why) v r = ⊥
-IsNeed same p root atoms (Says.Digit n s bit value) v r = ⊥
+IsNeed same p root atoms (Says.Digit n s place bit) v r = ⊥
 IsNeed same p root atoms (Says.IsThere n s) v r = ⊥
 IsNeed same p root atoms Says.Learnt v r = ⊥
 
@@ -99,9 +99,14 @@ pub record SameButCoding {N S : Type 0} (old new : Encoding N S) : Type 0 where
   pub parents : new.parents ≡ old.parents
   pub encoded : new.encoded ≡ old.encoded
 
--- the encoding is that of some packages
-abbrev pub HasEncoding : {N S : Type 0} → (S → S → Bool) → Encoding N S → Type 0
-HasEncoding {N} {S} same e = (p : Packages N S) × (root : Rules) × IsLawful p × IsEncoding same p root e
+-- What the calls rest on, whatever the packages are: the search is ready, registered solvables are tied, candidates are
+-- solvables that are to be chosen, and each gate is its requirement's.
+pub record IsBuilt {N S : Type 0} (e : Encoding N S) : Type 0 where
+  pub coding : IsCoding e.coding
+  pub tied : AreTied e.registry e.coding
+  pub candidates : (r : Requirement) (c : Candidate N) → Contains (candidates_in e.lists r) c → (c.literal.positive ≡ true) × ((s : S) × StandsFor e.coding.atoms.keys c.literal.variable (Solvable s))
+  pub gates : (r : Requirement) (v : VariableId) → slot_of e.gates r ≡ Some v → StandsFor e.coding.atoms.keys v (Gate r)
+  pub within : e.encoded ≤ length e.parents.keys
 
 -- the parent has the need, without condition
 pub record Needs {N S : Type 0} (same : S → S → Bool) (p : Packages N S) (root : Rules) (parent : Option S) (need : ConditionalRequirement) : Type 0 where

@@ -1,6 +1,7 @@
 //! What was encoded: the clauses with what they state, the registered solvables, the candidates of
 //! requirements, the need clauses in their order, and the parents whose needs are encoded in turn.
-ghost use Rattle.std.specs.Prelude.{◌≡◌, ◌<◌, ◌∷◌, [], true, Some, OnOk, IfOk, IsSome, slice_get, length, ◌+◌};
+ghost use Rattle.std.specs.Prelude.{◌≡◌, ◌<◌, ◌∷◌, [], true, Some, OnOk, IfOk, IsSome, Contains, slice_get, length, ◌+◌};
+ghost use Rattle.resolvo_pool.specs.declared.solver_id.SolvableIdOrRoot.TheVariants.{Solvable as Parent};
 ghost use Rattle.resolvo_pool.specs.RuleKeeping.{Packages, Rules, IsLawful};
 ghost use Rattle.resolvo_store.specs.AtMostOne.{IsFrontOf};
 ghost use Rattle.resolvo_store.specs.Clauses.{no, candidate_literals};
@@ -16,10 +17,10 @@ ghost use Rattle.resolvo_encoding.specs.Encoded.{rules_of, IsEncoding};
 ghost use Rattle.resolvo_coding.specs.Statements.{rule_of};
 ghost use Rattle.resolvo_coding.specs.Coding.{IsCoding};
 ghost use Rattle.resolvo_coding.specs.Registered.{AreTied};
-ghost use Rattle.resolvo_encoding.specs.Steps.{RegistersOne, RegistersAll, Fixes, StatesNeed, HasEncoding, Needs, Extends, NeedsDirectly, Opens, IsBegunEncoding, AddsParent, IsNextEncoded};
+ghost use Rattle.resolvo_encoding.specs.Steps.{RegistersOne, RegistersAll, Fixes, StatesNeed, IsBuilt, Needs, Extends, NeedsDirectly, Opens, IsBegunEncoding, AddsParent, IsNextEncoded};
 
 use indexmap::IndexSet;
-use resolvo_answers::answers::Offered;
+use resolvo_answers::answering::Offered;
 use resolvo_coding::atom::ProofAtom;
 use resolvo_coding::coding::Coding;
 use resolvo_coding::registry::Registry;
@@ -57,6 +58,7 @@ impl<N: SolverId + Drop, S: SolverId> Encoding<N, S> {
     pub fn begin(alloc: Global) -> R<Encoding<N, S>>
         ensures begun { IfOk result IsBegunEncoding }
         ensures encoding { IfOk result (λ e. (p : Packages N S) (root : Rules) → IsLawful p → IsEncoding S.eq p root e) }
+        ensures built { IfOk result IsBuilt }
     {
         let mut parents = IndexSet::new(alloc);
         parents.insert(SolvableIdOrRoot::Root)?;
@@ -80,9 +82,10 @@ impl<N: SolverId + Drop, S: SolverId> Encoding<N, S> {
         need: ConditionalRequirement,
         offered: &[Offered<N, S>],
     ) -> R<()>
-        requires { (p : Packages N S) × (root : Rules) × IsLawful p × IsEncoding S.eq p root self.old × AreOffered S.eq p need.requirement offered.now }
+        requires { IsBuilt self.old }
         ensures encoded { OnOk result ((p : Packages N S) (root : Rules) → IsLawful p → IsEncoding S.eq p root self.old → AreOffered S.eq p need.requirement offered.now → Needs S.eq p root parent need → IsEncoding S.eq p root self.new × IsNeedEncoded S.eq p (rules_of self.new) parent need []) }
         ensures kept { OnOk result (Extends self.old self.new) }
+        ensures built { OnOk result (IsBuilt self.new) }
     {
         self.fix_candidates(alloc, need.requirement, offered)?;
         match parent {
@@ -105,9 +108,10 @@ impl<N: SolverId + Drop, S: SolverId> Encoding<N, S> {
         need: ConditionalRequirement,
         count: usize,
     ) -> R<()>
-        requires { HasEncoding S.eq self.old }
+        requires { IsBuilt self.old }
         ensures encoded { OnOk result ((p : Packages N S) (root : Rules) → IsLawful p → IsEncoding S.eq p root self.old → has_candidates self.old.lists need.requirement ≡ true → Needs S.eq p root (Some solvable) need → IsEncoding S.eq p root self.new × IsNeedEncoded S.eq p (rules_of self.new) (Some solvable) need []) }
         ensures kept { OnOk result (Extends self.old self.new) }
+        ensures built { OnOk result (IsBuilt self.new) }
     {
         let variable = self.coding.variable(ProofAtom::Solvable(solvable))?;
         if count < GATED {
@@ -146,7 +150,7 @@ impl<N: SolverId + Drop, S: SolverId> Encoding<N, S> {
         parent: Option<S>,
         need: ConditionalRequirement,
     ) -> R<()>
-        requires encoding { HasEncoding S.eq self.old }
+        requires built { IsBuilt self.old }
         requires in_range { variable.0 < count_of self.old.coding.search }
         ensures needed { OnOk result (NeedsDirectly parent need variable self.old self.new) }
     {
@@ -185,11 +189,11 @@ impl<N: SolverId + Drop, S: SolverId> Encoding<N, S> {
 
     /// The variable of the requirement's gate, with its clause.
     fn gate(&mut self, alloc: Global, requirement: Requirement) -> R<VariableId>
-        requires { HasEncoding S.eq self.old }
+        requires { IsBuilt self.old }
         ensures encoded { OnOk result ((p : Packages N S) (root : Rules) → IsLawful p → IsEncoding S.eq p root self.old → has_candidates self.old.lists requirement ≡ true → IsEncoding S.eq p root self.new × rules_of self.new (Rule.shared requirement)) }
         ensures stands { IfOk result (λ gate. StandsFor self.new.coding.atoms.keys gate (Gate requirement)) }
-        ensures coding { OnOk result (IsCoding self.new.coding) }
         ensures kept { OnOk result (Extends self.old self.new) }
+        ensures built { OnOk result (IsBuilt self.new) }
     {
         if let Some(gate) = self.gates.get(requirement) {
             return Ok(*gate);
@@ -256,6 +260,8 @@ impl<N: SolverId + Drop, S: SolverId> Encoding<N, S> {
     pub fn add_parent(&mut self, solvable: S) -> R<()>
         ensures added { OnOk result (AddsParent self.old self.new) }
         ensures encoding { OnOk result ((p : Packages N S) (root : Rules) → IsEncoding S.eq p root self.old → IsEncoding S.eq p root self.new) }
+        ensures built { OnOk result (IsBuilt self.old → IsBuilt self.new) }
+        ensures stands { OnOk result (Contains self.new.parents.keys (Parent solvable)) }
     {
         add_key(&mut self.parents, SolvableIdOrRoot::Solvable(solvable))?;
         Ok(())
@@ -266,6 +272,8 @@ impl<N: SolverId + Drop, S: SolverId> Encoding<N, S> {
         requires { self.old.encoded < length self.old.parents.keys }
         ensures next { self.new ≡ record self.old { encoded = self.old.encoded + 1 } }
         ensures encoding { (p : Packages N S) (root : Rules) → IsEncoding S.eq p root self.old → IsNextEncoded S.eq p root self.old → IsEncoding S.eq p root self.new }
+        ensures built { IsBuilt self.old → IsBuilt self.new }
+        ensures bounded { self.old.encoded < 18446744073709551615 }
     {
         if self.encoded < self.parents.len() {
             self.encoded += 1;
@@ -311,7 +319,8 @@ fn register_one<N: SolverId, S: SolverId>(
 
 /// Puts a value behind the others, unless it stands there.
 fn add_key<K: Copy + Eq + Hash + Drop>(keys: &mut IndexSet<K>, key: K) -> R<()>
-    ensures { OnOk result (IsFrontOf keys.old.keys keys.new.keys) }
+    ensures front { OnOk result (IsFrontOf keys.old.keys keys.new.keys) }
+    ensures stands { OnOk result (((other : K) → K.eq key other ≡ true → other ≡ key) → Contains keys.new.keys key) }
 {
     keys.insert(key)?;
     Ok(())

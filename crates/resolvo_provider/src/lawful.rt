@@ -22,7 +22,7 @@ use std::alloc::Global;
 use std::fmt;
 
 /// What a provider over a catalogue cancels with: nothing, since it never does.
-#[derive(Clone, Copy, Debug, PartialEq, Eq)]
+#[derive(Clone, Copy)]
 pub enum Never {}
 
 impl Interner for CatalogueProvider {

@@ -13,8 +13,8 @@ use resolvo_store::literal::Literal;
 use std::alloc::Global;
 use std::test::Fail;
 
-/// How many clauses there are once so many solvables of one package were registered, each twice.
-fn clauses(alloc: Global, count: u32) -> R<usize> {
+/// What comes once so many solvables of one package were registered, each twice.
+fn registered(alloc: Global, count: u32) -> R<Coding<NameId, SolvableId>> {
     let mut coding: Coding<NameId, SolvableId> = Coding::begin(alloc)?;
     let mut registry: Registry<NameId> = Registry::new(alloc);
     for number in 0..count {
@@ -22,7 +22,25 @@ fn clauses(alloc: Global, count: u32) -> R<usize> {
         registry.register(&mut coding, NameId::from_raw(7), solvable)?;
         registry.register(&mut coding, NameId::from_raw(7), solvable)?;
     }
+    Ok(coding)
+}
+
+/// How many clauses there are then.
+fn clauses(alloc: Global, count: u32) -> R<usize> {
+    let coding = registered(alloc, count)?;
     Ok(coding.search.clauses.len())
+}
+
+/// Which digits of which places the clauses tell then.
+fn places(alloc: Global, count: u32) -> R<Vec<(u32, u32)>> {
+    let coding = registered(alloc, count)?;
+    let mut places = Vec::new(alloc);
+    for stated in coding.stated.iter() {
+        if let Stated::Digit { place, bit, .. } = stated {
+            places.push((*place, *bit))?;
+        }
+    }
+    Ok(places)
 }
 
 /// The first clause says the root; then there is one for each solvable and each digit.
@@ -32,6 +50,27 @@ fn digits(rt: HostRuntime) -> Result<(), Fail> {
     assert_eq!(rt; clauses(rt.alloc(), 2)?, 3);
     assert_eq!(rt; clauses(rt.alloc(), 4)?, 9);
     assert_eq!(rt; clauses(rt.alloc(), 5)?, 16);
+    Ok(())
+}
+
+/// Where a digit is new, it is told first of the solvables before, in their order.
+#[test]
+fn each_place(rt: HostRuntime) -> Result<(), Fail> {
+    assert_eq!(rt; places(rt.alloc(), 1)?.len(), 0);
+    assert_eq!(rt;
+        places(rt.alloc(), 4)?.as_slice(),
+        [
+            (0, 0),
+            (1, 0),
+            (0, 1),
+            (1, 1),
+            (2, 0),
+            (2, 1),
+            (3, 0),
+            (3, 1)
+        ]
+        .as_slice()
+    );
     Ok(())
 }
 

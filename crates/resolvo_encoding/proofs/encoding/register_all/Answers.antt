@@ -2,7 +2,7 @@ use Rattle.std.proofs.Common.{◌≡◌, ◌+◌, ◌∷◌, ◌++◌, [], ◌�
 use Rattle.std.proofs.ResultArms.{chosen}
 use Rattle.std.proofs.lemmas.List.{take_more}
 use Rattle.resolvo_store.specs.declared.lists.Candidate.{Candidate}
-use Rattle.resolvo_answers.specs.declared.answers.Offered.{Offered}
+use Rattle.resolvo_answers.specs.declared.answering.Offered.{Offered}
 use Rattle.resolvo_encoding.specs.Steps.{RegistersAll}
 use Rattle.resolvo_encoding.proofs.Carrying.{registers_none, registers_more}
 use Rattle.resolvo_encoding.proofs.encoding.register_all.Goals as goal

@@ -2,7 +2,7 @@ use Rattle.std.proofs.Common.{refl, length-set}
 use Rattle.std.proofs.lemmas.Option.{slice_get_read}
 use Rattle.resolvo_coding.proofs.Positions.{get_set_here, get_set_other}
 use Rattle.resolvo_coding.proofs.Naming.{place_within}
-use Rattle.resolvo_coding.proofs.Registering.{named_tied, registers_is}
+use Rattle.resolvo_coding.proofs.Registering.{digits_same, named_tied, registers_is}
 use Rattle.resolvo_coding.proofs.registry.Registry.register.Goals as goal
 
 pub track-requires : goal.track-requires
@@ -10,7 +10,7 @@ track-requires g c =
     let places = c.in_ok-place.ensures.place in
     let gives = c.in_ok-variable.ensures.given in
     let below = place_within c.args.name c.in_ok-place.place c.args.self.now c.place_of.new.self places in
-    let ties = named_tied c.args.name c.in_ok-place.place c.args.self.now c.place_of.new.self c.args.coding.now c.requires.tied places c.variable.new.self gives.grows in
+    let ties = named_tied c.args.name c.in_ok-place.place c.args.self.now c.place_of.new.self c.args.coding.now c.requires.tied places c.variable.new.self gives.grows (digits_same c.args.coding.now c.variable.new.self gives.stated) in
     record {
       coding = gives.coding;
       tied = ties.tied c.in_ok-place.place c.args.name c.index_mut.result.now places.stands (slice_get_read c.place_of.new.self.trackers.items _ c.in_ok-place.place c.index_mut.result.now refl below c.index_mut.ensures.value);

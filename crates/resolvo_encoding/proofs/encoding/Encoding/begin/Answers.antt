@@ -2,6 +2,7 @@ use Rattle.std.proofs.Common.{◌≡◌, ◌∷◌, [], refl}
 use Rattle.resolvo_pool.specs.declared.solver_id.SolvableIdOrRoot.TheVariants.{Root}
 use Rattle.resolvo_rules.specs.Encoding.{IsExact}
 use Rattle.resolvo_encoding.proofs.Needing.{begun_encodes}
+use Rattle.resolvo_encoding.proofs.Building.{built_begun}
 use Rattle.resolvo_encoding.proofs.encoding.Encoding.begin.Goals as goal
 
 pub returns-clause-begun : goal.returns-clause-begun
@@ -13,3 +14,6 @@ pub returns-clause-encoding : goal.returns-clause-encoding
 returns-clause-encoding g c = λ p root lawful.
     let exact : IsExact g.S.PartialEq.eq = record { one = g.met.S.Exact.exact; own = g.met.S.Eq.laws.refl } in
     begun_encodes g.S.PartialEq.eq exact p root lawful _ (returns-clause-begun g c)
+
+pub returns-clause-built : goal.returns-clause-built
+returns-clause-built g c = built_begun _ (returns-clause-begun g c)

@@ -8,19 +8,14 @@ use Rattle.resolvo_rules.specs.Ending.{IsNeedEncoded}
 use Rattle.resolvo_encoding.specs.Steps.{Needs}
 use Rattle.resolvo_encoding.proofs.Requiring.{fixes_keep, extends_then, fixes_extend, need_extends}
 use Rattle.resolvo_encoding.proofs.Needing.{need_keeps}
+use Rattle.resolvo_encoding.proofs.Building.{built_fixes, built_states}
 use Rattle.resolvo_encoding.proofs.encoding.Encoding.require.Goals as goal
 
-pub need_directly-requires-clause-encoding : goal.need_directly-requires-clause-encoding
-need_directly-requires-clause-encoding g c =
-    let (p, root, lawful, e, offered) = c.requires in
-    let exact : IsExact g.S.PartialEq.eq = record { one = g.met.S.Exact.exact; own = g.met.S.Eq.laws.refl } in
-    (p, root, lawful, (fixes_keep g.S.PartialEq.eq exact p root lawful c.args.need.requirement c.args.offered.now c.args.self.now c.fix_candidates.new.self e offered c.in_ok-fix_candidates.ensures.fixed).0)
+pub need_directly-requires-clause-built : goal.need_directly-requires-clause-built
+need_directly-requires-clause-built g c = built_fixes c.args.need.requirement c.args.offered.now c.args.self.now c.fix_candidates.new.self c.requires c.in_ok-fix_candidates.ensures.fixed
 
 pub require_of-requires : goal.require_of-requires
-require_of-requires g c =
-    let (p, root, lawful, e, offered) = c.requires in
-    let exact : IsExact g.S.PartialEq.eq = record { one = g.met.S.Exact.exact; own = g.met.S.Eq.laws.refl } in
-    (p, root, lawful, (fixes_keep g.S.PartialEq.eq exact p root lawful c.args.need.requirement c.args.offered.now c.args.self.now c.fix_candidates.new.self e offered c.in_ok-fix_candidates.ensures.fixed).0)
+require_of-requires g c = built_fixes c.args.need.requirement c.args.offered.now c.args.self.now c.fix_candidates.new.self c.requires c.in_ok-fix_candidates.ensures.fixed
 
 pub returns-in_ok-need_directly-in-None-clause-encoded : goal.returns-in_ok-need_directly-in-None-clause-encoded
 returns-in_ok-need_directly-in-None-clause-encoded g c = λ p root lawful e offered needs.
@@ -52,3 +47,9 @@ returns-in_ok-require_of-in-Some-clause-encoded g c = λ p root lawful e offered
 pub returns-in_ok-require_of-in-Some-clause-kept : goal.returns-in_ok-require_of-in-Some-clause-kept
 returns-in_ok-require_of-in-Some-clause-kept g c =
     extends_then c.args.self.now c.fix_candidates.new.self c.require_of.new.self (fixes_extend c.args.need.requirement c.args.offered.now c.args.self.now c.fix_candidates.new.self c.in_ok-fix_candidates.ensures.fixed) c.in_ok-require_of-in-Some.ensures.kept
+
+pub returns-in_ok-need_directly-in-None-clause-built : goal.returns-in_ok-need_directly-in-None-clause-built
+returns-in_ok-need_directly-in-None-clause-built g c =
+    let needed = c.in_ok-need_directly-in-None.ensures.needed in
+    built_states (Says.Needs None c.args.need needed.case) c.root.result c.args.need.requirement c.fix_candidates.new.self c.need_directly.new.self
+    (built_fixes c.args.need.requirement c.args.offered.now c.args.self.now c.fix_candidates.new.self c.requires c.in_ok-fix_candidates.ensures.fixed) (λ name s place bit h. absurd cc) needed.states

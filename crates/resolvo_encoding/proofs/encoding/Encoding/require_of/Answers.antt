@@ -6,17 +6,17 @@ use Rattle.resolvo_encoding.specs.declared.encoding.Encoding.{Encoding}
 use Rattle.resolvo_encoding.specs.Encoded.{rules_of}
 use Rattle.resolvo_encoding.specs.Steps.{SameButCoding, Extends}
 use Rattle.resolvo_coding.proofs.Growth.{stands_grow, rules_grow, stands_in_range}
+use Rattle.resolvo_coding.proofs.Registering.{digits_same, digits_more}
 use Rattle.resolvo_encoding.proofs.Requiring.{extends_then, need_extends}
 use Rattle.resolvo_encoding.proofs.Needing.{need_keeps, gated_keeps, gives_keeps}
+use Rattle.resolvo_encoding.proofs.Building.{built_grows, built_rest, built_states}
 use Rattle.resolvo_encoding.proofs.encoding.Encoding.require_of.Goals as goal
 
-pub need_directly-requires-clause-encoding : goal.need_directly-requires-clause-encoding
-need_directly-requires-clause-encoding g c =
-    let (p, root, lawful, e) = c.requires in
-    let exact : IsExact g.S.PartialEq.eq = record { one = g.met.S.Exact.exact; own = g.met.S.Eq.laws.refl } in
+pub need_directly-requires-clause-built : goal.need_directly-requires-clause-built
+need_directly-requires-clause-built g c =
     let middle : Encoding _ _ = record c.args.self.now { coding = c.variable.new.self } in
-    let rest : SameButCoding c.args.self.now middle = record { registry = refl; lists = refl; queue = refl; gates = refl; parents = refl; encoded = refl } in
-    (p, root, lawful, gives_keeps g.S.PartialEq.eq exact p root lawful (Solvable c.args.solvable) c.in_ok-variable.variable c.args.self.now middle e c.in_ok-variable.ensures.given rest)
+    let gives = c.in_ok-variable.ensures.given in
+    built_grows c.args.self.now middle c.requires gives.coding gives.grows refl refl refl refl refl (digits_same c.args.self.now.coding c.variable.new.self gives.stated)
 
 pub need_directly-requires-clause-in_range : goal.need_directly-requires-clause-in_range
 need_directly-requires-clause-in_range g c = stands_in_range c.variable.new.self c.in_ok-variable.variable (Solvable c.args.solvable) c.in_ok-variable.ensures.given.coding c.in_ok-variable.ensures.given.stands
@@ -41,20 +41,18 @@ returns-then-count-lt-GATED-clause-kept g c =
 
 pub gate-requires : goal.gate-requires
 gate-requires g c =
-    let (p, root, lawful, e) = c.requires in
-    let exact : IsExact g.S.PartialEq.eq = record { one = g.met.S.Exact.exact; own = g.met.S.Eq.laws.refl } in
     let middle : Encoding _ _ = record c.args.self.now { coding = c.variable.new.self } in
-    let rest : SameButCoding c.args.self.now middle = record { registry = refl; lists = refl; queue = refl; gates = refl; parents = refl; encoded = refl } in
-    (p, root, lawful, gives_keeps g.S.PartialEq.eq exact p root lawful (Solvable c.args.solvable) c.in_ok-variable.variable c.args.self.now middle e c.in_ok-variable.ensures.given rest)
+    let gives = c.in_ok-variable.ensures.given in
+    built_grows c.args.self.now middle c.requires gives.coding gives.grows refl refl refl refl refl (digits_same c.args.self.now.coding c.variable.new.self gives.stated)
 
 pub open_gate-requires-clause-coding : goal.open_gate-requires-clause-coding
-open_gate-requires-clause-coding g c = c.in_ok-gate.ensures.coding
+open_gate-requires-clause-coding g c = c.in_ok-gate.ensures.built.coding
 
 pub open_gate-requires-clause-in_range : goal.open_gate-requires-clause-in_range
-open_gate-requires-clause-in_range g c = stands_in_range c.gate.new.self.coding c.in_ok-variable.variable (Solvable c.args.solvable) c.in_ok-gate.ensures.coding (stands_grow c.variable.new.self c.gate.new.self.coding c.in_ok-variable.variable (Solvable c.args.solvable) c.in_ok-gate.ensures.kept.grows c.in_ok-variable.ensures.given.stands)
+open_gate-requires-clause-in_range g c = stands_in_range c.gate.new.self.coding c.in_ok-variable.variable (Solvable c.args.solvable) c.in_ok-gate.ensures.built.coding (stands_grow c.variable.new.self c.gate.new.self.coding c.in_ok-variable.variable (Solvable c.args.solvable) c.in_ok-gate.ensures.kept.grows c.in_ok-variable.ensures.given.stands)
 
 pub open_gate-requires-clause-gate_in_range : goal.open_gate-requires-clause-gate_in_range
-open_gate-requires-clause-gate_in_range g c = stands_in_range c.gate.new.self.coding c.in_ok-gate.gate (Gate c.args.need.requirement) c.in_ok-gate.ensures.coding c.in_ok-gate.ensures.stands
+open_gate-requires-clause-gate_in_range g c = stands_in_range c.gate.new.self.coding c.in_ok-gate.gate (Gate c.args.need.requirement) c.in_ok-gate.ensures.built.coding c.in_ok-gate.ensures.stands
 
 pub returns-clause-encoded : goal.returns-clause-encoded
 returns-clause-encoded g c = λ p root lawful e has needs.
@@ -76,3 +74,17 @@ returns-clause-kept g c =
     let opened = c.in_ok-open_gate.ensures.opened in
     let last : Extends c.gate.new.self c.open_gate.new.self = record { grows = opened.states.grows; parents = opened.rest.parents; encoded = opened.rest.encoded } in
     extends_then c.args.self.now middle c.open_gate.new.self first (extends_then middle c.gate.new.self c.open_gate.new.self c.in_ok-gate.ensures.kept last)
+
+pub returns-clause-built : goal.returns-clause-built
+returns-clause-built g c =
+    let opened = c.in_ok-open_gate.ensures.opened in
+    built_rest c.gate.new.self c.open_gate.new.self c.in_ok-gate.ensures.built opened.states.coding opened.states.grows
+    (digits_more (Says.Gated c.args.solvable c.args.need.requirement) c.gate.new.self.coding c.open_gate.new.self.coding opened.states.stated (λ name s place bit h. absurd cc)) opened.rest
+
+pub returns-then-count-lt-GATED-clause-built : goal.returns-then-count-lt-GATED-clause-built
+returns-then-count-lt-GATED-clause-built g c =
+    let middle : Encoding _ _ = record c.args.self.now { coding = c.variable.new.self } in
+    let gives = c.in_ok-variable.ensures.given in
+    let needed = c.in_ok-need_directly.ensures.needed in
+    built_states (Says.Needs (Some c.args.solvable) c.args.need needed.case) c.in_ok-variable.variable c.args.need.requirement middle c.need_directly.new.self
+    (built_grows c.args.self.now middle c.requires gives.coding gives.grows refl refl refl refl refl (digits_same c.args.self.now.coding c.variable.new.self gives.stated)) (λ name s place bit h. absurd cc) needed.states

@@ -5,14 +5,14 @@ use Rattle.resolvo_rules.specs.Encoding.{IsExact}
 use Rattle.resolvo_coding.specs.Coding.{Advances}
 use Rattle.resolvo_encoding.specs.declared.encoding.Encoding.{Encoding}
 use Rattle.resolvo_encoding.specs.Going.{IsChoice}
-use Rattle.resolvo_encoding.proofs.Staying.{step_goes, step_keeps, learnt_heavier, complete_gains, goes_then}
+use Rattle.resolvo_encoding.proofs.Building.{built_rest}
+use Rattle.resolvo_encoding.proofs.Staying.{digits_kept, step_goes, step_keeps, learnt_heavier, complete_gains, goes_then}
 use Rattle.resolvo_encoding.proofs.encoding.Encoding.step.Goals as goal
 
 pub choose_next-requires : goal.choose_next-requires
 choose_next-requires g c =
-    let (p, root, lawful, e) = c.requires in
-    let exact : IsExact g.S.PartialEq.eq = record { one = g.met.S.Exact.exact; own = g.met.S.Eq.laws.refl } in
-    (p, root, lawful, step_keeps c.args.self.now c.advance.new.self g.S.PartialEq.eq exact p root lawful c.in_ok-refusal.field-0 c.in_ok-refusal.ensures.advanced e)
+    let goes = step_goes c.args.self.now c.advance.new.self c.in_ok-refusal.field-0 c.requires.coding c.in_ok-refusal.ensures.advanced in
+    built_rest c.args.self.now (record c.args.self.now { coding = c.advance.new.self }) c.requires goes.coding goes.grows (digits_kept c.args.self.now (record c.args.self.now { coding = c.advance.new.self }) c.requires.coding goes) goes.rest
 
 pub returns-in-Refused-clause-stays : goal.returns-in-Refused-clause-stays
 returns-in-Refused-clause-stays g c = λ p root lawful e.
@@ -26,8 +26,7 @@ returns-in-Learnt-clause-stays g c = λ p root lawful e.
 
 pub returns-in-Learnt-clause-goes_on : goal.returns-in-Learnt-clause-goes_on
 returns-in-Learnt-clause-goes_on g c =
-    let (p, root, lawful, e) = c.requires in
-    step_goes c.args.self.now c.advance.new.self c.in_ok-refusal.field-0 e.coding c.in_ok-refusal.ensures.advanced
+    step_goes c.args.self.now c.advance.new.self c.in_ok-refusal.field-0 c.requires.coding c.in_ok-refusal.ensures.advanced
 
 pub returns-in-Learnt-clause-step : goal.returns-in-Learnt-clause-step
 returns-in-Learnt-clause-step g c =
@@ -41,8 +40,7 @@ returns-then-has_chosen-clause-stays g c = λ p root lawful e.
 
 pub returns-then-has_chosen-clause-goes_on : goal.returns-then-has_chosen-clause-goes_on
 returns-then-has_chosen-clause-goes_on g c =
-    let (p, root, lawful, e) = c.requires in
-    goes_then c.args.self.now (record c.args.self.now { coding = c.advance.new.self }) c.choose_next.new.self (step_goes c.args.self.now c.advance.new.self c.in_ok-refusal.field-0 e.coding c.in_ok-refusal.ensures.advanced) c.in_ok-has_chosen-in-Complete.ensures.goes_on
+    goes_then c.args.self.now (record c.args.self.now { coding = c.advance.new.self }) c.choose_next.new.self (step_goes c.args.self.now c.advance.new.self c.in_ok-refusal.field-0 c.requires.coding c.in_ok-refusal.ensures.advanced) c.in_ok-has_chosen-in-Complete.ensures.goes_on
 
 pub returns-then-has_chosen-clause-step : goal.returns-then-has_chosen-clause-step
 returns-then-has_chosen-clause-step g c =
@@ -59,11 +57,20 @@ returns-else-has_chosen-clause-stays g c = λ p root lawful e.
 
 pub returns-else-has_chosen-clause-goes_on : goal.returns-else-has_chosen-clause-goes_on
 returns-else-has_chosen-clause-goes_on g c =
-    let (p, root, lawful, e) = c.requires in
-    goes_then c.args.self.now (record c.args.self.now { coding = c.advance.new.self }) c.choose_next.new.self (step_goes c.args.self.now c.advance.new.self c.in_ok-refusal.field-0 e.coding c.in_ok-refusal.ensures.advanced) c.in_ok-has_chosen-in-Complete.ensures.goes_on
+    goes_then c.args.self.now (record c.args.self.now { coding = c.advance.new.self }) c.choose_next.new.self (step_goes c.args.self.now c.advance.new.self c.in_ok-refusal.field-0 c.requires.coding c.in_ok-refusal.ensures.advanced) c.in_ok-has_chosen-in-Complete.ensures.goes_on
 
 pub returns-else-has_chosen-clause-step : goal.returns-else-has_chosen-clause-step
 returns-else-has_chosen-clause-step g c =
     let step : Advances c.args.self.now.coding c.advance.new.self Progress.Complete = subst (λ (q : Progress). Advances c.args.self.now.coding c.advance.new.self q) c.in-Complete.is c.in_ok-refusal.ensures.advanced in
     let middle : Encoding _ _ = record c.args.self.now { coding = c.advance.new.self } in
     subst (λ (b : Bool). IsChoice middle c.choose_next.new.self b) c.if-has_chosen.false c.in_ok-has_chosen-in-Complete.ensures.chosen step.progress.quiet
+
+pub returns-in-Refused-clause-built : goal.returns-in-Refused-clause-built
+returns-in-Refused-clause-built g c =
+    let goes = step_goes c.args.self.now c.advance.new.self c.in_ok-refusal.field-0 c.requires.coding c.in_ok-refusal.ensures.advanced in
+    built_rest c.args.self.now (record c.args.self.now { coding = c.advance.new.self }) c.requires goes.coding goes.grows (digits_kept c.args.self.now (record c.args.self.now { coding = c.advance.new.self }) c.requires.coding goes) goes.rest
+
+pub returns-in-Learnt-clause-built : goal.returns-in-Learnt-clause-built
+returns-in-Learnt-clause-built g c =
+    let goes = step_goes c.args.self.now c.advance.new.self c.in_ok-refusal.field-0 c.requires.coding c.in_ok-refusal.ensures.advanced in
+    built_rest c.args.self.now (record c.args.self.now { coding = c.advance.new.self }) c.requires goes.coding goes.grows (digits_kept c.args.self.now (record c.args.self.now { coding = c.advance.new.self }) c.requires.coding goes) goes.rest

@@ -1,8 +1,8 @@
 use Rattle.std.proofs.Common.{rules, ◌≡◌, subst, sym, List, map}
-use Rattle.resolvo_answers.specs.declared.answers.Offered.{Offered}
+use Rattle.resolvo_answers.specs.declared.answering.Offered.{Offered}
 use Rattle.resolvo_answers.specs.Answering.{packages_by, offer_by, AreOffered}
 use Rattle.resolvo_answers.proofs.Offering.{are_offered}
-use Rattle.resolvo_answers.proofs.answers.Answers.candidates.Goals as goal
+use Rattle.resolvo_answers.proofs.answers.AnswersAnswering.candidates.Goals as goal
 
 pub returns-clause-offered : goal.returns-clause-offered
 returns-clause-offered g c =

@@ -1,0 +1,146 @@
+-- What the calls rest on stays, step by step.
+use Rattle.std.proofs.Common.{◌≡◌, ℕ, ◌+◌, ◌<◌, ◌≤◌, ◌⊎◌, inl, inr, Bool, true, List, [], ◌∷◌, length, Option, Some, None, Vec, Global, HashSet, BuildHasherDefault, FoldHasher, refl, sym, ◌∙◌, ap, subst, arith}
+use Rattle.std.specs.Prelude.{Contains}
+use Rattle.resolvo_store.specs.Lists.{items_or_none}
+use Rattle.resolvo_pool.specs.declared.id.VariableId.{VariableId}
+use Rattle.resolvo_pool.specs.declared.requirement.Requirement.{Requirement}
+use Rattle.resolvo_pool.specs.declared.solver_id.SolvableIdOrRoot.{SolvableIdOrRoot}
+use Rattle.resolvo_pool.specs.ByRequirement.{slot_of, PutsAt}
+use Rattle.resolvo_store.specs.Signed.{Signed, has}
+use Rattle.resolvo_store.specs.Clauses.{yes, no, candidate_literals as literals_in}
+use Rattle.resolvo_store.specs.Lists.{Named, named_by, candidates_in, has_candidates, FixesCandidates, IsEmpty}
+use Rattle.resolvo_store.specs.Pick.{pick_by}
+use Rattle.resolvo_store.specs.declared.lists.Candidate.{Candidate}
+use Rattle.resolvo_store.specs.declared.decide_queue.NeedClause.{NeedClause}
+use Rattle.resolvo_store.specs.declared.decide_queue.NextDecision.{NextDecision}
+use Rattle.resolvo_search.specs.Entries.{made_true}
+use Rattle.resolvo_search.specs.Known.{IsUndecided}
+use Rattle.resolvo_search.specs.State.{history, count_of}
+use Rattle.resolvo_search.specs.Steps.{AreInRange}
+use Rattle.resolvo_search.proofs.Literals.{has-cons}
+use Rattle.resolvo_answers.specs.declared.answering.Offered.{Offered}
+use Rattle.resolvo_coding.specs.declared.atom.ProofAtom.TheVariants.{Solvable, Gate}
+use Rattle.resolvo_coding.specs.declared.coding.Coding.{Coding}
+use Rattle.resolvo_coding.specs.declared.registry.Registry.{Registry}
+use Rattle.resolvo_coding.specs.declared.stated.Stated.{Stated}
+use Rattle.resolvo_coding.specs.declared.stated.Stated.TheVariants.{Digit}
+use Rattle.resolvo_coding.specs.Atoms.{StandsFor}
+use Rattle.resolvo_coding.specs.Coding.{IsCoding, Grows}
+use Rattle.resolvo_coding.specs.Registered.{AreTied}
+use Rattle.resolvo_coding.proofs.Growth.{stands_grow, stands_in_range}
+use Rattle.resolvo_coding.proofs.Positions.{front_long}
+use Rattle.resolvo_coding.proofs.Registering.{KeepsDigits, digits_more, ties_grow, nothing_tied}
+use Rattle.resolvo_rules.proofs.Lists.{contains_none}
+use Rattle.resolvo_encoding.specs.Encoded.{IsEncoding}
+use Rattle.resolvo_encoding.specs.Steps.{RegistersAll, Fixes, StatesNeed, SameButCoding, IsBuilt, IsBegunEncoding, AddsParent}
+use Rattle.resolvo_encoding.specs.Turning.{AreValues}
+use Rattle.resolvo_encoding.specs.declared.encoding.Encoding.{Encoding}
+use Rattle.resolvo_encoding.proofs.Deciding.{picked, offers, open_undecided}
+use Rattle.resolvo_encoding.proofs.Needing.{literal_in}
+use Rattle.resolvo_encoding.proofs.Requiring.{put_at, put_other, fix_at, fix_other, some_one}
+
+-- where only clauses, variables and the queue change
+pub built_grows : {N S : Type 0} (old new : Encoding N S) → IsBuilt old → IsCoding new.coding → Grows old.coding new.coding → new.registry ≡ old.registry → new.lists ≡ old.lists → new.gates ≡ old.gates
+    → new.parents ≡ old.parents → new.encoded ≡ old.encoded → KeepsDigits old.coding new.coding → IsBuilt new
+built_grows {N} {S} old new b coding grows registry lists gates parents encoded digits = record {
+  coding = coding;
+  tied = subst (λ (t : Registry N). AreTied t new.coding) (sym registry) (ties_grow old.registry old.coding new.coding grows digits b.tied);
+  candidates = λ r c a. (let (positive, (s, stands)) = b.candidates r c (subst (λ ls. Contains (candidates_in ls r) c) lists a) in (positive, (s, stands_grow old.coding new.coding c.literal.variable (Solvable s) grows stands)));
+  gates = λ r v at. stands_grow old.coding new.coding v (Gate r) grows (b.gates r v (sym (ap (λ gs. slot_of gs r) gates) ∙ at));
+  within = subst (λ n. n ≤ length new.parents.keys) (sym encoded) (subst (λ ps. old.encoded ≤ length ps.keys) (sym parents) b.within);
+}
+
+pub built_rest : {N S : Type 0} (old new : Encoding N S) → IsBuilt old → IsCoding new.coding → Grows old.coding new.coding → KeepsDigits old.coding new.coding → SameButCoding old new → IsBuilt new
+built_rest old new b coding grows digits rest = built_grows old new b coding grows rest.registry rest.lists rest.gates rest.parents rest.encoded digits
+
+pub built_states : {N S : Type 0} (x : Stated N S) (v : VariableId) (r : Requirement) (old new : Encoding N S) → IsBuilt old → ((name : N) (s : S) (place bit : ℕ) → x ≡ Digit name s place bit → ⊥) → StatesNeed x v r old new → IsBuilt new
+built_states x v r old new b other s = built_grows old new b s.states.coding s.states.grows s.registry s.lists s.gates s.parents s.encoded (digits_more x old.coding new.coding s.states.stated other)
+
+-- where what is offered became candidates
+pub built_fixes : {N S : Type 0} (r : Requirement) (offered : List (Offered N S)) (old new : Encoding N S) → IsBuilt old → Fixes r offered old new → IsBuilt new
+built_fixes {N} {S} r offered old new b f = go f.fixed
+  where
+    go : ((has_candidates old.lists r ≡ true) × (new ≡ old)) ⊎ ((given : Vec (Candidate N) Global) × RegistersAll offered given.items old.registry old.coding new.registry new.coding × FixesCandidates r given old.lists new.lists) → IsBuilt new
+    go (inl (has, is)) = subst (λ (x : Encoding N S). IsBuilt x) (sym is) b
+    go (inr (given, all, fixes)) = record {
+      coding = all.coding;
+      tied = all.tied;
+      candidates = candidates_new;
+      gates = λ q v at. stands_grow old.coding new.coding v (Gate q) all.grows (b.gates q v (sym (ap (λ gs. slot_of gs q) f.gates) ∙ at));
+      within = subst (λ n. n ≤ length new.parents.keys) (sym f.encoded) (subst (λ ps. old.encoded ≤ length ps.keys) (sym f.parents) b.within);
+    }
+      where
+        here : slot_of new.lists.candidates r ≡ Some given
+        here = fix_at r given old.lists new.lists fixes
+
+        candidates_new : (q : Requirement) (c : Candidate N) → Contains (candidates_in new.lists q) c → (c.literal.positive ≡ true) × ((s : S) × StandsFor new.coding.atoms.keys c.literal.variable (Solvable s))
+        candidates_new q c a = elim (fix_other r q given old.lists new.lists fixes) [
+          | inl is ↦
+              let (o, there, fits) = all.all c (subst (λ x. Contains (items_or_none x) c) (ap (slot_of new.lists.candidates) is ∙ here) a) in
+              (fits.positive, (o.solvable, fits.stands))
+          | inr is ↦
+              let (positive, (s, stands)) = b.candidates q c (subst (λ x. Contains (items_or_none x) c) is a) in
+              (positive, (s, stands_grow old.coding new.coding c.literal.variable (Solvable s) all.grows stands))
+        ]
+
+-- where a gate was noted
+pub built_gate : {N S : Type 0} (old new : Encoding N S) (r : Requirement) (v : VariableId) → IsBuilt old → StandsFor old.coding.atoms.keys v (Gate r) → PutsAt old.gates new.gates r v → new ≡ record old { gates = new.gates } → IsBuilt new
+built_gate {N} {S} old new r v b stands puts is = subst (λ (x : Encoding N S). IsBuilt x) (sym is) (record {
+  coding = b.coding;
+  tied = b.tied;
+  candidates = b.candidates;
+  gates = λ q u at. elim (put_other old.gates new.gates r q v puts) [
+    | inl same_one ↦ (let one : v ≡ u = some_one v u (sym (ap (slot_of new.gates) same_one ∙ put_at old.gates new.gates r v puts) ∙ at) in
+        subst (λ y. StandsFor old.coding.atoms.keys u (Gate y)) (sym same_one) (subst (λ w. StandsFor old.coding.atoms.keys w (Gate r)) one stands))
+    | inr stays ↦ b.gates q u (sym stays ∙ at)
+  ];
+  within = b.within;
+})
+
+-- where parents came
+pub built_parents : {N S : Type 0} (old new : Encoding N S) → IsBuilt old → AddsParent old new → IsBuilt new
+built_parents {N} {S} old new b added = subst (λ (x : Encoding N S). IsBuilt x) (sym added.rest) (record {
+  coding = b.coding;
+  tied = b.tied;
+  candidates = b.candidates;
+  gates = b.gates;
+  within = (let a : length old.parents.keys ≤ length new.parents.keys = front_long old.parents.keys new.parents.keys added.front in let c : old.encoded ≤ length old.parents.keys = b.within in omega arith);
+})
+
+-- where the needs of the next parent were encoded
+pub built_next : {N S : Type 0} (e : Encoding N S) → IsBuilt e → e.encoded < length e.parents.keys → IsBuilt (record e { encoded = e.encoded + 1 })
+built_next e b below = record { coding = b.coding; tied = b.tied; candidates = b.candidates; gates = b.gates; within = omega arith }
+
+-- at first
+pub built_begun : {N S : Type 0} (e : Encoding N S) → IsBegunEncoding e → IsBuilt e
+built_begun {N} {S} e begun = record {
+  coding = begun.coding.coding;
+  tied = nothing_tied e.registry e.coding begun.registry.names begun.registry.trackers begun.coding.stated;
+  candidates = λ r c a. absurd (contains_none c (subst (λ x. Contains (items_or_none x) c) (begun.lists.candidates r) a));
+  gates = λ r v at. (let none : None ≡ Some v = sym (begun.gates r) ∙ at in absurd cc);
+  within = (let none : e.encoded ≡ 0 = begun.encoded in omega arith);
+}
+
+-- ---- what calls ask for
+
+-- the literals of a need's clause have variables
+pub built_in_range : {N S : Type 0} (e : Encoding N S) (v : VariableId) (r : Requirement) → IsBuilt e → v.0 < count_of e.coding.search → AreInRange (count_of e.coding.search) (no v ∷ literals_in (candidates_in e.lists r))
+built_in_range e v r b below l h = elim (has-cons (no v) (literals_in (candidates_in e.lists r)) l h) [
+  | inl is ↦ subst (λ (y : Signed). y.variable.0 < count_of e.coding.search) is below
+  | inr a ↦
+      let (c, there, one) = literal_in (candidates_in e.lists r) l a in
+      let (positive, (s, stands)) = b.candidates r c there in
+      subst (λ (y : Signed). y.variable.0 < count_of e.coding.search) one (stands_in_range e.coding c.literal.variable (Solvable s) b.coding stands)
+]
+
+-- the next decision is for an undecided variable of the search
+pub built_choice : {N S : Type 0} (e : Encoding N S) (values : ℕ → Option Bool) (score : N → ℕ) (d : NextDecision) → IsBuilt e → AreValues values (made_true (history e.coding.search)) → pick_by (named_by e.lists) values score e.queue ≡ Some d
+    → IsUndecided (made_true (history e.coding.search)) (yes d.candidate) × (d.candidate.0 < count_of e.coding.search)
+built_choice e values score d b agree h =
+    let (q, stands, offered) = picked (named_by e.lists) values score e.queue d h in
+    let (eligible, (c, listed, undecided, is)) = offers (named_by e.lists) values score q d offered in
+    let (positive, (s, known)) = b.candidates q.requirement c listed in
+    let literal : c.literal ≡ yes d.candidate = λ i. record { variable = is i; positive = positive i } in (
+      subst (λ (x : Signed). IsUndecided (made_true (history e.coding.search)) x) literal (open_undecided values (made_true (history e.coding.search)) agree c.literal undecided),
+      subst (λ (v : VariableId). v.0 < count_of e.coding.search) is (stands_in_range e.coding c.literal.variable (Solvable s) b.coding known),
+    )
