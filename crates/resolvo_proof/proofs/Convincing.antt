@@ -8,6 +8,7 @@ use Rattle.resolvo_pool.specs.declared.id.ConditionId.{ConditionId}
 use Rattle.resolvo_pool.specs.OnePass.{Literal, clause_true}
 use Rattle.resolvo_pool.specs.RuleKeeping.{Packages, Rules, IsRuleKeeping}
 use Rattle.resolvo_pool.proofs.PassSound.{one_pass_true}
+use Rattle.resolvo_store.specs.AtMostOne.{digit}
 use Rattle.resolvo_rules.specs.Encoding as Encoding
 use Rattle.resolvo_rules.specs.Encoding.{Atom, IsExact, IsRule, AgreeWith, value, shown}
 use Rattle.resolvo_rules.proofs.Lists.{contained_all, map_contains}
@@ -21,8 +22,8 @@ use Rattle.resolvo_proof.specs.Steps.{literal_in, rule_under, clause_of, clause_
 use Rattle.resolvo_proof.specs.Proof.{IsRefuted, IsProof, EndsEmpty, HaveDigits, Convinces}
 use Rattle.resolvo_proof.proofs.Proving.{under_any, step_clause}
 
--- a rule that tells a digit is stated so
-digit_stated : {N S : Type 0} (condition : Option ConditionId) (x : ProofRule N S) (s : S) (bit : ℕ) (b : Bool) → Encoding.Rule.has_digit s bit b ≡ rule_under condition x → x ≡ Digit s bit b
+-- a rule that tells a digit is stated as that of a place
+digit_stated : {N S : Type 0} (condition : Option ConditionId) (x : ProofRule N S) (s : S) (bit : ℕ) (b : Bool) → Encoding.Rule.has_digit s bit b ≡ rule_under condition x → (place : ℕ) × (x ≡ Digit s place bit) × (b ≡ digit place bit)
 digit_stated condition (Needs parent q case) s bit b h = absurd cc
 digit_stated condition (GateOf t q) s bit b h = absurd cc
 digit_stated condition (Shared q) s bit b h = absurd cc
@@ -31,7 +32,11 @@ digit_stated condition (Limit parent v (Some t)) s bit b h = absurd cc
 digit_stated condition (Outside v t) s bit b h = absurd cc
 digit_stated condition (Locked locked t) s bit b h = absurd cc
 digit_stated condition (Excluded t reason) s bit b h = absurd cc
-digit_stated condition (Digit t low c) s bit b h = cc
+digit_stated condition (Digit t place low) s bit b h =
+    let one : s ≡ t = cc in
+    let same : bit ≡ low = cc in
+    let told : b ≡ digit place low = cc in
+    (place, (λ i. Digit (sym one i) place (sym same i)), told ∙ ap (digit place) (sym same))
 digit_stated condition (AtLeastOne n t) s bit b h = absurd cc
 
 module _ {N S : Type 0} (same_atom : Atom N S → Atom N S → Bool) (exact_atom : IsExact same_atom) (same : S → S → Bool) (exact : IsExact same) (same_name : N → N → Bool) (names : IsExact same_name) (p : Packages N S) (root : Rules)
@@ -41,7 +46,9 @@ module _ {N S : Type 0} (same_atom : Atom N S → Atom N S → Bool) (exact_atom
   Stands r = IsRule same p root r × ((place : ℕ) × (condition : Option ConditionId) × (x : ProofRule N S) × (slice_get steps place ≡ Some (Rule x)) × (r ≡ rule_under condition x))
 
   agree : AgreeWith Stands bits
-  agree s bit b (is, (place, condition, x, at, e)) = digits place s bit b (at ∙ ap (λ y. Some (Rule y)) (digit_stated condition x s bit b e))
+  agree s bit b (is, (n, condition, x, at, e)) =
+      let (place, stated, told) = digit_stated condition x s bit b e in
+      digits n s place bit (at ∙ ap (λ y. Some (Rule y)) stated) ∙ sym told
 
   -- the values over the set, with the digits of its members' places
   abbrev at_set : Atom N S → Bool

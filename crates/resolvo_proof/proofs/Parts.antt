@@ -130,7 +130,7 @@ learnt_step {N} {S} c coding n x clause step behind states at told d = record { 
     go (Says.IsOut v s) e t = absurd cc
     go (Says.Locked locked s) e t = absurd cc
     go (Says.Excluded s reason) e t = absurd cc
-    go (Says.Digit m s bit value) e t = absurd cc
+    go (Says.Digit m s place bit) e t = absurd cc
     go (Says.IsThere m s) e t = absurd cc
     go Says.Learnt e t = refl
 

@@ -136,7 +136,7 @@ told_rule (Says.LimitsOutside parent v) r h = (None, sym (ap (λ y. Some (rule_u
 told_rule (Says.IsOut v s) r h = (None, sym (ap (λ y. Some (rule_under None y)) (some_is r (Outside v s) h)))
 told_rule (Says.Locked locked s) r h = (None, sym (ap (λ y. Some (rule_under None y)) (some_is r (Locked locked s) h)))
 told_rule (Says.Excluded s reason) r h = (None, sym (ap (λ y. Some (rule_under None y)) (some_is r (Excluded s reason) h)))
-told_rule (Says.Digit n s bit value) r h = (None, sym (ap (λ y. Some (rule_under None y)) (some_is r (Digit s bit value) h)))
+told_rule (Says.Digit n s place bit) r h = (None, sym (ap (λ y. Some (rule_under None y)) (some_is r (Digit s place bit) h)))
 told_rule (Says.IsThere n s) r h = (None, sym (ap (λ y. Some (rule_under None y)) (some_is r (AtLeastOne n s) h)))
 told_rule Says.Learnt r h = absurd cc
 
@@ -151,7 +151,7 @@ module _ {N S : Type 0} (same : S → S → Bool) (p : Packages N S) where
   under_any condition (Outside v s) = refl
   under_any condition (Locked locked s) = refl
   under_any condition (Excluded s reason) = refl
-  under_any condition (Digit s bit value) = refl
+  under_any condition (Digit s place bit) = refl
   under_any condition (AtLeastOne n s) = refl
 
   pub step_clause : (steps : List (ProofStep N S)) (place : ℕ) (step : ProofStep N S) → slice_get steps place ≡ Some step → step_at same p steps place ≡ clause_of same p step

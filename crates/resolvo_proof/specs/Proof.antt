@@ -4,6 +4,7 @@ use Rattle.std.proofs.Common.{Vec, Global}
 use Rattle.resolvo_pool.specs.declared.id.ConditionId.{ConditionId}
 use Rattle.resolvo_pool.specs.OnePass.{one_pass}
 use Rattle.resolvo_pool.specs.RuleKeeping.{Packages, Rules, IsRuleKeeping}
+use Rattle.resolvo_store.specs.AtMostOne.{digit}
 use Rattle.resolvo_store.specs.Signed.{Signed, has, negation}
 use Rattle.resolvo_store.specs.Clauses.{no, root as root_variable}
 use Rattle.resolvo_search.specs.declared.state.HeldClause.{HeldClause}
@@ -46,7 +47,7 @@ pub record EndsEmpty {N S : Type 0} (steps : List (ProofStep N S)) : Type 0 wher
 
 -- the places of solvables have the digits that the steps tell
 abbrev pub HaveDigits : {N S : Type 0} → List (ProofStep N S) → (S → ℕ → Bool) → Type 0
-HaveDigits {N} {S} steps bits = (place : ℕ) (s : S) (bit : ℕ) (value : Bool) → slice_get steps place ≡ Some (Rule (Digit s bit value)) → bits s bit ≡ value
+HaveDigits {N} {S} steps bits = (n : ℕ) (s : S) (place : ℕ) (bit : ℕ) → slice_get steps n ≡ Some (Rule (Digit s place bit)) → bits s bit ≡ digit place bit
 
 -- What such a list says: where it is a proof, ends with the empty clause, and some places have its digits, no set keeps the rules.
 abbrev pub Convinces : {N S : Type 0} → List (ProofStep N S) → Type 0

@@ -3,6 +3,7 @@ use Rattle.std.specs.Prelude.{ℕ, zero, suc, Bool, List, [], ◌∷◌, map, Op
 use Rattle.resolvo_pool.specs.declared.id.ConditionId.{ConditionId}
 use Rattle.resolvo_pool.specs.OnePass.{Literal}
 use Rattle.resolvo_pool.specs.RuleKeeping.{Packages}
+use Rattle.resolvo_store.specs.AtMostOne.{digit}
 use Rattle.resolvo_rules.specs.Encoding as Encoding
 use Rattle.resolvo_rules.specs.Encoding.{Atom, literals_of}
 use Rattle.resolvo_coding.specs.Atoms.{atom_of}
@@ -26,7 +27,7 @@ rule_under condition (Limit parent v (Some s)) = Encoding.Rule.limits parent v s
 rule_under condition (Outside v s) = Encoding.Rule.is_out v s
 rule_under condition (Locked locked s) = Encoding.Rule.bars s
 rule_under condition (Excluded s reason) = Encoding.Rule.bars s
-rule_under condition (Digit s bit value) = Encoding.Rule.has_digit s bit value
+rule_under condition (Digit s place bit) = Encoding.Rule.has_digit s bit (digit place bit)
 rule_under condition (AtLeastOne n s) = Encoding.Rule.is_there n s
 
 module _ {N S : Type 0} (same : S → S → Bool) (p : Packages N S) where

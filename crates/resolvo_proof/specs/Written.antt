@@ -45,7 +45,7 @@ IsTold (Says.LimitsOutside parent v) told = told ≡ Some (Limit parent v None)
 IsTold (Says.IsOut v s) told = told ≡ Some (Outside v s)
 IsTold (Says.Locked locked s) told = told ≡ Some (Locked locked s)
 IsTold (Says.Excluded s reason) told = told ≡ Some (Excluded s reason)
-IsTold (Says.Digit n s bit value) told = told ≡ Some (Digit s bit value)
+IsTold (Says.Digit n s place bit) told = told ≡ Some (Digit s place bit)
 IsTold (Says.IsThere n s) told = told ≡ Some (AtLeastOne n s)
 IsTold Says.Learnt told = told ≡ None
 

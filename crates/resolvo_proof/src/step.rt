@@ -43,11 +43,11 @@ pub enum ProofRule<N, S> {
         solvable: S,
         reason: StringId,
     },
-    /// The digit of the solvable's place among those of its package, counted from the lowest.
+    /// The digit of the solvable's place among those of its package, both counted from 0.
     Digit {
         solvable: S,
+        place: u32,
         bit: u32,
-        value: bool,
     },
     /// The solvable is a candidate of the package.
     AtLeastOne {

@@ -165,13 +165,13 @@ fn write_rule<N: SolverId, S: SolverId>(stated: &Stated<N, S>) -> R<Option<Proof
         },
         Stated::Digit {
             solvable,
+            place,
             bit,
-            value,
             ..
         } => ProofRule::Digit {
             solvable: *solvable,
+            place: *place,
             bit: *bit,
-            value: *value,
         },
         Stated::IsThere { name, solvable } => ProofRule::AtLeastOne {
             name: *name,
