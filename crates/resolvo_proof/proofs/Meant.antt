@@ -10,7 +10,7 @@ use Rattle.resolvo_store.specs.Signed.{Signed, negation, same_literal, has}
 use Rattle.resolvo_store.specs.Clauses.{yes, no, root as root_variable}
 use Rattle.resolvo_search.specs.Known.{clause_at}
 use Rattle.resolvo_search.specs.Refuting.{said, said_all, Refutes}
-use Rattle.resolvo_search.specs.State.{named, AllBelow}
+use Rattle.resolvo_search.specs.State.{named, AllBelow, AreApart}
 use Rattle.resolvo_search.proofs.Literals.{has-cons, has_here, has_later}
 use Rattle.resolvo_search.proofs.Coming.{has_contained, contained_has}
 use Rattle.resolvo_rules.specs.Encoding.{IsExact, Atom}
@@ -18,7 +18,6 @@ use Rattle.resolvo_rules.specs.Numbered.{meaning, meanings, Means, IsOnce, Spell
 use Rattle.resolvo_rules.proofs.Lists.{contains_none, contains_cases, contains_map, map_contains, any_contained, contained_any}
 use Rattle.resolvo_rules.proofs.Meanings.{meaning_stands, stands_meaning, one_literal}
 use Rattle.resolvo_proof.specs.Written.{with_place, places}
-use Rattle.resolvo_proof.specs.Proof.{AreApart}
 use Rattle.resolvo_proof.proofs.PassSets.{Spelt, Agree, read_alike, true_idle}
 
 pub exact_number : (a b : ℕ) → nat_eq a b ≡ true → a ≡ b

@@ -13,13 +13,14 @@ use Rattle.resolvo_search.specs.declared.state.HeldClause.{HeldClause}
 use Rattle.resolvo_search.specs.declared.state.SearchState.{SearchState}
 use Rattle.resolvo_search.specs.Known.{clause_at}
 use Rattle.resolvo_search.specs.Refuting.{Refutes}
-use Rattle.resolvo_search.specs.State.{lists, named, AllBelow, AreDerived, IsDerived, IsState, clauses_of, count_of, history}
+use Rattle.resolvo_search.specs.State.{lists, named, AllBelow, AreDerived, IsDerived, IsState, AreApart, clauses_of, count_of, history}
 use Rattle.resolvo_search.specs.Entries.{made_true}
 use Rattle.resolvo_search.specs.Analysis.{DenyKept, IsRefusal}
 use Rattle.resolvo_search.specs.Steps.{AreInRange}
 use Rattle.resolvo_search.proofs.Clauses.{literals_at, length-lists}
-use Rattle.resolvo_search.proofs.Literals.{has-cons, has_here, has_later}
-use Rattle.resolvo_search.proofs.Trails.{consistent, known_in_range, known_from_stands, stands_from_entry, root_known}
+use Rattle.resolvo_search.proofs.Literals.{has_here, has_later}
+use Rattle.resolvo_search.proofs.Trails.{known_in_range, known_from_stands, stands_from_entry}
+use Rattle.resolvo_search.proofs.Apart.{false_apart}
 use Rattle.resolvo_rules.specs.Encoding as Encoding
 use Rattle.resolvo_rules.specs.Encoding.{Atom, IsExact, IsRule, literals_of}
 use Rattle.resolvo_rules.specs.Numbered.{meaning, meanings, Spells}
@@ -38,7 +39,7 @@ use Rattle.resolvo_proof.specs.declared.step.ProofRule.{ProofRule}
 use Rattle.resolvo_proof.specs.declared.step.ProofRule.TheVariants.{Needs, GateOf, Shared, Limit, Outside, Locked, Excluded, Digit, AtLeastOne}
 use Rattle.resolvo_proof.specs.declared.step.ProofStep.{ProofStep}
 use Rattle.resolvo_proof.specs.Steps.{literal_in, rule_under, clause_of, clause_at as step_at}
-use Rattle.resolvo_proof.specs.Proof.{IsRefuted, IsStep, EndsEmpty, DenyRoot, AreApart, LearntApart, Proves}
+use Rattle.resolvo_proof.specs.Proof.{IsRefuted, IsStep, EndsEmpty, DenyRoot, Proves}
 use Rattle.resolvo_proof.specs.Written.{places, IsTold, IsDerivation, IsStepOf, IsStepAt, AreSteps, AreStepsThen}
 use Rattle.resolvo_proof.proofs.Meant.{spelt, derived_meant, refuted_some, places_below}
 
@@ -77,16 +78,6 @@ derived_at cs n c derived at some =
     let own : IsDerived (lists front) c.literals.items c.causes.items = subst (λ xs. IsDerived (lists xs) c.literals.items c.causes.items) (Rattle.std.proofs.lemmas.List.reverse-reverse front) d in
     let same : named (lists cs) c.causes.items ≡ named (lists front) c.causes.items = ap (λ xs. named (lists xs) c.causes.items) e ∙ named_front front (c ∷ rest) c.causes.items own.in_range in
     (subst (λ k. AllBelow k c.causes.items) (length-lists front ∙ long) own.in_range, subst (Refutes (no root_variable ∷ c.literals.items)) (sym same) own.refuted)
-
--- literals that are false on the trail stand apart
-false_apart : (s : SearchState) (literals : List Signed) → IsState s → ((l : Signed) → has literals l ≡ true → has (made_true (history s)) (negation l) ≡ true) → AreApart literals
-false_apart s literals state falls l a b = consistent (count_of s) (clauses_of s) (history s) (negation l) state.trail (fell l a) (fell (negation l) b)
-  where
-    fell : (x : Signed) → has (no root_variable ∷ literals) x ≡ true → has (made_true (history s)) (negation x) ≡ true
-    fell x h = elim (has-cons (no root_variable) literals x h) [
-      | inl e ↦ subst (λ (y : Signed). has (made_true (history s)) (negation y) ≡ true) e (root_known (history s) state.rooted)
-      | inr i ↦ falls x i
-    ]
 
 -- what denies choices of the trail is false on it
 kept_false : (s : SearchState) (literals : List Signed) → DenyKept s literals → (l : Signed) → has literals l ≡ true → has (made_true (history s)) (negation l) ≡ true
@@ -159,7 +150,7 @@ module _ {N S : Type 0} (same : S → S → Bool) (p : Packages N S) where
   step_clause (x ∷ steps) zero step h = ap (clause_of same p) (some_is x step h)
   step_clause (x ∷ steps) (suc place) step h = step_clause steps place step h
 
-  module _ (c : Coding N S) (coding : IsCoding c) (apart : LearntApart c) (spelled : Spelled same p c) (steps : List (ProofStep N S)) (each : (place : ℕ) → suc place < length c.search.clauses → (step : ProofStep N S) × (slice_get steps place ≡ Some step) × IsStepAt c (suc place) step) where
+  module _ (c : Coding N S) (coding : IsCoding c) (spelled : Spelled same p c) (steps : List (ProofStep N S)) (each : (place : ℕ) → suc place < length c.search.clauses → (step : ProofStep N S) × (slice_get steps place ≡ Some step) × IsStepAt c (suc place) step) where
     -- the step of a clause has what the clause's literals mean
     spells_clause : (n : ℕ) (step : ProofStep N S) → IsStepAt c n step → Spells (origin c.atoms.keys) (clause_at (clauses_of c.search) n) (clause_of same p step)
     spells_clause n step at = go at.writes
@@ -174,7 +165,7 @@ module _ {N S : Type 0} (same : S → S → Bool) (p : Packages N S) where
             subst (λ (x : ProofStep N S). Spells (origin c.atoms.keys) (clause_at (clauses_of c.search) n) (clause_of same p x)) (sym e)
             (subst (λ (xs : List (Literal (Atom N S))). Spells (origin c.atoms.keys) (clause_at (clauses_of c.search) n) xs) (under_any condition r) own)
         go (inr (e, d)) =
-            let a : AreApart at.clause.literals.items = apart n at.clause (at.states ∙ ap Some e) at.stands in
+            let a : AreApart at.clause.literals.items = coding.apart n at.clause (at.states ∙ ap Some e) at.stands in
             let own : Spells (origin c.atoms.keys) at.clause.literals.items (map literal_in d.literals.items) = subst (λ (xs : List (Literal (Atom N S))). Spells (origin c.atoms.keys) at.clause.literals.items xs) (sym d.means) (apart_spells (origin c.atoms.keys) at.clause.literals.items a) in
             subst (λ (x : ProofStep N S). Spells (origin c.atoms.keys) (clause_at (clauses_of c.search) n) (clause_of same p x)) (sym d.derived)
             (subst (λ (xs : List Signed). Spells (origin c.atoms.keys) xs (map literal_in d.literals.items)) (sym literals) own)
@@ -220,7 +211,7 @@ module _ {N S : Type 0} (same : S → S → Bool) (p : Packages N S) where
               let (earlier, refuted) = derived_at c.search.clauses (suc place) at.clause coding.ready.state.derived at.stands (coding.learnt (suc place) at.clause learnt at.stands) in
               let in_range : (l : Signed) → has at.clause.literals.items l ≡ true → l.variable.0 < count_of c.search = λ l h. coding.ready.state.in_range (suc place) l (subst (λ xs. has xs l ≡ true) (sym (literals_at c.search.clauses (suc place) at.clause at.stands)) h) in
               subst (IsStep same_atom same p root steps place) (sym d.derived)
-              (derivation_refuted place at.clause.literals.items at.clause.causes.items step (omega arith) earlier refuted in_range (apart (suc place) at.clause learnt at.stands) d)
+              (derivation_refuted place at.clause.literals.items at.clause.causes.items step (omega arith) earlier refuted in_range (coding.apart (suc place) at.clause learnt at.stands) d)
 
 -- each clause behind the root's has its step
 has_step : {N S : Type 0} (c : Coding N S) (steps more : List (ProofStep N S)) → AreSteps c steps → (place : ℕ) → suc place < length c.search.clauses → (step : ProofStep N S) × (slice_get (steps ++ more) place ≡ Some step) × IsStepAt c (suc place) step
@@ -231,10 +222,10 @@ has_step c steps more are place below =
 
 -- The steps of a coding's clauses are a proof.
 pub steps_prove : {N S : Type 0} (c : Coding N S) (steps : List (ProofStep N S)) → IsCoding c → AreSteps c steps → Proves c steps
-steps_prove {N} {S} c steps coding are same_atom exact same p root spelled rule apart place step at =
+steps_prove {N} {S} c steps coding are same_atom exact same p root spelled rule place step at =
     let within : place < length steps = slice_get_within steps place step at in
     let count : length steps + 1 ≡ length c.search.clauses = are.count in
-    clause_step same p c coding apart spelled steps each same_atom exact root rule place step (omega arith) (are.each place step at)
+    clause_step same p c coding spelled steps each same_atom exact root rule place step (omega arith) (are.each place step at)
   where
     each : (k : ℕ) → suc k < length c.search.clauses → (x : ProofStep N S) × (slice_get steps k ≡ Some x) × IsStepAt c (suc k) x
     each k below =
@@ -244,17 +235,17 @@ steps_prove {N} {S} c steps coding are same_atom exact same p root spelled rule 
 
 -- So are they with a refusal's step behind them.
 pub refusal_proves : {N S : Type 0} (c : Coding N S) (literals : List Signed) (causes : List ClauseId) (steps : List (ProofStep N S)) → IsCoding c → IsRefusal c.search literals causes → AreStepsThen c literals causes steps → Proves c steps
-refusal_proves {N} {S} c literals causes steps coding refusal are same_atom exact same p root spelled rule apart place step at = elim (get_push are.earlier are.final step place (subst (λ xs. slice_get xs place ≡ Some step) are.ends at)) [
+refusal_proves {N} {S} c literals causes steps coding refusal are same_atom exact same p root spelled rule place step at = elim (get_push are.earlier are.final step place (subst (λ xs. slice_get xs place ≡ Some step) are.ends at)) [
   | inl old ↦
       let within : place < length are.earlier = slice_get_within are.earlier place step old in
       let count : length are.earlier + 1 ≡ length c.search.clauses = are.clauses.count in
-      clause_step same p c coding apart spelled steps each same_atom exact root rule place step (omega arith) (are.clauses.each place step old)
+      clause_step same p c coding spelled steps each same_atom exact root rule place step (omega arith) (are.clauses.each place step old)
   | inr (e, is) ↦
       let count : length are.earlier + 1 ≡ length c.search.clauses = are.clauses.count in
       let all : length (clauses_of c.search) ≡ length c.search.clauses = length-lists c.search.clauses in
       let last : suc place ≡ length (clauses_of c.search) = omega arith in
       subst (IsStep same_atom same p root steps place) (sym (is ∙ are.derivation.derived))
-      (derivation_refuted same p c coding apart spelled steps each same_atom exact root place literals causes are.final (omega arith) (subst (λ k. AllBelow k causes) (sym last) refusal.derived.in_range) refusal.derived.refuted
+      (derivation_refuted same p c coding spelled steps each same_atom exact root place literals causes are.final (omega arith) (subst (λ k. AllBelow k causes) (sym last) refusal.derived.in_range) refusal.derived.refuted
       (refusal_in_range c.search literals causes coding.ready.state refusal) (false_apart c.search literals coding.ready.state (kept_false c.search literals refusal.denies)) are.derivation)
 ]
   where

@@ -5,14 +5,12 @@ use Rattle.resolvo_pool.specs.declared.id.ConditionId.{ConditionId}
 use Rattle.resolvo_pool.specs.OnePass.{one_pass}
 use Rattle.resolvo_pool.specs.RuleKeeping.{Packages, Rules, IsRuleKeeping}
 use Rattle.resolvo_store.specs.AtMostOne.{digit}
-use Rattle.resolvo_store.specs.Signed.{Signed, has, negation}
+use Rattle.resolvo_store.specs.Signed.{Signed, has}
 use Rattle.resolvo_store.specs.Clauses.{no, root as root_variable}
-use Rattle.resolvo_search.specs.declared.state.HeldClause.{HeldClause}
 use Rattle.resolvo_rules.specs.Encoding as Encoding
 use Rattle.resolvo_rules.specs.Encoding.{Atom, IsExact, IsRule}
 use Rattle.resolvo_coding.specs.declared.coding.Coding.{Coding}
-use Rattle.resolvo_coding.specs.declared.stated.Stated.TheVariants.{Learnt}
-use Rattle.resolvo_coding.specs.Statements.{stated_at, rules_in}
+use Rattle.resolvo_coding.specs.Statements.{rules_in}
 use Rattle.resolvo_coding.specs.Spelled.{Spelled}
 use Rattle.resolvo_proof.specs.declared.step.ProofRule.TheVariants.{Digit}
 use Rattle.resolvo_proof.specs.declared.step.ProofLiteral.{ProofLiteral}
@@ -58,15 +56,7 @@ Convinces {N} {S} steps = (same_atom : Atom N S → Atom N S → Bool) → IsExa
 abbrev pub DenyRoot : List Signed → Type 0
 DenyRoot literals = (l : Signed) → has literals l ≡ true → l ≡ no root_variable
 
--- no literal stands beside its opposite, nor does the root
-abbrev pub AreApart : List Signed → Type 0
-AreApart literals = (l : Signed) → has (no root_variable ∷ literals) l ≡ true → has (no root_variable ∷ literals) (negation l) ≡ true → ⊥
-
--- no learnt clause holds a literal beside its opposite, or the root
-abbrev pub LearntApart : {N S : Type 0} → Coding N S → Type 0
-LearntApart c = (n : ℕ) (clause : HeldClause) → stated_at c.stated.items n ≡ Some Learnt → slice_get c.search.clauses n ≡ Some clause → AreApart clause.literals.items
-
 -- the steps are a proof for all packages and for each root whose rules the clauses state
 abbrev pub Proves : {N S : Type 0} → Coding N S → List (ProofStep N S) → Type 0
 Proves {N} {S} c steps = (same_atom : Atom N S → Atom N S → Bool) → IsExact same_atom → (same : S → S → Bool) (p : Packages N S) (root : Rules)
-    → Spelled same p c → ((r : Encoding.Rule N S) → rules_in c.stated.items r → IsRule same p root r) → LearntApart c → IsProof same_atom same p root steps
+    → Spelled same p c → ((r : Encoding.Rule N S) → rules_in c.stated.items r → IsRule same p root r) → IsProof same_atom same p root steps
