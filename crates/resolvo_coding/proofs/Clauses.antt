@@ -1,5 +1,5 @@
 -- A clause more.
-use Rattle.std.proofs.Common.{◌≡◌, ℕ, ◌+◌, ◌<◌, inl, inr, false, List, [], ◌∷◌, ◌++◌, length, map, Some, Vec, Global, HashSet, BuildHasherDefault, FoldHasher, refl, sym, ◌∙◌, ap, subst, arith}
+use Rattle.std.proofs.Common.{◌≡◌, ℕ, ◌+◌, ◌<◌, ◌⊎◌, inl, inr, false, List, [], ◌∷◌, ◌++◌, length, map, Some, Vec, Global, HashSet, BuildHasherDefault, FoldHasher, refl, sym, ◌∙◌, ap, subst, arith}
 use Rattle.std.specs.Prelude.{slice_get, IsSome}
 use Rattle.std.proofs.lemmas.List.{length-append}
 use Rattle.std.proofs.lemmas.Bool.{both_ways}
@@ -9,6 +9,7 @@ use Rattle.resolvo_search.specs.declared.state.HeldClause.{HeldClause}
 use Rattle.resolvo_search.specs.declared.state.VariableKind.{VariableKind}
 use Rattle.resolvo_search.specs.declared.state.VariableKind.TheVariants as Kinds
 use Rattle.resolvo_search.specs.declared.advancing.Progress.{Progress}
+use Rattle.resolvo_search.specs.State.{AreApart}
 use Rattle.resolvo_search.specs.Propagation.{IsReady, AreCovered}
 use Rattle.resolvo_search.specs.Adding.{Comes}
 use Rattle.resolvo_search.specs.Advancing.{Improves}
@@ -22,11 +23,12 @@ use Rattle.resolvo_coding.specs.Statements.{rule_of, stated_at}
 use Rattle.resolvo_coding.specs.Coding.{IsCoding, States, Advances}
 use Rattle.resolvo_coding.proofs.Positions.{get_front, get_old, get_last, get_push, front_equal}
 
--- A clause and what it states came behind the others: neither is the root's, and a learnt one has causes.
+-- A clause and what it states came behind the others: neither is the root's, and a learnt one has causes and no literal beside
+-- its opposite.
 pub one_more : {N S : Type 0} (old new : Coding N S) (x : Stated N S) (clause : HeldClause) → IsCoding old → IsReady new.search new.watching → AreCovered new.search new.watching
     → new.atoms ≡ old.atoms → new.search.variables ≡ old.search.variables → new.search.clauses ≡ old.search.clauses ++ clause ∷ [] → new.stated.items ≡ old.stated.items ++ x ∷ []
-    → (x ≡ Root → ⊥) → (x ≡ Learnt → 0 < length clause.causes.items) → IsCoding new
-one_more {N} {S} old new x clause coding ready covered atoms variables clauses stated unrooted caused = record {
+    → (x ≡ Root → ⊥) → (x ≡ Learnt → 0 < length clause.causes.items) → (x ≡ Learnt → AreApart clause.literals.items) → IsCoding new
+one_more {N} {S} old new x clause coding ready covered atoms variables clauses stated unrooted caused apart = record {
   ready = ready;
   covered = covered;
   kinds = ap (λ (kinds : Vec VariableKind Global). kinds.items) variables ∙ coding.kinds ∙ sym (ap (λ (a : HashSet (ProofAtom N S) (BuildHasherDefault FoldHasher)). Kinds.Root ∷ map kind_of a.keys) atoms);
@@ -36,17 +38,8 @@ one_more {N} {S} old new x clause coding ready covered atoms variables clauses s
       let c : length old.stated.items ≡ length old.search.clauses = coding.each in
       omega arith;
   distinct = subst (λ (a : HashSet (ProofAtom N S) (BuildHasherDefault FoldHasher)). AreOnce a.keys) (sym atoms) coding.distinct;
-  learnt = λ n held h is. elim (get_push old.stated.items x Learnt n (said n Learnt h)) [
-    | inl a ↦
-        let within : n < length old.stated.items = slice_get_within old.stated.items n Learnt a in
-        let long : length old.stated.items ≡ length old.search.clauses = coding.each in
-        coding.learnt n held a (get_old old.search.clauses (clause ∷ []) n held (omega arith) (holds n held is))
-    | inr (e, same) ↦
-        let here : slice_get (old.search.clauses ++ clause ∷ []) n ≡ Some clause = subst (λ k. slice_get (old.search.clauses ++ clause ∷ []) k ≡ Some clause) (sym (e ∙ coding.each)) (get_last old.search.clauses clause) in
-        let there : slice_get (old.search.clauses ++ clause ∷ []) n ≡ Some held = holds n held is in
-        let one : clause ≡ held = cc in
-        subst (λ (d : HeldClause). 0 < length d.causes.items) one (caused (sym same))
-  ];
+  learnt = λ n held h is. elim (old_or_this n held h is) [ inl (a, at) ↦ coding.learnt n held a at | inr (e, one) ↦ subst (λ (d : HeldClause). 0 < length d.causes.items) one (caused e) ];
+  apart = λ n held h is. elim (old_or_this n held h is) [ inl (a, at) ↦ coding.apart n held a at | inr (e, one) ↦ subst (λ (d : HeldClause). AreApart d.literals.items) one (apart e) ];
   first = subst (λ (xs : List (Stated N S)). stated_at xs 0 ≡ Some Root) (sym stated) (get_front old.stated.items (x ∷ []) 0 Root coding.first);
   rooted = λ n h. elim (get_push old.stated.items x Root n (said n Root h)) [ inl a ↦ coding.rooted n a | inr (e, same) ↦ absurd (unrooted (sym same)) ];
 }
@@ -57,10 +50,25 @@ one_more {N} {S} old new x clause coding ready covered atoms variables clauses s
     holds : (n : ℕ) (held : HeldClause) → slice_get new.search.clauses n ≡ Some held → slice_get (old.search.clauses ++ clause ∷ []) n ≡ Some held
     holds n held is = subst (λ (cs : List HeldClause). slice_get cs n ≡ Some held) clauses is
 
+    -- a learnt clause was there, or is the one that came
+    old_or_this : (n : ℕ) (held : HeldClause) → stated_at new.stated.items n ≡ Some Learnt → slice_get new.search.clauses n ≡ Some held
+        → ((stated_at old.stated.items n ≡ Some Learnt) × (slice_get old.search.clauses n ≡ Some held)) ⊎ ((x ≡ Learnt) × (clause ≡ held))
+    old_or_this n held h is = elim (get_push old.stated.items x Learnt n (said n Learnt h)) [
+      | inl a ↦
+          let within : n < length old.stated.items = slice_get_within old.stated.items n Learnt a in
+          let long : length old.stated.items ≡ length old.search.clauses = coding.each in
+          inl (a, get_old old.search.clauses (clause ∷ []) n held (omega arith) (holds n held is))
+      | inr (e, same) ↦
+          let here : slice_get (old.search.clauses ++ clause ∷ []) n ≡ Some clause = subst (λ k. slice_get (old.search.clauses ++ clause ∷ []) k ≡ Some clause) (sym (e ∙ coding.each)) (get_last old.search.clauses clause) in
+          let there : slice_get (old.search.clauses ++ clause ∷ []) n ≡ Some held = holds n held is in
+          let one : clause ≡ held = cc in
+          inr (sym same, one)
+    ]
+
 pub states_is : {N S : Type 0} (old new : Coding N S) (x : Stated N S) (clause : HeldClause) (id : ClauseId) → IsCoding old → IsSome (rule_of x) → Comes clause id old.search old.watching new.search new.watching
     → clause.causes.items ≡ [] → new.atoms ≡ old.atoms → new.stated.items ≡ old.stated.items ++ x ∷ [] → States x clause.literals.items id old new
 states_is {N} {S} old new x clause id coding rule comes plain atoms stated = record {
-  coding = one_more old new x clause coding comes.ready comes.covered atoms comes.adds.variables comes.adds.added stated (unrooted x rule) (unlearnt x rule);
+  coding = one_more old new x clause coding comes.ready comes.covered atoms comes.adds.variables comes.adds.added stated (unrooted x rule) (λ e. absurd (unlearnt x rule e)) (λ e. absurd (unlearnt x rule e));
   atoms = atoms;
   clause = clause;
   literals = refl;
@@ -75,13 +83,13 @@ states_is {N} {S} old new x clause id coding rule comes plain atoms stated = rec
     unrooted : (y : Stated N S) → IsSome (rule_of y) → y ≡ Root → ⊥
     unrooted y h e = both_ways false refl (subst (λ (z : Stated N S). IsSome (rule_of z)) e h)
 
-    unlearnt : (y : Stated N S) → IsSome (rule_of y) → y ≡ Learnt → 0 < length clause.causes.items
-    unlearnt y h e = absurd (both_ways false refl (subst (λ (z : Stated N S). IsSome (rule_of z)) e h))
+    unlearnt : (y : Stated N S) → IsSome (rule_of y) → y ≡ Learnt → ⊥
+    unlearnt y h e = both_ways false refl (subst (λ (z : Stated N S). IsSome (rule_of z)) e h)
 
 -- a learnt clause came
 pub learnt_is : {N S : Type 0} (old new : Coding N S) (id : ClauseId) → IsCoding old → (improves : Improves id old.search new.search new.watching) → new.atoms ≡ old.atoms → new.stated.items ≡ old.stated.items ++ Learnt ∷ [] → Advances old new (Progress.Learnt id)
 learnt_is {N} {S} old new id coding improves atoms stated = record {
-  coding = one_more old new Learnt improves.clause coding improves.ready improves.covered atoms improves.variables improves.added stated (λ e. absurd cc) (λ e. improves.caused);
+  coding = one_more old new Learnt improves.clause coding improves.ready improves.covered atoms improves.variables improves.added stated (λ e. absurd cc) (λ e. improves.caused) (λ e. improves.apart);
   progress = improves;
   atoms = atoms;
   stated = stated;

@@ -45,6 +45,7 @@ begun_is {N} {S} c begun none alone = record {
     each = ap length alone ∙ sym (one_clause c.search.clauses begun.clause);
     distinct = once_none c.atoms.keys none;
     learnt = λ n clause h is. (let (z, e) = root_alone c.stated.items n Learnt alone h in absurd cc);
+    apart = λ n clause h is. (let (z, e) = root_alone c.stated.items n Learnt alone h in absurd cc);
     first = ap (λ (xs : List (Stated N S)). stated_at xs 0) alone;
     rooted = λ n h. (root_alone c.stated.items n Root alone h).0;
   };
@@ -70,6 +71,7 @@ gives_added {N} {S} a v old new coding fresh adds watching pushed stated = recor
     each = ap (λ (xs : Vec (Stated N S) Global). length xs.items) stated ∙ coding.each ∙ sym (ap length adds.clauses);
     distinct = subst (λ (atoms : List (ProofAtom N S)). AreOnce atoms) (sym pushed) (once_push old.atoms.keys a coding.distinct fresh);
     learnt = λ n clause h is. coding.learnt n clause (same n Learnt h) (subst (λ (cs : List HeldClause). slice_get cs n ≡ Some clause) adds.clauses is);
+    apart = λ n clause h is. coding.apart n clause (same n Learnt h) (subst (λ (cs : List HeldClause). slice_get cs n ≡ Some clause) adds.clauses is);
     first = ap (λ (xs : Vec (Stated N S) Global). stated_at xs.items 0) stated ∙ coding.first;
     rooted = λ n h. coding.rooted n (same n Root h);
   };

@@ -8,7 +8,7 @@ use Rattle.resolvo_search.specs.declared.state.HeldClause.{HeldClause}
 use Rattle.resolvo_search.specs.declared.state.SearchState.{SearchState}
 use Rattle.resolvo_search.specs.declared.state.VariableKind.TheVariants as Kinds
 use Rattle.resolvo_search.specs.declared.advancing.Progress.{Progress}
-use Rattle.resolvo_search.specs.State.{IsState}
+use Rattle.resolvo_search.specs.State.{IsState, AreApart}
 use Rattle.resolvo_search.specs.Propagation.{IsReady, AreCovered}
 use Rattle.resolvo_search.specs.Beginning.{IsRootClause, root_entry}
 use Rattle.resolvo_search.specs.Advancing.{IsProgress}
@@ -21,7 +21,7 @@ use Rattle.resolvo_coding.specs.Keys.{AreOnce}
 use Rattle.resolvo_coding.specs.Statements.{stated_at}
 
 -- What holds between calls: the search is ready, each variable but the root's stands for an atom, no two for one, and each
--- clause states something. The root's clause comes first; what is learnt has causes.
+-- clause states something. The root's clause comes first; what is learnt has causes, and no literal beside its opposite.
 pub record IsCoding {N S : Type 0} (c : Coding N S) : Type 0 where
   pub ready : IsReady c.search c.watching
   pub covered : AreCovered c.search c.watching
@@ -29,6 +29,7 @@ pub record IsCoding {N S : Type 0} (c : Coding N S) : Type 0 where
   pub each : length c.stated.items ≡ length c.search.clauses
   pub distinct : AreOnce c.atoms.keys
   pub learnt : (n : ℕ) (clause : HeldClause) → stated_at c.stated.items n ≡ Some Learnt → slice_get c.search.clauses n ≡ Some clause → 0 < length clause.causes.items
+  pub apart : (n : ℕ) (clause : HeldClause) → stated_at c.stated.items n ≡ Some Learnt → slice_get c.search.clauses n ≡ Some clause → AreApart clause.literals.items
   pub first : stated_at c.stated.items 0 ≡ Some Root
   pub rooted : (n : ℕ) → stated_at c.stated.items n ≡ Some Root → n ≡ 0
 

@@ -1,10 +1,10 @@
 -- The search improves: the trail grows heavier, and its weight is bounded.
-use Rattle.std.proofs.Common.{◌≡◌, ℕ, ◌+◌, ◌-◌, ◌*◌, ◌^◌, ◌<◌, ◌≤◌, true, List, [], ◌∷◌, ◌++◌, reverse, length, Vec, Global, sym, ◌∙◌, ap, subst, arith}
+use Rattle.std.proofs.Common.{◌≡◌, ℕ, ◌+◌, ◌-◌, ◌*◌, ◌^◌, ◌<◌, ◌≤◌, inl, inr, true, List, [], ◌∷◌, ◌++◌, reverse, length, Vec, Global, sym, ◌∙◌, ap, subst, arith}
 use Rattle.std.proofs.lemmas.List.{reverse-append}
 use Rattle.std.proofs.Math.Nat.{one-le-pow}
 use Rattle.resolvo_pool.specs.declared.id.ClauseId.{ClauseId}
 use Rattle.resolvo_pool.specs.declared.id.VariableId.{VariableId}
-use Rattle.resolvo_store.specs.Signed.{Signed, has}
+use Rattle.resolvo_store.specs.Signed.{Signed, negation, has}
 use Rattle.resolvo_store.specs.declared.decision.Entry.{Entry}
 use Rattle.resolvo_search.specs.declared.state.HeldClause.{HeldClause}
 use Rattle.resolvo_search.specs.declared.state.SearchState.{SearchState}
@@ -12,13 +12,15 @@ use Rattle.resolvo_search.specs.declared.state.VariableKind.{VariableKind}
 use Rattle.resolvo_search.specs.declared.analysis.Learnt.{Learnt}
 use Rattle.resolvo_search.specs.declared.watching.Watching.{Watching}
 use Rattle.resolvo_search.specs.Known.{clause_at}
-use Rattle.resolvo_search.specs.Entries.{weight}
-use Rattle.resolvo_search.specs.State.{count_of, history, clauses_of, IsDerived, IsState}
+use Rattle.resolvo_search.specs.Entries.{weight, made_true}
+use Rattle.resolvo_search.specs.State.{count_of, history, clauses_of, IsDerived, IsState, AreApart}
 use Rattle.resolvo_search.specs.Analysis.{IsLearnt}
 use Rattle.resolvo_search.specs.Steps.{SameBut, Chooses, choice_entry}
 use Rattle.resolvo_search.specs.Propagation.{Extends}
 use Rattle.resolvo_search.specs.Adding.{Learns}
 use Rattle.resolvo_search.specs.Advancing.{Improves, weight_left}
+use Rattle.resolvo_search.proofs.Trails.{known_from_stands}
+use Rattle.resolvo_search.proofs.Apart.{false_apart}
 use Rattle.resolvo_search.proofs.Weights.{weight_bounded}
 use Rattle.resolvo_search.proofs.StepLemmas.{reverse_push}
 use Rattle.resolvo_search.proofs.Extending.{same_clauses}
@@ -36,6 +38,15 @@ pub extends_heavier : (s t : SearchState) (count : ℕ) → Extends s t → weig
 extends_heavier s t count e =
     subst (λ (h : List Entry). weight count (history s) ≤ weight count h) (sym (ap reverse e.added ∙ reverse-append s.tracker.trail e.more)) (weight-append count (reverse e.more) (history s))
 
+-- the learnt literals are false on the trail, so they stand apart
+learnt_apart : (s : SearchState) (x : Learnt) → IsState s → IsLearnt s x → AreApart x.literals.items
+learnt_apart s x state learnt = false_apart s x.literals.items state (λ l h. elim (learnt.others l h) [
+  | inl e ↦
+      let (level, above, stood) = learnt.fell in
+      subst (λ (y : Signed). has (made_true (history s)) (negation y) ≡ true) (sym e) (known_from_stands (history s) (negation x.asserted) level stood)
+  | inr (level, low, stands) ↦ known_from_stands (history s) (negation l) level stands
+])
+
 pub learning_improves : (s m b : SearchState) (w : Watching) (x : Learnt) (id : ClauseId) → Extends s m → IsLearnt m x → Learns x id m b w → Improves id s b w
 learning_improves s m b w x id e learnt l =
     let count : count_of m ≡ count_of s = same_count s m e.same in
@@ -52,6 +63,7 @@ learning_improves s m b w x id e learnt l =
       derived = subst (λ (cs : List (List Signed)). IsDerived cs x.literals.items x.causes.items) (same_clauses s m e) learnt.derived;
       caused = learnt.caused;
       from = λ k h. let (n, stands) = learnt.from k h in (n, subst (λ (cs : List (List Signed)). has (clause_at cs n) k ≡ true) (same_clauses s m e) stands);
+      apart = learnt_apart m x e.state learnt;
       heavier = omega arith;
       choices = λ d older stands choice. e.choices d older (learns_choices m b w x id l d older stands choice) choice;
     }

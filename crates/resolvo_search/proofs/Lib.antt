@@ -1,5 +1,6 @@
 pub mod Literals
 pub mod Trails
+pub mod Apart
 pub mod Weights
 pub mod Refutations
 pub mod Marking

@@ -6,7 +6,7 @@ use Rattle.resolvo_search.specs.declared.state.SearchState.{SearchState}
 use Rattle.resolvo_search.specs.declared.watching.Watching.{Watching}
 use Rattle.resolvo_search.specs.declared.advancing.Progress.{Progress}
 use Rattle.resolvo_search.specs.Entries.{weight}
-use Rattle.resolvo_search.specs.State.{count_of, history, clauses_of, IsDerived}
+use Rattle.resolvo_search.specs.State.{count_of, history, clauses_of, IsDerived, AreApart}
 use Rattle.resolvo_search.specs.Analysis.{AreFromClauses, IsRefusal}
 use Rattle.resolvo_search.specs.Steps.{KeepsChoices}
 use Rattle.resolvo_search.specs.Propagation.{IsReady, AreCovered, Extends, IsQuiet}
@@ -20,8 +20,8 @@ pub record Completes (old new : SearchState) (w : Watching) : Type 0 where
   pub extends : Extends old new
   pub quiet : (n : ℕ) → n < length new.clauses → IsQuiet (made_true (history new)) (clause_at (clauses_of new) n)
 
--- A clause came that follows from earlier ones, and whose literals stand in them; the trail is heavier
--- than before, and each of its choices was there.
+-- A clause came that follows from earlier ones, whose literals stand in them, and none beside its opposite; the trail is
+-- heavier than before, and each of its choices was there.
 pub record Improves (id : ClauseId) (old new : SearchState) (w : Watching) : Type 0 where
   pub ready : IsReady new w
   pub covered : AreCovered new w
@@ -33,6 +33,7 @@ pub record Improves (id : ClauseId) (old new : SearchState) (w : Watching) : Typ
   pub derived : IsDerived (clauses_of old) clause.literals.items clause.causes.items
   pub caused : 0 < length clause.causes.items
   pub from : AreFromClauses old clause.literals.items
+  pub apart : AreApart clause.literals.items
   pub heavier : weight (count_of old) (history old) < weight (count_of old) (history new)
   pub choices : KeepsChoices (history old) (history new)
 

@@ -2,7 +2,7 @@
 use Rattle.std.specs.Prelude.{◌≡◌, ℕ, ◌^◌, ◌<◌, ◌≤◌, true, List, [], ◌∷◌, map, reverse, length}
 use Rattle.std.specs.List.{AllByRecursion}
 use Rattle.resolvo_pool.specs.declared.id.ClauseId.{ClauseId}
-use Rattle.resolvo_store.specs.Signed.{Signed, has}
+use Rattle.resolvo_store.specs.Signed.{Signed, negation, has}
 use Rattle.resolvo_store.specs.Clauses.{no, root}
 use Rattle.resolvo_store.specs.declared.decision.Entry.{Entry}
 use Rattle.resolvo_search.specs.declared.state.HeldClause.{HeldClause}
@@ -38,6 +38,10 @@ AllBelow n places = AllByRecursion (λ place. place.0 < n) places
 pub record IsDerived (earlier : List (List Signed)) (literals : List Signed) (causes : List ClauseId) : Type 0 where
   pub in_range : AllBelow (length earlier) causes
   pub refuted : Refutes (no root ∷ literals) (named earlier causes)
+
+-- no literal stands beside its opposite, nor does the root
+abbrev pub AreApart : List Signed → Type 0
+AreApart literals = (l : Signed) → has (no root ∷ literals) l ≡ true → has (no root ∷ literals) (negation l) ≡ true → ⊥
 
 -- each clause with causes, newest first, follows from them, and they stand before it
 abbrev pub AreDerived : List HeldClause → Type 0

@@ -1,0 +1,5 @@
+pub mod PassSets
+pub mod Meant
+pub mod Proving
+pub mod Parts
+pub mod Convincing

@@ -1,0 +1,54 @@
+use Rattle.std.proofs.Common.{Option, Bor, sym, subst}
+use Rattle.std.specs.Prelude.{IfSome, MatchOption}
+use Rattle.resolvo_search.specs.declared.analysis.Refusal.{Refusal}
+use Rattle.resolvo_search.specs.State.{count_of}
+use Rattle.resolvo_search.specs.Steps.{AreInRange}
+use Rattle.resolvo_search.specs.Analysis.{IsRefusal}
+use Rattle.resolvo_proof.specs.Proof.{DenyRoot, EndsEmpty}
+use Rattle.resolvo_proof.specs.Written.{AreSteps, AreStepsThen}
+use Rattle.resolvo_proof.proofs.Parts.{refusal_step}
+use Rattle.resolvo_proof.proofs.Proving.{steps_prove, refusal_proves, refusal_in_range, ends_empty}
+use Rattle.resolvo_proof.proofs.Convincing.{convinces}
+use Rattle.resolvo_proof.proofs.proof.proof_of.Goals as goal
+
+pub write_derived-requires-clause-in_range : goal.write_derived-requires-clause-in_range
+write_derived-requires-clause-in_range g c =
+    let search = c.args.coding.now.search in
+    let r = c.in-Some.refusal.now in
+    let refusal : IsRefusal search r.literals.items r.causes.items = subst (λ (o : Option (Bor Refusal)). IfSome o (λ x. IsRefusal search x.now.literals.items x.now.causes.items)) c.in-Some.is c.requires.refusal in
+    subst (AreInRange (count_of search)) (sym c.as_slice-literals.ensures.value) (refusal_in_range search r.literals.items r.causes.items c.requires.coding.ready.state refusal)
+
+pub returns-in-None-clause-proof : goal.returns-in-None-clause-proof
+returns-in-None-clause-proof g c = steps_prove c.args.coding.now c.in_ok-steps.steps.items c.requires.coding c.in_ok-steps.ensures.steps
+
+pub returns-in-None-clause-convinces : goal.returns-in-None-clause-convinces
+returns-in-None-clause-convinces g c = convinces c.in_ok-steps.steps.items
+
+pub returns-in_ok-push-in-Some-clause-steps : goal.returns-in_ok-push-in-Some-clause-steps
+returns-in_ok-push-in-Some-clause-steps g c =
+    let coding = c.args.coding.now in
+    let r = c.in-Some.refusal.now in
+    subst (λ (o : Option (Bor Refusal)). MatchOption o (AreSteps coding c.push.new.self.items) (λ x. AreStepsThen coding x.now.literals.items x.now.causes.items c.push.new.self.items)) (sym c.in-Some.is)
+    (refusal_step coding r.literals.items c.as_slice-literals.result.now r.causes.items c.as_slice.result.now c.in_ok-steps.steps.items c.push.new.self.items c.in_ok-step-in-Some.step c.in_ok-push-in-Some.ensures.items c.in_ok-steps.ensures.steps
+    c.as_slice-literals.ensures.value c.as_slice.ensures.value c.in_ok-step-in-Some.ensures.step)
+
+pub returns-in_ok-push-in-Some-clause-proof : goal.returns-in_ok-push-in-Some-clause-proof
+returns-in_ok-push-in-Some-clause-proof g c =
+    let coding = c.args.coding.now in
+    let r = c.in-Some.refusal.now in
+    let refusal : IsRefusal coding.search r.literals.items r.causes.items = subst (λ (o : Option (Bor Refusal)). IfSome o (λ x. IsRefusal coding.search x.now.literals.items x.now.causes.items)) c.in-Some.is c.requires.refusal in
+    refusal_proves coding r.literals.items r.causes.items c.push.new.self.items c.requires.coding refusal
+    (refusal_step coding r.literals.items c.as_slice-literals.result.now r.causes.items c.as_slice.result.now c.in_ok-steps.steps.items c.push.new.self.items c.in_ok-step-in-Some.step c.in_ok-push-in-Some.ensures.items c.in_ok-steps.ensures.steps
+    c.as_slice-literals.ensures.value c.as_slice.ensures.value c.in_ok-step-in-Some.ensures.step)
+
+pub returns-in_ok-push-in-Some-clause-empty : goal.returns-in_ok-push-in-Some-clause-empty
+returns-in_ok-push-in-Some-clause-empty g c =
+    let coding = c.args.coding.now in
+    let r = c.in-Some.refusal.now in
+    subst (λ (o : Option (Bor Refusal)). IfSome o (λ x. DenyRoot x.now.literals.items → EndsEmpty c.push.new.self.items)) (sym c.in-Some.is)
+    (ends_empty coding r.literals.items r.causes.items c.push.new.self.items
+    (refusal_step coding r.literals.items c.as_slice-literals.result.now r.causes.items c.as_slice.result.now c.in_ok-steps.steps.items c.push.new.self.items c.in_ok-step-in-Some.step c.in_ok-push-in-Some.ensures.items c.in_ok-steps.ensures.steps
+    c.as_slice-literals.ensures.value c.as_slice.ensures.value c.in_ok-step-in-Some.ensures.step))
+
+pub returns-in_ok-push-in-Some-clause-convinces : goal.returns-in_ok-push-in-Some-clause-convinces
+returns-in_ok-push-in-Some-clause-convinces g c = convinces c.push.new.self.items

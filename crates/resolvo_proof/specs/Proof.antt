@@ -1,0 +1,62 @@
+-- What a proof is: a list of steps, each a rule or refuted by one pass over earlier ones.
+use Rattle.std.specs.Prelude.{◌≡◌, ℕ, ◌<◌, Bool, true, List, [], ◌∷◌, ◌++◌, length, map, slice_get, Option, Some, Contains}
+use Rattle.std.proofs.Common.{Vec, Global}
+use Rattle.resolvo_pool.specs.declared.id.ConditionId.{ConditionId}
+use Rattle.resolvo_pool.specs.OnePass.{one_pass}
+use Rattle.resolvo_pool.specs.RuleKeeping.{Packages, Rules, IsRuleKeeping}
+use Rattle.resolvo_store.specs.AtMostOne.{digit}
+use Rattle.resolvo_store.specs.Signed.{Signed, has}
+use Rattle.resolvo_store.specs.Clauses.{no, root as root_variable}
+use Rattle.resolvo_rules.specs.Encoding as Encoding
+use Rattle.resolvo_rules.specs.Encoding.{Atom, IsExact, IsRule}
+use Rattle.resolvo_coding.specs.declared.coding.Coding.{Coding}
+use Rattle.resolvo_coding.specs.Statements.{rules_in}
+use Rattle.resolvo_coding.specs.Spelled.{Spelled}
+use Rattle.resolvo_proof.specs.declared.step.ProofRule.TheVariants.{Digit}
+use Rattle.resolvo_proof.specs.declared.step.ProofLiteral.{ProofLiteral}
+use Rattle.resolvo_proof.specs.declared.step.ProofStep.{ProofStep}
+use Rattle.resolvo_proof.specs.declared.step.ProofStep.TheVariants.{Rule, Derived}
+use Rattle.resolvo_proof.specs.Steps.{literal_in, rule_under, clause_at}
+
+-- `same_atom` and `same` tell atoms and solvables apart
+module _ {N S : Type 0} (same_atom : Atom N S → Atom N S → Bool) (same : S → S → Bool) (p : Packages N S) (root : Rules) (steps : List (ProofStep N S)) where
+  -- There are causes, they stand before the step, and one pass over their clauses, in this order, refutes its denied literals.
+  pub record IsRefuted (place : ℕ) (literals : List (ProofLiteral N S)) (causes : List ℕ) : Type 0 where
+    pub some : 0 < length causes
+    pub earlier : (cause : ℕ) → Contains causes cause → cause < place
+    pub refuted : one_pass same_atom (map literal_in literals) (map (clause_at same p steps) causes) ≡ true
+
+  -- the step may stand at this place
+  abbrev pub IsStep : ℕ → ProofStep N S → Type 0
+  IsStep place (Rule r) = (condition : Option ConditionId) × IsRule same p root (rule_under condition r)
+  IsStep place (Derived literals causes) = IsRefuted place literals.items causes.items
+
+  -- each step may stand at its place
+  abbrev pub IsProof : Type 0
+  IsProof = (place : ℕ) (step : ProofStep N S) → slice_get steps place ≡ Some step → IsStep place step
+
+-- the last step is derived and has no literals
+pub record EndsEmpty {N S : Type 0} (steps : List (ProofStep N S)) : Type 0 where
+  pub earlier : List (ProofStep N S)
+  pub literals : Vec (ProofLiteral N S) Global
+  pub causes : Vec ℕ Global
+  pub ends : steps ≡ earlier ++ Derived literals causes ∷ []
+  pub empty : literals.items ≡ []
+
+-- the places of solvables have the digits that the steps tell
+abbrev pub HaveDigits : {N S : Type 0} → List (ProofStep N S) → (S → ℕ → Bool) → Type 0
+HaveDigits {N} {S} steps bits = (n : ℕ) (s : S) (place : ℕ) (bit : ℕ) → slice_get steps n ≡ Some (Rule (Digit s place bit)) → bits s bit ≡ digit place bit
+
+-- What such a list says: where it is a proof, ends with the empty clause, and some places have its digits, no set keeps the rules.
+abbrev pub Convinces : {N S : Type 0} → List (ProofStep N S) → Type 0
+Convinces {N} {S} steps = (same_atom : Atom N S → Atom N S → Bool) → IsExact same_atom → (same : S → S → Bool) → IsExact same → (same_name : N → N → Bool) → IsExact same_name → (p : Packages N S) (root : Rules)
+    → IsProof same_atom same p root steps → EndsEmpty steps → (bits : S → ℕ → Bool) → HaveDigits steps bits → (chosen : List S) → IsRuleKeeping same p root chosen → ⊥
+
+-- each literal denies the root
+abbrev pub DenyRoot : List Signed → Type 0
+DenyRoot literals = (l : Signed) → has literals l ≡ true → l ≡ no root_variable
+
+-- the steps are a proof for all packages and for each root whose rules the clauses state
+abbrev pub Proves : {N S : Type 0} → Coding N S → List (ProofStep N S) → Type 0
+Proves {N} {S} c steps = (same_atom : Atom N S → Atom N S → Bool) → IsExact same_atom → (same : S → S → Bool) (p : Packages N S) (root : Rules)
+    → Spelled same p c → ((r : Encoding.Rule N S) → rules_in c.stated.items r → IsRule same p root r) → IsProof same_atom same p root steps

@@ -1,0 +1,83 @@
+-- Which steps are written for which clauses.
+use Rattle.std.specs.Prelude.{◌≡◌, ℕ, zero, suc, ◌+◌, ◌⊎◌, List, [], ◌∷◌, ◌++◌, length, map, slice_get, Option, Some, None}
+use Rattle.std.proofs.Common.{Vec, Global}
+use Rattle.resolvo_pool.specs.declared.id.ClauseId.{ClauseId}
+use Rattle.resolvo_pool.specs.declared.id.VersionSetId.{VersionSetId}
+use Rattle.resolvo_store.specs.Signed.{Signed}
+use Rattle.resolvo_search.specs.declared.state.HeldClause.{HeldClause}
+use Rattle.resolvo_rules.specs.Numbered.{meanings}
+use Rattle.resolvo_coding.specs.declared.atom.ProofAtom.{ProofAtom}
+use Rattle.resolvo_coding.specs.declared.coding.Coding.{Coding}
+use Rattle.resolvo_coding.specs.declared.stated.Stated.{Stated}
+use Rattle.resolvo_coding.specs.declared.stated.Stated.TheVariants as Says
+use Rattle.resolvo_coding.specs.Atoms.{origin}
+use Rattle.resolvo_coding.specs.Statements.{stated_at}
+use Rattle.resolvo_proof.specs.declared.step.ProofRule.{ProofRule}
+use Rattle.resolvo_proof.specs.declared.step.ProofRule.TheVariants.{Needs, GateOf, Shared, Limit, Outside, Locked, Excluded, Digit, AtLeastOne}
+use Rattle.resolvo_proof.specs.declared.step.ProofLiteral.{ProofLiteral}
+use Rattle.resolvo_proof.specs.declared.step.ProofStep.{ProofStep}
+use Rattle.resolvo_proof.specs.declared.step.ProofStep.TheVariants.{Rule, Derived}
+use Rattle.resolvo_proof.specs.Steps.{literal_in}
+
+-- what the variable stands for; the root's stands for nothing
+abbrev pub atoms_of : {N S : Type 0} → List (ProofAtom N S) → ℕ → Option (ProofAtom N S)
+atoms_of atoms zero = None
+atoms_of atoms (suc k) = slice_get atoms k
+
+-- the place of the clause's step before those of others; the root's clause is no step
+abbrev pub with_place : ℕ → List ℕ → List ℕ
+with_place zero others = others
+with_place (suc n) others = n ∷ others
+
+-- the places of the clauses' steps, in this order
+abbrev pub places : List ClauseId → List ℕ
+places [] = []
+places (c ∷ cs) = with_place c.0 (places cs)
+
+-- the rule is the one that is stated; the root's clause and a learnt one state none
+abbrev pub IsTold : {N S : Type 0} → Stated N S → Option (ProofRule N S) → Type 0
+IsTold Says.Root told = told ≡ None
+IsTold (Says.Needs parent need case) told = (copy : Vec VersionSetId Global) × (told ≡ Some (Needs parent need.requirement copy)) × (copy.items ≡ case.items)
+IsTold (Says.Gated s r) told = told ≡ Some (GateOf s r)
+IsTold (Says.Shared r) told = told ≡ Some (Shared r)
+IsTold (Says.Limits parent v s) told = told ≡ Some (Limit parent v (Some s))
+IsTold (Says.LimitsOutside parent v) told = told ≡ Some (Limit parent v None)
+IsTold (Says.IsOut v s) told = told ≡ Some (Outside v s)
+IsTold (Says.Locked locked s) told = told ≡ Some (Locked locked s)
+IsTold (Says.Excluded s reason) told = told ≡ Some (Excluded s reason)
+IsTold (Says.Digit n s place bit) told = told ≡ Some (Digit s place bit)
+IsTold (Says.IsThere n s) told = told ≡ Some (AtLeastOne n s)
+IsTold Says.Learnt told = told ≡ None
+
+-- the step is derived, with what the literals mean and the places of the causes
+pub record IsDerivation {N S : Type 0} (atoms : List (ProofAtom N S)) (spelled : List Signed) (from : List ClauseId) (step : ProofStep N S) : Type 0 where
+  pub literals : Vec (ProofLiteral N S) Global
+  pub causes : Vec ℕ Global
+  pub derived : step ≡ Derived literals causes
+  pub means : map literal_in literals.items ≡ meanings (origin atoms) spelled
+  pub read : causes.items ≡ places from
+
+-- the step states the rule that the clause states, or is derived as the clause was
+abbrev pub IsStepOf : {N S : Type 0} → List (ProofAtom N S) → Stated N S → HeldClause → ProofStep N S → Type 0
+IsStepOf {N} {S} atoms stated clause step = ((r : ProofRule N S) × (step ≡ Rule r) × IsTold stated (Some r)) ⊎ ((stated ≡ Says.Learnt) × IsDerivation atoms clause.literals.items clause.causes.items step)
+
+-- the step of the clause of this number
+pub record IsStepAt {N S : Type 0} (c : Coding N S) (n : ℕ) (step : ProofStep N S) : Type 0 where
+  pub stated : Stated N S
+  pub clause : HeldClause
+  pub states : stated_at c.stated.items n ≡ Some stated
+  pub stands : slice_get c.search.clauses n ≡ Some clause
+  pub writes : IsStepOf c.atoms.keys stated clause step
+
+-- the steps of the clauses behind the root's, in their order
+pub record AreSteps {N S : Type 0} (c : Coding N S) (steps : List (ProofStep N S)) : Type 0 where
+  pub count : length steps + 1 ≡ length c.search.clauses
+  pub each : (place : ℕ) (step : ProofStep N S) → slice_get steps place ≡ Some step → IsStepAt c (suc place) step
+
+-- the steps of a coding's clauses, and the refusal's behind them
+pub record AreStepsThen {N S : Type 0} (c : Coding N S) (spelled : List Signed) (from : List ClauseId) (steps : List (ProofStep N S)) : Type 0 where
+  pub earlier : List (ProofStep N S)
+  pub final : ProofStep N S
+  pub ends : steps ≡ earlier ++ final ∷ []
+  pub clauses : AreSteps c earlier
+  pub derivation : IsDerivation c.atoms.keys spelled from final

@@ -1,0 +1,57 @@
+//! The proof of a search, as a list of steps that anybody can check.
+ghost use Rattle.std.specs.Prelude.{IfOk, IfSome, IsOkUnless, MatchOption};
+ghost use Rattle.resolvo_pool.specs.declared.want.Want.TheVariants.{Memory};
+ghost use Rattle.resolvo_search.specs.Analysis.{IsRefusal};
+ghost use Rattle.resolvo_coding.specs.Coding.{IsCoding};
+ghost use Rattle.resolvo_proof.specs.Written.{AreSteps, AreStepsThen};
+ghost use Rattle.resolvo_proof.specs.Proof.{Proves, DenyRoot, EndsEmpty, Convinces};
+
+use crate::step::ProofStep;
+use crate::writing::{write_derived, write_step};
+use resolvo_coding::coding::Coding;
+use resolvo_pool::solver_id::SolverId;
+use resolvo_pool::want::R;
+use resolvo_search::analysis::Refusal;
+use std::alloc::Global;
+
+/// The steps of the clauses behind the root's, in their order, and of a refusal, where there is one.
+pub fn proof_of<N: SolverId, S: SolverId>(
+    alloc: Global,
+    coding: &Coding<N, S>,
+    last: Option<&Refusal>,
+) -> R<Vec<ProofStep<N, S>>>
+    requires coding { IsCoding coding.now }
+    requires refusal { IfSome last (λ r. IsRefusal coding.now.search r.now.literals.items r.now.causes.items) }
+    ensures steps { IfOk result (λ v. MatchOption last.entry (AreSteps coding.now v.items) (λ r. AreStepsThen coding.now r.now.literals.items r.now.causes.items v.items)) }
+    ensures proof { IfOk result (λ v. Proves coding.now v.items) }
+    ensures empty { IfOk result (λ v. IfSome last.entry (λ r. DenyRoot r.now.literals.items → EndsEmpty v.items)) }
+    ensures convinces { IfOk result (λ v. Convinces v.items) }
+    ensures refusal { IsOkUnless result Memory }
+{
+    let mut steps = steps_of(alloc, coding)?;
+    match last {
+        None => Ok(steps),
+        Some(refusal) => {
+            let literals = refusal.literals.as_slice();
+            let step = write_derived(alloc, coding, literals, refusal.causes.as_slice())?;
+            steps.push(step)?;
+            Ok(steps)
+        }
+    }
+}
+
+/// The steps of the clauses behind the root's.
+fn steps_of<N: SolverId, S: SolverId>(
+    alloc: Global,
+    coding: &Coding<N, S>,
+) -> R<Vec<ProofStep<N, S>>>
+    requires coding { IsCoding coding.now }
+    ensures steps { IfOk result (λ v. AreSteps coding.now v.items) }
+    ensures refusal { IsOkUnless result Memory }
+{
+    let mut steps = Vec::new(alloc);
+    for number in 1..coding.search.clauses.len() {
+        steps.push(write_step(alloc, coding, number)?)?;
+    }
+    Ok(steps)
+}

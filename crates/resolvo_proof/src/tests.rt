@@ -1,0 +1,3 @@
+//! What no clause says: that a proof comes with ample memory, and which steps it has.
+
+mod refusing;
