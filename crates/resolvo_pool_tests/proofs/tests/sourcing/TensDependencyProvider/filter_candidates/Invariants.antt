@@ -1,8 +1,8 @@
 use Rattle.std.proofs.Common.{◌≡◌, ◌++◌, drop}
 use Rattle.std.specs.Prelude.{nat_le}
 use Rattle.resolvo_pool.specs.Provider.{kept}
-use Rattle.resolvo_pool.specs.Tens.{Place}
-use Rattle.resolvo_pool.proofs.tests.sourcing.TensDependencyProvider.filter_candidates.Given as goal
+use Rattle.resolvo_pool_tests.specs.Tens.{Place}
+use Rattle.resolvo_pool_tests.proofs.tests.sourcing.TensDependencyProvider.filter_candidates.Given as goal
 
 -- what was found, with what is kept of the candidates that are left, is what is kept of them all
 abbrev pub invariant-loop-candidate : goal.invariant-loop-candidate

@@ -1,17 +1,17 @@
 //! Containers and ids, on small values.
 
-use crate::arena::Arena;
-use crate::frozen_copy_map::FrozenCopyMap;
-use crate::id::{
+use resolvo_pool::arena::Arena;
+use resolvo_pool::frozen_copy_map::FrozenCopyMap;
+use resolvo_pool::id::{
     ClauseId, ConditionId, DenseId, DenseIndex, NameTag, SolvableTag, SparseId, VariableId,
     VersionSetId, VersionSetUnionId, next_index,
 };
-use crate::id_map::{IdMap, IdSet, OptionalNumber, ScoreMap};
-use crate::indexed_set::IndexedSet;
-use crate::mapping::Mapping;
-use crate::requirement::{Requirement, RequirementMap};
-use crate::solver_id::{SolvableIdOrRoot, SolverId, WithRootSet};
-use crate::want::Want;
+use resolvo_pool::id_map::{IdMap, IdSet, OptionalNumber, ScoreMap};
+use resolvo_pool::indexed_set::IndexedSet;
+use resolvo_pool::mapping::Mapping;
+use resolvo_pool::requirement::{Requirement, RequirementMap};
+use resolvo_pool::solver_id::{SolvableIdOrRoot, SolverId, WithRootSet};
+use resolvo_pool::want::Want;
 use std::alloc::Global;
 use std::test::Fail;
 

@@ -1,15 +1,15 @@
 //! A provider in memory for the tests. The solvable 10 n + v is version v of package n, and the
 //! version set 10 n + v holds the versions of package n from v on.
 
-use crate::condition::Condition;
-use crate::id::{
+use resolvo_pool::condition::Condition;
+use resolvo_pool::id::{
     ConditionId, DenseIndex, NameId, SolvableId, StringId, VersionSetId, VersionSetUnionId,
 };
-use crate::provider::{
+use resolvo_pool::provider::{
     Candidates, Dependencies, DependencyProvider, HintDependenciesAvailable, Interner,
     KnownDependencies,
 };
-use crate::want::R;
+use resolvo_pool::want::R;
 use std::alloc::Global;
 use std::cell::Cell;
 use std::cmp::Reverse;
@@ -130,7 +130,7 @@ impl Interner for Tens {
 impl DependencyProvider for Tens {
     ghost use Rattle.std.specs.Prelude.{nat_le, ⊤};
     ghost use Rattle.std.specs.List.Sorted.{IsPermutation};
-    ghost use Rattle.resolvo_pool.specs.Tens.{tens_listing, tens_named, tens_needs};
+    ghost use Rattle.resolvo_pool_tests.specs.Tens.{tens_listing, tens_named, tens_needs};
 
     type Cancel = u32;
 

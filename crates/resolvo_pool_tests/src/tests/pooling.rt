@@ -1,9 +1,9 @@
 //! The pool on a few names, of which each helper interns one kind.
 
-use crate::condition::{Condition, LogicalOperator};
-use crate::id::{DenseIndex, NameId, VersionSetId};
-use crate::pool::{Pool, VersionSet};
-use crate::want::R;
+use resolvo_pool::condition::{Condition, LogicalOperator};
+use resolvo_pool::id::{DenseIndex, NameId, VersionSetId};
+use resolvo_pool::pool::{Pool, VersionSet};
+use resolvo_pool::want::R;
 
 /// Versions up to a number.
 #[derive(Clone, Copy, Debug, Drop, PartialEq, Eq, Hash)]

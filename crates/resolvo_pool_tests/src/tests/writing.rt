@@ -1,11 +1,11 @@
 //! How requirements and solvables are written, and copies of candidates.
 
 use super::sourcing::Tens;
-use crate::id::{SolvableId, StringId, VersionSetId, VersionSetUnionId};
-use crate::provider::{Candidates, HintDependenciesAvailable};
-use crate::requirement::Requirement;
-use crate::solver_id::SolvableIdOrRoot;
-use crate::want::R;
+use resolvo_pool::id::{SolvableId, StringId, VersionSetId, VersionSetUnionId};
+use resolvo_pool::provider::{Candidates, HintDependenciesAvailable};
+use resolvo_pool::requirement::Requirement;
+use resolvo_pool::solver_id::SolvableIdOrRoot;
+use resolvo_pool::want::R;
 use std::alloc::Global;
 use std::cell::Cell;
 use std::test::Fail;

@@ -1,11 +1,11 @@
 //! The cache over the provider in memory, of which each helper asks one thing.
 
 use super::sourcing::Tens;
-use crate::cache::{CacheFault, SolverCache};
-use crate::id::{NameId, SolvableId, StringId, VersionSetId, VersionSetUnionId};
-use crate::provider::Dependencies;
-use crate::requirement::Requirement;
-use crate::want::R;
+use resolvo_pool::cache::{CacheFault, SolverCache};
+use resolvo_pool::id::{NameId, SolvableId, StringId, VersionSetId, VersionSetUnionId};
+use resolvo_pool::provider::Dependencies;
+use resolvo_pool::requirement::Requirement;
+use resolvo_pool::want::R;
 use std::alloc::Global;
 use std::cell::Cell;
 use std::test::Fail;
