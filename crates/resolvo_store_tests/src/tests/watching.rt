@@ -3,11 +3,11 @@ ghost use Rattle.std.specs.Prelude.{◌≡◌, length, false, OnOk, ⊤};
 ghost use Rattle.resolvo_store.specs.Signed.{same_literal};
 ghost use Rattle.resolvo_store.specs.Watches.{watchers, IsWatched};
 
-use crate::literal::Literal;
-use crate::watch_map::WatchMap;
-use crate::watched_literals::WatchedLiterals;
 use resolvo_pool::id::{ClauseId, VariableId};
 use resolvo_pool::want::R;
+use resolvo_store::literal::Literal;
+use resolvo_store::watch_map::WatchMap;
+use resolvo_store::watched_literals::WatchedLiterals;
 use std::alloc::Global;
 use std::test::Fail;
 

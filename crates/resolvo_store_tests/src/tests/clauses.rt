@@ -1,11 +1,11 @@
 //! Clauses as literals, and their values.
 
-use crate::clause::Clause;
-use crate::decision_map::DecisionMap;
-use crate::lists::FixedLists;
-use crate::literal::Literal;
-use crate::watched_literals::WatchedLiterals;
 use resolvo_pool::id::{DenseIndex, NameId, VariableId, VersionSetId};
+use resolvo_store::clause::Clause;
+use resolvo_store::decision_map::DecisionMap;
+use resolvo_store::lists::FixedLists;
+use resolvo_store::literal::Literal;
+use resolvo_store::watched_literals::WatchedLiterals;
 use std::test::Fail;
 
 #[test]

@@ -1,9 +1,9 @@
 //! The trail on a few decisions.
 
-use crate::decision::Decision;
-use crate::decision_tracker::{DecisionTracker, Set};
 use resolvo_pool::id::{ClauseId, VariableId};
 use resolvo_pool::want::R;
+use resolvo_store::decision::Decision;
+use resolvo_store::decision_tracker::{DecisionTracker, Set};
 use std::test::Fail;
 
 /// Makes a variable true at a level.

@@ -1,13 +1,13 @@
 //! The next decision over three need clauses.
 
-use crate::decide_queue::{DecideQueue, NeedClause};
-use crate::decision_map::DecisionMap;
-use crate::lists::{Candidate, FixedLists};
-use crate::literal::Literal;
 use resolvo_pool::id::{ClauseId, NameId, VariableId, VersionSetId};
 use resolvo_pool::id_map::ScoreMap;
 use resolvo_pool::requirement::Requirement;
 use resolvo_pool::want::R;
+use resolvo_store::decide_queue::{DecideQueue, NeedClause};
+use resolvo_store::decision_map::DecisionMap;
+use resolvo_store::lists::{Candidate, FixedLists};
+use resolvo_store::literal::Literal;
 use std::alloc::Global;
 use std::test::Fail;
 
