@@ -1,5 +1,5 @@
 use Rattle.resolvo_search.specs.Propagation.{IsReady, AreCovered}
-use Rattle.resolvo_search.proofs.tests.searching.search.Given as goal
+use Rattle.resolvo_search_tests.proofs.tests.searching.search.Given as goal
 
 abbrev pub invariant-loop : goal.invariant-loop
 invariant-loop l = record {

@@ -7,13 +7,13 @@ ghost use Rattle.resolvo_search.specs.State.{IsState, count_of, history};
 ghost use Rattle.resolvo_search.specs.Steps.{AreInRange};
 ghost use Rattle.resolvo_search.specs.Propagation.{IsReady, AreCovered};
 
-use crate::advancing::Progress;
-use crate::beginning::begin;
-use crate::learning::pair_with;
-use crate::state::{HeldClause, SearchState, VariableKind};
-use crate::watching::Watching;
 use resolvo_pool::id::{ClauseId, VariableId};
 use resolvo_pool::want::R;
+use resolvo_search::advancing::Progress;
+use resolvo_search::beginning::begin;
+use resolvo_search::learning::pair_with;
+use resolvo_search::state::{HeldClause, SearchState, VariableKind};
+use resolvo_search::watching::Watching;
 use resolvo_store::literal::Literal;
 use std::alloc::Global;
 use std::test::Fail;

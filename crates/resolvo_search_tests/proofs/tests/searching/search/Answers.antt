@@ -3,8 +3,8 @@ use Rattle.resolvo_search.specs.declared.state.SearchState.{SearchState}
 use Rattle.resolvo_search.specs.Propagation.{IsReady, AreCovered}
 use Rattle.resolvo_search.specs.Advancing.{IsProgress}
 use Rattle.resolvo_search.proofs.Choosing.{choice_ready, choice_covered}
-use Rattle.resolvo_search.proofs.tests.searching.search.Goals as goal
-use Rattle.resolvo_search.proofs.tests.searching.search.Goals.{in-Learnt, in-Complete+in-Some+in_ok-choose-in-Some}
+use Rattle.resolvo_search_tests.proofs.tests.searching.search.Goals as goal
+use Rattle.resolvo_search_tests.proofs.tests.searching.search.Goals.{in-Learnt, in-Complete+in-Some+in_ok-choose-in-Some}
 
 pub loop-2-preserved : goal.loop-2-preserved
 loop-2-preserved c = elim c.match-branch-5.branch [
