@@ -3,9 +3,9 @@ ghost use Rattle.std.specs.Prelude.{◌<◌, OnOk};
 ghost use Rattle.resolvo_search.specs.State.{count_of};
 ghost use Rattle.resolvo_coding.specs.Coding.{IsCoding, Grows};
 
-use crate::coding::Coding;
-use crate::registry::Registry;
-use crate::stated::Stated;
+use resolvo_coding::coding::Coding;
+use resolvo_coding::registry::Registry;
+use resolvo_coding::stated::Stated;
 use resolvo_pool::id::{NameId, SolvableId, StringId, VariableId, VersionSetId};
 use resolvo_pool::requirement::ConditionalRequirement;
 use resolvo_pool::want::R;

@@ -1,6 +1,6 @@
 use Rattle.resolvo_coding.specs.declared.atom.ProofAtom.TheVariants.{Solvable}
 use Rattle.resolvo_coding.proofs.Growth.{stands_in_range, stands_grow}
-use Rattle.resolvo_coding.proofs.tests.registering.one_of_two.Goals as goal
+use Rattle.resolvo_coding_tests.proofs.tests.registering.one_of_two.Goals as goal
 
 pub need_one-requires-clause-first : goal.need_one-requires-clause-first
 need_one-requires-clause-first c =

@@ -1,5 +1,5 @@
 use Rattle.resolvo_coding.proofs.Registering.{nothing_tied}
-use Rattle.resolvo_coding.proofs.tests.registering.registered.Goals as goal
+use Rattle.resolvo_coding_tests.proofs.tests.registering.registered.Goals as goal
 
 pub loop-number-init : goal.loop-number-init
 loop-number-init c = record {
