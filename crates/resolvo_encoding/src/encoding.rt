@@ -251,7 +251,8 @@ impl<N: SolverId + Drop, S: SolverId> Encoding<N, S> {
 
     /// The parent whose needs are to be encoded next, if one is left.
     pub fn next_parent(&self) -> Option<SolvableIdOrRoot<S>>
-        ensures { result ≡ slice_get self.now.parents.keys self.now.encoded }
+        ensures parent { result ≡ slice_get self.now.parents.keys self.now.encoded }
+        ensures bounded { self.now.encoded < 18446744073709551616 }
     {
         self.parents.get_index(self.encoded).copied()
     }
