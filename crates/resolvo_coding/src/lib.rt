@@ -10,5 +10,3 @@ pub mod moving;
 pub mod registry;
 pub mod stated;
 pub mod stating;
-#[cfg(test)]
-mod tests;

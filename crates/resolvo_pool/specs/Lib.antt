@@ -9,5 +9,4 @@ pub mod OnePass
 pub mod Provider
 pub mod RuleKeeping
 pub mod Slots
-pub mod Tens
 pub mod Text

@@ -54,7 +54,7 @@ pub trait DenseIndex: Copy + Eq {
 }
 
 /// The index that follows `count` of them, unless all were given.
-pub(crate) fn next_index(count: usize) -> R<usize>
+pub fn next_index(count: usize) -> R<usize>
     ensures index { IfOk result (λ i. (i ≡ count) × (i < 4294967295)) }
     ensures ids { IsErr result ↔ (4294967295 ≤ count) }
     ensures refusal { IsOkUnless result Ids }

@@ -14,6 +14,4 @@ pub mod pool;
 pub mod provider;
 pub mod requirement;
 pub mod solver_id;
-#[cfg(test)]
-mod tests;
 pub mod want;

@@ -10,6 +10,4 @@ pub mod learning;
 pub mod propagation;
 pub mod state;
 pub mod steps;
-#[cfg(test)]
-mod tests;
 pub mod watching;

@@ -15,8 +15,6 @@ pub mod literal;
 pub mod literals;
 pub mod store_call;
 mod store_run;
-#[cfg(test)]
-mod tests;
 pub mod variable_map;
 pub mod watch_map;
 pub mod watched_literals;

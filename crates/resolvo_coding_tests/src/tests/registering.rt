@@ -1,0 +1,144 @@
+//! Solvables of one package are registered, and one of them is chosen.
+ghost use Rattle.std.specs.Prelude.{◌<◌, OnOk};
+ghost use Rattle.resolvo_search.specs.State.{count_of};
+ghost use Rattle.resolvo_coding.specs.Coding.{IsCoding, Grows};
+
+use resolvo_coding::coding::Coding;
+use resolvo_coding::registry::Registry;
+use resolvo_coding::stated::Stated;
+use resolvo_pool::id::{NameId, SolvableId, StringId, VariableId, VersionSetId};
+use resolvo_pool::requirement::ConditionalRequirement;
+use resolvo_pool::want::R;
+use resolvo_store::literal::Literal;
+use std::alloc::Global;
+use std::test::Fail;
+
+/// What comes once so many solvables of one package were registered, each twice.
+fn registered(alloc: Global, count: u32) -> R<Coding<NameId, SolvableId>> {
+    let mut coding: Coding<NameId, SolvableId> = Coding::begin(alloc)?;
+    let mut registry: Registry<NameId> = Registry::new(alloc);
+    for number in 0..count {
+        let solvable = SolvableId::from_raw(number);
+        registry.register(&mut coding, NameId::from_raw(7), solvable)?;
+        registry.register(&mut coding, NameId::from_raw(7), solvable)?;
+    }
+    Ok(coding)
+}
+
+/// How many clauses there are then.
+fn clauses(alloc: Global, count: u32) -> R<usize> {
+    let coding = registered(alloc, count)?;
+    Ok(coding.search.clauses.len())
+}
+
+/// Which digits of which places the clauses tell then.
+fn places(alloc: Global, count: u32) -> R<Vec<(u32, u32)>> {
+    let coding = registered(alloc, count)?;
+    let mut places = Vec::new(alloc);
+    for stated in coding.stated.iter() {
+        if let Stated::Digit { place, bit, .. } = stated {
+            places.push((*place, *bit))?;
+        }
+    }
+    Ok(places)
+}
+
+/// The first clause says the root; then there is one for each solvable and each digit.
+#[test]
+fn digits(rt: HostRuntime) -> Result<(), Fail> {
+    assert_eq!(rt; clauses(rt.alloc(), 1)?, 1);
+    assert_eq!(rt; clauses(rt.alloc(), 2)?, 3);
+    assert_eq!(rt; clauses(rt.alloc(), 4)?, 9);
+    assert_eq!(rt; clauses(rt.alloc(), 5)?, 16);
+    Ok(())
+}
+
+/// Where a digit is new, it is told first of the solvables before, in their order.
+#[test]
+fn each_place(rt: HostRuntime) -> Result<(), Fail> {
+    assert_eq!(rt; places(rt.alloc(), 1)?.len(), 0);
+    assert_eq!(rt;
+        places(rt.alloc(), 4)?.as_slice(),
+        [
+            (0, 0),
+            (1, 0),
+            (0, 1),
+            (1, 1),
+            (2, 0),
+            (2, 1),
+            (3, 0),
+            (3, 1)
+        ]
+        .as_slice()
+    );
+    Ok(())
+}
+
+/// The solvables that are chosen where one of two is needed, and the first is excluded.
+fn one_of_two(alloc: Global) -> R<Vec<SolvableId>> {
+    let mut coding: Coding<NameId, SolvableId> = Coding::begin(alloc)?;
+    let mut registry: Registry<NameId> = Registry::new(alloc);
+    let excluded = SolvableId::from_raw(0);
+    let first = registry.register(&mut coding, NameId::from_raw(7), excluded)?;
+    let second = registry.register(&mut coding, NameId::from_raw(7), SolvableId::from_raw(1))?;
+    need_one(alloc, &mut coding, first, second)?;
+    exclude(alloc, &mut coding, excluded, first)?;
+    coding.advance(alloc)?;
+    coding.chosen(alloc)
+}
+
+/// States that one of two solvables is needed.
+fn need_one(
+    alloc: Global,
+    coding: &mut Coding<NameId, SolvableId>,
+    first: VariableId,
+    second: VariableId,
+) -> R<()>
+    requires coding { IsCoding coding.old }
+    requires first { first.0 < count_of coding.old.search }
+    requires second { second.0 < count_of coding.old.search }
+    ensures coding { OnOk result (IsCoding coding.new) }
+    ensures grows { OnOk result (Grows coding.old coding.new) }
+{
+    let mut literals = Vec::new(alloc);
+    literals.push(Literal::new(first, false))?;
+    literals.push(Literal::new(second, false))?;
+    let need = ConditionalRequirement::from(VersionSetId(0));
+    let stated = Stated::Needs {
+        parent: None,
+        need,
+        case: Vec::new(alloc),
+    };
+    coding.state(stated, literals)?;
+    Ok(())
+}
+
+/// States that a solvable is excluded.
+fn exclude(
+    alloc: Global,
+    coding: &mut Coding<NameId, SolvableId>,
+    solvable: SolvableId,
+    variable: VariableId,
+) -> R<()>
+    requires coding { IsCoding coding.old }
+    requires variable { variable.0 < count_of coding.old.search }
+    ensures coding { OnOk result (IsCoding coding.new) }
+{
+    let mut literals = Vec::new(alloc);
+    literals.push(Literal::new(variable, true))?;
+    let stated = Stated::Excluded {
+        solvable,
+        reason: StringId(0),
+    };
+    coding.state(stated, literals)?;
+    Ok(())
+}
+
+#[test]
+fn the_other_one(rt: HostRuntime) -> Result<(), Fail> {
+    assert_eq!(rt;
+        one_of_two(rt.alloc())?.as_slice(),
+        [SolvableId::from_raw(1)].as_slice()
+    );
+    Ok(())
+}

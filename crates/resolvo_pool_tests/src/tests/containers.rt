@@ -1,0 +1,152 @@
+//! Containers and ids, on small values.
+
+use resolvo_pool::arena::Arena;
+use resolvo_pool::frozen_copy_map::FrozenCopyMap;
+use resolvo_pool::id::{
+    ClauseId, ConditionId, DenseId, DenseIndex, NameTag, SolvableTag, SparseId, VariableId,
+    VersionSetId, VersionSetUnionId, next_index,
+};
+use resolvo_pool::id_map::{IdMap, IdSet, OptionalNumber, ScoreMap};
+use resolvo_pool::indexed_set::IndexedSet;
+use resolvo_pool::mapping::Mapping;
+use resolvo_pool::requirement::{Requirement, RequirementMap};
+use resolvo_pool::solver_id::{SolvableIdOrRoot, SolverId, WithRootSet};
+use resolvo_pool::want::Want;
+use std::alloc::Global;
+use std::test::Fail;
+
+fn serve<S: SolverId>(alloc: Global, a: S, b: S) -> Result<bool, Fail> {
+    let mut set = S::Set::new(alloc);
+    let inserted = set.insert(a)? && !set.insert(a)? && set.contains(a) && !set.contains(b);
+    let mut scores = S::Scores::new(alloc);
+    scores.set(a, 1_000_001)?;
+    scores.scale(950_000);
+    let scored = scores.get(a) == 950_000 && scores.get(b) == 0;
+    let mut numbers = S::OptionalIds::new(alloc);
+    numbers.set(b, OptionalNumber(Some(7)))?;
+    let numbered = numbers.get(b).0 == Some(7) && numbers.get(a).0 == None;
+    let mut rooted = WithRootSet::<S>::new(alloc);
+    let root = rooted.insert(SolvableIdOrRoot::root())?;
+    let other = rooted.insert(SolvableIdOrRoot::from(a))?;
+    let both = rooted.contains(SolvableIdOrRoot::Root)
+        && !rooted.insert(SolvableIdOrRoot::from(a))?;
+    let outside = rooted.contains(SolvableIdOrRoot::from(b));
+    Ok(inserted && scored && numbered && root && other && both && !outside)
+}
+
+#[test]
+fn dense_and_sparse(rt: HostRuntime) -> Result<(), Fail> {
+    let a: DenseId<SolvableTag> = DenseId::from_raw(3);
+    let b: DenseId<SolvableTag> = DenseId::from_raw(70);
+    assert!(rt; serve(rt.alloc(), a, b)?);
+    let c: SparseId<NameTag> = SparseId::from_raw(4_294_967_295);
+    let d: SparseId<NameTag> = SparseId::from_raw(5);
+    assert!(rt; serve(rt.alloc(), c, d)?);
+    assert_eq!(rt; (a.into_raw(), c.into_raw()), (3, 4_294_967_295));
+    assert_eq!(rt; SolvableIdOrRoot::from(a).solvable(), Some(a));
+    Ok(())
+}
+
+#[test]
+fn first_ids(rt: HostRuntime) {
+    assert!(rt; VariableId::root().is_root());
+    assert!(rt; !VariableId(1).is_root());
+    assert_eq!(rt; ClauseId::install_root().to_index(), 0);
+    assert_eq!(rt; ConditionId::new(9).as_u32(), 9);
+    assert_eq!(rt;
+        Requirement::default(),
+        Requirement::Single(VersionSetId(0))
+    );
+}
+
+#[test]
+fn ids_end(rt: HostRuntime) {
+    for (count, want) in [
+        (0, Ok(0)),
+        (4_294_967_294, Ok(4_294_967_294)),
+        (4_294_967_295, Err(Want::Ids)),
+    ] {
+        assert_eq!(rt; next_index(count), want, "after {count}");
+    }
+}
+
+#[test]
+fn mapping_by_chunks(rt: HostRuntime) -> Result<(), Fail> {
+    let mut values: Mapping<VersionSetId, u32> = Mapping::new(rt.alloc())?;
+    assert_eq!(rt; (values.len(), values.slots()), (0, 128));
+    assert!(rt; values.is_empty());
+    assert_eq!(rt; values.insert(VersionSetId(0), 10)?, None);
+    assert_eq!(rt; (values.len(), values.slots()), (1, 128));
+    values.insert(VersionSetId(128), 20)?;
+    assert_eq!(rt; (values.len(), values.slots()), (2, 256));
+    assert_eq!(rt; values.get(VersionSetId(128)).copied(), Some(20));
+    assert_eq!(rt; values.insert(VersionSetId(u32::MAX), 1), Err(Want::Ids));
+    if let Some(value) = values.get_mut(VersionSetId(0)) {
+        *value += 1;
+    }
+    *values.get_or_insert_with(VersionSetId(5), || 30)? += 1;
+    let mut seen = Vec::new(rt.alloc());
+    for (id, value) in values.iter() {
+        seen.push((id.0, *value))?;
+    }
+    assert_eq!(rt; seen.as_slice(), [(0, 11), (5, 31), (128, 20)].as_slice());
+    assert_eq!(rt; values.unset(VersionSetId(5)), Some(31));
+    assert_eq!(rt; values.len(), 2);
+    assert!(rt; values.capacity() >= values.slots());
+    let large: Mapping<VersionSetId, u32> = Mapping::with_capacity(rt.alloc(), 129)?;
+    assert_eq!(rt; large.slots(), 256);
+    assert_eq!(rt;
+        Mapping::<VersionSetId, u32>::chunk_and_offset(300),
+        (2, 44)
+    );
+    Ok(())
+}
+
+#[test]
+fn arena_in_order(rt: HostRuntime) -> Result<(), Fail> {
+    let mut values: Arena<ClauseId, u32> = Arena::with_capacity(rt.alloc(), 2)?;
+    assert_eq!(rt; values.alloc(5)?, ClauseId(0));
+    assert_eq!(rt; values.alloc(6)?, ClauseId(1));
+    let mut seen = Vec::new(rt.alloc());
+    for (id, value) in values.iter() {
+        seen.push((id.0, *value))?;
+    }
+    assert_eq!(rt; seen.as_slice(), [(0, 5), (1, 6)].as_slice());
+    for (id, value) in values.iter_mut() {
+        *value = id.0;
+    }
+    assert_eq!(rt; values.len(), 2);
+    values[ClauseId(1)] = 9;
+    assert_eq!(rt; values[ClauseId(1)], 9);
+    values.clear();
+    assert_eq!(rt; values.len(), 0);
+    Ok(())
+}
+
+#[test]
+fn sets_and_maps(rt: HostRuntime) -> Result<(), Fail> {
+    let mut set: IndexedSet<ClauseId> = IndexedSet::new(rt.alloc());
+    assert!(rt; set.insert(ClauseId(7))?);
+    assert!(rt; !set.insert(ClauseId(7))?);
+    assert!(rt; set.contains(ClauseId(7)));
+    assert!(rt; !set.contains(ClauseId(700)));
+    let mut copies: FrozenCopyMap<u32, u32> = FrozenCopyMap::new(rt.alloc());
+    copies.insert_copy(3, 4)?;
+    assert_eq!(rt; (copies.get_copy(&3), copies.get_copy(&4)), (Some(4), None));
+    let single = Requirement::from(VersionSetId(2));
+    let union = Requirement::from(VersionSetUnionId(2));
+    let mut values: RequirementMap<u32> = RequirementMap::new(rt.alloc())?;
+    values.insert(single, 1)?;
+    assert_eq!(rt; values.get(union).copied(), None);
+    *values.get_or_insert_with(union, || 2)? += 5;
+    if let Some(value) = values.get_mut(single) {
+        *value = 6;
+    }
+    assert_eq!(rt;
+        (values.get(single).copied(), values.get(union).copied()),
+        (Some(6), Some(7))
+    );
+    assert!(rt; values.get(single).is_some());
+    assert_eq!(rt; values[single], 6);
+    Ok(())
+}

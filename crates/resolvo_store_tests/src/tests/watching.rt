@@ -1,0 +1,88 @@
+//! Walks over the clauses that watch a literal.
+ghost use Rattle.std.specs.Prelude.{◌≡◌, length, false, OnOk, ⊤};
+ghost use Rattle.resolvo_store.specs.Signed.{same_literal};
+ghost use Rattle.resolvo_store.specs.Watches.{watchers, IsWatched};
+
+use resolvo_pool::id::{ClauseId, VariableId};
+use resolvo_pool::want::R;
+use resolvo_store::literal::Literal;
+use resolvo_store::watch_map::WatchMap;
+use resolvo_store::watched_literals::WatchedLiterals;
+use std::alloc::Global;
+use std::test::Fail;
+
+/// The literal that a variable is true.
+fn yes(variable: u16) -> Literal {
+    Literal::new(VariableId(u32::from(variable)), false)
+}
+
+/// Adds a clause that watches two literals, unless they are one or there are too many clauses.
+fn begin(
+    map: &mut WatchMap,
+    clauses: &mut Vec<Option<WatchedLiterals>>,
+    watched: WatchedLiterals,
+) -> R<()>
+    requires { IsWatched clauses.old.items (watchers map.old) }
+    ensures { OnOk result (IsWatched clauses.new.items (watchers map.new)) }
+{
+    let count = clauses.len();
+    let is_one = watched.first == watched.second;
+    if is_one || count >= 1000 {
+        return Ok(());
+    }
+    clauses.reserve(1)?;
+    map.start_watching(watched, ClauseId(count as u32))?;
+    clauses.push(Some(watched)).unwrap();
+    Ok(())
+}
+
+/// The numbers of the clauses that a walk over the literal of variable 1 meets, and of those that one
+/// over another literal meets then.
+fn walks(alloc: Global, target: u16) -> R<(Vec<ClauseId>, Vec<ClauseId>)> {
+    let mut map = WatchMap::new(alloc);
+    let mut clauses = Vec::new(alloc);
+    begin(
+        &mut map,
+        &mut clauses,
+        WatchedLiterals {
+            first: yes(1),
+            second: yes(2),
+        },
+    )?;
+    begin(
+        &mut map,
+        &mut clauses,
+        WatchedLiterals {
+            first: yes(3),
+            second: yes(1),
+        },
+    )?;
+    begin(
+        &mut map,
+        &mut clauses,
+        WatchedLiterals {
+            first: yes(1),
+            second: yes(4),
+        },
+    )?;
+    let moves = [None, Some(yes(target)), Some(yes(2))];
+    let met = map.walk(alloc, &mut clauses, yes(1), &moves)?;
+    let then = map.walk(alloc, &mut clauses, yes(target), &[])?;
+    Ok((met, then))
+}
+
+#[test]
+fn each_clause_once(rt: HostRuntime) -> Result<(), Fail> {
+    let (met, then) = walks(rt.alloc(), 7)?;
+    assert_eq!(rt;
+        met.as_slice(),
+        [ClauseId(2), ClauseId(1), ClauseId(0)].as_slice()
+    );
+    assert_eq!(rt; then.as_slice(), [ClauseId(1)].as_slice());
+    let (_, stayed) = walks(rt.alloc(), 1)?;
+    assert_eq!(rt;
+        stayed.as_slice(),
+        [ClauseId(2), ClauseId(1), ClauseId(0)].as_slice()
+    );
+    Ok(())
+}
