@@ -31,6 +31,7 @@ module _ {N S : Type 0} (same_name : N → N → Bool) (names : IsExact same_nam
       record { keeping = keeping; reached = reached; inside = inside }
   turn_found holds plain first None ended (Clash q) h = absurd h
   turn_found holds plain first (Some r) refusal (Chosen v) h = absurd h
-  turn_found holds plain first (Some r) refusal (Clash q) is =
-      (λ chosen keeping. refused same exact p root lawful e same_name names holds first r.literals.items r.causes.items refusal chosen keeping,
-       subst (λ (x : Refusal). IsRefusal e.coding.search x.literals.items x.causes.items) (sym is) refusal)
+  turn_found holds plain first (Some r) refusal (Clash q) is = (
+    λ chosen keeping. refused same exact p root lawful e same_name names holds first r.literals.items r.causes.items refusal chosen keeping,
+    subst (λ (x : Refusal). IsRefusal e.coding.search x.literals.items x.causes.items) (sym is) refusal,
+  )

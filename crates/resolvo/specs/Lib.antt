@@ -1,4 +1,3 @@
 pub mod Encoder
 pub mod Turn
 pub mod Solving
-pub mod Errors

@@ -4,7 +4,6 @@
 
 pub mod deciding;
 pub mod encoder;
-pub mod error;
 pub mod problem;
 pub mod search;
 pub mod turn;

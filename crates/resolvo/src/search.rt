@@ -84,7 +84,14 @@ pub fn search<A: Answering>(
 {
     let mut encoding = Encoding::begin(alloc)?;
     let mut scores = <A::NameId as SolverId>::Scores::new(alloc);
-    match run_root(alloc, answers, &mut encoding, &mut scores, activity, requirements) {
+    match run_root(
+        alloc,
+        answers,
+        &mut encoding,
+        &mut scores,
+        activity,
+        requirements,
+    ) {
         Ok(found) => Ok(Searched { encoding, found }),
         Err(fault) => Err(fault),
     }

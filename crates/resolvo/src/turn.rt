@@ -40,7 +40,10 @@ fn add_chosen<N: SolverId, S: SolverId>(alloc: Global, encoding: &mut Encoding<N
 fn is_any_broken(search: &SearchState, from: usize) -> bool {
     let values = search.tracker.map();
     search.clauses.iter().skip(from).any(|(_, clause)| {
-        clause.literals.iter().all(|literal| literal.eval(values) == Some(false))
+        clause
+            .literals
+            .iter()
+            .all(|literal| literal.eval(values) == Some(false))
     })
 }
 
@@ -118,8 +121,7 @@ fn run_round<A: Answering>(
     ensures built { OnOk result (IsBuilt encoding.new) }
     ensures cancelled { IfErr result (IsCancelledBy (A.may_cancel answers.old)) }
 {
-    let decided =
-        encode_and_decide(alloc, answers, encoding, scores, activity, requirements)?;
+    let decided = encode_and_decide(alloc, answers, encoding, scores, activity, requirements)?;
     if let Some(refusal) = decided {
         return Ok(Round::Refused(refusal));
     }

@@ -2,7 +2,7 @@
 #![tactic(auto)]
 
 pub mod id_table;
-mod lawful;
+pub mod lawful;
 pub mod marks;
 pub mod provider;
 #[cfg(test)]

@@ -16,9 +16,10 @@ returns-clause-encoded g c = λ root e needs.
     let same = g.A.SolvableId.PartialEq.eq in
     let exact : IsExact same = record { one = g.met.A.SolvableId.Exact.exact; own = g.met.A.SolvableId.Eq.laws.refl } in
     let offered : AreOffered same p c.args.need.requirement c.as_slice.result.now = subst (λ (xs : List (Offered _ _)). AreOffered same p c.args.need.requirement xs) (sym c.as_slice.ensures.value) c.in_ok-offered.ensures.offered in
-    let (middle, stated) = c.in_ok-require.ensures.encoded p root (g.met.A.Answering.lawful c.args.answers.now) e offered needs in
-    (parent_keeps same p root c.require.new.self c.add_available.new.encoding middle c.in_ok-add_available.ensures,
-     need_stays same exact p root c.require.new.self c.add_available.new.encoding c.args.parent c.args.need (parents_needs c.require.new.self c.add_available.new.encoding c.in_ok-add_available.ensures) stated)
+    let (middle, stated) = c.in_ok-require.ensures.encoded p root (g.met.A.Answering.lawful c.args.answers.now) e offered needs in (
+      parent_keeps same p root c.require.new.self c.add_available.new.encoding middle c.in_ok-add_available.ensures,
+      need_stays same exact p root c.require.new.self c.add_available.new.encoding c.args.parent c.args.need (parents_needs c.require.new.self c.add_available.new.encoding c.in_ok-add_available.ensures) stated,
+    )
 
 pub returns-clause-kept : goal.returns-clause-kept
 returns-clause-kept g c = needs_then c.args.encoding.now c.require.new.self c.add_available.new.encoding (extends_needs c.args.encoding.now c.require.new.self c.in_ok-require.ensures.kept) (parents_needs c.require.new.self c.add_available.new.encoding c.in_ok-add_available.ensures)

@@ -25,14 +25,16 @@ loop-need-preserved g c =
     let item : ConditionalRequirement = slice_index_or c.args.needs.now c.loop-need.need-index blank in
     let before = c.loop-need.invariant in
     let came = subst (λ (a : g.row.A.Denot). (root : Rules) → IsEncoding same (g.A.Answering.packages a) root c.loop-need.encoding → Needs same (g.A.Answering.packages a) root c.args.parent item
-        → IsEncoding same (g.A.Answering.packages a) root c.encode_need.new.encoding × IsNeedEncoded same (g.A.Answering.packages a) (rules_of c.encode_need.new.encoding) c.args.parent item []) before.same c.in_ok-encode_need.ensures.encoded in
+    → IsEncoding same (g.A.Answering.packages a) root c.encode_need.new.encoding × IsNeedEncoded same (g.A.Answering.packages a) (rules_of c.encode_need.new.encoding) c.args.parent item []) before.same c.in_ok-encode_need.ensures.encoded in
     record {
       same = c.in_ok-encode_need.ensures.same ∙ before.same;
       encoded = λ root e needs. (
           let (middle, done) = before.encoded root e needs in
-          let (last, one) = came root middle (needs item (Contains-get_or c.args.needs.now c.loop-need.need-index blank c.loop-need-test.true)) in
-          (last, λ need h. more_encoded same exact p root c.loop-need.encoding c.encode_need.new.encoding c.args.parent (take c.loop-need.need-index c.args.needs.now) item c.in_ok-encode_need.ensures.kept done one need
-              (subst (λ (xs : List ConditionalRequirement). Contains xs need) (take_more c.args.needs.now c.loop-need.need-index blank c.loop-need-test.true) h)));
+          let (last, one) = came root middle (needs item (Contains-get_or c.args.needs.now c.loop-need.need-index blank c.loop-need-test.true)) in (
+            last,
+            λ need h. more_encoded same exact p root c.loop-need.encoding c.encode_need.new.encoding c.args.parent (take c.loop-need.need-index c.args.needs.now) item c.in_ok-encode_need.ensures.kept done one need
+                (subst (λ (xs : List ConditionalRequirement). Contains xs need) (take_more c.args.needs.now c.loop-need.need-index blank c.loop-need-test.true) h),
+          ));
       kept = needs_then c.args.encoding.now c.loop-need.encoding c.encode_need.new.encoding before.kept c.in_ok-encode_need.ensures.kept;
       built = c.in_ok-encode_need.ensures.built;
     }

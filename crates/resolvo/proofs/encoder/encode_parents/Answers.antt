@@ -24,8 +24,8 @@ loop-parent-preserved g c =
     let middle = c.encode_parent.new.encoding in
     let kept = c.in_ok-encode_parent.ensures.kept in
     let came = subst (λ (a : g.row.A.Denot). (root : Rules) → root.requirements ≡ c.args.requirements.now → IsPlain same (g.A.Answering.packages a) root → IsEncoding same (g.A.Answering.packages a) root c.loop-parent.encoding
-        → IsEncoding same (g.A.Answering.packages a) root middle × ((need : ConditionalRequirement) → Contains (rules_for same (g.A.Answering.packages a) root (solvable_of c.in-Some.parent)).requirements need → IsNeedEncoded same (g.A.Answering.packages a) (rules_of middle) (solvable_of c.in-Some.parent) need []))
-        before.same c.in_ok-encode_parent.ensures.encoded in
+    → IsEncoding same (g.A.Answering.packages a) root middle × ((need : ConditionalRequirement) → Contains (rules_for same (g.A.Answering.packages a) root (solvable_of c.in-Some.parent)).requirements need → IsNeedEncoded same (g.A.Answering.packages a) (rules_of middle) (solvable_of c.in-Some.parent) need []))
+    before.same c.in_ok-encode_parent.ensures.encoded in
     let here : slice_get c.loop-parent.encoding.parents.keys c.loop-parent.encoding.encoded ≡ Some c.in-Some.parent = sym c.next_parent.ensures.parent ∙ c.in-Some.is in
     record {
       same = c.in_ok-encode_parent.ensures.same ∙ before.same;

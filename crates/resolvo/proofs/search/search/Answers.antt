@@ -11,7 +11,7 @@ returns-in-Ok-clause-found g c = λ root is plain.
     let same = g.A.SolvableId.PartialEq.eq in
     let p = g.A.Answering.packages c.args.answers.now in
     let (holds, found) = (subst (λ (r : Result _ _). IfOk r (λ f. (root : Rules) → root.requirements ≡ c.args.requirements.now → IsPlain same p root → IsEncoding same p root c.in_ok-encoding.encoding → IsEncoding same p root c.run_root.new.encoding × IsFound same p root c.run_root.new.encoding f))
-        c.in-Ok.is c.run_root.ensures.found) root is plain (c.in_ok-encoding.ensures.encoding p root (g.met.A.Answering.lawful c.args.answers.now)) in
+    c.in-Ok.is c.run_root.ensures.found) root is plain (c.in_ok-encoding.ensures.encoding p root (g.met.A.Answering.lawful c.args.answers.now)) in
     record { encoding = holds; found = found }
 
 pub returns-in-Err-clause-cancelled : goal.returns-in-Err-clause-cancelled

@@ -30,7 +30,7 @@ loop-refusal-preserved g c =
     let same = g.A.SolvableId.PartialEq.eq in
     let before = c.loop-refusal.invariant in
     let stays = subst (λ (a : g.row.A.Denot). (root : Rules) → root.requirements ≡ c.args.requirements.now → IsPlain same (g.A.Answering.packages a) root → IsEncoding same (g.A.Answering.packages a) root c.loop-refusal.encoding
-        → IsEncoding same (g.A.Answering.packages a) root c.run_round.new.encoding) before.same c.in_ok-run_round.ensures.stays in
+    → IsEncoding same (g.A.Answering.packages a) root c.run_round.new.encoding) before.same c.in_ok-run_round.ensures.stays in
     record {
       same = c.in_ok-run_round.ensures.same ∙ before.same;
       stays = λ root is plain e. stays root is plain (before.stays root is plain e);
@@ -43,7 +43,7 @@ pub returns-in-Whole-clause-stays : goal.returns-in-Whole-clause-stays
 returns-in-Whole-clause-stays g c = λ root is plain e.
     let same = g.A.SolvableId.PartialEq.eq in
     (subst (λ (a : g.row.A.Denot). (root : Rules) → root.requirements ≡ c.args.requirements.now → IsPlain same (g.A.Answering.packages a) root → IsEncoding same (g.A.Answering.packages a) root c.loop-refusal.encoding
-        → IsEncoding same (g.A.Answering.packages a) root c.run_round.new.encoding) c.loop-refusal.invariant.same c.in_ok-run_round.ensures.stays) root is plain (c.loop-refusal.invariant.stays root is plain e)
+    → IsEncoding same (g.A.Answering.packages a) root c.run_round.new.encoding) c.loop-refusal.invariant.same c.in_ok-run_round.ensures.stays) root is plain (c.loop-refusal.invariant.stays root is plain e)
 
 pub returns-in-Whole-clause-same : goal.returns-in-Whole-clause-same
 returns-in-Whole-clause-same g c = c.in_ok-run_round.ensures.same ∙ c.loop-refusal.invariant.same
@@ -58,7 +58,7 @@ pub returns-in-Refused-clause-stays : goal.returns-in-Refused-clause-stays
 returns-in-Refused-clause-stays g c = λ root is plain e.
     let same = g.A.SolvableId.PartialEq.eq in
     (subst (λ (a : g.row.A.Denot). (root : Rules) → root.requirements ≡ c.args.requirements.now → IsPlain same (g.A.Answering.packages a) root → IsEncoding same (g.A.Answering.packages a) root c.loop-refusal.encoding
-        → IsEncoding same (g.A.Answering.packages a) root c.run_round.new.encoding) c.loop-refusal.invariant.same c.in_ok-run_round.ensures.stays) root is plain (c.loop-refusal.invariant.stays root is plain e)
+    → IsEncoding same (g.A.Answering.packages a) root c.run_round.new.encoding) c.loop-refusal.invariant.same c.in_ok-run_round.ensures.stays) root is plain (c.loop-refusal.invariant.stays root is plain e)
 
 pub returns-in-Refused-clause-same : goal.returns-in-Refused-clause-same
 returns-in-Refused-clause-same g c = c.in_ok-run_round.ensures.same ∙ c.loop-refusal.invariant.same
