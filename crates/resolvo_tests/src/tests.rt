@@ -82,14 +82,20 @@ static MARKET: &str = "version a 1\nversion a 2\nneeds b 1\nversion b 1\nversion
 #[test]
 fn newest_that_fit(rt: HostRuntime) -> Result<(), Fail> {
     let set = solved(rt.alloc(), MARKET, "needs a\n")?;
-    assert_eq!(rt; set.as_deref(), Some([VersionNo(1), VersionNo(2)].as_slice()));
+    assert_eq!(rt;
+        set.as_deref(),
+        Some([VersionNo(1), VersionNo(2)].as_slice())
+    );
     Ok(())
 }
 
 #[test]
 fn newest_would_clash(rt: HostRuntime) -> Result<(), Fail> {
     let set = solved(rt.alloc(), MARKET, "needs a\nneeds b 2\n")?;
-    assert_eq!(rt; set.as_deref(), Some([VersionNo(3), VersionNo(0)].as_slice()));
+    assert_eq!(rt;
+        set.as_deref(),
+        Some([VersionNo(3), VersionNo(0)].as_slice())
+    );
     Ok(())
 }
 
