@@ -1,6 +1,6 @@
 //! The search between two encodings: it sets what follows, learns and chooses, until nothing is left to choose or
 //! choices can't stand together.
-ghost use Rattle.std.specs.Prelude.{◌<◌, ◌≤◌, length, IfOk, IfErr, OnOk};
+ghost use Rattle.std.specs.Prelude.{◌≡◌, ◌<◌, ◌≤◌, length, IfOk, IfErr, OnOk};
 ghost use Rattle.resolvo_pool.specs.Cached.{IsCancelledBy};
 ghost use Rattle.resolvo_pool.specs.RuleKeeping.{Rules};
 ghost use Rattle.resolvo_encoding.specs.Encoded.{IsEncoding};
@@ -33,12 +33,15 @@ impl Activity {
     /// So much is added, and so many millionths are left.
     pub fn new(added: u64, decay: u64) -> Activity
         requires { decay ≤ 1000000 }
+        ensures { (result.added ≡ added) × (result.decay ≡ decay) }
     {
         Activity { added, decay }
     }
 
     /// What a solver does unless the caller says otherwise.
-    pub fn standard() -> Activity {
+    pub fn standard() -> Activity
+        ensures { (result.added ≡ 1000000) × (result.decay ≡ 950000) }
+    {
         Activity {
             added: 1_000_000,
             decay: 950_000,

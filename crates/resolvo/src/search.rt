@@ -24,7 +24,7 @@ use std::hash::Hash;
 pub enum Found<S> {
     /// Solvables that keep all rules, in the order of the trail.
     Chosen(Vec<S>),
-    /// No solvables keep all rules: this follows from clauses.
+    /// The clauses can't be true together. Of a plain problem: no solvables keep all rules.
     Clash(Refusal),
 }
 
@@ -71,7 +71,9 @@ fn run_root<A: Answering>(
     Ok(found)
 }
 
-/// Searches for solvables that keep the rules of a root with these requirements, and of each other.
+/// Searches for solvables that keep the rules of a root with these requirements, and of each other. What it finds is
+/// true of plain problems: no requirement has a condition, nothing is limited, locked, excluded or unknown. Of others
+/// nothing is promised. It stops with `Memory`, `Ids`, or a value with which the answers are cancelled.
 pub fn search<A: Answering>(
     alloc: Global,
     answers: &mut A,
