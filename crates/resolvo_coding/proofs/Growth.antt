@@ -1,5 +1,5 @@
 -- What stands while variables and clauses come, and the search goes on.
-use Rattle.std.proofs.Common.{◌≡◌, ℕ, suc, ◌<◌, ◌≤◌, ◌⊎◌, inl, inr, Bool, true, ltb, List, ◌∷◌, length, Option, Some, None, reverse, Vec, Global, HashSet, BuildHasherDefault, FoldHasher, refl, sym, ◌∙◌, ap, subst, arith}
+use Rattle.std.proofs.Common.{◌≡◌, ℕ, suc, ◌<◌, ◌≤◌, ◌⊎◌, inl, inr, Bool, true, ltb, List, ◌∷◌, length, Option, Some, None, reverse, HashSet, BuildHasherDefault, FoldHasher, refl, sym, ◌∙◌, ap, subst, arith}
 use Rattle.std.specs.Prelude.{slice_get, Contains}
 use Rattle.std.proofs.lemmas.Bool.{ltb-true, ltb-false, cases_Bool}
 use Rattle.std.proofs.lemmas.Option.{slice_get_within}
@@ -22,9 +22,8 @@ use Rattle.resolvo_search.proofs.Jumping.{undone_on}
 use Rattle.resolvo_search.proofs.Clauses.{length-lists, literals_at}
 use Rattle.resolvo_search.proofs.StepLemmas.{lists-append, reverse_push}
 use Rattle.resolvo_rules.specs.Encoding.{Atom, Rule, plus, literals_of}
-use Rattle.resolvo_rules.specs.Ending.{IsCalledFor}
 use Rattle.resolvo_rules.specs.Numbered.{meaning, Means, known_of, Spells, AreCalledFor, IsAccounted, AreCoded}
-use Rattle.resolvo_rules.proofs.Growing.{clause_stays, called_for_grows, called_kept, called_choice, called_grows, spells_agree}
+use Rattle.resolvo_rules.proofs.Growing.{clause_stays, called_kept, called_choice, called_grows, spells_agree}
 use Rattle.resolvo_rules.proofs.Meanings.{clause_in_range}
 use Rattle.resolvo_coding.specs.declared.atom.ProofAtom.{ProofAtom}
 use Rattle.resolvo_coding.specs.declared.stated.Stated.{Stated}
@@ -142,51 +141,41 @@ registered_grows {N} {S} registered wider old new before after grows more all ca
       came n l s past (omega arith) h (other, e)
 ]
 
-module _ {N S : Type 0} (same : S → S → Bool) (p : Packages N S) (wishes : List S) where
-  -- each choice of the trail is an accepted wish, or matches what a stated rule asks for
-  abbrev pub AreCalled : Coding N S → Type 0
-  AreCalled c = AreCalledFor (origin c.atoms.keys) (IsCalledFor same p (rules_in c.stated.items) wishes) (history c.search)
-
-  choice_grows : (old new : Coding N S) → Grows old new → (known : List (Literal (Atom N S))) (l : Literal (Atom N S)) → IsCalledFor same p (rules_in old.stated.items) wishes known l → IsCalledFor same p (rules_in new.stated.items) wishes known l
-  choice_grows old new grows known l h = called_for_grows same p (rules_in old.stated.items) (rules_in new.stated.items) (rules_grow old new grows) wishes wishes known l (λ s w. w) h
-
+-- a choice that was called for as the one says is so as the other says
+module _ {N S : Type 0} (choice wider : List (Literal (Atom N S)) → Literal (Atom N S) → Type 0) (more : (known : List (Literal (Atom N S))) (l : Literal (Atom N S)) → choice known l → wider known l) (old new : Coding N S) where
   -- what comes leaves the trail's choices called for
-  pub called_grows_trail : (old new : Coding N S) → IsCoding old → Grows old new → SameTrail old new → AreCalled old → AreCalled new
-  called_grows_trail old new coding grows trail called =
-      subst (λ (t : List Entry). AreCalledFor (origin new.atoms.keys) (IsCalledFor same p (rules_in new.stated.items) wishes) t) (sym (ap (λ (t : Tracked). reverse t.trail) trail.tracker))
-      (called_grows (origin old.atoms.keys) (origin new.atoms.keys) (count_of old.search) (origin_grows old new coding grows) (IsCalledFor same p (rules_in old.stated.items) wishes) (IsCalledFor same p (rules_in new.stated.items) wishes) (clauses_of old.search) (history old.search) coding.ready.state.trail (choice_grows old new grows) called)
+  pub called_grows_trail : IsCoding old → Grows old new → SameTrail old new → AreCalledFor (origin old.atoms.keys) choice (history old.search) → AreCalledFor (origin new.atoms.keys) wider (history new.search)
+  called_grows_trail coding grows trail called =
+      subst (λ (t : List Entry). AreCalledFor (origin new.atoms.keys) wider t) (sym (ap (λ (t : Tracked). reverse t.trail) trail.tracker))
+      (called_grows (origin old.atoms.keys) (origin new.atoms.keys) (count_of old.search) (origin_grows old new coding grows) choice wider (clauses_of old.search) (history old.search) coding.ready.state.trail more called)
 
   -- so does a trail that only lost choices, over the same variables
-  pub called_loses : (old new : Coding N S) → new.atoms ≡ old.atoms → ((r : Rule N S) → rules_in old.stated.items r → rules_in new.stated.items r) → KeepsChoices (history old.search) (history new.search) → AreCalled old → AreCalled new
-  called_loses old new atoms adds keeps called =
-      subst (λ (a : HashSet (ProofAtom N S) (BuildHasherDefault FoldHasher)). AreCalledFor (origin a.keys) (IsCalledFor same p (rules_in new.stated.items) wishes) (history new.search)) (sym atoms)
-      (called_kept (origin old.atoms.keys) (IsCalledFor same p (rules_in new.stated.items) wishes) (history old.search) (history new.search) keeps
-      (λ e older stands is other. called_for_grows same p (rules_in old.stated.items) (rules_in new.stated.items) adds wishes wishes (known_of (origin old.atoms.keys) older) (meaning (origin old.atoms.keys) (literal_of e)) (λ s w. w) (called e older stands is other)))
+  called_loses : new.atoms ≡ old.atoms → KeepsChoices (history old.search) (history new.search) → AreCalledFor (origin old.atoms.keys) choice (history old.search) → AreCalledFor (origin new.atoms.keys) wider (history new.search)
+  called_loses atoms keeps called =
+      subst (λ (a : HashSet (ProofAtom N S) (BuildHasherDefault FoldHasher)). AreCalledFor (origin a.keys) wider (history new.search)) (sym atoms)
+      (called_kept (origin old.atoms.keys) wider (history old.search) (history new.search) keeps (λ e older stands is other. more (known_of (origin old.atoms.keys) older) (meaning (origin old.atoms.keys) (literal_of e)) (called e older stands is other)))
 
   -- a step of the search leaves the trail's choices called for
-  pub called_advances : (old new : Coding N S) (progress : Progress) → Advances old new progress → AreCalled old → AreCalled new
-  called_advances old new progress advances called = called_loses old new advances.atoms (rules_grow old new advances.grows) (keeps progress advances.progress) called
+  pub called_advances : (progress : Progress) → Advances old new progress → AreCalledFor (origin old.atoms.keys) choice (history old.search) → AreCalledFor (origin new.atoms.keys) wider (history new.search)
+  called_advances progress advances called = called_loses advances.atoms (keeps progress advances.progress) called
     where
       keeps : (q : Progress) → IsProgress old.search old.watching new.search new.watching q → KeepsChoices (history old.search) (history new.search)
       keeps Progress.Complete h = h.extends.choices
       keeps (Progress.Learnt id) h = h.choices
       keeps (Progress.Refused r) h = h.2.choices
 
-  kept_rules : (old new : Coding N S) → KeepsCode old new → (r : Rule N S) → rules_in old.stated.items r → rules_in new.stated.items r
-  kept_rules old new kept r h = subst (λ (xs : Vec (Stated N S) Global). rules_in xs.items r) (sym kept.stated) h
-
   -- entries that are undone leave the other choices called for
-  pub called_undoes : (level : ℕ) (old new : Coding N S) → Undoes level old.search new.search → KeepsCode old new → AreCalled old → AreCalled new
-  called_undoes level old new undoes kept called = called_loses old new kept.atoms (kept_rules old new kept) (λ e older stands is. undone_on level (history old.search) (history new.search) e older undoes.undone stands) called
+  pub called_undoes : (level : ℕ) → Undoes level old.search new.search → KeepsCode old new → AreCalledFor (origin old.atoms.keys) choice (history old.search) → AreCalledFor (origin new.atoms.keys) wider (history new.search)
+  called_undoes level undoes kept called = called_loses kept.atoms (λ e older stands is. undone_on level (history old.search) (history new.search) e older undoes.undone stands) called
 
   -- one choice more, which is called for
-  pub called_chooses : (v : VariableId) (clause : ClauseId) (old new : Coding N S) → Chooses v clause old.search new.search → KeepsCode old new
-      → IsCalledFor same p (rules_in old.stated.items) wishes (known_of (origin old.atoms.keys) (history old.search)) (meaning (origin old.atoms.keys) (yes v)) → AreCalled old → AreCalled new
-  called_chooses v clause old new chooses kept now called =
-      subst (λ (a : HashSet (ProofAtom N S) (BuildHasherDefault FoldHasher)). AreCalledFor (origin a.keys) (IsCalledFor same p (rules_in new.stated.items) wishes) (history new.search)) (sym kept.atoms)
-      (subst (λ (xs : Vec (Stated N S) Global). AreCalledFor (origin old.atoms.keys) (IsCalledFor same p (rules_in xs.items) wishes) (history new.search)) (sym kept.stated)
-      (subst (λ (h : List Entry). AreCalledFor (origin old.atoms.keys) (IsCalledFor same p (rules_in old.stated.items) wishes) h) (sym pushed)
-      (called_choice (origin old.atoms.keys) (IsCalledFor same p (rules_in old.stated.items) wishes) (choice_entry v clause (history old.search)) (history old.search) now called)))
+  pub called_chooses : (v : VariableId) (clause : ClauseId) → Chooses v clause old.search new.search → KeepsCode old new
+      → choice (known_of (origin old.atoms.keys) (history old.search)) (meaning (origin old.atoms.keys) (yes v)) → AreCalledFor (origin old.atoms.keys) choice (history old.search) → AreCalledFor (origin new.atoms.keys) wider (history new.search)
+  called_chooses v clause chooses kept now called =
+      subst (λ (a : HashSet (ProofAtom N S) (BuildHasherDefault FoldHasher)). AreCalledFor (origin a.keys) wider (history new.search)) (sym kept.atoms)
+      (subst (λ (h : List Entry). AreCalledFor (origin old.atoms.keys) wider h) (sym pushed)
+      (λ e older stands is other. more (known_of (origin old.atoms.keys) older) (meaning (origin old.atoms.keys) (literal_of e))
+      (called_choice (origin old.atoms.keys) choice (choice_entry v clause (history old.search)) (history old.search) now called e older stands is other)))
     where
       pushed : history new.search ≡ choice_entry v clause (history old.search) ∷ history old.search
       pushed = ap reverse chooses.pushed ∙ reverse_push old.search.tracker.trail (choice_entry v clause (history old.search))

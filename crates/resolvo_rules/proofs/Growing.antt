@@ -3,10 +3,9 @@ use Rattle.std.proofs.Common.{◌≡◌, ℕ, zero, suc, ◌+◌, ◌<◌, ◌�
 use Rattle.std.specs.Prelude.{Contains}
 use Rattle.std.proofs.lemmas.Bool.{both_ways}
 use Rattle.std.proofs.lemmas.List.{length-append}
-use Rattle.resolvo_pool.specs.declared.id.VersionSetId.{VersionSetId}
 use Rattle.resolvo_pool.specs.declared.requirement.Requirement.{Requirement}
 use Rattle.resolvo_pool.specs.OnePass.{Literal}
-use Rattle.resolvo_pool.specs.RuleKeeping.{Packages, is_in}
+use Rattle.resolvo_pool.specs.RuleKeeping.{Packages}
 use Rattle.resolvo_store.specs.Signed.{Signed, has}
 use Rattle.resolvo_store.specs.Clauses.{yes, root as root_variable}
 use Rattle.resolvo_store.specs.declared.decision.Entry.{Entry}
@@ -21,7 +20,7 @@ use Rattle.resolvo_search.proofs.Trails.{known_in_range}
 use Rattle.resolvo_search.proofs.Clauses.{length-lists}
 use Rattle.resolvo_search.proofs.StepLemmas.{lists-append}
 use Rattle.resolvo_rules.specs.Encoding.{Atom, Rule, plus, literals_of}
-use Rattle.resolvo_rules.specs.Ending.{IsAsked, IsCalledFor}
+use Rattle.resolvo_rules.specs.Ending.{IsAsked}
 use Rattle.resolvo_rules.specs.First.{IsFirstPick}
 use Rattle.resolvo_rules.specs.Numbered.{meaning, Means, meanings, known_of, IsOnce, Spells, AreCalledFor, IsAccounted, AreCoded}
 use Rattle.resolvo_rules.proofs.Lists.{contains_none, contains_cases, contains_one, contains_parts}
@@ -57,13 +56,15 @@ module _ {N S : Type 0} (same : S → S → Bool) (p : Packages N S) (rules more
   asked_grows known r (inl k) = inl (record { parent = k.parent; need = k.need; case = k.case; stands = adds _ k.stands; chosen = k.chosen; holds = k.holds; asks = k.asks })
   asked_grows known r (inr k) = inr (record { stands = adds _ k.stands; opened = k.opened })
 
-  -- more rules and more wishes leave a choice called for
-  pub called_for_grows : (wishes wider : List S) (known : List (Literal (Atom N S))) (l : Literal (Atom N S)) → ((s : S) → is_in same p wishes s ≡ true → is_in same p wider s ≡ true) → IsCalledFor same p rules wishes known l → IsCalledFor same p more wider known l
-  called_for_grows wishes wider known l f (inl w) = inl (record { solvable = w.solvable; is = w.is; wished = f w.solvable w.wished })
-  called_for_grows wishes wider known l f (inr k) = inr (record { requirement = k.requirement; asked = asked_grows known k.requirement k.asked; solvable = k.solvable; is = k.is; offered = k.offered })
-
-  pub first_pick_grows : (tried : VersionSetId → List S) (known : List (Literal (Atom N S))) (l : Literal (Atom N S)) → IsFirstPick same p tried rules known l → IsFirstPick same p tried more known l
-  first_pick_grows tried known l k = record { requirement = k.requirement; asked = asked_grows known k.requirement k.asked; solvable = k.solvable; is = k.is; first = k.first }
+  -- more rules, and orders in place of others, leave it a first pick
+  pub first_pick_grows : (orders wider : Requirement → List S → Type 0) (known : List (Literal (Atom N S))) (l : Literal (Atom N S)) → ((r : Requirement) (list : List S) → orders r list → wider r list) → IsFirstPick same p orders rules known l → IsFirstPick same p wider more known l
+  first_pick_grows orders wider known l f k = record {
+    requirement = k.requirement;
+    asked = asked_grows known k.requirement k.asked;
+    solvable = k.solvable;
+    is = k.is;
+    first = record { list = k.first.list; ordered = f k.requirement k.first.list k.first.ordered; before = k.first.before; after = k.first.after; splits = k.first.splits; fell = k.first.fell };
+  }
 
 -- the choices of a trail that only lost choices are called for
 pub called_kept : {N S : Type 0} (origin : ℕ → Atom N S) (choice : List (Literal (Atom N S)) → Literal (Atom N S) → Type 0) (old new : List Entry) → KeepsChoices old new → AreCalledFor origin choice old → AreCalledFor origin choice new

@@ -3,7 +3,6 @@ use Rattle.std.proofs.Common.{◌≡◌, ℕ, ◌<◌, inl, inr, Bool, true, fal
 use Rattle.std.proofs.lemmas.Bool.{both_ways}
 use Rattle.std.specs.Prelude.{Contains}
 use Rattle.resolvo_pool.specs.declared.id.ClauseId.{ClauseId}
-use Rattle.resolvo_pool.specs.declared.id.VersionSetId.{VersionSetId}
 use Rattle.resolvo_pool.specs.declared.requirement.Requirement.{Requirement}
 use Rattle.resolvo_pool.specs.OnePass.{Literal}
 use Rattle.resolvo_pool.specs.RuleKeeping.{Packages, Rules, is_in, meets, IsRuleKeeping}
@@ -17,9 +16,9 @@ use Rattle.resolvo_search.specs.State.{lists, IsDerived}
 use Rattle.resolvo_search.proofs.Trails.{consistent, root_known}
 use Rattle.resolvo_rules.specs.Encoding.{IsExact, Atom, Rule, plus, literals_of, IsRule, AgreeWith}
 use Rattle.resolvo_rules.specs.Ending as Ending
-use Rattle.resolvo_rules.specs.First.{TriesMatches, IsFirstChoices, IsFirstPick}
+use Rattle.resolvo_rules.specs.First.{IsFirstPick, ArePreferred}
 use Rattle.resolvo_rules.specs.Numbered.{meaning, meanings, known_of, Spells, AreCalledFor, AreCoded, IsTurnEnd, Denies}
-use Rattle.resolvo_rules.proofs.FirstLemmas.{first_choices}
+use Rattle.resolvo_rules.proofs.FirstLemmas.{end_preferred}
 use Rattle.resolvo_rules.proofs.Meanings.{meaning_stands, stands_meaning, quiet_meaning, trail_meaning, derived_implied}
 use Rattle.resolvo_rules.proofs.Reached.{met_by_literal}
 use Rattle.resolvo_rules.proofs.Ended.{turn_is_right, keeping_without_wishes, refusal_is_right}
@@ -59,14 +58,13 @@ module _ {N S : Type 0} (same : S → S → Bool) (exact : IsExact same) (same_n
   pub turn_keeps_rules : (count : ℕ) (clauses : List HeldClause) (h : List Entry) (members : List S) → IsTurnEnd origin same p rules root registered [] count clauses h members → IsRuleKeeping same p root members
   turn_keeps_rules count clauses h members t = keeping_without_wishes same exact p root members (turn_accepted [] count clauses h members t).keeping
 
-  -- Without wishes, and where each choice took the first candidate that was not false, they are the first choices, if these
-  -- keep all rules.
-  pub turn_takes_first : (tried : VersionSetId → List S) → TriesMatches same p tried → (bits : S → ℕ → Bool) (count : ℕ) (clauses : List HeldClause) (h : List Entry) (members first : List S)
-      → IsTurnEnd origin same p rules root registered [] count clauses h members → AreCalledFor origin (IsFirstPick same p tried rules) h → AgreeWith rules bits → IsFirstChoices same p tried root first
-      → (s : S) → (is_in same p members s ≡ true → is_in same p first s ≡ true) × (is_in same p first s ≡ true → is_in same p members s ≡ true)
-  turn_takes_first tried tries bits count clauses h members first t picks agree f =
-      first_choices same exact p tried tries root rules registered same_name names bits (known_of origin h) members first (end_meaning [] count clauses h members t) agree f
-      (trail_meaning origin same p rules registered count clauses t.coded (IsFirstPick same p tried rules) h t.trail t.rooted picks)
+  -- Without wishes, and where each choice took the first candidate that was not false, they were chosen in the order in
+  -- which they are tried.
+  pub turn_prefers : (orders : Requirement → List S → Type 0) (bits : S → ℕ → Bool) (count : ℕ) (clauses : List HeldClause) (h : List Entry) (members : List S)
+      → IsTurnEnd origin same p rules root registered [] count clauses h members → AreCalledFor origin (IsFirstPick same p orders rules) h → AgreeWith rules bits → ArePreferred same p orders root members
+  turn_prefers orders bits count clauses h members t picks agree =
+      end_preferred same exact p root rules registered orders same_name names bits (known_of origin h) members (end_meaning [] count clauses h members t) agree
+      (trail_meaning origin same p rules registered count clauses t.coded (IsFirstPick same p orders rules) h t.trail t.rooted picks)
 
   -- A clause that follows from the clauses, and denies solvables of a list alone: no rule-keeping set holds them all. With
   -- no literal it leaves no rule-keeping set.
