@@ -1,12 +1,13 @@
 -- What a provider says of its packages, and the candidates that it offers.
-use Rattle.std.specs.Prelude.{◌≡◌, Bool, List, Option, map}
+use Rattle.std.specs.Prelude.{◌≡◌, Bool, false, List, Option, map}
 use Rattle.std.specs.List.{AllByRecursion}
 use Rattle.resolvo_pool.specs.declared.id.ConditionId.{ConditionId}
 use Rattle.resolvo_pool.specs.declared.id.VersionSetId.{VersionSetId}
 use Rattle.resolvo_pool.specs.declared.id.VersionSetUnionId.{VersionSetUnionId}
 use Rattle.resolvo_pool.specs.declared.condition.Condition.{Condition}
 use Rattle.resolvo_pool.specs.declared.requirement.Requirement.{Requirement}
-use Rattle.resolvo_pool.specs.Provider.{Listing, Needs}
+use Rattle.resolvo_pool.specs.Provider.{Listing, Needs, matching_in, tried_first, IsTriedFor}
+use Rattle.resolvo_pool.specs.Text.{alternatives_of}
 use Rattle.resolvo_pool.specs.RuleKeeping.{Packages, is_in, meets}
 use Rattle.resolvo_answers.specs.declared.answering.Offered.{Offered}
 
@@ -21,6 +22,12 @@ packages_by name_of_solvable name_of_version_set members_of condition_of candida
   matches = matches p;
   dependencies_of = dependencies_of p;
 }
+
+-- The orders in which a provider lets the candidates of a requirement be tried: those of its version sets one after the
+-- other, each sorted by the provider, and then the favoured one in front.
+abbrev pub orders_by : {P N S : Type 0} → (P → VersionSetId → N) → (P → VersionSetUnionId → List VersionSetId) → (P → N → Option (Listing S)) → (P → VersionSetId → S → Bool) → (P → List S → List S → Type 0) → (S → S → Bool) → P → Requirement → List S → Type 0
+orders_by name_of_version_set members_of candidates_of matches sorts same p r list =
+    IsTriedFor (sorts p) same (tried_first (name_of_version_set p) (candidates_of p)) (matching_in (name_of_version_set p) (candidates_of p) (matches p) false) (alternatives_of (members_of p) r) list
 
 -- the solvable with its package
 abbrev pub offer_by : {N S : Type 0} → (S → N) → S → Offered N S

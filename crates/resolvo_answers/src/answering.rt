@@ -1,9 +1,10 @@
 //! What a solver asks of packages, answered by value.
-ghost use Rattle.std.specs.Prelude.{◌≡◌, IfOk, IfErr};
+ghost use Rattle.std.specs.Prelude.{◌≡◌, List, IfOk, IfErr};
 ghost use Rattle.resolvo_pool.specs.Provider.{needs_of};
 ghost use Rattle.resolvo_pool.specs.Cached.{IsCancelledBy};
 ghost use Rattle.resolvo_pool.specs.RuleKeeping.{Packages, IsLawful};
-ghost use Rattle.resolvo_answers.specs.Answering.{AreOffered};
+ghost use Rattle.resolvo_pool.specs.declared.requirement.Requirement.{Requirement};
+ghost use Rattle.resolvo_answers.specs.Answering.{AreOffered, offered_solvables};
 
 use resolvo_pool::cache::CacheFault;
 use resolvo_pool::provider::Dependencies;
@@ -29,6 +30,9 @@ pub trait Answering {
 
     /// What the answers say of the packages.
     ghost packages: { Self → Packages Self.NameId Self.SolvableId };
+
+    /// In which orders the candidates of a requirement may be tried.
+    ghost orders: { Self → Requirement → List Self.SolvableId → Type 0 };
 
     /// With which values a question may be cancelled.
     ghost may_cancel: { Self → Self.Cancel → Type 0 };
@@ -57,6 +61,7 @@ pub trait Answering {
     ) -> Result<Vec<Offered<Self::NameId, Self::SolvableId>>, CacheFault<Self::Cancel>>
         ensures same { self.new ≡ self.old }
         ensures offered { IfOk result (λ v. AreOffered Self.SolvableId.eq (packages self.old) requirement v.items) }
+        ensures ordered { IfOk result (λ v. orders self.old requirement (offered_solvables v.items)) }
         ensures cancelled { IfErr result (IsCancelledBy (may_cancel self.old)) };
 
     /// Whether a solvable's dependencies are at hand. It decides when they are asked for, not what they are.

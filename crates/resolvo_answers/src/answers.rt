@@ -1,7 +1,7 @@
 //! Answers by value, over a cache of the provider's.
 ghost use Rattle.std.specs.Prelude.{◌≡◌, IfOk, map};
 ghost use Rattle.resolvo_pool.specs.Provider.{needs_of};
-ghost use Rattle.resolvo_answers.specs.Answering.{packages_by, offer_by};
+ghost use Rattle.resolvo_answers.specs.Answering.{packages_by, orders_by, offer_by};
 
 use crate::answering::{Answering, Offered};
 use resolvo_pool::cache::{CacheFault, SolverCache};
@@ -65,6 +65,8 @@ impl<D: DependencyProvider> Answering for Answers<D> {
     type Cancel = D::Cancel;
 
     ghost packages = { λ p. packages_by D.name_of_solvable D.name_of_version_set D.members_of D.condition_of D.candidates_of D.matches D.dependencies_of p };
+
+    ghost orders = { λ p. orders_by D.name_of_version_set D.members_of D.candidates_of D.matches D.sorts D.SolvableId.eq p };
 
     ghost may_cancel = { λ p. D.may_cancel p };
 
