@@ -1,17 +1,15 @@
 -- What the calls rest on stays, step by step.
-use Rattle.std.proofs.Common.{◌≡◌, ℕ, ◌+◌, ◌<◌, ◌≤◌, ◌⊎◌, inl, inr, Bool, true, List, [], ◌∷◌, length, Option, Some, None, Vec, Global, HashSet, BuildHasherDefault, FoldHasher, refl, sym, ◌∙◌, ap, subst, arith}
+use Rattle.std.proofs.Common.{◌≡◌, ℕ, ◌+◌, ◌<◌, ◌≤◌, ◌⊎◌, inl, inr, Bool, true, false, List, ◌∷◌, length, Option, Some, None, Vec, Global, sym, ◌∙◌, ap, subst, arith}
 use Rattle.std.specs.Prelude.{Contains}
 use Rattle.resolvo_store.specs.Lists.{items_or_none}
 use Rattle.resolvo_pool.specs.declared.id.VariableId.{VariableId}
 use Rattle.resolvo_pool.specs.declared.requirement.Requirement.{Requirement}
-use Rattle.resolvo_pool.specs.declared.solver_id.SolvableIdOrRoot.{SolvableIdOrRoot}
 use Rattle.resolvo_pool.specs.ByRequirement.{slot_of, PutsAt}
 use Rattle.resolvo_store.specs.Signed.{Signed, has}
 use Rattle.resolvo_store.specs.Clauses.{yes, no, candidate_literals as literals_in}
-use Rattle.resolvo_store.specs.Lists.{Named, named_by, candidates_in, has_candidates, FixesCandidates, IsEmpty}
+use Rattle.resolvo_store.specs.Lists.{named_by, candidates_in, has_candidates, FixesCandidates}
 use Rattle.resolvo_store.specs.Pick.{pick_by}
 use Rattle.resolvo_store.specs.declared.lists.Candidate.{Candidate}
-use Rattle.resolvo_store.specs.declared.decide_queue.NeedClause.{NeedClause}
 use Rattle.resolvo_store.specs.declared.decide_queue.NextDecision.{NextDecision}
 use Rattle.resolvo_search.specs.Entries.{made_true}
 use Rattle.resolvo_search.specs.Known.{IsUndecided}
@@ -20,7 +18,6 @@ use Rattle.resolvo_search.specs.Steps.{AreInRange}
 use Rattle.resolvo_search.proofs.Literals.{has-cons}
 use Rattle.resolvo_answers.specs.declared.answering.Offered.{Offered}
 use Rattle.resolvo_coding.specs.declared.atom.ProofAtom.TheVariants.{Solvable, Gate}
-use Rattle.resolvo_coding.specs.declared.coding.Coding.{Coding}
 use Rattle.resolvo_coding.specs.declared.registry.Registry.{Registry}
 use Rattle.resolvo_coding.specs.declared.stated.Stated.{Stated}
 use Rattle.resolvo_coding.specs.declared.stated.Stated.TheVariants.{Digit}
@@ -31,11 +28,10 @@ use Rattle.resolvo_coding.proofs.Growth.{stands_grow, stands_in_range}
 use Rattle.resolvo_coding.proofs.Positions.{front_long}
 use Rattle.resolvo_coding.proofs.Registering.{KeepsDigits, digits_more, ties_grow, nothing_tied}
 use Rattle.resolvo_rules.proofs.Lists.{contains_none}
-use Rattle.resolvo_encoding.specs.Encoded.{IsEncoding}
 use Rattle.resolvo_encoding.specs.Steps.{RegistersAll, Fixes, StatesNeed, SameButCoding, IsBuilt, IsBegunEncoding, AddsParent}
 use Rattle.resolvo_encoding.specs.Turning.{AreValues}
 use Rattle.resolvo_encoding.specs.declared.encoding.Encoding.{Encoding}
-use Rattle.resolvo_encoding.proofs.Deciding.{picked, offers, open_undecided}
+use Rattle.resolvo_encoding.proofs.Deciding.{picked, offers, for_listed, open_undecided}
 use Rattle.resolvo_encoding.proofs.Needing.{literal_in}
 use Rattle.resolvo_encoding.proofs.Requiring.{put_at, put_other, fix_at, fix_other, some_one}
 
@@ -60,9 +56,9 @@ built_states x v r old new b other s = built_grows old new b s.states.coding s.s
 pub built_fixes : {N S : Type 0} (r : Requirement) (offered : List (Offered N S)) (old new : Encoding N S) → IsBuilt old → Fixes r offered old new → IsBuilt new
 built_fixes {N} {S} r offered old new b f = go f.fixed
   where
-    go : ((has_candidates old.lists r ≡ true) × (new ≡ old)) ⊎ ((given : Vec (Candidate N) Global) × RegistersAll offered given.items old.registry old.coding new.registry new.coding × FixesCandidates r given old.lists new.lists) → IsBuilt new
+    go : ((has_candidates old.lists r ≡ true) × (new ≡ old)) ⊎ ((has_candidates old.lists r ≡ false) × (given : Vec (Candidate N) Global) × RegistersAll offered given.items old.registry old.coding new.registry new.coding × FixesCandidates r given old.lists new.lists) → IsBuilt new
     go (inl (has, is)) = subst (λ (x : Encoding N S). IsBuilt x) (sym is) b
-    go (inr (given, all, fixes)) = record {
+    go (inr (fresh, given, all, fixes)) = record {
       coding = all.coding;
       tied = all.tied;
       candidates = candidates_new;
@@ -138,9 +134,10 @@ pub built_choice : {N S : Type 0} (e : Encoding N S) (values : ℕ → Option Bo
     → IsUndecided (made_true (history e.coding.search)) (yes d.candidate) × (d.candidate.0 < count_of e.coding.search)
 built_choice e values score d b agree h =
     let (q, stands, offered) = picked (named_by e.lists) values score e.queue d h in
-    let (eligible, (c, listed, undecided, is)) = offers (named_by e.lists) values score q d offered in
-    let (positive, (s, known)) = b.candidates q.requirement c listed in
-    let literal : c.literal ≡ yes d.candidate = λ i. record { variable = is i; positive = positive i } in (
-      subst (λ (x : Signed). IsUndecided (made_true (history e.coding.search)) x) literal (open_undecided values (made_true (history e.coding.search)) agree c.literal undecided),
-      subst (λ (v : VariableId). v.0 < count_of e.coding.search) is (stands_in_range e.coding c.literal.variable (Solvable s) b.coding known),
+    let (eligible, offer) = offers (named_by e.lists) values score q d offered in
+    let c = offer.candidate in
+    let (positive, (s, known)) = b.candidates q.requirement c (for_listed (named_by e.lists) values score (candidates_in e.lists q.requirement) d offer) in
+    let literal : c.literal ≡ yes d.candidate = λ i. record { variable = offer.is i; positive = positive i } in (
+      subst (λ (x : Signed). IsUndecided (made_true (history e.coding.search)) x) literal (open_undecided values (made_true (history e.coding.search)) agree c.literal offer.undecided),
+      subst (λ (v : VariableId). v.0 < count_of e.coding.search) offer.is (stands_in_range e.coding c.literal.variable (Solvable s) b.coding known),
     )

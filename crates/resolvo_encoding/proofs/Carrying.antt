@@ -11,6 +11,7 @@ use Rattle.resolvo_rules.specs.Numbered.{Spells}
 use Rattle.resolvo_rules.proofs.Lists.{contains_none, contains_left, contains_right, contains_only, contains_one, contains_parts}
 use Rattle.resolvo_rules.proofs.Growing.{spells_agree}
 use Rattle.resolvo_answers.specs.declared.answering.Offered.{Offered}
+use Rattle.resolvo_answers.specs.Answering.{offered_solvables}
 use Rattle.resolvo_coding.specs.declared.atom.ProofAtom.TheVariants.{Solvable}
 use Rattle.resolvo_coding.specs.declared.stated.Stated.TheVariants.{Digit}
 use Rattle.resolvo_coding.specs.declared.coding.Coding.{Coding}
@@ -19,6 +20,7 @@ use Rattle.resolvo_coding.specs.Atoms.{origin, StandsFor}
 use Rattle.resolvo_coding.specs.Coding.{IsCoding, Grows}
 use Rattle.resolvo_coding.specs.Registered.{AreTied, IsTracked, IsDigitClause, Registers, digit_literals}
 use Rattle.resolvo_encoding.specs.Steps.{IsOfferedAs, RegistersOne, RegistersAll}
+use Rattle.resolvo_encoding.proofs.Picking.{candidates_grow, candidates_more}
 use Rattle.resolvo_coding.proofs.Growth.{grows_same, grows_then, trail_same, trail_then, stands_grow, stated_grows, clause_grows, origin_grows}
 
 -- the number is below the other, or it is not
@@ -37,6 +39,7 @@ registers_none r c coding tied = record {
   digits = λ n low high. absurd (omega arith);
   each = λ o h. absurd (contains_none o h);
   all = λ x h. absurd (contains_none x h);
+  ordered = tt;
 }
 
 -- a clause that tells a digit goes on to do so
@@ -86,6 +89,7 @@ registers_more {N} {S} xs given o candidate r s t a b c all one = record {
     | inl k ↦ let (x, stands, e) = all.all d k in (x, contains_left x xs (o ∷ []) stands, offered_stays s t b c x d step.grows step.keeps e)
     | inr k ↦ (o, contains_right o xs (o ∷ []) (contains_only o), subst (λ y. IsOfferedAs t c o y) (sym (contains_one d candidate k)) here)
   ];
+  ordered = candidates_more c.atoms.keys given xs candidate o (candidates_grow b c given (offered_solvables xs) step.grows all.ordered) one.literal step.stands;
 }
   where
     step : Registers o.name o.solvable candidate.literal.variable s b t c

@@ -1,13 +1,14 @@
 -- The next decision is one of the queue's clauses', and called for.
-use Rattle.std.proofs.Common.{◌≡◌, ℕ, ◌<◌, ◌⊎◌, inl, inr, Bool, true, false, not, cond, List, [], ◌∷◌, Option, Some, None, option_map, find, reverse, refl, sym, ◌∙◌, ap, subst}
+use Rattle.std.proofs.Common.{◌≡◌, ℕ, ◌⊎◌, inl, inr, Bool, true, false, not, cond, List, [], ◌∷◌, Option, Some, None, option_map, find, reverse, ◌++◌, refl, sym, ◌∙◌, ap, subst}
 use Rattle.std.specs.Prelude.{Contains}
 use Rattle.std.specs.List.{list_any}
 use Rattle.std.proofs.Math.Bool.{beq}
 use Rattle.std.proofs.lemmas.Bool.{both_ways, cases_Bool, and_parts}
-use Rattle.resolvo_pool.specs.RuleKeeping.{Packages, Rules}
+use Rattle.resolvo_pool.specs.declared.requirement.Requirement.{Requirement}
+use Rattle.resolvo_pool.specs.RuleKeeping.{Packages, Rules, meets}
 use Rattle.resolvo_store.specs.Signed.{Signed, negation, has, value_under, is_true, is_open}
-use Rattle.resolvo_store.specs.Clauses.{yes}
-use Rattle.resolvo_store.specs.Lists.{Named, named_by}
+use Rattle.resolvo_store.specs.Clauses.{yes, no}
+use Rattle.resolvo_store.specs.Lists.{Named, named_by, candidates_in}
 use Rattle.resolvo_store.specs.Pick.{beats, later, is_eligible_by, decision_for, offer_of, offer_by, pick_after_by, pick_by}
 use Rattle.resolvo_store.specs.declared.lists.Candidate.{Candidate}
 use Rattle.resolvo_store.specs.declared.decide_queue.NeedClause.{NeedClause}
@@ -22,10 +23,12 @@ use Rattle.resolvo_store.specs.declared.decision_map.Assignment.{Assignment}
 use Rattle.resolvo_search.specs.Entries.{made_true, IsTrail}
 use Rattle.resolvo_search.proofs.Values.{true_is}
 use Rattle.resolvo_search.specs.State.{history, count_of, clauses_of}
-use Rattle.resolvo_rules.specs.Encoding.{Atom, Rule, plus, case_literals}
-use Rattle.resolvo_rules.specs.Ending.{IsTrueParent, IsAsked, IsCalledFor}
-use Rattle.resolvo_rules.specs.Numbered.{meaning, Means, known_of}
-use Rattle.resolvo_rules.proofs.Lists.{contains_none, contains_first, contains_later, contains_cases, any_contained}
+use Rattle.resolvo_rules.specs.Encoding.{IsExact, Atom, Rule, plus, minus, case_literals}
+use Rattle.resolvo_rules.specs.Ending.{IsTrueParent, HasClause, IsAsked, IsCalledFor}
+use Rattle.resolvo_rules.specs.First.{IsFirstPick}
+use Rattle.resolvo_rules.specs.Numbered.{meaning, Means, known_of, AreCalledFor}
+use Rattle.resolvo_rules.proofs.FirstLemmas.{first_called_for}
+use Rattle.resolvo_rules.proofs.Lists.{contains_none, contains_first, contains_later, contains_left, contains_right, contains_cases, any_contained, none_contained}
 use Rattle.resolvo_rules.proofs.Meanings.{meaning_stands}
 use Rattle.resolvo_coding.specs.declared.atom.ProofAtom.{ProofAtom}
 use Rattle.resolvo_coding.specs.declared.atom.ProofAtom.TheVariants.{Solvable, Gate}
@@ -34,11 +37,11 @@ use Rattle.resolvo_coding.specs.declared.stated.Stated.TheVariants as Says
 use Rattle.resolvo_coding.specs.Atoms.{atom_of, origin, StandsFor}
 use Rattle.resolvo_coding.specs.Statements.{stated_at}
 use Rattle.resolvo_coding.proofs.Rules.{rule_stated}
-use Rattle.resolvo_coding.proofs.Origins.{means_atom, solvable_means}
-use Rattle.resolvo_coding.proofs.Growth.{stands_in_range}
-use Rattle.resolvo_encoding.specs.Encoded.{IsParentVariable, IsQueuedFor, IsEncoding}
+use Rattle.resolvo_coding.proofs.Origins.{means_atom, solvable_means, solvable_stands}
+use Rattle.resolvo_encoding.specs.Encoded.{IsParentVariable, AreCandidates, HasOrder, IsQueuedFor, IsEncoding}
 use Rattle.resolvo_encoding.specs.Encoded as E
 use Rattle.resolvo_encoding.specs.Turning.{AreValues}
+use Rattle.resolvo_encoding.proofs.Picking.{candidate_of, found_first, listed_at, some_same}
 use Rattle.resolvo_encoding.specs.declared.encoding.Encoding.{Encoding}
 
 -- ---- which clause a decision is of
@@ -89,40 +92,49 @@ module _ {N : Type 0} (names : Named N) (values : ℕ → Option Bool) (score : 
 
 -- ---- what a clause has to decide
 
-found : {X : Type 0} (f : X → Bool) (xs : List X) (x : X) → find f xs ≡ Some x → Contains xs x × (f x ≡ true)
-found f [] x h = absurd cc
-found {X} f (y ∷ ys) x h = go (f y) refl h (found f ys x)
-  where
-    go : (b : Bool) → f y ≡ b → cond b (Some y) (find f ys) ≡ Some x → (find f ys ≡ Some x → Contains ys x × (f x ≡ true)) → Contains (y ∷ ys) x × (f x ≡ true)
-    go true e i rest = let s : y ≡ x = cc in (contains_first x y ys s, ap f (sym s) ∙ e)
-    go false e i rest = (contains_later x y ys (rest i).0, (rest i).1)
-
 map_some : {X Y : Type 0} (f : X → Y) (o : Option X) (y : Y) → option_map f o ≡ Some y → (x : X) × (o ≡ Some x) × (f x ≡ y)
 map_some f None y h = absurd cc
 map_some f (Some x) y h = (x, refl, cc)
 
 module _ {N : Type 0} (names : Named N) (values : ℕ → Option Bool) (score : N → ℕ) where
-  offer_opens : (q : NeedClause) (d : NextDecision) (cs : List (Candidate N)) → offer_of names values score q cs ≡ Some d
-      → (c : Candidate N) × Contains cs c × (is_open (value_under values c.literal) ≡ true) × (c.literal.variable ≡ d.candidate)
-  offer_opens q d cs h = go (list_any (λ c. is_true (value_under values c.literal)) cs) h
-    where
-      go : (b : Bool) → cond b None (option_map (decision_for names values score q cs) (find (λ c. is_open (value_under values c.literal)) cs)) ≡ Some d
-          → (c : Candidate N) × Contains cs c × (is_open (value_under values c.literal) ≡ true) × (c.literal.variable ≡ d.candidate)
-      go true e = absurd cc
-      go false e =
-          let (c, at, is) = map_some (decision_for names values score q cs) (find (λ c. is_open (value_under values c.literal)) cs) d e in
-          let (stands, undecided) = found (λ (x : Candidate N). is_open (value_under values x.literal)) cs c at in
-          (c, stands, undecided, ap (λ (x : NextDecision). x.candidate) is)
+  -- the decision is for the first undecided one of the candidates, of which none before it is true
+  pub record IsForFirst (cs : List (Candidate N)) (d : NextDecision) : Type 0 where
+    pub candidate : Candidate N
+    pub before : List (Candidate N)
+    pub after : List (Candidate N)
+    pub splits : cs ≡ before ++ candidate ∷ after
+    pub undecided : is_open (value_under values candidate.literal) ≡ true
+    pub passed : (c : Candidate N) → Contains before c → (is_open (value_under values c.literal) ≡ false) × (is_true (value_under values c.literal) ≡ false)
+    pub is : candidate.literal.variable ≡ d.candidate
 
-  -- a clause that has something to decide is eligible, and has an undecided candidate for it
-  pub offers : (q : NeedClause) (d : NextDecision) → offer_by names values score q ≡ Some d
-      → (is_eligible_by names values q ≡ true) × ((c : Candidate N) × Contains (names.candidates q.requirement) c × (is_open (value_under values c.literal) ≡ true) × (c.literal.variable ≡ d.candidate))
+  offer_opens : (q : NeedClause) (d : NextDecision) (cs : List (Candidate N)) → offer_of names values score q cs ≡ Some d → IsForFirst cs d
+  offer_opens q d cs h = go (list_any (λ c. is_true (value_under values c.literal)) cs) refl h
+    where
+      go : (b : Bool) → list_any (λ c. is_true (value_under values c.literal)) cs ≡ b → cond b None (option_map (decision_for names values score q cs) (find (λ c. is_open (value_under values c.literal)) cs)) ≡ Some d → IsForFirst cs d
+      go true none e = absurd cc
+      go false none e =
+          let (c, at, is) = map_some (decision_for names values score q cs) (find (λ c. is_open (value_under values c.literal)) cs) d e in
+          let (before, after, splits, opens, passed) = found_first (λ (x : Candidate N). is_open (value_under values x.literal)) cs c at in
+          record {
+            candidate = c;
+            before = before;
+            after = after;
+            splits = splits;
+            undecided = opens;
+            passed = λ x a. (passed x a, none_contained (λ (y : Candidate N). is_true (value_under values y.literal)) x cs (subst (λ ys. Contains ys x) (sym splits) (contains_left x before (c ∷ after) a)) none);
+            is = ap (λ (x : NextDecision). x.candidate) is;
+          }
+
+  -- a clause that has something to decide is eligible, and the decision is for the first of its undecided candidates
+  pub offers : (q : NeedClause) (d : NextDecision) → offer_by names values score q ≡ Some d → (is_eligible_by names values q ≡ true) × IsForFirst (names.candidates q.requirement) d
   offers q d h = go (is_eligible_by names values q) refl h
     where
-      go : (b : Bool) → is_eligible_by names values q ≡ b → cond b (offer_of names values score q (names.candidates q.requirement)) None ≡ Some d
-          → (is_eligible_by names values q ≡ true) × ((c : Candidate N) × Contains (names.candidates q.requirement) c × (is_open (value_under values c.literal) ≡ true) × (c.literal.variable ≡ d.candidate))
+      go : (b : Bool) → is_eligible_by names values q ≡ b → cond b (offer_of names values score q (names.candidates q.requirement)) None ≡ Some d → (is_eligible_by names values q ≡ true) × IsForFirst (names.candidates q.requirement) d
       go true e i = (e, offer_opens q d (names.candidates q.requirement) i)
       go false e i = absurd cc
+
+  pub for_listed : (cs : List (Candidate N)) (d : NextDecision) → (o : IsForFirst cs d) → Contains cs o.candidate
+  for_listed cs d o = subst (λ ys. Contains ys o.candidate) (sym o.splits) (contains_right o.candidate o.before (o.candidate ∷ o.after) (contains_first o.candidate o.candidate o.after refl))
 
 not_found : {X : Type 0} (f : X → Bool) (xs : List X) (x : X) → find f xs ≡ None → Contains xs x → f x ≡ false
 not_found f [] x h a = absurd (contains_none x a)
@@ -214,6 +226,13 @@ module _ (values : ℕ → Option Bool) (known : List Signed) (agree : AreValues
         | inr s ↦ absurd (both_ways _ h (agree.made (negation l) (e ∙ ap Some s)))
       ]
 
+  -- a literal that is neither undecided nor true is false
+  pub passed_known : (l : Signed) → is_open (value_under values l) ≡ false → is_true (value_under values l) ≡ false → has known (negation l) ≡ true
+  passed_known l decided untrue = elim (cases_Bool (has known (negation l))) [
+    | inl e ↦ e
+    | inr e ↦ absurd (elim (open_or_known l e) [ inl o ↦ both_ways _ decided o | inr k ↦ both_ways _ untrue (known_value l k) ])
+  ]
+
 -- the values that a map keeps of a trail are those that its literals make true
 pub trail_values : (count : ℕ) (cs : List (List Signed)) (es : List Entry) (map : List (Option Assignment)) → IsTrail count cs (reverse es) → ((v : ℕ) → at map v ≡ assigned es v) → AreValues (value_at map) (made_true (reverse es))
 trail_values count cs es map t mapped = record {
@@ -270,20 +289,64 @@ module _ {N S : Type 0} (same : S → S → Bool) (p : Packages N S) (root : Rul
   queue_asks q (Some (Says.IsThere n s)) at h t = absurd h
   queue_asks q (Some Says.Learnt) at h t = absurd h
 
-  -- The next decision is called for: it chooses a match of what is asked for.
-  pub choice_called : IsEncoding same p root e → (values : ℕ → Option Bool) (score : N → ℕ) (d : NextDecision) → AreValues values (made_true (history e.coding.search)) → pick_by (named_by e.lists) values score e.queue ≡ Some d
-      → IsCalledFor same p (E.rules_of e) [] (known_of (origin e.coding.atoms.keys) (history e.coding.search)) (meaning (origin e.coding.atoms.keys) (yes d.candidate))
-  choice_called holds values score d agree h =
+  -- what is asked for has a clause
+  pub has_clause : (r : Requirement) → IsAsked same p (E.rules_of e) (known_of (origin e.coding.atoms.keys) (history e.coding.search)) r → HasClause same p (E.rules_of e) r
+  has_clause r (inl k) = inl (k.parent, k.need, k.case, k.stands, k.asks)
+  has_clause r (inr k) = inr k.stands
+
+  -- a candidate of a solvable that is false on the trail denies it
+  candidate_fell : (c : Candidate N) (s : S) → c.literal.positive ≡ true → StandsFor e.coding.atoms.keys c.literal.variable (Solvable s) → has (made_true (history e.coding.search)) (negation c.literal) ≡ true
+      → Contains (known_of (origin e.coding.atoms.keys) (history e.coding.search)) (minus (Atom.solvable s))
+  candidate_fell c s positive stands h =
+      let denied : negation c.literal ≡ no c.literal.variable = λ i. record { variable = c.literal.variable; positive = not (positive i) } in
+      let means : Means (origin e.coding.atoms.keys) (no c.literal.variable) (minus (Atom.solvable s)) = means_atom e.coding.atoms.keys (no c.literal.variable) (Solvable s) stands in
+      subst (Contains (known_of (origin e.coding.atoms.keys) (history e.coding.search))) (sym means.1)
+      (meaning_stands (origin e.coding.atoms.keys) (made_true (history e.coding.search)) (no c.literal.variable) (subst (λ (x : Signed). has (made_true (history e.coding.search)) x ≡ true) denied h) means.0)
+
+  -- The next decision is called for: it chooses the first candidate that is not false, of what is asked for.
+  pub choice_taken : IsEncoding same p root e → (values : ℕ → Option Bool) (score : N → ℕ) (d : NextDecision) → AreValues values (made_true (history e.coding.search)) → pick_by (named_by e.lists) values score e.queue ≡ Some d
+      → IsFirstPick same p (HasOrder e) (E.rules_of e) (known_of (origin e.coding.atoms.keys) (history e.coding.search)) (meaning (origin e.coding.atoms.keys) (yes d.candidate))
+  choice_taken holds values score d agree h =
       let (q, stands, offered) = picked (named_by e.lists) values score e.queue d h in
-      let (eligible, (c, listed, undecided, is)) = offers (named_by e.lists) values score q d offered in
-      let (s, fits, meets_it) = holds.listed q.requirement c listed in
+      let (eligible, offer) = offers (named_by e.lists) values score q d offered in
+      let c = offer.candidate in
+      let (s, fits, meets_it) = holds.listed q.requirement c (for_listed (named_by e.lists) values score (candidates_in e.lists q.requirement) d offer) in
       let parent : has (made_true (history e.coding.search)) (yes q.parent) ≡ true = parent_known values (made_true (history e.coding.search)) agree q.parent (and_parts (is_true (values q.parent.0)) _ eligible).0 in
-      let literal : c.literal ≡ yes d.candidate = λ i. record { variable = is i; positive = fits.positive i } in
+      let asked = queue_asks q (stated_at e.coding.stated.items q.clause.0) refl (holds.queued q stands) parent in
+      let literal : c.literal ≡ yes d.candidate = λ i. record { variable = offer.is i; positive = fits.positive i } in
       let means : Means (origin e.coding.atoms.keys) (yes d.candidate) (plus (Atom.solvable s)) = subst (λ (x : Signed). Means (origin e.coding.atoms.keys) x (plus (Atom.solvable s))) literal (solvable_means e.coding.atoms.keys c.literal s fits.positive fits.stands) in
-      inr (record {
+      let (front, back, sooner, whole) = listed_at e.coding.atoms.keys offer.before offer.after c s
+      (λ x a. each q.requirement x (subst (λ ys. Contains ys x) (sym offer.splits) (contains_left x offer.before (c ∷ offer.after) a)))
+      (λ x a. each q.requirement x (subst (λ ys. Contains ys x) (sym offer.splits) (contains_right x offer.before (c ∷ offer.after) (contains_later x c offer.after a))))
+      fits.positive fits.stands in
+      record {
         requirement = q.requirement;
-        asked = queue_asks q (stated_at e.coding.stated.items q.clause.0) refl (holds.queued q stands) parent;
+        asked = asked;
         solvable = s;
         is = sym means.1;
-        offered = meets_it;
-      })
+        first = record {
+          list = front ++ s ∷ back;
+          ordered = (holds.fixed q.requirement (has_clause q.requirement asked), subst (λ cs. AreCandidates e.coding.atoms.keys cs (front ++ s ∷ back)) (sym offer.splits) whole);
+          before = front;
+          after = back;
+          splits = refl;
+          fell = λ t a.
+              let (x, there, positive, known) = candidate_of e.coding.atoms.keys offer.before front t sooner a in
+              let (decided, untrue) = offer.passed x there in
+              candidate_fell x t positive known (passed_known values (made_true (history e.coding.search)) agree x.literal decided untrue);
+        };
+      }
+    where
+      each : (r : Requirement) (x : Candidate N) → Contains (candidates_in e.lists r) x → (t : S) × (x.literal.positive ≡ true) × StandsFor e.coding.atoms.keys x.literal.variable (Solvable t)
+      each r x a = let (t, fits, m) = holds.listed r x a in (t, fits.positive, fits.stands)
+
+  -- each choice of the trail chooses a match of what was asked for
+  pub choices_called : IsExact same → IsEncoding same p root e → AreCalledFor (origin e.coding.atoms.keys) (IsCalledFor same p (E.rules_of e) []) (history e.coding.search)
+  choices_called exact holds x older stands is other = first_called_for same exact p (HasOrder e) (E.rules_of e) [] _ _ matches (holds.called x older stands is other)
+    where
+      matches : (r : Requirement) (list : List S) (s : S) → HasOrder e r list → Contains list s → meets same p r s ≡ true
+      matches r list s (has, are) a =
+          let (c, there, positive, known) = candidate_of e.coding.atoms.keys (candidates_in e.lists r) list s are a in
+          let (t, fits, m) = holds.listed r c there in
+          let one : t ≡ s = some_same t s (sym (solvable_stands e.coding.atoms.keys c.literal.variable t fits.stands) ∙ solvable_stands e.coding.atoms.keys c.literal.variable s known) in
+          subst (λ y. meets same p r y ≡ true) one m

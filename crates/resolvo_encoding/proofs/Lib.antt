@@ -1,3 +1,4 @@
+pub mod Picking
 pub mod Carrying
 pub mod Requiring
 pub mod Needing

@@ -17,11 +17,10 @@ use Rattle.resolvo_store.specs.declared.decide_queue.NeedClause.{NeedClause}
 use Rattle.resolvo_store.specs.declared.lists.Candidate.{Candidate}
 use Rattle.resolvo_search.specs.declared.state.HeldClause.{HeldClause}
 use Rattle.resolvo_search.specs.Known.{clause_at}
-use Rattle.resolvo_search.specs.State.{lists, clauses_of, count_of, history}
+use Rattle.resolvo_search.specs.State.{lists, clauses_of, history}
 use Rattle.resolvo_store.specs.declared.decision.Entry.{Entry}
 use Rattle.resolvo_search.specs.Entries.{StandsOn}
 use Rattle.resolvo_search.specs.Beginning.{IsRootClause, root_entry}
-use Rattle.resolvo_search.specs.Steps.{AreInRange}
 use Rattle.resolvo_search.proofs.Literals.{has-cons, has_here, has_later}
 use Rattle.resolvo_search.proofs.Clauses.{literals_at}
 use Rattle.resolvo_rules.specs.Encoding.{IsExact, Atom, Rule, plus, minus, IsRule, literals_of, parent_literals, candidate_literals, cases_under, asks, has_condition, same_requirement}
@@ -45,7 +44,7 @@ use Rattle.resolvo_encoding.specs.declared.encoding.Encoding.{Encoding}
 use Rattle.resolvo_coding.proofs.Positions.{get_last}
 use Rattle.resolvo_coding.proofs.Origins.{means_solvable, solvable_means, means_atom, solvable_stands}
 use Rattle.resolvo_coding.proofs.Rules.{rule_stated}
-use Rattle.resolvo_coding.proofs.Growth.{stands_in_range, rule_split, rules_split}
+use Rattle.resolvo_coding.proofs.Growth.{rule_split, rules_split}
 use Rattle.resolvo_coding.proofs.Registering.{digits_same, digits_more, ties_grow, nothing_tied}
 use Rattle.resolvo_encoding.proofs.Requiring.{Came, Carries, carried, candidate_grows, queued_keeps, within_keeps, encoded_keeps, gates_keep, put_at, put_other, NoneAsks, kept_carries, some_one}
 
@@ -291,6 +290,7 @@ module _ {N S : Type 0} (same : S → S → Bool) (exact : IsExact same) (p : Pa
         keeps = tracked;
         registered = λ n s (u, stands, there). inl (u, subst (λ ks. StandsFor ks u (Solvable s)) atoms stands, subst (λ t. IsTracked t n u) came.registry there);
         came = λ n low high. subst (λ k. Came same exact p root new k) (sym (place n low high)) right;
+        lists = λ q h. ap (λ ls. slot_of ls.candidates q) came.lists;
         listed = λ q c a. (let (s, fits, m) = e.listed q c (subst (λ ls. Contains (candidates_in ls q) c) came.lists a) in (s, candidate (p.package_of s) s c fits, m));
         offered = λ q s h m. (let (c, a, fits) = e.offered q s (subst (λ ls. has_candidates ls q ≡ true) came.lists h) m in (c, subst (λ ls. Contains (candidates_in ls q) c) (sym came.lists) a, candidate (p.package_of s) s c fits));
         fixed = fixed;

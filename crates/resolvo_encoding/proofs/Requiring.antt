@@ -1,6 +1,6 @@
 -- What each step of encoding leaves standing of the packages' encoding.
 use Rattle.std.proofs.Common.{◌≡◌, ℕ, ◌<◌, ◌≤◌, ◌⊎◌, inl, inr, Bool, true, false, List, [], ◌∷◌, length, Option, Some, None, refl, sym, ◌∙◌, ap, subst, arith, Vec, Global, ◌==◌, eqb-true, eq-eqb, unwrap_or, is_some}
-use Rattle.std.specs.Prelude.{Contains, slice_get}
+use Rattle.std.specs.Prelude.{Contains, slice_get, MatchOption}
 use Rattle.std.specs.List.{AllByRecursion}
 use Rattle.std.proofs.lemmas.Bool.{both_ways, cases_Bool, and_parts}
 use Rattle.resolvo_pool.specs.declared.id.VariableId.{VariableId}
@@ -25,6 +25,7 @@ use Rattle.resolvo_search.specs.Known.{clause_at}
 use Rattle.resolvo_search.specs.State.{clauses_of}
 use Rattle.resolvo_rules.specs.Encoding.{IsExact, Atom, Rule, plus, minus, IsRule, literals_of}
 use Rattle.resolvo_rules.specs.Ending.{IsNeedEncoded, HasClause}
+use Rattle.resolvo_rules.specs.First.{IsFirstPick}
 use Rattle.resolvo_rules.specs.Numbered.{meaning, Means, Spells}
 use Rattle.resolvo_rules.proofs.Lists.{contains_none, contains_cases, contains_one, contains_map, map_contains}
 use Rattle.resolvo_rules.proofs.Members.{candidate_named, in_contained, contained_in}
@@ -40,10 +41,11 @@ use Rattle.resolvo_coding.specs.Atoms.{origin, StandsFor}
 use Rattle.resolvo_coding.specs.Statements.{rule_of, stated_at, rule_at}
 use Rattle.resolvo_coding.specs.Coding.{IsCoding, Grows, SameTrail}
 use Rattle.resolvo_coding.specs.Registered.{AreTied, IsTracked, IsRegistered, IsDigitClause, digit_literals}
-use Rattle.resolvo_encoding.specs.Encoded.{IsParentVariable, IsCandidate, IsQueuedFor, Asks, Registered, IsEncoding}
+use Rattle.resolvo_encoding.specs.Encoded.{IsParentVariable, IsCandidate, AreCandidates, HasOrder, IsQueuedFor, Asks, Registered, IsEncoding}
 use Rattle.resolvo_encoding.specs.Encoded as E
-use Rattle.resolvo_encoding.specs.Steps.{IsOfferedAs, RegistersAll, Fixes, StatesNeed, SameButCoding, Extends}
+use Rattle.resolvo_encoding.specs.Steps.{IsOfferedAs, RegistersAll, KeepsLists, AddsCandidates, Fixes, StatesNeed, SameButCoding, Extends}
 use Rattle.resolvo_encoding.specs.declared.encoding.Encoding.{Encoding}
+use Rattle.resolvo_encoding.proofs.Picking.{candidates_grow, taken_grows}
 use Rattle.resolvo_coding.proofs.Origins.{solvable_stands}
 use Rattle.resolvo_coding.proofs.Registering.{KeepsDigits, ties_grow}
 use Rattle.resolvo_coding.proofs.Rules.{rule_stated}
@@ -84,6 +86,7 @@ module _ {N S : Type 0} (same : S → S → Bool) (exact : IsExact same) (p : Pa
     pub keeps : (m : N) (u : VariableId) → IsTracked old.registry m u → IsTracked new.registry m u
     pub registered : (n : N) (s : S) → IsRegistered new.registry new.coding n s → IsRegistered old.registry old.coding n s ⊎ ((n ≡ p.package_of s) × (is_in same p (listed (p.candidates_of (p.package_of s))) s ≡ true))
     pub came : (n : ℕ) → length old.coding.search.clauses ≤ n → n < length new.coding.search.clauses → Came new n
+    pub lists : KeepsLists old new
     pub listed : (r : Requirement) (c : Candidate N) → Contains (candidates_in new.lists r) c → (s : S) × IsCandidate new (p.package_of s) s c × (meets same p r s ≡ true)
     pub offered : (r : Requirement) (s : S) → has_candidates new.lists r ≡ true → meets same p r s ≡ true → (c : Candidate N) × Contains (candidates_in new.lists r) c × IsCandidate new (p.package_of s) s c
     pub fixed : (r : Requirement) → HasClause same p (E.rules_of new) r → has_candidates new.lists r ≡ true
@@ -114,7 +117,7 @@ module _ {N S : Type 0} (same : S → S → Bool) (exact : IsExact same) (p : Pa
     gates = h.gates;
     within = h.within;
     encoded = h.encoded;
-    called = called_grows_trail same p [] old.coding new.coding e.coding h.grows h.trail e.called;
+    called = called_grows_trail (IsFirstPick same p (HasOrder old) (E.rules_of old)) (IsFirstPick same p (HasOrder new) (E.rules_of new)) (taken_grows old new h.grows h.lists same p) old.coding new.coding e.coding h.grows h.trail e.called;
   }
     where
       spelled_at : (n : ℕ) (r : Rule N S) → length old.coding.search.clauses ≤ n → n < length new.coding.search.clauses → rule_at new.coding.stated.items n ≡ Some r
@@ -252,6 +255,7 @@ module _ {N S : Type 0} (same : S → S → Bool) (exact : IsExact same) (p : Pa
     keeps = tracked;
     registered = λ n s a. (let (u, stands, there) = registered_back n s a in inl (u, stands, there));
     came = came;
+    lists = λ q h. ap (λ ls. slot_of ls.candidates q) rest.lists;
     listed = λ q c a. (let (s, fits, m) = e.listed q c (subst (λ ls. Contains (candidates_in ls q) c) rest.lists a) in (s, candidate_grows same exact p root old new (p.package_of s) s c grows tracked fits, m));
     offered = λ q s h m. (let (c, a, fits) = e.offered q s (subst (λ ls. has_candidates ls q ≡ true) rest.lists h) m in (c, subst (λ ls. Contains (candidates_in ls q) c) (sym rest.lists) a, candidate_grows same exact p root old new (p.package_of s) s c grows tracked fits));
     fixed = fixed_keeps old new e coding grows (λ q h. subst (λ ls. has_candidates ls q ≡ true) (sym rest.lists) h) none;
@@ -300,9 +304,9 @@ module _ {N S : Type 0} (same : S → S → Bool) (exact : IsExact same) (p : Pa
   pub fixes_keep : (r : Requirement) (offered : List (Offered N S)) (old new : Encoding N S) → IsEncoding same p root old → AreOffered same p r offered → Fixes r offered old new → IsEncoding same p root new × (has_candidates new.lists r ≡ true)
   fixes_keep r offered old new e h f = go f.fixed
     where
-      go : ((has_candidates old.lists r ≡ true) × (new ≡ old)) ⊎ ((given : Vec (Candidate N) Global) × RegistersAll offered given.items old.registry old.coding new.registry new.coding × FixesCandidates r given old.lists new.lists) → IsEncoding same p root new × (has_candidates new.lists r ≡ true)
+      go : ((has_candidates old.lists r ≡ true) × (new ≡ old)) ⊎ ((has_candidates old.lists r ≡ false) × (given : Vec (Candidate N) Global) × RegistersAll offered given.items old.registry old.coding new.registry new.coding × FixesCandidates r given old.lists new.lists) → IsEncoding same p root new × (has_candidates new.lists r ≡ true)
       go (inl (has, is)) = (subst (λ (x : Encoding N S). IsEncoding same p root x) (sym is) e, subst (λ (x : Encoding N S). has_candidates x.lists r ≡ true) (sym is) has)
-      go (inr (given, all, fixes)) = (carried same exact p root old new e carries, ap is_some here)
+      go (inr (fresh, given, all, fixes)) = (carried same exact p root old new e carries, ap is_some here)
         where
           here : slot_of new.lists.candidates r ≡ Some given
           here = fix_at r given old.lists new.lists fixes
@@ -361,6 +365,7 @@ module _ {N S : Type 0} (same : S → S → Bool) (exact : IsExact same) (p : Pa
               | inr (o, c, is, one) ↦ inr (is ∙ offer_named r offered o h c ∙ ap p.package_of one, subst (λ x. is_in same p (listed (p.candidates_of (p.package_of x))) x ≡ true) one (meets_listed r o.solvable (offer_meets r offered o h c)))
             ];
             came = came;
+            lists = λ q k. elim (slots q) [ inl is ↦ absurd (both_ways _ fresh (subst (λ y. has_candidates old.lists y ≡ true) is k)) | inr is ↦ is ];
             listed = listed_new;
             offered = offered_new;
             fixed = fixed_keeps old new e all.coding all.grows has none;
@@ -379,11 +384,28 @@ pub fixes_extend : {N S : Type 0} (r : Requirement) (offered : List (Offered N S
 fixes_extend {N} {S} r offered old new f = record {
   grows = elim f.fixed [
     | inl (has, is) ↦ subst (λ (x : Encoding N S). Grows old.coding x.coding) (sym is) (grows_same old.coding)
-    | inr (given, all, fixes) ↦ all.grows
+    | inr (fresh, given, all, fixes) ↦ all.grows
   ];
   parents = f.parents;
   encoded = f.encoded;
 }
+
+-- what is so of an answer that is none
+pub where_none : {X : Type 0} (o : Option X) (P : Type 0) (Q : X → Type 0) → MatchOption o P Q → is_some o ≡ false → P
+where_none None P Q h none = h
+where_none (Some x) P Q h none = absurd (both_ways true none refl)
+
+-- what is offered for a requirement became its candidates, in its order, and then the lists stayed
+pub fixes_add : {N S : Type 0} (r : Requirement) (offered : List (Offered N S)) (old middle new : Encoding N S) → Fixes r offered old middle → Grows middle.coding new.coding → new.lists ≡ middle.lists → AddsCandidates r offered old new
+fixes_add {N} {S} r offered old middle new f grows lists q has = elim f.fixed [
+  | inl (there, is) ↦ inl (ap (λ ls. slot_of ls.candidates q) lists ∙ ap (λ (x : Encoding N S). slot_of x.lists.candidates q) is)
+  | inr (fresh, given, all, fixes) ↦ elim (fix_other r q given old.lists middle.lists fixes) [
+    | inr stays ↦ inl (ap (λ ls. slot_of ls.candidates q) lists ∙ stays)
+    | inl is ↦
+        let here : slot_of new.lists.candidates q ≡ Some given = ap (λ ls. slot_of ls.candidates q) lists ∙ ap (slot_of middle.lists.candidates) is ∙ fix_at r given old.lists middle.lists fixes in
+        inr (is, subst (λ x. AreCandidates new.coding.atoms.keys (items_or_none x) (offered_solvables offered)) (sym here) (candidates_grow middle.coding new.coding given.items (offered_solvables offered) grows all.ordered))
+  ]
+]
 
 pub need_extends : {N S : Type 0} (x : Stated N S) (v : VariableId) (r : Requirement) (old new : Encoding N S) → StatesNeed x v r old new → Extends old new
 need_extends x v r old new s = record { grows = s.states.grows; parents = s.parents; encoded = s.encoded }

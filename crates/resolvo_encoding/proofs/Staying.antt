@@ -24,7 +24,8 @@ use Rattle.resolvo_search.proofs.Clauses.{length-lists}
 use Rattle.resolvo_search.proofs.Improving.{extends_heavier, choice_heavier, weight_falls}
 use Rattle.resolvo_search.proofs.StepLemmas.{lists-append, clause_at_end}
 use Rattle.resolvo_rules.specs.Encoding.{IsExact, Atom, Rule, plus}
-use Rattle.resolvo_rules.specs.Ending.{HasClause, IsCalledFor}
+use Rattle.resolvo_rules.specs.Ending.{HasClause}
+use Rattle.resolvo_rules.specs.First.{IsFirstPick}
 use Rattle.resolvo_rules.specs.Numbered.{meaning, Means, known_of, AreCalledFor}
 use Rattle.resolvo_coding.specs.declared.atom.ProofAtom.{ProofAtom}
 use Rattle.resolvo_coding.specs.declared.atom.ProofAtom.TheVariants.{Solvable}
@@ -42,11 +43,12 @@ use Rattle.resolvo_coding.proofs.Positions.{front_equal, get_last}
 use Rattle.resolvo_coding.proofs.Registering.{KeepsDigits, ties_grow}
 use Rattle.resolvo_coding.proofs.Rules.{rule_stated}
 use Rattle.resolvo_encoding.specs.declared.encoding.Encoding.{Encoding}
-use Rattle.resolvo_encoding.specs.Encoded.{IsEncoding, Registered}
+use Rattle.resolvo_encoding.specs.Encoded.{HasOrder, IsEncoding, Registered}
 use Rattle.resolvo_encoding.specs.Encoded as E
 use Rattle.resolvo_encoding.specs.Going.{GoesOn}
 use Rattle.resolvo_encoding.specs.Steps.{SameButCoding}
 use Rattle.resolvo_encoding.proofs.Carrying.{split_at}
+use Rattle.resolvo_encoding.proofs.Picking.{taken_grows}
 use Rattle.resolvo_encoding.proofs.Requiring.{candidate_grows, queued_keeps, gates_keep, within_keeps, encoded_keeps}
 
 -- what was learnt states no rule
@@ -63,7 +65,7 @@ digits_kept old new coding goes n name s place bit h = elim (stated_split old.co
 module _ {N S : Type 0} (same : S → S → Bool) (exact : IsExact same) (p : Packages N S) (root : Rules) (lawful : IsLawful p) where
   -- The encoding stays one of the packages where solvables that clauses may make true are registered, and choices are called for.
   stays : (old new : Encoding N S) → IsEncoding same p root old → GoesOn old new → AreRegistered (Registered same p root new) new.coding
-      → AreCalledFor (origin new.coding.atoms.keys) (IsCalledFor same p (E.rules_of new) []) (history new.coding.search) → IsEncoding same p root new
+      → AreCalledFor (origin new.coding.atoms.keys) (IsFirstPick same p (HasOrder new) (E.rules_of new)) (history new.coding.search) → IsEncoding same p root new
   stays old new e goes positive called = record {
     coding = goes.coding;
     tied = subst (λ (t : Registry N). AreTied t new.coding) (sym goes.rest.registry) (ties_grow old.registry old.coding new.coding goes.grows (digits_kept old new e.coding goes) e.tied);
@@ -188,16 +190,16 @@ module _ {N S : Type 0} (old : Encoding N S) (c : Coding N S) where
     pub step_keeps : (q : Progress) → Advances old.coding c q → IsEncoding same p root old → IsEncoding same p root went
     step_keeps q step e =
         let goes = step_goes q e.coding step in
-        stays same exact p root lawful old went e goes (positive_on same exact p root lawful old went e goes (step_from q step.progress)) (called_advances same p [] old.coding c q step e.called)
+        stays same exact p root lawful old went e goes (positive_on same exact p root lawful old went e goes (step_from q step.progress)) (called_advances (IsFirstPick same p (HasOrder old) (E.rules_of old)) (IsFirstPick same p (HasOrder went) (E.rules_of went)) (taken_grows old went goes.grows (λ r h. refl) same p) old.coding c q step e.called)
 
     -- so does a choice that is called for
     pub choice_keeps : (v : VariableId) (clause : ClauseId) → Chooses v clause old.coding.search c.search → KeepsCode old.coding c
-        → IsCalledFor same p (E.rules_of old) [] (known_of (origin old.coding.atoms.keys) (history old.coding.search)) (meaning (origin old.coding.atoms.keys) (yes v)) → IsEncoding same p root old → IsEncoding same p root went
+        → IsFirstPick same p (HasOrder old) (E.rules_of old) (known_of (origin old.coding.atoms.keys) (history old.coding.search)) (meaning (origin old.coding.atoms.keys) (yes v)) → IsEncoding same p root old → IsEncoding same p root went
     choice_keeps v clause chosen kept now e =
         let goes = choice_goes v clause chosen kept in
         stays same exact p root lawful old went e goes
         (positive_on same exact p root lawful old went e goes (λ n l low high stands. (let long : length c.search.clauses ≡ length old.coding.search.clauses = ap (λ (cs : List HeldClause). length cs) kept.clauses in absurd (omega arith))))
-        (called_chooses same p [] v clause old.coding c chosen kept now e.called)
+        (called_chooses (IsFirstPick same p (HasOrder old) (E.rules_of old)) (IsFirstPick same p (HasOrder went) (E.rules_of went)) (taken_grows old went goes.grows (λ r h. refl) same p) old.coding c v clause chosen kept now e.called)
 
     -- so do entries that are taken away
     pub undo_keeps : (level : ℕ) → Undoes level old.coding.search c.search → KeepsCode old.coding c → IsEncoding same p root old → IsEncoding same p root went
@@ -205,7 +207,7 @@ module _ {N S : Type 0} (old : Encoding N S) (c : Coding N S) where
         let goes = kept_goes kept undoes.same.floor in
         stays same exact p root lawful old went e goes
         (positive_on same exact p root lawful old went e goes (λ n l low high stands. (let long : length c.search.clauses ≡ length old.coding.search.clauses = ap (λ (cs : List HeldClause). length cs) kept.clauses in absurd (omega arith))))
-        (called_undoes same p [] level old.coding c undoes kept e.called)
+        (called_undoes (IsFirstPick same p (HasOrder old) (E.rules_of old)) (IsFirstPick same p (HasOrder went) (E.rules_of went)) (taken_grows old went goes.grows (λ r h. refl) same p) old.coding c level undoes kept e.called)
 
 -- ---- the trail gains weight
 

@@ -29,10 +29,11 @@ use Rattle.resolvo_search.proofs.Trails.{consistent, known_in_range, level_steps
 use Rattle.resolvo_search.proofs.Literals.{negation-negation}
 use Rattle.resolvo_rules.specs.Encoding.{IsExact, Atom, Rule, plus, minus, cases_under, parent_literals, case_literals, candidate_literals, literals_of, AgreeWith}
 use Rattle.resolvo_rules.specs.Ending as Ending
+use Rattle.resolvo_rules.specs.First.{ArePreferred}
 use Rattle.resolvo_rules.specs.Numbered.{meaning, Means, known_of, IsTurnEnd}
 use Rattle.resolvo_rules.proofs.Lists.{contains_none, contains_one, contains_cases, contains_parts}
 use Rattle.resolvo_rules.proofs.Meanings.{found}
-use Rattle.resolvo_rules.proofs.Turns.{turn_accepted, turn_keeps_rules, turn_refused}
+use Rattle.resolvo_rules.proofs.Turns.{turn_accepted, turn_keeps_rules, turn_prefers, turn_refused}
 use Rattle.resolvo_rules.proofs.Members.{stands_candidate, in_contained, contained_in}
 use Rattle.resolvo_coding.specs.declared.atom.ProofAtom.{ProofAtom}
 use Rattle.resolvo_coding.specs.declared.atom.ProofAtom.TheVariants.{Solvable, Gate}
@@ -46,11 +47,12 @@ use Rattle.resolvo_coding.proofs.Origins.{coding_once, means_atom, means_solvabl
 use Rattle.resolvo_coding.proofs.Growth.{stands_once, stands_in_range, coding_coded}
 use Rattle.resolvo_coding.proofs.Registering.{told}
 use Rattle.resolvo_coding.specs.Registered.{IsRegistered}
-use Rattle.resolvo_encoding.specs.Encoded.{IsParentVariable, IsCandidate, IsQueuedFor, Asks, IsEncoding, IsPlain, Registered}
+use Rattle.resolvo_encoding.specs.Encoded.{IsParentVariable, IsCandidate, AreOrdered, IsQueuedFor, Asks, IsEncoding, IsPlain, Registered}
 use Rattle.resolvo_encoding.specs.Encoded as E
 use Rattle.resolvo_encoding.specs.Turning.{AreValues, IsDecided, AreAmongEncoded}
 use Rattle.resolvo_encoding.proofs.Digits.{digit_told, digits_agree}
-use Rattle.resolvo_encoding.proofs.Deciding.{nothing_offered, known_parent, value_known, open_or_known}
+use Rattle.resolvo_encoding.proofs.Picking.{taken_ordered}
+use Rattle.resolvo_encoding.proofs.Deciding.{nothing_offered, known_parent, value_known, open_or_known, has_clause, choices_called}
 use Rattle.resolvo_encoding.specs.declared.encoding.Encoding.{Encoding}
 
 -- levels begin at 1, which is the root's alone or a level above it
@@ -201,10 +203,6 @@ module _ {N S : Type 0} (same : S → S → Bool) (exact : IsExact same) (p : Pa
   rule_asks r (inl k) = tt
   rule_asks r (inr k) = tt
 
-  has_clause : (r : Requirement) → Ending.IsAsked same p (E.rules_of e) (known_of (origin e.coding.atoms.keys) (history e.coding.search)) r → Ending.HasClause same p (E.rules_of e) r
-  has_clause r (inl k) = inl (k.parent, k.need, k.case, k.stands, k.asks)
-  has_clause r (inr k) = inr k.stands
-
   -- the candidate of a solvable has the literal that means it
   candidate_is : IsEncoding same p root e → (name : N) (s : S) (c : Candidate N) (l : Signed) → IsCandidate e name s c → Means (origin e.coding.atoms.keys) l (plus (Atom.solvable s)) → c.literal ≡ l
   candidate_is holds name s c l fits means =
@@ -237,7 +235,7 @@ module _ {N S : Type 0} (same : S → S → Bool) (exact : IsExact same) (p : Pa
       let asking : IsAsking r q = queue_fits holds r k q x (subst (λ o. IsQueuedFor e.coding.atoms.keys o q) (ap (stated_at e.coding.stated.items) number ∙ said) (holds.queued q queued)) states in
       let (l, stands, unfalse) = unfallen holds (clause_at (clauses_of e.coding.search) n) (quiet n (rule_within holds n _ at)) in
       let (s, fits, means) = asking_candidate holds plain n r k l at stands unfalse in
-      let (c, listed, is) = holds.offered r s (holds.fixed r (has_clause r k)) fits in
+      let (c, listed, is) = holds.offered r s (holds.fixed r (has_clause same p root e r k)) fits in
       let literal : c.literal ≡ l = candidate_is holds (p.package_of s) s c l is means in
       let (d, there, known) = true_candidate holds values score agree r q c asking (decided q queued) listed (subst (λ (y : Signed). has (made_true (history e.coding.search)) (negation y) ≡ false) (sym literal) unfalse) in
       let (t, one, suits) = holds.listed r d there in
@@ -271,7 +269,7 @@ module _ {N S : Type 0} (same : S → S → Bool) (exact : IsExact same) (p : Pa
     coded = coding_coded same p (Registered same p root e) e.coding holds.coding holds.spelled holds.positive;
     trail = holds.coding.ready.state.trail;
     rooted = holds.coding.ready.state.rooted;
-    choices = holds.called;
+    choices = choices_called same p root e exact holds;
     quiet = quiet;
     true_on_trail = λ s h. chosen.each s (in_contained same exact p members s h);
     chosen = λ l s h means. contained_in same exact p members s (chosen.all l s h means);
@@ -289,6 +287,14 @@ module _ {N S : Type 0} (same : S → S → Bool) (exact : IsExact same) (p : Pa
       let ended = turn_ended holds plain values score agree quiet decided members chosen among in
       let accepted = turn_accepted same exact same_name names p root (origin e.coding.atoms.keys) (E.rules_of e) (Registered same p root e) [] (count_of e.coding.search) e.coding.search.clauses (history e.coding.search) members ended in
       (turn_keeps_rules same exact same_name names p root (origin e.coding.atoms.keys) (E.rules_of e) (Registered same p root e) (count_of e.coding.search) e.coding.search.clauses (history e.coding.search) members ended, accepted.reached, accepted.inside)
+
+  -- They were chosen in the order in which they are tried.
+  pub turn_preferred : (same_name : N → N → Bool) → IsExact same_name → IsEncoding same p root e → IsPlain same p root → (orders : Requirement → List S → Type 0) → AreOrdered orders e → (values : ℕ → Option Bool) (score : N → ℕ) → AreValues values (made_true (history e.coding.search))
+      → ((n : ℕ) → n < length e.coding.search.clauses → IsQuiet (made_true (history e.coding.search)) (clause_at (clauses_of e.coding.search) n)) → IsDecided e values score
+      → (members : List S) → AreChosen e.coding.atoms.keys (made_true (history e.coding.search)) members → AreAmongEncoded e members → ArePreferred same p orders root members
+  turn_preferred same_name names holds plain orders ordered values score agree quiet decided members chosen among =
+      turn_prefers same exact same_name names p root (origin e.coding.atoms.keys) (E.rules_of e) (Registered same p root e) orders (digit_told same e.coding.stated.items) (count_of e.coding.search) e.coding.search.clauses (history e.coding.search) members
+      (turn_ended holds plain values score agree quiet decided members chosen among) (λ x older stands is other. taken_ordered orders e same p ordered _ _ (holds.called x older stands is other)) (digits_agree same exact p root e holds)
 
   -- A clause that denies choices of the first level alone, by clauses that digits of places agree with, leaves no
   -- rule-keeping set.

@@ -1,5 +1,5 @@
 -- What was encoded, and what it tells of the packages.
-use Rattle.std.specs.Prelude.{◌≡◌, ℕ, ◌<◌, ◌≤◌, Bool, true, false, List, [], length, slice_get, Option, Some, None, Contains}
+use Rattle.std.specs.Prelude.{◌≡◌, ℕ, ◌<◌, ◌≤◌, Bool, true, false, List, [], ◌∷◌, length, slice_get, Option, Some, None, Contains}
 use Rattle.resolvo_pool.specs.declared.id.VariableId.{VariableId}
 use Rattle.resolvo_pool.specs.declared.requirement.ConditionalRequirement.{ConditionalRequirement}
 use Rattle.resolvo_pool.specs.declared.requirement.Requirement.{Requirement}
@@ -14,7 +14,8 @@ use Rattle.resolvo_store.specs.declared.lists.Candidate.{Candidate}
 use Rattle.resolvo_store.specs.Lists.{has_candidates, candidates_in}
 use Rattle.resolvo_search.specs.State.{history}
 use Rattle.resolvo_rules.specs.Encoding.{Rule, IsRule}
-use Rattle.resolvo_rules.specs.Ending.{IsNeedEncoded, HasClause, IsCalledFor}
+use Rattle.resolvo_rules.specs.Ending.{IsNeedEncoded, HasClause}
+use Rattle.resolvo_rules.specs.First.{IsFirstPick}
 use Rattle.resolvo_rules.specs.Numbered.{AreCalledFor}
 use Rattle.resolvo_coding.specs.declared.atom.ProofAtom.{ProofAtom}
 use Rattle.resolvo_coding.specs.declared.atom.ProofAtom.TheVariants.{Solvable, Gate}
@@ -41,6 +42,21 @@ pub record IsCandidate {N S : Type 0} (e : Encoding N S) (name : N) (s : S) (c :
   pub positive : c.literal.positive ≡ true
   pub stands : StandsFor e.coding.atoms.keys c.literal.variable (Solvable s)
   pub tracked : IsTracked e.registry name c.literal.variable
+
+-- the candidates are these solvables, in their order
+abbrev pub AreCandidates : {N S : Type 0} → List (ProofAtom N S) → List (Candidate N) → List S → Type 0
+AreCandidates atoms [] [] = Unit {0}
+AreCandidates atoms [] (s ∷ ss) = ⊥
+AreCandidates atoms (c ∷ cs) [] = ⊥
+AreCandidates atoms (c ∷ cs) (s ∷ ss) = (c.literal.positive ≡ true) × StandsFor atoms c.literal.variable (Solvable s) × AreCandidates atoms cs ss
+
+-- the requirement has got these candidates, in this order
+abbrev pub HasOrder : {N S : Type 0} → Encoding N S → Requirement → List S → Type 0
+HasOrder e r list = (has_candidates e.lists r ≡ true) × AreCandidates e.coding.atoms.keys (candidates_in e.lists r) list
+
+-- the candidates that requirements have got are in an order of theirs
+abbrev pub AreOrdered : {N S : Type 0} → (Requirement → List S → Type 0) → Encoding N S → Type 0
+AreOrdered {N} {S} orders e = (r : Requirement) → has_candidates e.lists r ≡ true → (list : List S) × orders r list × AreCandidates e.coding.atoms.keys (candidates_in e.lists r) list
 
 -- decisions are made for the clause that states this: one of a need without condition, or of a gate
 abbrev pub IsQueuedFor : {N S : Type 0} → List (ProofAtom N S) → Option (Stated N S) → NeedClause → Type 0
@@ -106,5 +122,5 @@ module _ {N S : Type 0} (same : S → S → Bool) (p : Packages N S) (root : Rul
     pub within : e.encoded ≤ length e.parents.keys
     pub encoded : (i : ℕ) (parent : SolvableIdOrRoot S) (need : ConditionalRequirement) → i < e.encoded → slice_get e.parents.keys i ≡ Some parent
         → Contains (rules_for same p root (solvable_of parent)).requirements need → IsNeedEncoded same p (rules_of e) (solvable_of parent) need []
-    -- each choice is a match of a requirement that was asked for
-    pub called : AreCalledFor (origin e.coding.atoms.keys) (IsCalledFor same p (rules_of e) []) (history e.coding.search)
+    -- each choice is the first candidate that was not false, of a requirement that was asked for
+    pub called : AreCalledFor (origin e.coding.atoms.keys) (IsFirstPick same p (HasOrder e) (rules_of e)) (history e.coding.search)

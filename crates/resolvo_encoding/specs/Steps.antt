@@ -1,5 +1,5 @@
 -- The steps of encoding.
-use Rattle.std.specs.Prelude.{◌≡◌, ℕ, ◌<◌, ◌≤◌, ◌⊎◌, Bool, true, List, [], ◌∷◌, ◌++◌, length, Option, Some, None, Contains, Vec, slice_get}
+use Rattle.std.specs.Prelude.{◌≡◌, ℕ, ◌<◌, ◌≤◌, ◌⊎◌, Bool, true, false, List, [], ◌∷◌, ◌++◌, length, Option, Some, None, Contains, Vec, slice_get}
 use Rattle.std.specs.declared.alloc.Global.{Global}
 use Rattle.resolvo_pool.specs.declared.id.ClauseId.{ClauseId}
 use Rattle.resolvo_pool.specs.declared.id.VariableId.{VariableId}
@@ -11,7 +11,8 @@ use Rattle.resolvo_store.specs.Lists.{has_candidates, candidates_in, FixesCandid
 use Rattle.resolvo_pool.specs.ByRequirement.{slot_of}
 use Rattle.resolvo_pool.specs.declared.solver_id.SolvableIdOrRoot.TheVariants.{Root}
 use Rattle.resolvo_answers.specs.declared.answering.Offered.{Offered}
-use Rattle.resolvo_pool.specs.RuleKeeping.{Packages, Rules, IsLawful, rules_for}
+use Rattle.resolvo_answers.specs.Answering.{offered_solvables}
+use Rattle.resolvo_pool.specs.RuleKeeping.{Packages, Rules, rules_for}
 use Rattle.resolvo_pool.specs.declared.id.VersionSetId.{VersionSetId}
 use Rattle.resolvo_pool.specs.declared.requirement.ConditionalRequirement.{ConditionalRequirement}
 use Rattle.resolvo_coding.specs.declared.atom.ProofAtom.{ProofAtom}
@@ -21,7 +22,7 @@ use Rattle.resolvo_pool.specs.Text.{solvable_of}
 use Rattle.resolvo_pool.specs.declared.solver_id.SolvableIdOrRoot.{SolvableIdOrRoot}
 use Rattle.resolvo_store.specs.AtMostOne.{IsFrontOf}
 use Rattle.resolvo_rules.specs.Ending.{IsNeedEncoded}
-use Rattle.resolvo_encoding.specs.Encoded.{IsParentVariable, IsEncoding, rules_of}
+use Rattle.resolvo_encoding.specs.Encoded.{IsParentVariable, AreCandidates, rules_of}
 use Rattle.resolvo_coding.specs.declared.stated.Stated.{Stated}
 use Rattle.resolvo_coding.specs.declared.coding.Coding.{Coding}
 use Rattle.resolvo_coding.specs.declared.registry.Registry.{Registry}
@@ -52,6 +53,16 @@ pub record RegistersAll {N S : Type 0} (offered : List (Offered N S)) (given : L
   pub digits : (n : ℕ) → length old.search.clauses ≤ n → n < length new.search.clauses → (name : N) × IsDigitClause t new name n
   pub each : (o : Offered N S) → Contains offered o → (c : Candidate N) × Contains given c × IsOfferedAs t new o c
   pub all : (c : Candidate N) → Contains given c → (o : Offered N S) × Contains offered o × IsOfferedAs t new o c
+  pub ordered : AreCandidates new.atoms.keys given (offered_solvables offered)
+
+-- a requirement that has got candidates keeps them
+abbrev pub KeepsLists : {N S : Type 0} → Encoding N S → Encoding N S → Type 0
+KeepsLists old new = (r : Requirement) → has_candidates old.lists r ≡ true → slot_of new.lists.candidates r ≡ slot_of old.lists.candidates r
+
+-- a requirement that has candidates had them, or it is this one, and they are what is offered, in its order
+abbrev pub AddsCandidates : {N S : Type 0} → Requirement → List (Offered N S) → Encoding N S → Encoding N S → Type 0
+AddsCandidates r offered old new = (q : Requirement) → has_candidates new.lists q ≡ true
+    → (slot_of new.lists.candidates q ≡ slot_of old.lists.candidates q) ⊎ ((q ≡ r) × AreCandidates new.coding.atoms.keys (candidates_in new.lists q) (offered_solvables offered))
 
 -- what is offered became the requirement's candidates, unless it had them
 pub record Fixes {N S : Type 0} (r : Requirement) (offered : List (Offered N S)) (old new : Encoding N S) : Type 0 where
@@ -60,7 +71,7 @@ pub record Fixes {N S : Type 0} (r : Requirement) (offered : List (Offered N S))
   pub parents : new.parents ≡ old.parents
   pub encoded : new.encoded ≡ old.encoded
   pub fixed : ((has_candidates old.lists r ≡ true) × (new ≡ old))
-      ⊎ ((given : Vec (Candidate N) Global) × RegistersAll offered given.items old.registry old.coding new.registry new.coding × FixesCandidates r given old.lists new.lists)
+      ⊎ ((has_candidates old.lists r ≡ false) × (given : Vec (Candidate N) Global) × RegistersAll offered given.items old.registry old.coding new.registry new.coding × FixesCandidates r given old.lists new.lists)
 
 -- A clause came that states this of a variable: it is false, or one of the requirement's candidates is chosen. Decisions
 -- are made for it.

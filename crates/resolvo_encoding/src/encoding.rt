@@ -17,7 +17,7 @@ ghost use Rattle.resolvo_encoding.specs.Encoded.{rules_of, IsEncoding};
 ghost use Rattle.resolvo_coding.specs.Statements.{rule_of};
 ghost use Rattle.resolvo_coding.specs.Coding.{IsCoding};
 ghost use Rattle.resolvo_coding.specs.Registered.{AreTied};
-ghost use Rattle.resolvo_encoding.specs.Steps.{RegistersOne, RegistersAll, Fixes, StatesNeed, IsBuilt, Needs, Extends, NeedsDirectly, Opens, IsBegunEncoding, AddsParent, IsNextEncoded};
+ghost use Rattle.resolvo_encoding.specs.Steps.{RegistersOne, RegistersAll, Fixes, StatesNeed, IsBuilt, Needs, Extends, NeedsDirectly, Opens, AddsCandidates, IsBegunEncoding, AddsParent, IsNextEncoded};
 
 use indexmap::IndexSet;
 use resolvo_answers::answering::Offered;
@@ -84,6 +84,7 @@ impl<N: SolverId + Drop, S: SolverId> Encoding<N, S> {
     ) -> R<()>
         requires { IsBuilt self.old }
         ensures encoded { OnOk result ((p : Packages N S) (root : Rules) → IsLawful p → IsEncoding S.eq p root self.old → AreOffered S.eq p need.requirement offered.now → Needs S.eq p root parent need → IsEncoding S.eq p root self.new × IsNeedEncoded S.eq p (rules_of self.new) parent need []) }
+        ensures candidates { OnOk result (AddsCandidates need.requirement offered.now self.old self.new) }
         ensures kept { OnOk result (Extends self.old self.new) }
         ensures built { OnOk result (IsBuilt self.new) }
     {
@@ -110,6 +111,7 @@ impl<N: SolverId + Drop, S: SolverId> Encoding<N, S> {
     ) -> R<()>
         requires { IsBuilt self.old }
         ensures encoded { OnOk result ((p : Packages N S) (root : Rules) → IsLawful p → IsEncoding S.eq p root self.old → has_candidates self.old.lists need.requirement ≡ true → Needs S.eq p root (Some solvable) need → IsEncoding S.eq p root self.new × IsNeedEncoded S.eq p (rules_of self.new) (Some solvable) need []) }
+        ensures lists { OnOk result (self.new.lists ≡ self.old.lists) }
         ensures kept { OnOk result (Extends self.old self.new) }
         ensures built { OnOk result (IsBuilt self.new) }
     {
@@ -192,6 +194,7 @@ impl<N: SolverId + Drop, S: SolverId> Encoding<N, S> {
         requires { IsBuilt self.old }
         ensures encoded { OnOk result ((p : Packages N S) (root : Rules) → IsLawful p → IsEncoding S.eq p root self.old → has_candidates self.old.lists requirement ≡ true → IsEncoding S.eq p root self.new × rules_of self.new (Rule.shared requirement)) }
         ensures stands { IfOk result (λ gate. StandsFor self.new.coding.atoms.keys gate (Gate requirement)) }
+        ensures lists { OnOk result (self.new.lists ≡ self.old.lists) }
         ensures kept { OnOk result (Extends self.old self.new) }
         ensures built { OnOk result (IsBuilt self.new) }
     {

@@ -1,4 +1,5 @@
-use Rattle.std.proofs.Common.{refl, inr}
+use Rattle.std.proofs.Common.{refl, sym, inr}
+use Rattle.resolvo_encoding.proofs.Requiring.{where_none}
 use Rattle.resolvo_encoding.proofs.encoding.Encoding.fix_candidates.Goals as goal
 
 pub returns : goal.returns
@@ -8,6 +9,6 @@ returns g c = record {
     gates = refl;
     parents = refl;
     encoded = refl;
-    fixed = inr (c.in_ok-candidates.candidates, c.in_ok-candidates.ensures.registered, c.in_ok-fix_candidates.ensures.fixed);
+    fixed = inr (where_none c.candidates.result _ _ c.candidates.ensures (sym c.if-is_some.ensures), c.in_ok-candidates.candidates, c.in_ok-candidates.ensures.registered, c.in_ok-fix_candidates.ensures.fixed);
   };
 }

@@ -6,7 +6,7 @@ use Rattle.resolvo_encoding.specs.Encoded.{rules_of}
 use Rattle.resolvo_store.specs.Clauses.{root as root_variable}
 use Rattle.resolvo_rules.specs.Ending.{IsNeedEncoded}
 use Rattle.resolvo_encoding.specs.Steps.{Needs}
-use Rattle.resolvo_encoding.proofs.Requiring.{fixes_keep, extends_then, fixes_extend, need_extends}
+use Rattle.resolvo_encoding.proofs.Requiring.{fixes_keep, fixes_add, extends_then, fixes_extend, need_extends}
 use Rattle.resolvo_encoding.proofs.Needing.{need_keeps}
 use Rattle.resolvo_encoding.proofs.Building.{built_fixes, built_states}
 use Rattle.resolvo_encoding.proofs.encoding.Encoding.require.Goals as goal
@@ -30,6 +30,11 @@ returns-in_ok-need_directly-in-None-clause-encoded g c = λ p root lawful e offe
           (inl (subst (λ vs. rules_of c.need_directly.new.self (Rule.needs None c.args.need vs)) needed.none (rules (Rule.needs None c.args.need needed.case.items) refl))),
     )
 
+pub returns-in_ok-need_directly-in-None-clause-candidates : goal.returns-in_ok-need_directly-in-None-clause-candidates
+returns-in_ok-need_directly-in-None-clause-candidates g c =
+    let needed = c.in_ok-need_directly-in-None.ensures.needed in
+    fixes_add c.args.need.requirement c.args.offered.now c.args.self.now c.fix_candidates.new.self c.need_directly.new.self c.in_ok-fix_candidates.ensures.fixed needed.states.states.grows needed.states.lists
+
 pub returns-in_ok-need_directly-in-None-clause-kept : goal.returns-in_ok-need_directly-in-None-clause-kept
 returns-in_ok-need_directly-in-None-clause-kept g c =
     let needed = c.in_ok-need_directly-in-None.ensures.needed in
@@ -43,6 +48,10 @@ returns-in_ok-require_of-in-Some-clause-encoded g c = λ p root lawful e offered
     let own : Needs g.S.PartialEq.eq p root (Some c.in-Some.solvable) c.args.need = subst (λ (x : Option _). Needs g.S.PartialEq.eq p root x c.args.need) c.in-Some.is needs in
     let (stated, encoded) = c.in_ok-require_of-in-Some.ensures.encoded p root lawful fixed has own in
     (stated, subst (λ (x : Option _). IsNeedEncoded g.S.PartialEq.eq p (rules_of c.require_of.new.self) x c.args.need []) (sym c.in-Some.is) encoded)
+
+pub returns-in_ok-require_of-in-Some-clause-candidates : goal.returns-in_ok-require_of-in-Some-clause-candidates
+returns-in_ok-require_of-in-Some-clause-candidates g c =
+    fixes_add c.args.need.requirement c.args.offered.now c.args.self.now c.fix_candidates.new.self c.require_of.new.self c.in_ok-fix_candidates.ensures.fixed c.in_ok-require_of-in-Some.ensures.kept.grows c.in_ok-require_of-in-Some.ensures.lists
 
 pub returns-in_ok-require_of-in-Some-clause-kept : goal.returns-in_ok-require_of-in-Some-clause-kept
 returns-in_ok-require_of-in-Some-clause-kept g c =
