@@ -1,12 +1,11 @@
 -- Clauses and parents come, step by step.
-use Rattle.std.proofs.Common.{◌≡◌, ℕ, inl, inr, Bool, ◌+◌, ◌<◌, ◌≤◌, List, [], ◌∷◌, ◌++◌, length, Option, Some, refl, sym, ◌∙◌, ap, subst, arith}
+use Rattle.std.proofs.Common.{◌≡◌, inl, inr, Bool, ◌+◌, ◌≤◌, List, [], ◌∷◌, ◌++◌, Option, Some, refl, sym, ◌∙◌, ap, subst, arith}
 use Rattle.std.specs.Prelude.{slice_get, Contains}
 use Rattle.resolvo_pool.specs.Text.{solvable_of}
 use Rattle.resolvo_pool.specs.declared.requirement.ConditionalRequirement.{ConditionalRequirement}
-use Rattle.resolvo_pool.specs.declared.id.VersionSetId.{VersionSetId}
+use Rattle.resolvo_pool.specs.declared.requirement.Requirement.{Requirement}
 use Rattle.resolvo_pool.specs.declared.solver_id.SolvableIdOrRoot.{SolvableIdOrRoot}
 use Rattle.resolvo_pool.specs.RuleKeeping.{Packages, Rules, rules_for}
-use Rattle.resolvo_store.specs.AtMostOne.{IsFrontOf}
 use Rattle.resolvo_rules.proofs.Lists.{contains_one, contains_parts}
 use Rattle.resolvo_rules.specs.Encoding.{IsExact}
 use Rattle.resolvo_rules.specs.Ending.{IsNeedEncoded}
@@ -15,11 +14,13 @@ use Rattle.resolvo_coding.proofs.Positions.{front_equal, front_get, front_same, 
 use Rattle.resolvo_coding.specs.declared.coding.Coding.{Coding}
 use Rattle.resolvo_coding.specs.Coding.{Grows}
 use Rattle.resolvo_encoding.specs.declared.encoding.Encoding.{Encoding}
-use Rattle.resolvo_encoding.specs.Encoded.{rules_of}
+use Rattle.resolvo_encoding.specs.Encoded.{rules_of, AreOrdered, IsEncoding}
 use Rattle.resolvo_encoding.specs.Steps.{Extends, AddsParent, IsNextEncoded}
 use Rattle.resolvo_encoding.specs.Going.{GoesOn}
+use Rattle.resolvo_encoding.proofs.Parents.{parent_keeps}
+use Rattle.resolvo_encoding.proofs.Picking.{ordered_stays}
 use Rattle.resolvo_encoding.proofs.Requiring.{need_grows, some_one}
-use Rattle.resolvo.specs.Encoder.{AddsNeeds, AddsParents}
+use Rattle.resolvo.specs.Encoder.{IsInOrder, AddsNeeds, AddsParents}
 
 -- ---- parents alone
 
@@ -38,6 +39,24 @@ parents_coding a b f = ap (λ (x : Encoding _ _). x.coding) f.rest
 
 pub parents_encoded : {N S : Type 0} (a b : Encoding N S) → AddsParent a b → b.encoded ≡ a.encoded
 parents_encoded a b f = ap (λ (x : Encoding _ _). x.encoded) f.rest
+
+-- ---- an encoding in order
+
+module _ {N S : Type 0} (same : S → S → Bool) (p : Packages N S) (orders : Requirement → List S → Type 0) (root : Rules) (a b : Encoding N S) where
+  -- parents more leave it so
+  pub parents_in_order : IsInOrder same p orders root a → AddsParent a b → IsInOrder same p orders root b
+  parents_in_order e f = record {
+    encoding = parent_keeps same p root a b e.encoding f;
+    ordered = subst (λ (x : Encoding N S). AreOrdered orders x) (sym f.rest) e.ordered;
+  }
+
+  -- so does the search, where it leaves it one of the packages
+  pub goes_in_order : GoesOn a b → (IsEncoding same p root a → IsEncoding same p root b) → IsInOrder same p orders root a → IsInOrder same p orders root b
+  goes_in_order f stays e = record { encoding = stays e.encoding; ordered = ordered_stays orders a b f.grows f.rest.lists e.ordered }
+
+  -- so does the end of a parent
+  pub next_in_order : b ≡ record a { encoded = a.encoded + 1 } → (IsEncoding same p root a → IsEncoding same p root b) → IsInOrder same p orders root a → IsInOrder same p orders root b
+  next_in_order is stays e = record { encoding = stays e.encoding; ordered = subst (λ (x : Encoding N S). AreOrdered orders x) (sym is) e.ordered }
 
 -- ---- needs
 

@@ -1,9 +1,8 @@
 -- The end of a turn, and what it tells.
-use Rattle.std.proofs.Common.{◌≡◌, ℕ, ◌<◌, ◌≤◌, inl, inr, Bool, true, false, List, [], ◌∷◌, ◌++◌, length, Option, Some, None, refl, sym, ◌∙◌, ap, subst, arith}
+use Rattle.std.proofs.Common.{◌≡◌, ℕ, ◌<◌, ◌≤◌, inl, inr, true, false, List, [], ◌∷◌, ◌++◌, length, Option, Some, None, refl, sym, ◌∙◌, ap, subst, arith}
 use Rattle.std.specs.Prelude.{slice_get, Contains, is_some}
 use Rattle.std.proofs.lemmas.Bool.{false≢true}
 use Rattle.std.proofs.lemmas.Option.{slice_get_within}
-use Rattle.resolvo_pool.specs.declared.solver_id.SolvableIdOrRoot.{SolvableIdOrRoot}
 use Rattle.resolvo_pool.specs.declared.solver_id.SolvableIdOrRoot.TheVariants as Place
 use Rattle.resolvo_search.specs.Entries.{made_true}
 use Rattle.resolvo_search.specs.State.{history}
@@ -12,7 +11,6 @@ use Rattle.resolvo_coding.proofs.Growth.{below_or_not}
 use Rattle.resolvo_coding.proofs.Positions.{contains_get, front_get, front_long, get_below}
 use Rattle.resolvo_encoding.specs.declared.encoding.Encoding.{Encoding}
 use Rattle.resolvo_encoding.specs.Steps.{AddsParent}
-use Rattle.resolvo_encoding.specs.Turning.{AreAmongEncoded}
 use Rattle.resolvo_encoding.specs.Going.{IsSettled, GoesOn}
 use Rattle.resolvo_store.specs.AtMostOne.{IsFrontOf}
 use Rattle.resolvo_rules.proofs.Lists.{contains_one, contains_left, contains_parts}

@@ -1,6 +1,8 @@
 -- What a search found is true.
-use Rattle.std.proofs.Common.{◌≡◌, ◌∷◌, ◌<◌, Bool, List, [], length, Option, Some, None, refl, sym, ◌∙◌, ap, subst, arith}
-use Rattle.std.specs.Prelude.{slice_get}
+use Rattle.std.proofs.Common.{◌≡◌, Bool, List, length, Option, Some, None, refl, sym, ap, subst, arith}
+use Rattle.std.specs.Prelude.{slice_get, is_some}
+use Rattle.std.proofs.lemmas.Bool.{both_ways}
+use Rattle.resolvo_pool.specs.declared.requirement.Requirement.{Requirement}
 use Rattle.resolvo_pool.specs.declared.solver_id.SolvableIdOrRoot.{SolvableIdOrRoot}
 use Rattle.resolvo_pool.specs.declared.solver_id.SolvableIdOrRoot.TheVariants.{Root}
 use Rattle.resolvo_pool.specs.RuleKeeping.{Packages, Rules, IsLawful}
@@ -10,11 +12,12 @@ use Rattle.resolvo_rules.specs.Encoding.{IsExact}
 use Rattle.resolvo_encoding.specs.declared.encoding.Encoding.{Encoding}
 use Rattle.resolvo_encoding.specs.Encoded.{IsEncoding, IsPlain}
 use Rattle.resolvo_encoding.specs.Steps.{IsBegunEncoding}
-use Rattle.resolvo_encoding.proofs.Turning.{turn_keeps, refused}
+use Rattle.resolvo_encoding.proofs.Turning.{turn_keeps, turn_preferred, refused}
 use Rattle.resolvo.specs.declared.search.Found.{Found}
 use Rattle.resolvo.specs.declared.search.Found.TheVariants.{Chosen, Clash}
 use Rattle.resolvo.specs.Turn.{IsNextRound, IsTurn}
-use Rattle.resolvo.specs.Solving.{IsFoundBy, IsFound}
+use Rattle.resolvo.specs.Encoder.{IsInOrder}
+use Rattle.resolvo.specs.Solving.{IsFoundBy, IsFound, IsPreferred}
 
 -- the root is to be encoded first
 pub begun_next : {N S : Type 0} (e : Encoding N S) → IsBegunEncoding e → IsNextRound e
@@ -23,15 +26,24 @@ begun_next {N} {S} e begun = record {
   waiting = (let long : length e.parents.keys ≡ 1 = ap length begun.parents in let none : e.encoded ≡ 0 = begun.encoded in omega arith);
 }
 
-module _ {N S : Type 0} (same_name : N → N → Bool) (names : IsExact same_name) (same : S → S → Bool) (exact : IsExact same) (p : Packages N S) (root : Rules) (lawful : IsLawful p) (e : Encoding N S) where
+-- nothing is kept yet that could be out of order
+pub begun_in_order : {N S : Type 0} (same : S → S → Bool) (p : Packages N S) (orders : Requirement → List S → Type 0) (root : Rules) (e : Encoding N S) → IsBegunEncoding e → IsEncoding same p root e → IsInOrder same p orders root e
+begun_in_order same p orders root e begun holds = record { encoding = holds; ordered = λ r has. absurd (both_ways _ (ap is_some (begun.lists.candidates r)) has) }
+
+module _ {N S : Type 0} (same_name : N → N → Bool) (names : IsExact same_name) (same : S → S → Bool) (exact : IsExact same) (p : Packages N S) (orders : Requirement → List S → Type 0) (root : Rules) (lawful : IsLawful p) (e : Encoding N S) where
   -- what the end of the root's turn tells
-  pub turn_found : IsEncoding same p root e → IsPlain same p root → e.coding.search.floor ≡ 1 → (turn : Option Refusal) → IsTurn e turn → (f : Found S) → IsFoundBy e turn f → IsFound same p root e f
+  pub turn_found : IsInOrder same p orders root e → IsPlain same p root → e.coding.search.floor ≡ 1 → (turn : Option Refusal) → IsTurn e turn → (f : Found S) → IsFoundBy e turn f → IsFound same p root e f × IsPreferred same p orders root f
   turn_found holds plain first None (settled, whole) (Chosen v) chosen =
-      let (keeping, reached, inside) = turn_keeps same exact p root lawful e same_name names holds plain settled.values settled.score settled.agree settled.quiet settled.decided v.items chosen (whole v.items chosen) in
-      record { keeping = keeping; reached = reached; inside = inside }
+      let (keeping, reached, inside) = turn_keeps same exact p root lawful e same_name names holds.encoding plain settled.values settled.score settled.agree settled.quiet settled.decided v.items chosen (whole v.items chosen) in (
+        record { keeping = keeping; reached = reached; inside = inside },
+        turn_preferred same exact p root lawful e same_name names holds.encoding plain orders holds.ordered settled.values settled.score settled.agree settled.quiet settled.decided v.items chosen (whole v.items chosen),
+      )
   turn_found holds plain first None ended (Clash q) h = absurd h
   turn_found holds plain first (Some r) refusal (Chosen v) h = absurd h
   turn_found holds plain first (Some r) refusal (Clash q) is = (
-    λ chosen keeping. refused same exact p root lawful e same_name names holds first r.literals.items r.causes.items refusal chosen keeping,
-    subst (λ (x : Refusal). IsRefusal e.coding.search x.literals.items x.causes.items) (sym is) refusal,
+    (
+      λ chosen keeping. refused same exact p root lawful e same_name names holds.encoding first r.literals.items r.causes.items refusal chosen keeping,
+      subst (λ (x : Refusal). IsRefusal e.coding.search x.literals.items x.causes.items) (sym is) refusal,
+    ),
+    tt,
   )

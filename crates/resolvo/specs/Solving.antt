@@ -1,10 +1,12 @@
 -- What a search for a problem's solvables comes to.
 use Rattle.std.specs.Prelude.{◌≡◌, Bool, true, List, [], Option, Some, None}
+use Rattle.resolvo_pool.specs.declared.requirement.Requirement.{Requirement}
 use Rattle.resolvo_pool.specs.RuleKeeping.{Packages, Rules, is_in, IsRuleKeeping, IsReached}
 use Rattle.resolvo_search.specs.declared.analysis.Refusal.{Refusal}
 use Rattle.resolvo_search.specs.Analysis.{IsRefusal}
 use Rattle.resolvo_search.specs.Entries.{made_true}
 use Rattle.resolvo_search.specs.State.{history}
+use Rattle.resolvo_rules.specs.First.{ArePreferred}
 use Rattle.resolvo_coding.specs.Chosen.{AreChosen}
 use Rattle.resolvo_encoding.specs.Encoded.{IsEncoding}
 use Rattle.resolvo_encoding.specs.declared.encoding.Encoding.{Encoding}
@@ -36,7 +38,15 @@ module _ {N S : Type 0} (same : S → S → Bool) (p : Packages N S) (root : Rul
   IsFound e (Chosen v) = IsSolution v.items
   IsFound e (Clash r) = IsUnsolvable × IsRefusal e.coding.search r.literals.items r.causes.items
 
-  -- The encoding is the problem's, and so is what was found.
+module _ {N S : Type 0} (same : S → S → Bool) (p : Packages N S) (orders : Requirement → List S → Type 0) (root : Rules) where
+  -- candidates were chosen in the order in which they are tried
+  abbrev pub IsPreferred : Found S → Type 0
+  IsPreferred (Chosen v) = ArePreferred same p orders root v.items
+  IsPreferred (Clash r) = Unit {0}
+
+  -- The encoding is the problem's, and so is what was found, by an order in which each requirement's candidates may be
+  -- tried.
   pub record IsSearch (s : Searched N S) : Type 0 where
     pub encoding : IsEncoding same p root s.encoding
-    pub found : IsFound s.encoding s.found
+    pub found : IsFound same p root s.encoding s.found
+    pub preferred : IsPreferred s.found

@@ -3,9 +3,9 @@
 ghost use Rattle.std.specs.Prelude.{◌≡◌, ◌<◌, ◌≤◌, length, IfOk, IfErr, OnOk};
 ghost use Rattle.resolvo_pool.specs.Cached.{IsCancelledBy};
 ghost use Rattle.resolvo_pool.specs.RuleKeeping.{Rules};
-ghost use Rattle.resolvo_encoding.specs.Encoded.{IsEncoding};
 ghost use Rattle.resolvo_encoding.specs.Steps.{IsBuilt};
 ghost use Rattle.resolvo_encoding.specs.Going.{GoesOn, IsDecision};
+ghost use Rattle.resolvo.specs.Encoder.{IsInOrder};
 
 use resolvo_answers::answering::Answering;
 use resolvo_coding::coding::Coding;
@@ -80,7 +80,7 @@ pub fn decide<A: Answering>(
     activity: Activity,
 ) -> Result<Option<Refusal>, CacheFault<A::Cancel>>
     requires built { IsBuilt encoding.old }
-    ensures stays { OnOk result ((root : Rules) → IsEncoding A.SolvableId.eq (A.packages answers.now) root encoding.old → IsEncoding A.SolvableId.eq (A.packages answers.now) root encoding.new) }
+    ensures stays { OnOk result ((root : Rules) → IsInOrder A.SolvableId.eq (A.packages answers.now) (A.orders answers.now) root encoding.old → IsInOrder A.SolvableId.eq (A.packages answers.now) (A.orders answers.now) root encoding.new) }
     ensures goes_on { OnOk result (GoesOn encoding.old encoding.new) }
     ensures decided { IfOk result (IsDecision encoding.new) }
     ensures built { OnOk result (IsBuilt encoding.new) }

@@ -6,9 +6,9 @@ ghost use Rattle.resolvo_pool.specs.RuleKeeping.{Rules, rules_for};
 ghost use Rattle.resolvo_pool.specs.Text.{solvable_of};
 ghost use Rattle.resolvo_pool.specs.declared.requirement.ConditionalRequirement.{ConditionalRequirement};
 ghost use Rattle.resolvo_rules.specs.Ending.{IsNeedEncoded};
-ghost use Rattle.resolvo_encoding.specs.Encoded.{IsEncoding, IsPlain, rules_of};
+ghost use Rattle.resolvo_encoding.specs.Encoded.{IsPlain, rules_of};
 ghost use Rattle.resolvo_encoding.specs.Steps.{IsBuilt, Needs, AddsParent};
-ghost use Rattle.resolvo.specs.Encoder.{AddsNeeds, AddsAll};
+ghost use Rattle.resolvo.specs.Encoder.{IsInOrder, AddsNeeds, AddsAll};
 
 use resolvo_answers::answering::{Answering, Offered};
 use resolvo_encoding::encoding::Encoding;
@@ -45,7 +45,7 @@ fn encode_need<A: Answering>(
 ) -> Result<(), CacheFault<A::Cancel>>
     requires { IsBuilt encoding.old }
     ensures same { answers.new ≡ answers.old }
-    ensures encoded { OnOk result ((root : Rules) → IsEncoding A.SolvableId.eq (A.packages answers.old) root encoding.old → Needs A.SolvableId.eq (A.packages answers.old) root parent need → IsEncoding A.SolvableId.eq (A.packages answers.old) root encoding.new × IsNeedEncoded A.SolvableId.eq (A.packages answers.old) (rules_of encoding.new) parent need []) }
+    ensures encoded { OnOk result ((root : Rules) → IsInOrder A.SolvableId.eq (A.packages answers.old) (A.orders answers.old) root encoding.old → Needs A.SolvableId.eq (A.packages answers.old) root parent need → IsInOrder A.SolvableId.eq (A.packages answers.old) (A.orders answers.old) root encoding.new × IsNeedEncoded A.SolvableId.eq (A.packages answers.old) (rules_of encoding.new) parent need []) }
     ensures kept { OnOk result (AddsNeeds encoding.old encoding.new) }
     ensures built { OnOk result (IsBuilt encoding.new) }
     ensures cancelled { IfErr result (IsCancelledBy (A.may_cancel answers.old)) }
@@ -66,7 +66,7 @@ fn encode_needs<A: Answering>(
 ) -> Result<(), CacheFault<A::Cancel>>
     requires { IsBuilt encoding.old }
     ensures same { answers.new ≡ answers.old }
-    ensures encoded { OnOk result ((root : Rules) → IsEncoding A.SolvableId.eq (A.packages answers.old) root encoding.old → ((need : ConditionalRequirement) → Contains needs.now need → Needs A.SolvableId.eq (A.packages answers.old) root parent need) → IsEncoding A.SolvableId.eq (A.packages answers.old) root encoding.new × ((need : ConditionalRequirement) → Contains needs.now need → IsNeedEncoded A.SolvableId.eq (A.packages answers.old) (rules_of encoding.new) parent need [])) }
+    ensures encoded { OnOk result ((root : Rules) → IsInOrder A.SolvableId.eq (A.packages answers.old) (A.orders answers.old) root encoding.old → ((need : ConditionalRequirement) → Contains needs.now need → Needs A.SolvableId.eq (A.packages answers.old) root parent need) → IsInOrder A.SolvableId.eq (A.packages answers.old) (A.orders answers.old) root encoding.new × ((need : ConditionalRequirement) → Contains needs.now need → IsNeedEncoded A.SolvableId.eq (A.packages answers.old) (rules_of encoding.new) parent need [])) }
     ensures kept { OnOk result (AddsNeeds encoding.old encoding.new) }
     ensures built { OnOk result (IsBuilt encoding.new) }
     ensures cancelled { IfErr result (IsCancelledBy (A.may_cancel answers.old)) }
@@ -87,7 +87,7 @@ fn encode_parent<A: Answering>(
 ) -> Result<(), CacheFault<A::Cancel>>
     requires { IsBuilt encoding.old }
     ensures same { answers.new ≡ answers.old }
-    ensures encoded { OnOk result ((root : Rules) → root.requirements ≡ requirements.now → IsPlain A.SolvableId.eq (A.packages answers.old) root → IsEncoding A.SolvableId.eq (A.packages answers.old) root encoding.old → IsEncoding A.SolvableId.eq (A.packages answers.old) root encoding.new × ((need : ConditionalRequirement) → Contains (rules_for A.SolvableId.eq (A.packages answers.old) root (solvable_of parent)).requirements need → IsNeedEncoded A.SolvableId.eq (A.packages answers.old) (rules_of encoding.new) (solvable_of parent) need [])) }
+    ensures encoded { OnOk result ((root : Rules) → root.requirements ≡ requirements.now → IsPlain A.SolvableId.eq (A.packages answers.old) root → IsInOrder A.SolvableId.eq (A.packages answers.old) (A.orders answers.old) root encoding.old → IsInOrder A.SolvableId.eq (A.packages answers.old) (A.orders answers.old) root encoding.new × ((need : ConditionalRequirement) → Contains (rules_for A.SolvableId.eq (A.packages answers.old) root (solvable_of parent)).requirements need → IsNeedEncoded A.SolvableId.eq (A.packages answers.old) (rules_of encoding.new) (solvable_of parent) need [])) }
     ensures kept { OnOk result (AddsNeeds encoding.old encoding.new) }
     ensures built { OnOk result (IsBuilt encoding.new) }
     ensures cancelled { IfErr result (IsCancelledBy (A.may_cancel answers.old)) }
@@ -122,7 +122,7 @@ pub fn encode_parents<A: Answering>(
 ) -> Result<(), CacheFault<A::Cancel>>
     requires { IsBuilt encoding.old }
     ensures same { answers.new ≡ answers.old }
-    ensures encoded { OnOk result ((root : Rules) → root.requirements ≡ requirements.now → IsPlain A.SolvableId.eq (A.packages answers.old) root → IsEncoding A.SolvableId.eq (A.packages answers.old) root encoding.old → IsEncoding A.SolvableId.eq (A.packages answers.old) root encoding.new) }
+    ensures encoded { OnOk result ((root : Rules) → root.requirements ≡ requirements.now → IsPlain A.SolvableId.eq (A.packages answers.old) root → IsInOrder A.SolvableId.eq (A.packages answers.old) (A.orders answers.old) root encoding.old → IsInOrder A.SolvableId.eq (A.packages answers.old) (A.orders answers.old) root encoding.new) }
     ensures all { OnOk result (AddsAll encoding.old encoding.new) }
     ensures built { OnOk result (IsBuilt encoding.new) }
     ensures cancelled { IfErr result (IsCancelledBy (A.may_cancel answers.old)) }

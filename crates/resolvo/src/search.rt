@@ -2,9 +2,10 @@
 ghost use Rattle.std.specs.Prelude.{◌≡◌, IfOk, IfErr};
 ghost use Rattle.resolvo_pool.specs.Cached.{IsCancelledBy};
 ghost use Rattle.resolvo_pool.specs.RuleKeeping.{Rules};
-ghost use Rattle.resolvo_encoding.specs.Encoded.{IsEncoding, IsPlain};
+ghost use Rattle.resolvo_encoding.specs.Encoded.{IsPlain};
 ghost use Rattle.resolvo_encoding.specs.Steps.{IsBegunEncoding};
-ghost use Rattle.resolvo.specs.Solving.{IsFound, IsFoundBy, IsSearch};
+ghost use Rattle.resolvo.specs.Encoder.{IsInOrder};
+ghost use Rattle.resolvo.specs.Solving.{IsFound, IsFoundBy, IsPreferred, IsSearch};
 
 use crate::deciding::Activity;
 use crate::turn::run_turn;
@@ -63,7 +64,7 @@ fn run_root<A: Answering>(
 ) -> Result<Found<A::SolvableId>, CacheFault<A::Cancel>>
     requires { IsBegunEncoding encoding.old }
     ensures same { answers.new ≡ answers.old }
-    ensures found { IfOk result (λ f. (root : Rules) → root.requirements ≡ requirements.now → IsPlain A.SolvableId.eq (A.packages answers.old) root → IsEncoding A.SolvableId.eq (A.packages answers.old) root encoding.old → IsEncoding A.SolvableId.eq (A.packages answers.old) root encoding.new × IsFound A.SolvableId.eq (A.packages answers.old) root encoding.new f) }
+    ensures found { IfOk result (λ f. (root : Rules) → root.requirements ≡ requirements.now → IsPlain A.SolvableId.eq (A.packages answers.old) root → IsInOrder A.SolvableId.eq (A.packages answers.old) (A.orders answers.old) root encoding.old → IsInOrder A.SolvableId.eq (A.packages answers.old) (A.orders answers.old) root encoding.new × IsFound A.SolvableId.eq (A.packages answers.old) root encoding.new f × IsPreferred A.SolvableId.eq (A.packages answers.old) (A.orders answers.old) root f) }
     ensures cancelled { IfErr result (IsCancelledBy (A.may_cancel answers.old)) }
 {
     let turn = run_turn(alloc, answers, encoding, scores, activity, requirements)?;
@@ -71,8 +72,8 @@ fn run_root<A: Answering>(
     Ok(found)
 }
 
-/// Searches for solvables that keep the rules of a root with these requirements, and of each other. What it finds is
-/// true of plain problems: no requirement has a condition, nothing is limited, locked, excluded or unknown. Of others
+/// Searches for solvables that keep the rules of a root with these requirements, and of each other, and takes candidates
+/// in the order in which they are tried. What it finds is true of plain problems: no requirement has a condition, nothing is limited, locked, excluded or unknown. Of others
 /// nothing is promised. It stops with `Memory`, `Ids`, or a value with which the answers are cancelled.
 pub fn search<A: Answering>(
     alloc: Global,
@@ -81,7 +82,7 @@ pub fn search<A: Answering>(
     requirements: &[ConditionalRequirement],
 ) -> Result<Searched<A::NameId, A::SolvableId>, CacheFault<A::Cancel>>
     ensures same { answers.new ≡ answers.old }
-    ensures found { IfOk result (λ s. (root : Rules) → root.requirements ≡ requirements.now → IsPlain A.SolvableId.eq (A.packages answers.old) root → IsSearch A.SolvableId.eq (A.packages answers.old) root s) }
+    ensures found { IfOk result (λ s. (root : Rules) → root.requirements ≡ requirements.now → IsPlain A.SolvableId.eq (A.packages answers.old) root → IsSearch A.SolvableId.eq (A.packages answers.old) (A.orders answers.old) root s) }
     ensures cancelled { IfErr result (IsCancelledBy (A.may_cancel answers.old)) }
 {
     let mut encoding = Encoding::begin(alloc)?;

@@ -3,10 +3,10 @@
 ghost use Rattle.std.specs.Prelude.{◌≡◌, IfOk, IfErr, OnOk};
 ghost use Rattle.resolvo_pool.specs.Cached.{IsCancelledBy};
 ghost use Rattle.resolvo_pool.specs.RuleKeeping.{Rules};
-ghost use Rattle.resolvo_encoding.specs.Encoded.{IsEncoding, IsPlain};
+ghost use Rattle.resolvo_encoding.specs.Encoded.{IsPlain};
 ghost use Rattle.resolvo_encoding.specs.Steps.{IsBuilt, AddsParent};
 ghost use Rattle.resolvo_encoding.specs.Going.{IsDecision};
-ghost use Rattle.resolvo.specs.Encoder.{AddsParents, AddsAll};
+ghost use Rattle.resolvo.specs.Encoder.{IsInOrder, AddsParents, AddsAll};
 ghost use Rattle.resolvo.specs.Turn.{AddsChosen, IsNextRound, IsRound, IsTurn};
 
 use crate::deciding::{Activity, decide};
@@ -56,7 +56,7 @@ fn encode<A: Answering>(
 ) -> Result<(), CacheFault<A::Cancel>>
     requires { IsBuilt encoding.old }
     ensures same { answers.new ≡ answers.old }
-    ensures encoded { OnOk result ((root : Rules) → root.requirements ≡ requirements.now → IsPlain A.SolvableId.eq (A.packages answers.old) root → IsEncoding A.SolvableId.eq (A.packages answers.old) root encoding.old → IsEncoding A.SolvableId.eq (A.packages answers.old) root encoding.new) }
+    ensures encoded { OnOk result ((root : Rules) → root.requirements ≡ requirements.now → IsPlain A.SolvableId.eq (A.packages answers.old) root → IsInOrder A.SolvableId.eq (A.packages answers.old) (A.orders answers.old) root encoding.old → IsInOrder A.SolvableId.eq (A.packages answers.old) (A.orders answers.old) root encoding.new) }
     ensures all { OnOk result (AddsAll encoding.old encoding.new) }
     ensures built { OnOk result (IsBuilt encoding.new) }
     ensures cancelled { IfErr result (IsCancelledBy (A.may_cancel answers.old)) }
@@ -81,7 +81,7 @@ fn encode_and_decide<A: Answering>(
 ) -> Result<Option<Refusal>, CacheFault<A::Cancel>>
     requires { IsBuilt encoding.old }
     ensures same { answers.new ≡ answers.old }
-    ensures stays { OnOk result ((root : Rules) → root.requirements ≡ requirements.now → IsPlain A.SolvableId.eq (A.packages answers.old) root → IsEncoding A.SolvableId.eq (A.packages answers.old) root encoding.old → IsEncoding A.SolvableId.eq (A.packages answers.old) root encoding.new) }
+    ensures stays { OnOk result ((root : Rules) → root.requirements ≡ requirements.now → IsPlain A.SolvableId.eq (A.packages answers.old) root → IsInOrder A.SolvableId.eq (A.packages answers.old) (A.orders answers.old) root encoding.old → IsInOrder A.SolvableId.eq (A.packages answers.old) (A.orders answers.old) root encoding.new) }
     ensures all { OnOk result (AddsAll encoding.old encoding.new) }
     ensures decided { IfOk result (IsDecision encoding.new) }
     ensures built { OnOk result (IsBuilt encoding.new) }
@@ -115,7 +115,7 @@ fn run_round<A: Answering>(
     requires built { IsBuilt encoding.old }
     requires next { IsNextRound encoding.old }
     ensures same { answers.new ≡ answers.old }
-    ensures stays { OnOk result ((root : Rules) → root.requirements ≡ requirements.now → IsPlain A.SolvableId.eq (A.packages answers.old) root → IsEncoding A.SolvableId.eq (A.packages answers.old) root encoding.old → IsEncoding A.SolvableId.eq (A.packages answers.old) root encoding.new) }
+    ensures stays { OnOk result ((root : Rules) → root.requirements ≡ requirements.now → IsPlain A.SolvableId.eq (A.packages answers.old) root → IsInOrder A.SolvableId.eq (A.packages answers.old) (A.orders answers.old) root encoding.old → IsInOrder A.SolvableId.eq (A.packages answers.old) (A.orders answers.old) root encoding.new) }
     ensures adds { OnOk result (AddsParents encoding.old encoding.new) }
     ensures round { IfOk result (IsRound encoding.old encoding.new) }
     ensures built { OnOk result (IsBuilt encoding.new) }
@@ -145,7 +145,7 @@ pub fn run_turn<A: Answering>(
     requires built { IsBuilt encoding.old }
     requires next { IsNextRound encoding.old }
     ensures same { answers.new ≡ answers.old }
-    ensures stays { OnOk result ((root : Rules) → root.requirements ≡ requirements.now → IsPlain A.SolvableId.eq (A.packages answers.old) root → IsEncoding A.SolvableId.eq (A.packages answers.old) root encoding.old → IsEncoding A.SolvableId.eq (A.packages answers.old) root encoding.new) }
+    ensures stays { OnOk result ((root : Rules) → root.requirements ≡ requirements.now → IsPlain A.SolvableId.eq (A.packages answers.old) root → IsInOrder A.SolvableId.eq (A.packages answers.old) (A.orders answers.old) root encoding.old → IsInOrder A.SolvableId.eq (A.packages answers.old) (A.orders answers.old) root encoding.new) }
     ensures adds { OnOk result (AddsParents encoding.old encoding.new) }
     ensures turn { IfOk result (IsTurn encoding.new) }
     ensures cancelled { IfErr result (IsCancelledBy (A.may_cancel answers.old)) }

@@ -1,15 +1,15 @@
 use Rattle.resolvo_pool.specs.RuleKeeping.{Rules}
 use Rattle.resolvo_search.specs.Advancing.{weight_left}
-use Rattle.resolvo_encoding.specs.Encoded.{IsEncoding}
 use Rattle.resolvo_encoding.specs.Steps.{IsBuilt}
 use Rattle.resolvo_encoding.specs.Going.{GoesOn}
+use Rattle.resolvo.specs.Encoder.{IsInOrder}
 use Rattle.resolvo.proofs.deciding.decide.Given as goal
 
 -- the encoding is one of the packages, and the search went on
 abbrev pub invariant-loop-encoding : goal.invariant-loop-encoding
 invariant-loop-encoding g l = record {
-  stays : (root : Rules) → IsEncoding g.A.SolvableId.PartialEq.eq (g.A.Answering.packages l.fn.answers) root l.initial.encoding
-      → IsEncoding g.A.SolvableId.PartialEq.eq (g.A.Answering.packages l.fn.answers) root l.encoding;
+  stays : (root : Rules) → IsInOrder g.A.SolvableId.PartialEq.eq (g.A.Answering.packages l.fn.answers) (g.A.Answering.orders l.fn.answers) root l.initial.encoding
+      → IsInOrder g.A.SolvableId.PartialEq.eq (g.A.Answering.packages l.fn.answers) (g.A.Answering.orders l.fn.answers) root l.encoding;
   goes_on : GoesOn l.initial.encoding l.encoding;
   built : IsBuilt l.encoding;
 }

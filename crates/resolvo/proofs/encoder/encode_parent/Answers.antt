@@ -1,4 +1,4 @@
-use Rattle.std.proofs.Common.{◌≡◌, ◌∙◌, [], List, Option, Some, None, Vec, Global, sym, ap, subst}
+use Rattle.std.proofs.Common.{◌≡◌, ◌∙◌, [], List, Some, None, sym, ap, subst}
 use Rattle.std.specs.Prelude.{Contains}
 use Rattle.resolvo_pool.specs.declared.requirement.ConditionalRequirement.{ConditionalRequirement}
 use Rattle.resolvo_pool.specs.declared.solver_id.SolvableIdOrRoot.{SolvableIdOrRoot}
@@ -7,8 +7,9 @@ use Rattle.resolvo_pool.specs.Provider.{Needs as Asked, needs_of}
 use Rattle.resolvo_pool.specs.RuleKeeping.{Rules, rules_of as rules_in, rules_for}
 use Rattle.resolvo_pool.specs.Text.{solvable_of}
 use Rattle.resolvo_rules.specs.Ending.{IsNeedEncoded}
-use Rattle.resolvo_encoding.specs.Encoded.{IsEncoding, rules_of}
+use Rattle.resolvo_encoding.specs.Encoded.{rules_of}
 use Rattle.resolvo_encoding.specs.Steps.{Needs}
+use Rattle.resolvo.specs.Encoder.{IsInOrder}
 use Rattle.resolvo.proofs.encoder.encode_parent.Goals as goal
 
 pub returns-in_ok-encode_needs-in-Root-clause-encoded : goal.returns-in_ok-encode_needs-in-Root-clause-encoded
@@ -32,9 +33,9 @@ returns-in_ok-encode_needs-in-Known-clause-encoded g c = λ root is plain e.
     let new = c.encode_needs-in-Known.new.encoding in
     let asked : p.dependencies_of solvable ≡ needs_of (Known c.in-Known.known) = sym c.in_ok-known-in-Solvable.ensures.answer ∙ ap needs_of c.in-Known.is in
     let listed : c.as_slice.result.now ≡ (rules_for same p root (Some solvable)).requirements = c.as_slice.ensures.value ∙ sym (ap (λ (n : Asked). (rules_in n).requirements) asked) in
-    let came = subst (λ (a : g.row.A.Denot). (root : Rules) → IsEncoding same (g.A.Answering.packages a) root c.args.encoding.now
+    let came = subst (λ (a : g.row.A.Denot). (root : Rules) → IsInOrder same (g.A.Answering.packages a) (g.A.Answering.orders a) root c.args.encoding.now
     → ((need : ConditionalRequirement) → Contains c.as_slice.result.now need → Needs same (g.A.Answering.packages a) root (Some solvable) need)
-    → IsEncoding same (g.A.Answering.packages a) root new × ((need : ConditionalRequirement) → Contains c.as_slice.result.now need → IsNeedEncoded same (g.A.Answering.packages a) (rules_of new) (Some solvable) need []))
+    → IsInOrder same (g.A.Answering.packages a) (g.A.Answering.orders a) root new × ((need : ConditionalRequirement) → Contains c.as_slice.result.now need → IsNeedEncoded same (g.A.Answering.packages a) (rules_of new) (Some solvable) need []))
     c.in_ok-known-in-Solvable.ensures.same c.in_ok-encode_needs-in-Known.ensures.encoded in
     let needs : (need : ConditionalRequirement) → Contains c.as_slice.result.now need → Needs same p root (Some solvable) need = λ need h. (
     let here : Contains (rules_for same p root (Some solvable)).requirements need = subst (λ (xs : List ConditionalRequirement). Contains xs need) listed h in

@@ -1,15 +1,13 @@
-use Rattle.std.proofs.Common.{◌≡◌, ◌≤◌, ◌+◌, List, [], None, Some, length, refl, sym, ◌∙◌, ap, subst, arith}
+use Rattle.std.proofs.Common.{◌≡◌, ◌≤◌, ◌+◌, [], None, Some, length, refl, sym, ◌∙◌, subst, arith}
 use Rattle.std.specs.Prelude.{slice_get, Contains}
 use Rattle.resolvo_pool.specs.declared.requirement.ConditionalRequirement.{ConditionalRequirement}
-use Rattle.resolvo_pool.specs.declared.solver_id.SolvableIdOrRoot.{SolvableIdOrRoot}
 use Rattle.resolvo_pool.specs.RuleKeeping.{Rules, rules_for}
 use Rattle.resolvo_pool.specs.Text.{solvable_of}
 use Rattle.resolvo_rules.specs.Ending.{IsNeedEncoded}
 use Rattle.resolvo_encoding.specs.declared.encoding.Encoding.{Encoding}
-use Rattle.resolvo_encoding.specs.Encoded.{IsEncoding, IsPlain, rules_of}
-use Rattle.resolvo_encoding.specs.Steps.{IsBuilt, IsNextEncoded}
-use Rattle.resolvo.specs.Encoder.{AddsParents}
-use Rattle.resolvo.proofs.Adding.{all_none, all_then, one_more, next_all}
+use Rattle.resolvo_encoding.specs.Encoded.{IsPlain, rules_of}
+use Rattle.resolvo.specs.Encoder.{IsInOrder, AddsParents}
+use Rattle.resolvo.proofs.Adding.{next_in_order, all_none, all_then, one_more, next_all}
 use Rattle.resolvo.proofs.Ending.{past_end}
 use Rattle.resolvo.proofs.encoder.encode_parents.Goals as goal
 
@@ -23,15 +21,15 @@ loop-parent-preserved g c =
     let before = c.loop-parent.invariant in
     let middle = c.encode_parent.new.encoding in
     let kept = c.in_ok-encode_parent.ensures.kept in
-    let came = subst (λ (a : g.row.A.Denot). (root : Rules) → root.requirements ≡ c.args.requirements.now → IsPlain same (g.A.Answering.packages a) root → IsEncoding same (g.A.Answering.packages a) root c.loop-parent.encoding
-    → IsEncoding same (g.A.Answering.packages a) root middle × ((need : ConditionalRequirement) → Contains (rules_for same (g.A.Answering.packages a) root (solvable_of c.in-Some.parent)).requirements need → IsNeedEncoded same (g.A.Answering.packages a) (rules_of middle) (solvable_of c.in-Some.parent) need []))
+    let came = subst (λ (a : g.row.A.Denot). (root : Rules) → root.requirements ≡ c.args.requirements.now → IsPlain same (g.A.Answering.packages a) root → IsInOrder same (g.A.Answering.packages a) (g.A.Answering.orders a) root c.loop-parent.encoding
+    → IsInOrder same (g.A.Answering.packages a) (g.A.Answering.orders a) root middle × ((need : ConditionalRequirement) → Contains (rules_for same (g.A.Answering.packages a) root (solvable_of c.in-Some.parent)).requirements need → IsNeedEncoded same (g.A.Answering.packages a) (rules_of middle) (solvable_of c.in-Some.parent) need []))
     before.same c.in_ok-encode_parent.ensures.encoded in
     let here : slice_get c.loop-parent.encoding.parents.keys c.loop-parent.encoding.encoded ≡ Some c.in-Some.parent = sym c.next_parent.ensures.parent ∙ c.in-Some.is in
     record {
       same = c.in_ok-encode_parent.ensures.same ∙ before.same;
       encoded = λ root is plain e. (
           let (last, done) = came root is plain (before.encoded root is plain e) in
-          c.end_parent.ensures.encoding p root last (next_all same p root c.loop-parent.encoding middle c.in-Some.parent kept here done));
+          next_in_order same p (g.A.Answering.orders c.args.answers.now) root middle c.end_parent.new.self c.end_parent.ensures.next (λ e. c.end_parent.ensures.encoding p root e (next_all same p root c.loop-parent.encoding middle c.in-Some.parent kept here done)) last);
       adds = subst (λ (x : Encoding _ _). AddsParents c.args.encoding.now x) (sym c.end_parent.ensures.next) (all_then c.args.encoding.now c.loop-parent.encoding (record middle { encoded = middle.encoded + 1 }) before.adds (one_more c.loop-parent.encoding middle kept));
       built = c.end_parent.ensures.built c.in_ok-encode_parent.ensures.built;
     }

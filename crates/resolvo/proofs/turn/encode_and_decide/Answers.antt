@@ -1,12 +1,12 @@
-use Rattle.std.proofs.Common.{◌≡◌, subst}
+use Rattle.std.proofs.Common.{subst}
 use Rattle.resolvo_pool.specs.RuleKeeping.{Rules}
-use Rattle.resolvo_encoding.specs.Encoded.{IsEncoding}
+use Rattle.resolvo.specs.Encoder.{IsInOrder}
 use Rattle.resolvo.proofs.Ending.{all_goes}
 use Rattle.resolvo.proofs.turn.encode_and_decide.Goals as goal
 
 pub returns-clause-stays : goal.returns-clause-stays
 returns-clause-stays g c = λ root is plain e.
-    (subst (λ (a : g.row.A.Denot). (root : Rules) → IsEncoding g.A.SolvableId.PartialEq.eq (g.A.Answering.packages a) root c.encode.new.encoding → IsEncoding g.A.SolvableId.PartialEq.eq (g.A.Answering.packages a) root c.decide.new.encoding) c.in_ok-encode.ensures.same c.in_ok-refusal.ensures.stays)
+    (subst (λ (a : g.row.A.Denot). (root : Rules) → IsInOrder g.A.SolvableId.PartialEq.eq (g.A.Answering.packages a) (g.A.Answering.orders a) root c.encode.new.encoding → IsInOrder g.A.SolvableId.PartialEq.eq (g.A.Answering.packages a) (g.A.Answering.orders a) root c.decide.new.encoding) c.in_ok-encode.ensures.same c.in_ok-refusal.ensures.stays)
     root (c.in_ok-encode.ensures.encoded root is plain e)
 
 pub returns-clause-all : goal.returns-clause-all

@@ -1,15 +1,15 @@
-use Rattle.std.proofs.Common.{◌≡◌, Option, sym, ◌∙◌, ap, subst}
+use Rattle.std.proofs.Common.{Option, sym, ◌∙◌, ap, subst}
 use Rattle.std.specs.Prelude.{is_some}
 use Rattle.resolvo_search.specs.declared.analysis.Refusal.{Refusal}
 use Rattle.resolvo_encoding.specs.Going.{IsDecision}
 use Rattle.resolvo_encoding.proofs.Building.{built_parents}
-use Rattle.resolvo_encoding.proofs.Parents.{parent_keeps}
+use Rattle.resolvo.proofs.Adding.{parents_in_order}
 use Rattle.resolvo.proofs.Ending.{round_adds, round_whole, round_goes}
 use Rattle.resolvo.proofs.turn.run_round.Goals as goal
 
 pub returns-then-is_none-clause-stays : goal.returns-then-is_none-clause-stays
 returns-then-is_none-clause-stays g c = λ root is plain e.
-    parent_keeps g.A.SolvableId.PartialEq.eq (g.A.Answering.packages c.args.answers.now) root c.encode_and_decide.new.encoding c.add_chosen.new.encoding (c.in_ok-decided.ensures.stays root is plain e) c.in_ok-add_chosen.ensures.added
+    parents_in_order g.A.SolvableId.PartialEq.eq (g.A.Answering.packages c.args.answers.now) (g.A.Answering.orders c.args.answers.now) root c.encode_and_decide.new.encoding c.add_chosen.new.encoding (c.in_ok-decided.ensures.stays root is plain e) c.in_ok-add_chosen.ensures.added
 
 pub returns-then-is_none-clause-round : goal.returns-then-is_none-clause-round
 returns-then-is_none-clause-round g c =
@@ -24,7 +24,7 @@ returns-then-is_none-clause-adds g c = round_adds c.args.encoding.now c.encode_a
 
 pub returns-else-is_none-clause-stays : goal.returns-else-is_none-clause-stays
 returns-else-is_none-clause-stays g c = λ root is plain e.
-    parent_keeps g.A.SolvableId.PartialEq.eq (g.A.Answering.packages c.args.answers.now) root c.encode_and_decide.new.encoding c.add_chosen.new.encoding (c.in_ok-decided.ensures.stays root is plain e) c.in_ok-add_chosen.ensures.added
+    parents_in_order g.A.SolvableId.PartialEq.eq (g.A.Answering.packages c.args.answers.now) (g.A.Answering.orders c.args.answers.now) root c.encode_and_decide.new.encoding c.add_chosen.new.encoding (c.in_ok-decided.ensures.stays root is plain e) c.in_ok-add_chosen.ensures.added
 
 pub returns-else-is_none-clause-round : goal.returns-else-is_none-clause-round
 returns-else-is_none-clause-round g c =

@@ -1,8 +1,8 @@
 use Rattle.std.proofs.Common.{◌≡◌, ◌<◌, refl, ◌∙◌, subst, arith}
 use Rattle.resolvo_pool.specs.RuleKeeping.{Rules}
-use Rattle.resolvo_encoding.specs.Encoded.{IsEncoding, IsPlain}
+use Rattle.resolvo_encoding.specs.Encoded.{IsPlain}
+use Rattle.resolvo.specs.Encoder.{IsInOrder}
 use Rattle.resolvo.specs.declared.turn.Round.{Round}
-use Rattle.resolvo.specs.declared.turn.Round.TheVariants.{Goes, Whole, Refused}
 use Rattle.resolvo.specs.Turn.{IsRound}
 use Rattle.resolvo.proofs.Adding.{all_none, all_then}
 use Rattle.resolvo.proofs.Ending.{next_round}
@@ -29,8 +29,8 @@ loop-refusal-preserved g c =
     let (more, small, waiting) = subst (λ (r : Round). IsRound c.loop-refusal.encoding c.run_round.new.encoding r) c.in-Goes.is c.in_ok-run_round.ensures.round in
     let same = g.A.SolvableId.PartialEq.eq in
     let before = c.loop-refusal.invariant in
-    let stays = subst (λ (a : g.row.A.Denot). (root : Rules) → root.requirements ≡ c.args.requirements.now → IsPlain same (g.A.Answering.packages a) root → IsEncoding same (g.A.Answering.packages a) root c.loop-refusal.encoding
-    → IsEncoding same (g.A.Answering.packages a) root c.run_round.new.encoding) before.same c.in_ok-run_round.ensures.stays in
+    let stays = subst (λ (a : g.row.A.Denot). (root : Rules) → root.requirements ≡ c.args.requirements.now → IsPlain same (g.A.Answering.packages a) root → IsInOrder same (g.A.Answering.packages a) (g.A.Answering.orders a) root c.loop-refusal.encoding
+    → IsInOrder same (g.A.Answering.packages a) (g.A.Answering.orders a) root c.run_round.new.encoding) before.same c.in_ok-run_round.ensures.stays in
     record {
       same = c.in_ok-run_round.ensures.same ∙ before.same;
       stays = λ root is plain e. stays root is plain (before.stays root is plain e);
@@ -42,8 +42,8 @@ loop-refusal-preserved g c =
 pub returns-in-Whole-clause-stays : goal.returns-in-Whole-clause-stays
 returns-in-Whole-clause-stays g c = λ root is plain e.
     let same = g.A.SolvableId.PartialEq.eq in
-    (subst (λ (a : g.row.A.Denot). (root : Rules) → root.requirements ≡ c.args.requirements.now → IsPlain same (g.A.Answering.packages a) root → IsEncoding same (g.A.Answering.packages a) root c.loop-refusal.encoding
-    → IsEncoding same (g.A.Answering.packages a) root c.run_round.new.encoding) c.loop-refusal.invariant.same c.in_ok-run_round.ensures.stays) root is plain (c.loop-refusal.invariant.stays root is plain e)
+    (subst (λ (a : g.row.A.Denot). (root : Rules) → root.requirements ≡ c.args.requirements.now → IsPlain same (g.A.Answering.packages a) root → IsInOrder same (g.A.Answering.packages a) (g.A.Answering.orders a) root c.loop-refusal.encoding
+    → IsInOrder same (g.A.Answering.packages a) (g.A.Answering.orders a) root c.run_round.new.encoding) c.loop-refusal.invariant.same c.in_ok-run_round.ensures.stays) root is plain (c.loop-refusal.invariant.stays root is plain e)
 
 pub returns-in-Whole-clause-same : goal.returns-in-Whole-clause-same
 returns-in-Whole-clause-same g c = c.in_ok-run_round.ensures.same ∙ c.loop-refusal.invariant.same
@@ -57,8 +57,8 @@ returns-in-Whole-clause-turn g c = subst (λ (r : Round). IsRound c.loop-refusal
 pub returns-in-Refused-clause-stays : goal.returns-in-Refused-clause-stays
 returns-in-Refused-clause-stays g c = λ root is plain e.
     let same = g.A.SolvableId.PartialEq.eq in
-    (subst (λ (a : g.row.A.Denot). (root : Rules) → root.requirements ≡ c.args.requirements.now → IsPlain same (g.A.Answering.packages a) root → IsEncoding same (g.A.Answering.packages a) root c.loop-refusal.encoding
-    → IsEncoding same (g.A.Answering.packages a) root c.run_round.new.encoding) c.loop-refusal.invariant.same c.in_ok-run_round.ensures.stays) root is plain (c.loop-refusal.invariant.stays root is plain e)
+    (subst (λ (a : g.row.A.Denot). (root : Rules) → root.requirements ≡ c.args.requirements.now → IsPlain same (g.A.Answering.packages a) root → IsInOrder same (g.A.Answering.packages a) (g.A.Answering.orders a) root c.loop-refusal.encoding
+    → IsInOrder same (g.A.Answering.packages a) (g.A.Answering.orders a) root c.run_round.new.encoding) c.loop-refusal.invariant.same c.in_ok-run_round.ensures.stays) root is plain (c.loop-refusal.invariant.stays root is plain e)
 
 pub returns-in-Refused-clause-same : goal.returns-in-Refused-clause-same
 returns-in-Refused-clause-same g c = c.in_ok-run_round.ensures.same ∙ c.loop-refusal.invariant.same

@@ -1,8 +1,8 @@
 use Rattle.std.proofs.Common.{◌≡◌, ◌-◌}
 use Rattle.resolvo_pool.specs.RuleKeeping.{Rules}
-use Rattle.resolvo_encoding.specs.Encoded.{IsEncoding, IsPlain}
+use Rattle.resolvo_encoding.specs.Encoded.{IsPlain}
 use Rattle.resolvo_encoding.specs.Steps.{IsBuilt}
-use Rattle.resolvo.specs.Encoder.{AddsParents}
+use Rattle.resolvo.specs.Encoder.{IsInOrder, AddsParents}
 use Rattle.resolvo.specs.Turn.{IsNextRound}
 use Rattle.resolvo.proofs.turn.run_turn.Given as goal
 
@@ -11,8 +11,8 @@ abbrev pub invariant-loop-refusal : goal.invariant-loop-refusal
 invariant-loop-refusal g l = record {
   same : l.answers ≡ l.initial.answers;
   stays : (root : Rules) → root.requirements ≡ l.requirements → IsPlain g.A.SolvableId.PartialEq.eq (g.A.Answering.packages l.initial.answers) root
-      → IsEncoding g.A.SolvableId.PartialEq.eq (g.A.Answering.packages l.initial.answers) root l.initial.encoding
-      → IsEncoding g.A.SolvableId.PartialEq.eq (g.A.Answering.packages l.initial.answers) root l.encoding;
+      → IsInOrder g.A.SolvableId.PartialEq.eq (g.A.Answering.packages l.initial.answers) (g.A.Answering.orders l.initial.answers) root l.initial.encoding
+      → IsInOrder g.A.SolvableId.PartialEq.eq (g.A.Answering.packages l.initial.answers) (g.A.Answering.orders l.initial.answers) root l.encoding;
   adds : AddsParents l.initial.encoding l.encoding;
   built : IsBuilt l.encoding;
   next : IsNextRound l.encoding;
