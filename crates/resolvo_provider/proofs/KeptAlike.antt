@@ -45,7 +45,7 @@ use Rattle.resolvo_provider.proofs.RulesKept.{bound, binding, bound_by, binding_
 module _ (p : Provider) (catalogue : List Line) (over : IsOver catalogue p) (same : SolvableId → SolvableId → Bool) (apart : TellsApart same) where
   -- ---- a version's solvable
 
-  told_of_it : (s : SolvableId) (v : Version) → slice_get (listed catalogue) s.raw ≡ Some v → TellsOf p.ids catalogue s.raw (told_at p s)
+  pub told_of_it : (s : SolvableId) (v : Version) → slice_get (listed catalogue) s.raw ≡ Some v → TellsOf p.ids catalogue s.raw (told_at p s)
   told_of_it s v e = over.told.each s.raw (told_at p s) (slice_get-get_or p.told s.raw no_lines (rw over.told.as_many (slice_get_within (listed catalogue) s.raw v e)))
 
   marks_of_it : (s : SolvableId) (v : Version) → slice_get (listed catalogue) s.raw ≡ Some v → IsMarked p.ids catalogue catalogue v (marks_at p s)
@@ -73,7 +73,7 @@ module _ (p : Provider) (catalogue : List Line) (over : IsOver catalogue p) (sam
   in_package : (n : NameId) (s : SolvableId) (v : Version) → slice_get (listed catalogue) s.raw ≡ Some v → name_of p.ids s ≡ n → Contains (solvables_of p.ids n.raw) s
   in_package n s v e is = subst (λ (xs : List SolvableId). Contains xs s) (listed_is p (solvables_of p.ids n.raw)) (found (pool.listed (candidates_of p n)) s (in_candidates n s v e is))
 
-  its_version : (n : NameId) (s : SolvableId) → Contains (solvables_of p.ids n.raw) s → (v : Version) × (slice_get (listed catalogue) s.raw ≡ Some v) × IsPackage p.ids n v.name
+  pub its_version : (n : NameId) (s : SolvableId) → Contains (solvables_of p.ids n.raw) s → (v : Version) × (slice_get (listed catalogue) s.raw ≡ Some v) × IsPackage p.ids n v.name
   its_version n s h =
       let m = member_place (λ (x : Solvable ℕ). x.name.raw == n.raw) 0 p.ids.solvables s h in
       let w = each_left (IsSolvable p.ids) p.ids.solvables (listed catalogue) over.versions m.0 m.1 m.3 in

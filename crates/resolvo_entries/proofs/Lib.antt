@@ -1,0 +1,4 @@
+pub mod Reaching
+pub mod Fitting
+pub mod Accepting
+pub mod Installing
