@@ -1,12 +1,12 @@
 -- The candidates of a SPEC are tried in one order: the favoured match first, then newest first.
-use Rattle.std.proofs.Common.{◌≡◌, ◌⊎◌, inl, inr, ℕ, suc, ◌-◌, ◌<◌, ◌≤◌, ◌==◌, ◌^◌, ltb, Bool, true, false, cond, List, [], ◌∷◌, ◌++◌, map, length, get_or, Option, Some, None, refl, sym, ap, subst, ◌∙◌, arith}
-use Rattle.std.specs.Prelude.{⊤, Contains, slice_get, filter}
-use Rattle.std.specs.List.{list_any, AllByRecursion, IsDistinct}
+use Rattle.std.proofs.Common.{◌≡◌, ◌⊎◌, inl, inr, ℕ, zero, suc, ◌-◌, ◌<◌, ◌≤◌, ◌==◌, ◌^◌, ltb, Bool, true, false, cond, List, [], ◌∷◌, ◌++◌, map, length, get_or, Option, Some, None, refl, sym, ap, subst, ◌∙◌, arith}
+use Rattle.std.specs.Prelude.{⊤, nat_lt, All, Contains, slice_get, filter}
+use Rattle.std.specs.List.{list_any, flat_map, AllByRecursion, IsDistinct}
 use Rattle.std.specs.List.Sorted.{IsPermutation, IsNonDecreasingBy}
 use Rattle.std.specs.Set.{remove_key}
 use Rattle.std.proofs.lemmas.Bool.{and_parts, both_ways, cases_Bool, eqb-true, ltb-true, ltb-false}
-use Rattle.std.proofs.lemmas.List.Elements.{Contains-append_cases, Contains-append_right}
-use Rattle.std.proofs.lemmas.List.Sorted.{Contains-permutation, IsPermutation-sym}
+use Rattle.std.proofs.lemmas.List.Elements.{Contains-append_cases, Contains-append_right, Contains-get_or}
+use Rattle.std.proofs.lemmas.List.Sorted.{Contains-permutation, IsPermutation-refl, IsPermutation-cons, IsPermutation-trans, IsPermutation-swap, IsPermutation-sym}
 use Rattle.std.proofs.lemmas.Map.Keys.{IsDistinct-IsPermutation}
 use Rattle.std.proofs.lemmas.Option.{slice_get_within, get_or_from_slice_get}
 use Rattle.resolvo_text.specs.Line.{Version, Spec, Line, Listed}
@@ -16,13 +16,13 @@ use Rattle.resolvo_catalogue.proofs.Placing.{at_from_contains}
 use Rattle.resolvo_catalogue.proofs.TableLemmas.{listed_from}
 use Rattle.resolvo_pool.specs.declared.id.VersionSetId.{VersionSetId}
 use Rattle.resolvo_pool.specs.declared.pool.Solvable.{Solvable}
-use Rattle.resolvo_pool.specs.Provider.{favoured_first, tried_first}
+use Rattle.resolvo_pool.specs.Provider.{favoured_first, tried_first, IsTriedFor}
 use Rattle.resolvo_provider.specs.Ids.{NameId, SolvableId, solvable_id, solvables_of, places_from, IsSolvable, IsSpec}
 use Rattle.resolvo_provider.specs.Known.{solvable_at, set_at}
 use Rattle.resolvo_provider.specs.Provider.{Provider, candidates_of, matches, age_of, IsSorted}
 use Rattle.resolvo_provider.specs.Keeping.{TellsApart}
 use Rattle.resolvo_provider.specs.Over.{IsOver}
-use Rattle.resolvo_provider.specs.Trying.{matching, IsOrder}
+use Rattle.resolvo_provider.specs.Trying.{matching, IsOrder, placed, sorted_by, order_of}
 use Rattle.resolvo_provider.proofs.Alike.{member_place, listed_is, at_version, admits}
 use Rattle.resolvo_provider.proofs.Marking.{one_some}
 use Rattle.resolvo_provider.proofs.Passing.{any_from, same_bool}
@@ -163,6 +163,56 @@ once_filter t (y ∷ ys) h = go (t y) (once_filter t ys h.1)
     go : (b : Bool) → Once (filter t ys) → Once (cond b (y ∷ filter t ys) (filter t ys))
     go true rest = (λ c. h.0 (filter_from t ys y c).0, rest)
     go false rest = rest
+
+-- ---- sorting
+
+falls : {X : Type 0} (age : X → ℕ) (xs : List X) → Rises age xs → IsNonDecreasingBy age xs
+falls age [] h i j d le lt = absurd (omega arith)
+falls age (x ∷ xs) h zero zero d le lt = omega arith
+falls age (x ∷ xs) h zero (suc j) d le lt = h.0 (get_or xs j d) (Contains-get_or xs j d (omega arith))
+falls age (x ∷ xs) h (suc i) zero d le lt = absurd (omega arith)
+falls age (x ∷ xs) h (suc i) (suc j) d le lt = falls age xs h.1 i j d (omega arith) (omega arith)
+
+placed_permutes : {X : Type 0} (age : X → ℕ) (x : X) (ys : List X) → IsPermutation (x ∷ ys) (placed age x ys)
+placed_permutes age x [] = IsPermutation-refl (x ∷ [])
+placed_permutes {X} age x (y ∷ ys) = go (nat_lt (age y) (age x)) (placed_permutes age x ys)
+  where
+    go : (b : Bool) → IsPermutation (x ∷ ys) (placed age x ys) → IsPermutation (x ∷ y ∷ ys) (cond b (y ∷ placed age x ys) (x ∷ y ∷ ys))
+    go true rest = IsPermutation-trans (x ∷ y ∷ ys) (y ∷ x ∷ ys) (y ∷ placed age x ys) (IsPermutation-swap (x ∷ y ∷ ys) (y ∷ x ∷ ys) 0 1 (omega arith) (omega arith) refl) (IsPermutation-cons y (x ∷ ys) (placed age x ys) rest)
+    go false rest = IsPermutation-refl (x ∷ y ∷ ys)
+
+sorted_permutes : {X : Type 0} (age : X → ℕ) (xs : List X) → IsPermutation xs (sorted_by age xs)
+sorted_permutes age [] = IsPermutation-refl []
+sorted_permutes age (x ∷ xs) = IsPermutation-trans (x ∷ xs) (x ∷ sorted_by age xs) (placed age x (sorted_by age xs)) (IsPermutation-cons x xs (sorted_by age xs) (sorted_permutes age xs)) (placed_permutes age x (sorted_by age xs))
+
+placed_rises : {X : Type 0} (age : X → ℕ) (x : X) (ys : List X) → Rises age ys → Rises age (placed age x ys)
+placed_rises age x [] h = ((λ z c. absurd (no_element z c)), tt)
+placed_rises {X} age x (y ∷ ys) h = go (nat_lt (age y) (age x)) refl (placed_rises age x ys h.1)
+  where
+    go : (b : Bool) → nat_lt (age y) (age x) ≡ b → Rises age (placed age x ys) → Rises age (cond b (y ∷ placed age x ys) (x ∷ y ∷ ys))
+    go true e rest = (
+      λ z c. elim (element_cases x ys z (Contains-permutation (placed age x ys) (x ∷ ys) z (IsPermutation-sym (x ∷ ys) (placed age x ys) (placed_permutes age x ys)) c)) [
+        | inl is ↦ (let low : age y < age x = ltb-true (age y) (age x) e in subst (λ w. age y ≤ age w) is (omega arith))
+        | inr m ↦ h.0 z m
+      ],
+      rest,
+    )
+    go false e rest =
+        let high = ltb-false (age y) (age x) e in (
+          λ z c. elim (element_cases y ys z c) [
+            | inl is ↦ subst (λ w. age x ≤ age w) is (omega (arith, high))
+            | inr m ↦ (let up : age y ≤ age z = h.0 z m in omega (arith, high))
+          ],
+          h,
+        )
+
+sorted_rises : {X : Type 0} (age : X → ℕ) (xs : List X) → Rises age (sorted_by age xs)
+sorted_rises age [] = tt
+sorted_rises age (x ∷ xs) = placed_rises age x (sorted_by age xs) (sorted_rises age xs)
+
+-- the order that there is
+pub order_is : (p : Provider) (same : SolvableId → SolvableId → Bool) (w : VersionSetId) → IsOrder p same w (order_of p same w)
+order_is p same w = (sorted_by (age_of p) (matching p w), record { permutation = sorted_permutes (age_of p) (matching p w); newest_first = falls (age_of p) _ (sorted_rises (age_of p) (matching p w)) }, refl)
 
 -- the places of a list are different
 places_later : {X : Type 0} (t : X → Bool) (at : ℕ) (xs : List X) (s : SolvableId) → Contains (map solvable_id (places_from t at xs)) s → at ≤ s.raw
@@ -306,3 +356,12 @@ module _ (same : SolvableId → SolvableId → Bool) (apart : TellsApart same) w
             (λ s c. Contains-permutation (matching p w) ys s sorted.permutation (back zs again s c))
             (once_permuted (matching p w) ys sorted.permutation matching_once) (once_permuted (matching p w) zs again.permutation matching_once)
             (rises (age_of p) ys sorted.newest_first) (rises (age_of p) zs again.newest_first)
+
+  -- The candidates of a requirement are tried in one order: that of its version sets, one after the other.
+  pub one_order_for : (lines : List Line) (p : Provider) → IsOver lines p → (sets : List VersionSetId) (list : List SolvableId)
+      → IsTriedFor (IsSorted p) same (tried_first (λ v. (set_at p.ids v).0) (candidates_of p)) (matching p) sets list → list ≡ flat_map (order_of p same) sets
+  one_order_for lines p over sets list (order, each, is) = is ∙ go sets each
+    where
+      go : (vs : List VersionSetId) → All (λ v. IsOrder p same v (order v)) vs → flat_map order vs ≡ flat_map (order_of p same) vs
+      go [] h = refl
+      go (v ∷ vs) h = ap (λ xs. xs ++ flat_map order vs) (one_order lines p over v (order v) (order_of p same v) (h 0 v (omega arith)) (order_is p same v)) ∙ ap (λ xs. order_of p same v ++ xs) (go vs (λ k d l. h (suc k) d (omega arith)))
