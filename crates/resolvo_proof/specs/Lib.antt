@@ -1,3 +1,4 @@
 pub mod Steps
 pub mod Written
 pub mod Proof
+pub mod Trimmed
