@@ -6,3 +6,4 @@ pub mod Convincing
 pub mod Flagging
 pub mod Numbering
 pub mod Shortened
+pub mod PassMembers

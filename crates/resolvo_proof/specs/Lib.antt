@@ -2,3 +2,4 @@ pub mod Steps
 pub mod Written
 pub mod Proof
 pub mod Trimmed
+pub mod Members
