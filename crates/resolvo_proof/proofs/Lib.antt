@@ -7,3 +7,4 @@ pub mod Flagging
 pub mod Numbering
 pub mod Shortened
 pub mod PassMembers
+pub mod OnePlace

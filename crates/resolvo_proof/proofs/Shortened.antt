@@ -24,7 +24,7 @@ clause_kept same p from place (Derived literals causes) step (renumbered, is, zi
 
 module _ {N S : Type 0} (steps kept : List (ProofStep N S)) (trimmed : IsTrimmed steps kept) where
   -- the place that a kept step had, and the step there
-  stood : (k : ℕ) (step : ProofStep N S) → slice_get kept k ≡ Some step → (place : ℕ) × (old : ProofStep N S) × (slice_get trimmed.from k ≡ Some place) × (slice_get steps place ≡ Some old) × IsRenumbered trimmed.from place old step
+  pub stood : (k : ℕ) (step : ProofStep N S) → slice_get kept k ≡ Some step → (place : ℕ) × (old : ProofStep N S) × (slice_get trimmed.from k ≡ Some place) × (slice_get steps place ≡ Some old) × IsRenumbered trimmed.from place old step
   stood k step at =
       let within : k < length kept = slice_get_within kept k step at in
       let count : length kept ≡ length trimmed.from = trimmed.count in

@@ -3,3 +3,4 @@ pub mod Written
 pub mod Proof
 pub mod Trimmed
 pub mod Members
+pub mod Places
