@@ -20,8 +20,3 @@ pub use resolvo_text::{
     Trouble, Version, WriteFault, cases_are_exact, is_in_span, write_all,
 };
 pub use rule::{Rule, VersionNo};
-
-#[cfg(test)]
-mod damages;
-#[cfg(test)]
-mod tests;

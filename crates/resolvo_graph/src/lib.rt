@@ -8,7 +8,5 @@ pub mod line;
 pub mod merging;
 mod outlook;
 mod runs;
-#[cfg(test)]
-mod tests;
 mod tree;
 mod walk;

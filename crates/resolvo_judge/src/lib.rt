@@ -32,6 +32,3 @@ pub use laws::{
     steps_are_true, upheld_texts_are_refused_nowhere,
 };
 pub use proof::{Checked, check_steps, count_causes};
-
-#[cfg(test)]
-mod tests;

@@ -5,7 +5,5 @@ pub mod id_table;
 pub mod lawful;
 pub mod marks;
 pub mod provider;
-#[cfg(test)]
-mod tests;
 pub mod told;
 pub mod versions;

@@ -11,8 +11,6 @@ mod reader;
 mod reading;
 mod report;
 mod step;
-#[cfg(test)]
-mod tests;
 mod text;
 mod writing;
 

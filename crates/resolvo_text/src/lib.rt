@@ -12,8 +12,6 @@ mod lines;
 mod memory;
 mod reading;
 mod spec;
-#[cfg(test)]
-mod tests;
 mod words;
 mod writing;
 

@@ -1,0 +1,395 @@
+//! What no clause says: that each public call succeeds where there is memory, and rows of the language.
+
+ghost use Rattle.std.specs.Prelude.{◌<◌};
+
+use crate::damages::{OF_ASKED, OF_MARKET};
+use resolvo_catalogue::{
+    Catalogue, MemorySource, ReadFault, Request, Rule, Span, Spec, VersionNo,
+    catalogue_has_no_fault, request_has_no_fault, text_is_one_catalogue, text_is_one_request,
+};
+use std::alloc::{AllocError, Global};
+use std::test::Fail;
+
+/// A catalogue with a line of each kind.
+const MARKET: &str =
+    "# a market\n\nversion a 1\nneeds b 2 | c if a or ( b 1..3 and c )\nversion a 2\nlimits c 0..4\nfavour a 1\nversion b 1\nlock b 1\nexclude b 1 broken\nunknown gone\nversion b 2\n";
+
+/// A request over it with a line of each kind.
+const ASKED: &str = "needs a if b\n#\nwish b 2\nlimits a 2\nneeds c 0..7 | b\nwish a 1\n";
+
+/// Texts of catalogues, and their least faulty lines.
+const CATALOGUES: [(&str, Option<u32>); 49] = [
+    ("", None),
+    ("\n", None),
+    ("#\x00\r", None),
+    ("version a 1\nversion b 7", None),
+    (MARKET, None),
+    (
+        "version 1..2 7\nneeds 1..2\nneeds 0 0\nlimits not 1..2",
+        None,
+    ),
+    ("version a 1\nneeds a\nneeds a\nlimits b\nlimits b", None),
+    ("version a 1\nexclude a 1 x\nunknown x", None),
+    ("version a 1\nunknown x\nversion a 2\nunknown x", None),
+    (
+        "version a 1\nversion a 2\nlock a 2\nfavour a 1\nneeds a",
+        None,
+    ),
+    ("needs a", Some(1)),
+    ("#\nlimits a\nversion a 1", Some(2)),
+    ("unknown a", Some(1)),
+    ("version a 1\nlock a 2", Some(2)),
+    ("lock a 1\nversion a 1", Some(1)),
+    ("favour a 1\nversion a 1", Some(1)),
+    ("exclude a 1 x\nversion a 1", Some(1)),
+    ("version a 1\nversion a 1", Some(2)),
+    ("version a 1\nversion b 1\nversion a 1\nversion", Some(3)),
+    ("version a 1\nversion a 2\nfavour a 1\nfavour a 2", Some(4)),
+    ("version a 1\nfavour a 1\nfavour a 1", Some(3)),
+    ("version a 1\nversion a 2\nlock a 1\nlock a 2", Some(4)),
+    ("version a 1\nlock a 1\nlock a 1", Some(3)),
+    ("version a 1\nexclude a 1 x\nexclude a 1 y", Some(3)),
+    ("version a 1\nunknown w\nunknown w", Some(3)),
+    ("version a 1\nunknown w\nlock a 1\nunknown v", Some(4)),
+    ("version a 01", Some(1)),
+    ("version if 1", Some(1)),
+    ("version a 4294967296", Some(1)),
+    ("version a 1\nneeds b 3..3", Some(2)),
+    ("#\n\nversion a 1\nlimits", Some(4)),
+    ("version a 1\nneeds  b", Some(2)),
+    ("version a 1\nneeds b ", Some(2)),
+    ("version a 1\nneeds b\r", Some(2)),
+    ("version a 1\n ", Some(2)),
+    ("version a 1\n #", Some(2)),
+    ("version a 1\nneeds b |", Some(2)),
+    ("version a 1\nneeds b if", Some(2)),
+    ("version a 1\nneeds b if c and", Some(2)),
+    ("version a 1\nneeds b if ( c", Some(2)),
+    ("version a 1\nneeds b if c )", Some(2)),
+    ("version a 1\nneeds b if c if d", Some(2)),
+    ("version a 1\nlimits b | c", Some(2)),
+    ("version a 1\nlimits b if c", Some(2)),
+    ("version a 1\nexclude a 1 if", Some(2)),
+    ("version a 1\nexclude a 1", Some(2)),
+    ("version a 1\nwish a 1", Some(2)),
+    ("version a 1\n---\n", Some(2)),
+    ("versions a 1", Some(1)),
+];
+
+/// Texts of requests over the market, and their least faulty lines.
+const REQUESTS: [(&str, Option<u32>); 16] = [
+    ("", None),
+    (ASKED, None),
+    ("needs x | y 1\nlimits z", None),
+    ("wish a 1\nwish a 2", None),
+    ("wish a 1\nwish a 1", Some(2)),
+    ("wish a 1\n#\nwish b 1\nwish a 1", Some(4)),
+    ("wish a 3", Some(1)),
+    ("wish d 1", Some(1)),
+    ("#\nwish a", Some(2)),
+    ("needs  a", Some(1)),
+    ("needs a\nversion d 1", Some(2)),
+    ("unknown a", Some(1)),
+    ("lock a 1", Some(1)),
+    ("favour a 1", Some(1)),
+    ("exclude a 1 x", Some(1)),
+    ("limits a b", Some(1)),
+];
+
+fn fault_of<T>(read: Result<T, ReadFault>) -> Option<ReadFault>
+where
+    T: Drop,
+{
+    read.err()
+}
+
+fn catalogue_of(alloc: Global, text: &str, per_call: usize) -> Result<Catalogue, ReadFault>
+    requires { 0 < per_call }
+{
+    Catalogue::read(alloc, &mut MemorySource::new(text.as_bytes(), per_call))
+}
+
+fn request_of(
+    alloc: Global,
+    text: &str,
+    per_call: usize,
+    catalogue: &Catalogue,
+) -> Result<Request, ReadFault>
+    requires { 0 < per_call }
+{
+    let mut source = MemorySource::new(text.as_bytes(), per_call);
+    Request::read(alloc, &mut source, catalogue)
+}
+
+#[test]
+fn catalogues(rt: HostRuntime) -> Result<(), Fail> {
+    for per_call in [1usize, 2, 3, 4096] {
+        assert!(rt; per_call > 0);
+        for (text, line) in CATALOGUES {
+            let fault = fault_of(catalogue_of(rt.alloc(), text, per_call));
+            assert_eq!(rt; fault, line.map(ReadFault::Fault), "{text}");
+        }
+    }
+    catalogue_has_no_fault();
+    text_is_one_catalogue();
+    Ok(())
+}
+
+#[test]
+fn requests(rt: HostRuntime) -> Result<(), Fail> {
+    let market = catalogue_of(rt.alloc(), MARKET, 4096)?;
+    for per_call in [1usize, 2, 3, 4096] {
+        assert!(rt; per_call > 0);
+        for (text, line) in REQUESTS {
+            let fault = fault_of(request_of(rt.alloc(), text, per_call, &market));
+            assert_eq!(rt; fault, line.map(ReadFault::Fault), "{text}");
+        }
+    }
+    request_has_no_fault();
+    text_is_one_request();
+    Ok(())
+}
+
+/// The text with so many bytes taken out at a place, and others put in.
+fn damaged(
+    alloc: Global,
+    text: &[u8],
+    at: usize,
+    out: usize,
+    put: &str,
+) -> Result<Vec<u8>, AllocError> {
+    let mut bytes = Vec::new(alloc);
+    let (front, rest) = text.split_at_checked(at).unwrap_or((text, &[]));
+    let (_, behind) = rest.split_at_checked(out).unwrap_or((rest, &[]));
+    bytes.extend_from_slice(front)?;
+    bytes.extend_from_slice(put.as_bytes())?;
+    bytes.extend_from_slice(behind)?;
+    Ok(bytes)
+}
+
+#[test]
+fn damaged_catalogues(rt: HostRuntime) -> Result<(), Fail> {
+    for (at, out, put, line) in &OF_MARKET {
+        let text = damaged(rt.alloc(), MARKET.as_bytes(), *at, *out, put)?;
+        let read = Catalogue::read(rt.alloc(), &mut MemorySource::new(&text, 4096));
+        assert_eq!(rt;
+            fault_of(read),
+            line.map(ReadFault::Fault),
+            "{at} {out} {put}"
+        );
+    }
+    Ok(())
+}
+
+#[test]
+fn damaged_requests(rt: HostRuntime) -> Result<(), Fail> {
+    let market = catalogue_of(rt.alloc(), MARKET, 4096)?;
+    for (at, out, put, line) in &OF_ASKED {
+        let text = damaged(rt.alloc(), ASKED.as_bytes(), *at, *out, put)?;
+        let read = Request::read(rt.alloc(), &mut MemorySource::new(&text, 4096), &market);
+        assert_eq!(rt;
+            fault_of(read),
+            line.map(ReadFault::Fault),
+            "{at} {out} {put}"
+        );
+    }
+    Ok(())
+}
+
+/// A read that fails in mid-text is answered, unless a whole line that came before is faulty.
+#[test]
+fn failing_reads(rt: HostRuntime) -> Result<(), Fail> {
+    let text = b"version a 1\nneeds b\nlock b 1\nversion b 1\n".as_slice();
+    for (calls, fault) in [
+        (0u64, ReadFault::Reader),
+        (1, ReadFault::Reader),
+        (2, ReadFault::Reader),
+        (3, ReadFault::Fault(3)),
+        (4, ReadFault::Fault(3)),
+        (9, ReadFault::Fault(3)),
+    ] {
+        let mut source = MemorySource::new(text, 10).failing_after(calls);
+        let read = Catalogue::read(rt.alloc(), &mut source);
+        assert_eq!(rt; fault_of(read), Some(fault), "{calls}");
+    }
+    let market = catalogue_of(rt.alloc(), MARKET, 4096)?;
+    for calls in 0..11u64 {
+        let mut source = MemorySource::new(ASKED.as_bytes(), 5).failing_after(calls);
+        let read = Request::read(rt.alloc(), &mut source, &market);
+        assert_eq!(rt; fault_of(read), Some(ReadFault::Reader), "{calls}");
+    }
+    let mut source = MemorySource::new(ASKED.as_bytes(), 5).interrupted(1001);
+    let read = Request::read(rt.alloc(), &mut source, &market);
+    assert_eq!(rt; fault_of(read), Some(ReadFault::Reader));
+    Ok(())
+}
+
+#[test]
+fn versions(rt: HostRuntime) -> Result<(), Fail> {
+    let market = catalogue_of(rt.alloc(), MARKET, 7)?;
+    market.lines_are_in_place();
+    assert_eq!(rt; market.versions().len(), 4);
+    assert_eq!(rt; market.line_count(), 12);
+    assert_eq!(rt; market.find("b", 1), Some(VersionNo(2)));
+    assert_eq!(rt; market.find("b", 3), None);
+    assert_eq!(rt; market.find("c", 1), None);
+    assert_eq!(rt;
+        market.versions_of("b"),
+        [VersionNo(2), VersionNo(3)].as_slice()
+    );
+    assert_eq!(rt; market.versions_of("c"), [].as_slice());
+    assert_eq!(rt; market.favours(), [(7, VersionNo(0))].as_slice());
+    for (number, lines, barred) in [
+        (0u32, [4u32].as_slice(), None),
+        (1, [6].as_slice(), None),
+        (2, [11].as_slice(), Some(10)),
+        (3, [].as_slice(), Some(9)),
+        (4, [].as_slice(), None),
+    ] {
+        let version = VersionNo(number);
+        assert_eq!(rt; market.lines_of(version), lines, "{number}");
+        assert_eq!(rt; market.barred(version), barred, "{number}");
+    }
+    let spec = Spec {
+        name: String::from_str(rt.alloc(), "b")?,
+        span: Span::Range(0, 2),
+    };
+    assert!(rt; market.match_of(&spec, VersionNo(2)));
+    assert!(rt; !market.match_of(&spec, VersionNo(3)));
+    assert!(rt; !market.match_of(&spec, VersionNo(0)));
+    Ok(())
+}
+
+/// The kind of a rule, and its owner or the version that it names.
+fn shown(rule: Option<&Rule>) -> (&'static str, Option<VersionNo>) {
+    match rule {
+        Some(Rule::Needs { owner, .. }) => ("needs", *owner),
+        Some(Rule::Limits { owner, .. }) => ("limits", *owner),
+        Some(Rule::Lock { version }) => ("lock", Some(*version)),
+        Some(Rule::Exclude { version, .. }) => ("exclude", Some(*version)),
+        Some(Rule::Unknown { version, .. }) => ("unknown", Some(*version)),
+        None => ("none", None),
+    }
+}
+
+#[test]
+fn rules(rt: HostRuntime) -> Result<(), Fail> {
+    let market = catalogue_of(rt.alloc(), MARKET, 4096)?;
+    for (line, kind, version) in [
+        (0u32, "none", None),
+        (1, "none", None),
+        (3, "none", None),
+        (4, "needs", Some(VersionNo(0))),
+        (6, "limits", Some(VersionNo(1))),
+        (7, "none", None),
+        (8, "none", None),
+        (9, "lock", Some(VersionNo(2))),
+        (10, "exclude", Some(VersionNo(2))),
+        (11, "unknown", Some(VersionNo(2))),
+        (13, "none", None),
+    ] {
+        assert_eq!(rt; shown(market.rule(line)), (kind, version), "{line}");
+    }
+    let request = request_of(rt.alloc(), ASKED, 4096, &market)?;
+    assert_eq!(rt; request.line_count(), 6);
+    for (line, kind) in [(1u32, "needs"), (2, "none"), (3, "none"), (4, "limits")] {
+        assert_eq!(rt; shown(request.rule(line)), (kind, None), "{line}");
+    }
+    let wishes = [(3, VersionNo(3)), (6, VersionNo(0))];
+    assert_eq!(rt; request.wishes(), wishes.as_slice());
+    Ok(())
+}
+
+/// The nearest `version` line above owns a line, whatever stands between.
+#[test]
+fn owners(rt: HostRuntime) -> Result<(), Fail> {
+    let text = "version a 1\nversion b 1\nlock a 1\nneeds a";
+    let catalogue = catalogue_of(rt.alloc(), text, 4096)?;
+    let owner = Some(VersionNo(1));
+    assert_eq!(rt; shown(catalogue.rule(4)), ("needs", owner));
+    assert_eq!(rt; catalogue.lines_of(VersionNo(1)), [4].as_slice());
+    assert_eq!(rt; catalogue.lines_of(VersionNo(0)), [].as_slice());
+    Ok(())
+}
+
+/// Lines of this catalogue, sets, and whether they are kept: a need in case of `q`, limits, a lock, an exclusion,
+/// an unknown version.
+const RULES: &str =
+    "version p 1\nneeds c if q\nversion q 1\nversion c 1\nlimits p 1..2\nversion p 2\nlock p 2\nexclude q 1 old\nunknown gone";
+
+#[test]
+fn keeping(rt: HostRuntime) -> Result<(), Fail> {
+    let catalogue = catalogue_of(rt.alloc(), RULES, 4096)?;
+    let [p, q, c, p2] = [VersionNo(0), VersionNo(1), VersionNo(2), VersionNo(3)];
+    for (line, set, kept) in [
+        (2u32, [p, q].as_slice(), false),
+        (2, [p].as_slice(), true),
+        (2, [p, q, c].as_slice(), true),
+        (2, [q].as_slice(), true),
+        (5, [c, p2].as_slice(), false),
+        (5, [c, p].as_slice(), true),
+        (5, [p2].as_slice(), true),
+        (7, [p].as_slice(), false),
+        (7, [p2, q].as_slice(), true),
+        (8, [c, q].as_slice(), false),
+        (8, [c].as_slice(), true),
+        (9, [p2].as_slice(), false),
+        (9, [p].as_slice(), true),
+        (1, [].as_slice(), true),
+        (99, [p, q, c, p2].as_slice(), true),
+    ] {
+        assert_eq!(rt; catalogue.keeps(line, set), kept, "{line}");
+    }
+    let request = request_of(
+        rt.alloc(),
+        "needs c if q\nlimits p 1\nwish c 1",
+        4096,
+        &catalogue,
+    )?;
+    for (line, set, kept) in [
+        (1u32, [q].as_slice(), false),
+        (1, [q, c].as_slice(), true),
+        (1, [].as_slice(), true),
+        (2, [p2].as_slice(), false),
+        (2, [p, c].as_slice(), true),
+        (3, [].as_slice(), true),
+    ] {
+        assert_eq!(rt; request.keeps(&catalogue, line, set), kept, "{line}");
+    }
+    Ok(())
+}
+
+/// Conditions, and the sizes of their cases in order.
+#[test]
+fn cases(rt: HostRuntime) -> Result<(), Fail> {
+    let three = "( a or b or c )";
+    let many = format!(in rt.alloc();
+        "{three} and {three} and {three} and {three} and ( a or b or c or d )"
+    )?;
+    for (condition, first, count) in [
+        ("a or b and c", 1usize, 2usize),
+        ("( a or b ) and ( c or d )", 2, 4),
+        (
+            "a and b and a and b and a and b and a and b and a and b and a and b and a and b and a and b",
+            16,
+            1,
+        ),
+        (many.as_str(), 5, 324),
+    ] {
+        let text = format!(in rt.alloc(); "needs x if {condition}\nneeds x\nlimits x")?;
+        let request = request_of(rt.alloc(), &text, 4096, &catalogue_of(rt.alloc(), "", 1)?)?;
+        let all = request.cases(rt.alloc(), 1)?;
+        assert_eq!(rt; all.len(), count, "{condition}");
+        assert_eq!(rt;
+            all.first().map(|case| case.len()),
+            Some(first),
+            "{condition}"
+        );
+        assert_eq!(rt; request.cases(rt.alloc(), 2)?.len(), 1);
+        assert_eq!(rt; request.cases(rt.alloc(), 3)?.len(), 0);
+    }
+    let market = catalogue_of(rt.alloc(), MARKET, 4096)?;
+    assert_eq!(rt; market.cases(rt.alloc(), 4)?.len(), 2);
+    assert_eq!(rt; market.cases(rt.alloc(), 9)?.len(), 0);
+    Ok(())
+}

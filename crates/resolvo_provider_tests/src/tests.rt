@@ -1,0 +1,23 @@
+//! What no clause says: that each call succeeds where there is memory; and rule-keeping by the provider's answers
+//! beside rule-keeping by the lines.
+
+mod pairs;
+
+use resolvo_catalogue::{Catalogue, MemorySource, Request};
+use resolvo_provider::provider::{CatalogueProvider, Hint};
+use std::alloc::Global;
+use std::test::Fail;
+
+fn catalogue(alloc: Global, text: &str) -> Result<Catalogue, Fail> {
+    Ok(Catalogue::read(alloc, &mut MemorySource::new(text.as_bytes(), 4096))?)
+}
+
+fn request(alloc: Global, text: &str, catalogue: &Catalogue) -> Result<Request, Fail> {
+    let mut source = MemorySource::new(text.as_bytes(), 4096);
+    Ok(Request::read(alloc, &mut source, catalogue)?)
+}
+
+/// The provider of a catalogue.
+fn provider(alloc: Global, catalogue: &Catalogue) -> Result<CatalogueProvider, Fail> {
+    Ok(CatalogueProvider::new(alloc, catalogue, Hint::All)?)
+}
