@@ -9,15 +9,17 @@ use Rattle.resolvo_pool.specs.RuleKeeping.{Packages, Rules, IsLawful}
 use Rattle.resolvo_search.specs.declared.analysis.Refusal.{Refusal}
 use Rattle.resolvo_search.specs.Analysis.{IsRefusal}
 use Rattle.resolvo_rules.specs.Encoding.{IsExact}
+use Rattle.resolvo_coding.specs.Coding.{IsCoding}
+use Rattle.resolvo_proof.specs.Proof.{DenyRoot}
 use Rattle.resolvo_encoding.specs.declared.encoding.Encoding.{Encoding}
 use Rattle.resolvo_encoding.specs.Encoded.{IsEncoding, IsPlain}
 use Rattle.resolvo_encoding.specs.Steps.{IsBegunEncoding}
-use Rattle.resolvo_encoding.proofs.Turning.{turn_keeps, turn_preferred, refused}
+use Rattle.resolvo_encoding.proofs.Turning.{turn_keeps, turn_preferred, refused, root_denied}
 use Rattle.resolvo.specs.declared.search.Found.{Found}
 use Rattle.resolvo.specs.declared.search.Found.TheVariants.{Chosen, Clash}
 use Rattle.resolvo.specs.Turn.{IsNextRound, IsTurn}
 use Rattle.resolvo.specs.Encoder.{IsInOrder}
-use Rattle.resolvo.specs.Solving.{IsFoundBy, IsFound, IsPreferred}
+use Rattle.resolvo.specs.Solving.{IsFoundBy, IsFound, IsPreferred, IsDenial}
 
 -- the root is to be encoded first
 pub begun_next : {N S : Type 0} (e : Encoding N S) → IsBegunEncoding e → IsNextRound e
@@ -47,3 +49,11 @@ module _ {N S : Type 0} (same_name : N → N → Bool) (names : IsExact same_nam
     ),
     tt,
   )
+
+-- a clash of the root's turn denies the root alone
+pub turn_denial : {N S : Type 0} (e : Encoding N S) → IsCoding e.coding → e.coding.search.floor ≡ 1 → (turn : Option Refusal) → IsTurn e turn → (f : Found S) → IsFoundBy e turn f → IsDenial e.coding f
+turn_denial e coding first None ended (Chosen v) h = tt
+turn_denial e coding first None ended (Clash q) h = absurd h
+turn_denial e coding first (Some r) refusal (Chosen v) h = absurd h
+turn_denial e coding first (Some r) refusal (Clash q) is =
+    subst (λ (x : Refusal). IsRefusal e.coding.search x.literals.items x.causes.items × DenyRoot x.literals.items) (sym is) (refusal, root_denied e coding first r.literals.items r.causes.items refusal)

@@ -1,3 +1,5 @@
 pub mod Adding
 pub mod Ending
 pub mod Found
+pub mod Solved
+pub mod Answered

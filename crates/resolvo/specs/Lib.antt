@@ -1,3 +1,4 @@
 pub mod Encoder
 pub mod Turn
 pub mod Solving
+pub mod Solver

@@ -5,5 +5,7 @@
 pub mod deciding;
 pub mod encoder;
 pub mod problem;
+pub mod proving;
 pub mod search;
+pub mod solver;
 pub mod turn;

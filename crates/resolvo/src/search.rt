@@ -1,11 +1,11 @@
 //! A whole search for what a problem's root needs.
-ghost use Rattle.std.specs.Prelude.{◌≡◌, IfOk, IfErr};
+ghost use Rattle.std.specs.Prelude.{◌≡◌, IfOk, IfErr, OnOk};
 ghost use Rattle.resolvo_pool.specs.Cached.{IsCancelledBy};
 ghost use Rattle.resolvo_pool.specs.RuleKeeping.{Rules};
 ghost use Rattle.resolvo_encoding.specs.Encoded.{IsPlain};
-ghost use Rattle.resolvo_encoding.specs.Steps.{IsBegunEncoding};
+ghost use Rattle.resolvo_encoding.specs.Steps.{IsBegunEncoding, IsBuilt};
 ghost use Rattle.resolvo.specs.Encoder.{IsInOrder};
-ghost use Rattle.resolvo.specs.Solving.{IsFound, IsFoundBy, IsPreferred, IsSearch};
+ghost use Rattle.resolvo.specs.Solving.{IsFound, IsFoundBy, IsPreferred, IsSearch, IsDenial, IsProvable};
 
 use crate::deciding::Activity;
 use crate::turn::run_turn;
@@ -65,6 +65,8 @@ fn run_root<A: Answering>(
     requires { IsBegunEncoding encoding.old }
     ensures same { answers.new ≡ answers.old }
     ensures found { IfOk result (λ f. (root : Rules) → root.requirements ≡ requirements.now → IsPlain A.SolvableId.eq (A.packages answers.old) root → IsInOrder A.SolvableId.eq (A.packages answers.old) (A.orders answers.old) root encoding.old → IsInOrder A.SolvableId.eq (A.packages answers.old) (A.orders answers.old) root encoding.new × IsFound A.SolvableId.eq (A.packages answers.old) root encoding.new f × IsPreferred A.SolvableId.eq (A.packages answers.old) (A.orders answers.old) root f) }
+    ensures denial { IfOk result (IsDenial encoding.new.coding) }
+    ensures built { OnOk result (IsBuilt encoding.new) }
     ensures cancelled { IfErr result (IsCancelledBy (A.may_cancel answers.old)) }
 {
     let turn = run_turn(alloc, answers, encoding, scores, activity, requirements)?;
@@ -83,6 +85,7 @@ pub fn search<A: Answering>(
 ) -> Result<Searched<A::NameId, A::SolvableId>, CacheFault<A::Cancel>>
     ensures same { answers.new ≡ answers.old }
     ensures found { IfOk result (λ s. (root : Rules) → root.requirements ≡ requirements.now → IsPlain A.SolvableId.eq (A.packages answers.old) root → IsSearch A.SolvableId.eq (A.packages answers.old) (A.orders answers.old) root s) }
+    ensures provable { IfOk result IsProvable }
     ensures cancelled { IfErr result (IsCancelledBy (A.may_cancel answers.old)) }
 {
     let mut encoding = Encoding::begin(alloc)?;

@@ -148,6 +148,7 @@ pub fn run_turn<A: Answering>(
     ensures stays { OnOk result ((root : Rules) → root.requirements ≡ requirements.now → IsPlain A.SolvableId.eq (A.packages answers.old) root → IsInOrder A.SolvableId.eq (A.packages answers.old) (A.orders answers.old) root encoding.old → IsInOrder A.SolvableId.eq (A.packages answers.old) (A.orders answers.old) root encoding.new) }
     ensures adds { OnOk result (AddsParents encoding.old encoding.new) }
     ensures turn { IfOk result (IsTurn encoding.new) }
+    ensures built { OnOk result (IsBuilt encoding.new) }
     ensures cancelled { IfErr result (IsCancelledBy (A.may_cancel answers.old)) }
 {
     loop {

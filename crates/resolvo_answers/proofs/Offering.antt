@@ -70,7 +70,8 @@ module _ {S : Type 0} (same : S → S → Bool) (exact : (x y : S) → same x y 
   unkept_members m s xs = kept_members (λ x. not (m x)) s xs
 
   module _ {N : Type 0} (p : Packages N S) (sorts : List S → List S → Type 0) (permutes : (xs ys : List S) → sorts xs ys → IsPermutation xs ys) where
-    tried_members : (favoured : Option S) (v : VersionSetId) (tried : List S) (s : S) → IsTried sorts same favoured (matching_in p.set_package p.candidates_of p.matches false v) tried → is_in same p tried s ≡ is_match same p v s
+    -- what is tried for a version set are its matches
+    pub tried_members : (favoured : Option S) (v : VersionSetId) (tried : List S) (s : S) → IsTried sorts same favoured (matching_in p.set_package p.candidates_of p.matches false v) tried → is_in same p tried s ≡ is_match same p v s
     tried_members favoured v tried s (ys, sorted, is) =
         ap (λ zs. is_in same p zs s) is
         ∙ (favoured_first_members (λ x. same x s) favoured ys

@@ -41,6 +41,7 @@ use Rattle.resolvo_coding.specs.declared.stated.Stated.{Stated}
 use Rattle.resolvo_coding.specs.declared.stated.Stated.TheVariants as Says
 use Rattle.resolvo_coding.specs.Atoms.{atom_of, origin, StandsFor}
 use Rattle.resolvo_coding.specs.Statements.{rule_of, rule_at, stated_at}
+use Rattle.resolvo_coding.specs.Coding.{IsCoding}
 use Rattle.resolvo_coding.specs.Chosen.{AreChosen}
 use Rattle.resolvo_coding.proofs.Rules.{stated_rule}
 use Rattle.resolvo_coding.proofs.Origins.{coding_once, means_atom, means_solvable, solvable_means}
@@ -66,6 +67,20 @@ first_level count cs (e ∷ f ∷ more) d older t r (inl (same, rest)) =
     let one : e.level ≡ d.level = ap (λ (x : Entry). x.level) same in
     (omega arith, inr (subst (λ (es : List Entry). 1 ≤ top_level es) rest below))
 first_level count cs (e ∷ f ∷ more) d older t r (inr s) = first_level count cs (f ∷ more) d older t.1 r s
+
+-- what is refused at the first level denies the root alone
+pub root_denied : {N S : Type 0} (e : Encoding N S) → IsCoding e.coding → e.coding.search.floor ≡ 1 → (literals : List Signed) (causes : List ClauseId) → IsRefusal e.coding.search literals causes → (l : Signed) → has literals l ≡ true → l ≡ no root_variable
+root_denied e coding first literals causes refusal l h =
+    let (d, older, stands, is, kept) = refusal.denies l h in
+    let (low, which) = first_level (count_of e.coding.search) (clauses_of e.coding.search) (history e.coding.search) d older coding.ready.state.trail coding.ready.state.rooted stands in
+    let floor : d.level ≤ e.coding.search.floor = kept.low in
+    elim which [
+      | inl z ↦ sym (negation-negation l) ∙ ap negation (sym is ∙ z)
+      | inr high ↦ elim kept.begins [
+        | inl (before, kind) ↦ absurd (omega arith)
+        | inr choice ↦ (let opens : d.level ≡ suc (top_level older) = choice.opens in absurd (omega arith))
+      ]
+    ]
 
 module _ {N S : Type 0} (same : S → S → Bool) (exact : IsExact same) (p : Packages N S) (root : Rules) (lawful : IsLawful p) (e : Encoding N S) where
   -- a stated need has one case, which asks for nothing
@@ -299,20 +314,7 @@ module _ {N S : Type 0} (same : S → S → Bool) (exact : IsExact same) (p : Pa
       → (bits : S → ℕ → Bool) → AgreeWith (E.rules_of e) bits → (chosen : List S) → IsRuleKeeping same p root chosen → ⊥
   refused_by same_name names holds first literals causes refusal bits agree chosen keeping =
       turn_refused same exact same_name names p root (origin e.coding.atoms.keys) (E.rules_of e) (Registered same p root e) (count_of e.coding.search) e.coding.search.clauses literals causes bits [] chosen
-      (coding_coded same p (Registered same p root e) e.coding holds.coding holds.spelled holds.positive) holds.rule agree refusal.derived (λ l h. inl (root_denied l h)) keeping (λ s h. absurd (both_ways false refl h))
-    where
-      root_denied : (l : Signed) → has literals l ≡ true → l ≡ no root_variable
-      root_denied l h =
-          let (d, older, stands, is, kept) = refusal.denies l h in
-          let (low, which) = first_level (count_of e.coding.search) (clauses_of e.coding.search) (history e.coding.search) d older holds.coding.ready.state.trail holds.coding.ready.state.rooted stands in
-          let floor : d.level ≤ e.coding.search.floor = kept.low in
-          elim which [
-            | inl z ↦ sym (negation-negation l) ∙ ap negation (sym is ∙ z)
-            | inr high ↦ elim kept.begins [
-              | inl (before, kind) ↦ absurd (omega arith)
-              | inr choice ↦ (let opens : d.level ≡ suc (top_level older) = choice.opens in absurd (omega arith))
-            ]
-          ]
+      (coding_coded same p (Registered same p root e) e.coding holds.coding holds.spelled holds.positive) holds.rule agree refusal.derived (λ l h. inl (root_denied e holds.coding first literals causes refusal l h)) keeping (λ s h. absurd (both_ways false refl h))
 
   -- A clause that denies choices of the first level alone leaves no rule-keeping set.
   pub refused : (same_name : N → N → Bool) → IsExact same_name → IsEncoding same p root e → e.coding.search.floor ≡ 1 → (literals : List Signed) (causes : List ClauseId) → IsRefusal e.coding.search literals causes

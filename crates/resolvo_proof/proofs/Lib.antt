@@ -3,3 +3,8 @@ pub mod Meant
 pub mod Proving
 pub mod Parts
 pub mod Convincing
+pub mod Flagging
+pub mod Numbering
+pub mod Shortened
+pub mod PassMembers
+pub mod OnePlace

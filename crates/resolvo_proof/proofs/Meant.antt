@@ -42,6 +42,10 @@ at v b = record { variable = record { 0 = v }; positive = b }
 abbrev root_fails : Pass.Literal ℕ
 root_fails = said (no root_variable)
 
+-- the literal is that the root is not true
+abbrev is_root_fails : Pass.Literal ℕ → Type 0
+is_root_fails l = l ≡ root_fails
+
 -- a value of the root by which it does not fail is true
 fails_false : (o : Option Bool) → is_denied o false ≡ true → o ≡ Some true
 fails_false None h = absurd (false≢true h)
@@ -79,10 +83,10 @@ module _ {N S : Type 0} (same : Atom N S → Atom N S → Bool) (exact : IsExact
 
   -- the clause of variables has the literals of the step, and besides them at most that the root is not true
   abbrev pub IsSpelt : List Signed → List (Literal (Atom N S)) → Type 0
-  IsSpelt clause literals = Spelt nat_eq exact_number own_number same exact.one exact.own Made made_once one_made root_fails (said_all clause) literals
+  IsSpelt clause literals = Spelt nat_eq exact_number own_number same exact.one exact.own Made made_once one_made is_root_fails (said_all clause) literals
 
   abbrev Agrees : (ℕ → Option Bool) → (Atom N S → Option Bool) → Type 0
-  Agrees values known = Agree nat_eq exact_number own_number same exact.one exact.own Made made_once one_made root_fails values known
+  Agrees values known = Agree nat_eq exact_number own_number same exact.one exact.own Made made_once one_made is_root_fails values known
 
   pub spelt : (clause : List Signed) (literals : List (Literal (Atom N S))) → ((l : Signed) → has clause l ≡ true → l.variable.0 < count) → Spells origin clause literals → IsSpelt clause literals
   spelt clause literals below spells = record {
@@ -102,12 +106,12 @@ module _ {N S : Type 0} (same : Atom N S → Atom N S → Bool) (exact : IsExact
     where
       go : (n : ℕ) → n < length clauses → ((v : ℕ → Option Bool) (k : Atom N S → Option Bool) → Agrees v k → refutes nat_eq v (map said_all (named clauses cs)) ≡ refutes same k (map steps (places cs))) → refutes nat_eq values (said_all (clause_at clauses n) ∷ map said_all (named clauses cs)) ≡ refutes same known (map steps (with_place n (places cs)))
       go zero b rest =
-          let idle = true_idle nat_eq exact_number own_number values (said_all (clause_at clauses 0)) (said (yes root_variable)) (contains_map said (yes root_variable) (clause_at clauses 0) (contained_has (clause_at clauses 0) (yes root_variable) first)) (fails_false (values 0) agree.gone) in
+          let idle = true_idle nat_eq exact_number own_number values (said_all (clause_at clauses 0)) (said (yes root_variable)) (contains_map said (yes root_variable) (clause_at clauses 0) (contained_has (clause_at clauses 0) (yes root_variable) first)) (fails_false (values 0) (agree.gone root_fails refl)) in
           ap (λ b. b || refutes nat_eq (learn nat_eq values (reading nat_eq values (said_all (clause_at clauses 0)))) (map said_all (named clauses cs))) idle.0
           ∙ (ap (λ v. refutes nat_eq v (map said_all (named clauses cs))) idle.1
           ∙ rest values known agree)
       go (suc n) b rest =
-          let read = read_alike nat_eq exact_number own_number same exact.one exact.own Made made_once one_made root_fails values known agree (said_all (clause_at clauses (suc n))) (steps n) (spelt n b) in
+          let read = read_alike nat_eq exact_number own_number same exact.one exact.own Made made_once one_made is_root_fails values known agree (said_all (clause_at clauses (suc n))) (steps n) (spelt n b) in
           ap (λ b. b || refutes nat_eq (learn nat_eq values (reading nat_eq values (said_all (clause_at clauses (suc n))))) (map said_all (named clauses cs))) read.0
           ∙ ap (λ b. is_broken (reading same known (steps n)) || b) (rest (learn nat_eq values (reading nat_eq values (said_all (clause_at clauses (suc n))))) (learn same known (reading same known (steps n))) read.1)
 
@@ -117,7 +121,7 @@ module _ {N S : Type 0} (same : Atom N S → Atom N S → Bool) (exact : IsExact
   values_of known (suc n) = known (origin (suc n))
 
   values_agree : (known : Atom N S → Option Bool) → Agrees (values_of known) known
-  values_agree known = record { at = λ v a m. ap known m.2 ∙ go v m.0; gone = refl }
+  values_agree known = record { at = λ v a m. ap known m.2 ∙ go v m.0; gone = λ l e. subst (λ (x : Pass.Literal ℕ). is_denied (values_of known x.atom) x.positive ≡ true) (sym e) refl }
     where
       go : (v : ℕ) → 0 < v → known (origin v) ≡ values_of known v
       go zero h = absurd (omega arith)

@@ -14,20 +14,20 @@ is_left known l = not (is_denied (known l.atom) l.positive)
 
 module _ {A B : Type 0} (same_a : A → A → Bool) (exact_a : (a b : A) → same_a a b ≡ true → a ≡ b) (own_a : (a : A) → same_a a a ≡ true)
     (same_b : B → B → Bool) (exact_b : (a b : B) → same_b a b ≡ true → a ≡ b) (own_b : (b : B) → same_b b b ≡ true)
-    (names : A → B → Type 0) (once : (a b : A) (i : B) → names a i → names b i → a ≡ b) (one : (a : A) (i j : B) → names a i → names a j → i ≡ j) (dropped : Literal A) where
+    (names : A → B → Type 0) (once : (a b : A) (i : B) → names a i → names b i → a ≡ b) (one : (a : A) (i j : B) → names a i → names a j → i ≡ j) (Dropped : Literal A → Type 0) where
   -- the literal has this name, with its sign
   abbrev pub Named : Literal A → Literal B → Type 0
   Named l m = names l.atom m.atom × (m.positive ≡ l.positive)
 
-  -- the clause has the literals that the names say, and besides them at most one that is known to be false
+  -- the clause has the literals that the names say, and besides them at most such as may be left out
   pub record Spelt (c : List (Literal A)) (d : List (Literal B)) : Type 0 where
-    pub only : (l : Literal A) → Contains c l → (l ≡ dropped) ⊎ ((m : Literal B) × Contains d m × Named l m)
+    pub only : (l : Literal A) → Contains c l → Dropped l ⊎ ((m : Literal B) × Contains d m × Named l m)
     pub each : (m : Literal B) → Contains d m → (l : Literal A) × Contains c l × Named l m
 
-  -- what is known of a name is what is known of its atom, and the literal that may be left out is false
+  -- what is known of a name is what is known of its atom, and literals that may be left out are false
   pub record Agree (said : A → Option Bool) (known : B → Option Bool) : Type 0 where
     pub at : (a : A) (i : B) → names a i → known i ≡ said a
-    pub gone : is_denied (said dropped.atom) dropped.positive ≡ true
+    pub gone : (l : Literal A) → Dropped l → is_denied (said l.atom) l.positive ≡ true
 
   -- a test of names is one of atoms
   same_names : (a b : A) (i j : B) → names a i → names b j → same_b i j ≡ same_a a b
@@ -65,7 +65,7 @@ module _ {A B : Type 0} (same_a : A → A → Bool) (exact_a : (a b : A) → sam
   left_match : (said : A → Option Bool) (known : B → Option Bool) → Agree said known → (c : List (Literal A)) (d : List (Literal B)) → Spelt c d → Match (without_false said c) (without_false known d)
   left_match said known agree c d spelt = record {
     only = λ l h. (let (a, t) = filter_contains (is_left said) l c h in elim (spelt.only l a) [
-      | inl e ↦ absurd (both_ways (is_left said l) (subst (λ (x : Literal A). is_left said x ≡ false) (sym e) (ap not agree.gone)) t)
+      | inl e ↦ absurd (both_ways (is_left said l) (ap not (agree.gone l e)) t)
       | inr (m, b, n) ↦ (m, contains_filter (is_left known) m d b (ap not (denied_agree said known agree l m n) ∙ t), n)
     ]);
     each = λ m h. (let (b, t) = filter_contains (is_left known) m d h in let (l, a, n) = spelt.each m b in (l, contains_filter (is_left said) l c a (ap not (sym (denied_agree said known agree l m n)) ∙ t), n));
@@ -125,12 +125,12 @@ module _ {A B : Type 0} (same_a : A → A → Bool) (exact_a : (a b : A) → sam
         ap (λ b. cond b (Some m.positive) (known i)) (same_names a l.atom i m.atom h n.0)
         ∙ (ap (λ q. cond (same_a a l.atom) (Some q) (known i)) n.1
         ∙ ap (λ k. cond (same_a a l.atom) (Some l.positive) k) (agree.at a i h));
-    gone = go (same_a dropped.atom l.atom) refl;
+    gone = λ x d. go x d (same_a x.atom l.atom) refl;
   }
     where
-      go : (b : Bool) → same_a dropped.atom l.atom ≡ b → is_denied (cond b (Some l.positive) (said dropped.atom)) dropped.positive ≡ true
-      go false e = agree.gone
-      go true e = absurd (false≢true (sym (ap (λ o. is_denied o dropped.positive) (ap said (exact_a dropped.atom l.atom e) ∙ none)) ∙ agree.gone))
+      go : (x : Literal A) → Dropped x → (b : Bool) → same_a x.atom l.atom ≡ b → is_denied (cond b (Some l.positive) (said x.atom)) x.positive ≡ true
+      go x d false e = agree.gone x d
+      go x d true e = absurd (false≢true (sym (ap (λ o. is_denied o x.positive) (ap said (exact_a x.atom l.atom e) ∙ none)) ∙ agree.gone x d))
 
   learn_agree : (said : A → Option Bool) (known : B → Option Bool) → Agree said known → (r : Rest A) (s : Rest B) → RestMatch r s → Agree (learn same_a said r) (learn same_b known s)
   learn_agree said known agree broken broken h = agree

@@ -1,3 +1,6 @@
 pub mod Steps
 pub mod Written
 pub mod Proof
+pub mod Trimmed
+pub mod Members
+pub mod Places

@@ -12,3 +12,4 @@ pub mod Elements
 pub mod Alike
 pub mod RulesKept
 pub mod KeptAlike
+pub mod Trying

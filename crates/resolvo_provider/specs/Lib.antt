@@ -6,3 +6,4 @@ pub mod Provider
 pub mod Laws
 pub mod Over
 pub mod Keeping
+pub mod Trying

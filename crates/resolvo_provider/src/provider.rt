@@ -11,7 +11,7 @@ use crate::marks::{Marks, marks_of};
 use crate::told::Told;
 use crate::versions::list_versions;
 use resolvo_catalogue::{Catalogue, Request, Spec, VersionNo};
-use resolvo_pool::id::{NameId, SolvableId, VersionSetId};
+use resolvo_pool::id::{NameId, SolvableId, StringId, VersionSetId};
 use resolvo_pool::requirement::{ConditionalRequirement, Requirement};
 use resolvo_pool::want::{R, Want};
 use std::alloc::Global;
@@ -63,7 +63,7 @@ impl CatalogueProvider {
     ghost use Rattle.resolvo_text.specs.Line as says;
     ghost use Rattle.resolvo_text.specs.View.{spec_of, specs_of};
     ghost use Rattle.resolvo_provider.specs.Ids.{IsSpec, AreAlternatives, solvable_id};
-    ghost use Rattle.resolvo_provider.specs.Known.{spec_at, alternatives_at};
+    ghost use Rattle.resolvo_provider.specs.Known.{spec_at, alternatives_at, name_text, word_text};
     ghost use Rattle.resolvo_provider.specs.Over.{IsOver, AreAsked, ChangesIds};
     ghost use Rattle.resolvo_provider.specs.Keeping.{KeepsAlike, KeepsAlikeExempt, root_of};
     ghost use Rattle.resolvo_catalogue.specs.Grammar.{AreRequestLines};
@@ -154,6 +154,20 @@ impl CatalogueProvider {
             Requirement::Single(version_set) => self.specs_of(&[version_set]),
             Requirement::Union(union) => self.specs_of(self.ids.members(union)),
         }
+    }
+
+    /// The name of a package.
+    pub fn name_of(&self, name: NameId) -> &str
+        ensures { result.now ≡ name_text self.now.ids name }
+    {
+        self.ids.name(name)
+    }
+
+    /// The word of a reason.
+    pub fn word_of(&self, word: StringId) -> &str
+        ensures { result.now ≡ word_text self.now.ids word }
+    {
+        self.ids.text(word)
     }
 
     fn specs_of(&self, version_sets: &[VersionSetId]) -> R<Vec<Spec>>

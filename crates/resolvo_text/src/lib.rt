@@ -6,6 +6,7 @@
 
 mod condition;
 mod device;
+mod growing;
 mod line;
 mod lines;
 mod memory;
@@ -19,6 +20,7 @@ mod writing;
 pub use condition::{Cond, cases_are_exact, cases_in, holds};
 pub use device::{Counted, Sink, Source, Trouble};
 pub use line::{Line, LineFault};
+pub use growing::GrowingSink;
 pub use lines::{LineReader, ReadFault};
 pub use memory::{MemorySink, MemorySource};
 pub use reading::{

@@ -7,6 +7,7 @@ ghost use Rattle.resolvo_coding.specs.Statements.{rule_of};
 
 use crate::proof::proof_of;
 use crate::step::{ProofLiteral, ProofRule, ProofStep};
+use crate::trimming::trim;
 use resolvo_coding::atom::ProofAtom;
 use resolvo_coding::coding::Coding;
 use resolvo_coding::stated::Stated;
@@ -202,5 +203,31 @@ fn learning(rt: HostRuntime) -> Result<(), Fail> {
     assert_eq!(rt; steps.len(), 3);
     assert_eq!(rt; literals(&steps[2]), Some([out].as_slice()));
     assert_eq!(rt; causes(&steps[2]), Some([1, 0].as_slice()));
+    Ok(())
+}
+
+/// The step of an exclusion.
+fn exclusion(number: u16) -> TestStep {
+    ProofStep::Rule(ProofRule::Excluded {
+        solvable: SolvableId::from_raw(u32::from(number)),
+        reason: StringId(5),
+    })
+}
+
+/// A rule that nothing rests on is left out, and the one behind it is named anew.
+#[test]
+fn trimming(rt: HostRuntime) -> Result<(), Fail> {
+    let alloc = rt.alloc();
+    let mut steps = Vec::new(alloc);
+    steps.push(exclusion(0))?;
+    steps.push(exclusion(1))?;
+    steps.push(ProofStep::Derived {
+        literals: Vec::new(alloc),
+        causes: vec![in alloc; 1]?,
+    })?;
+    let steps = trim(alloc, steps)?;
+    assert_eq!(rt; steps.len(), 2);
+    assert_eq!(rt; excluded(&steps[0]), Some(SolvableId::from_raw(1)));
+    assert_eq!(rt; causes(&steps[1]), Some([0].as_slice()));
     Ok(())
 }

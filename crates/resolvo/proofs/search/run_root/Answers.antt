@@ -1,7 +1,7 @@
 use Rattle.std.proofs.Common.{◌≡◌, ◌∙◌}
 use Rattle.resolvo_rules.specs.Encoding.{IsExact}
 use Rattle.resolvo_encoding.proofs.Building.{built_begun}
-use Rattle.resolvo.proofs.Found.{begun_next, turn_found}
+use Rattle.resolvo.proofs.Found.{begun_next, turn_found, turn_denial}
 use Rattle.resolvo.proofs.search.run_root.Goals as goal
 
 pub run_turn-requires-clause-built : goal.run_turn-requires-clause-built
@@ -21,3 +21,8 @@ returns-clause-found g c = λ root is plain e.
     let first : c.run_turn.new.encoding.coding.search.floor ≡ 1 = c.in_ok-turn.ensures.adds.grows.floor ∙ c.requires.coding.floor in
     let (found, preferred) = turn_found g.A.NameId.PartialEq.eq names same exact p (g.A.Answering.orders c.args.answers.now) root lawful c.run_turn.new.encoding holds plain first c.in_ok-turn.turn c.in_ok-turn.ensures.turn c.in_ok-found.found c.in_ok-found.ensures in
     (holds, found, preferred)
+
+pub returns-clause-denial : goal.returns-clause-denial
+returns-clause-denial g c =
+    let first : c.run_turn.new.encoding.coding.search.floor ≡ 1 = c.in_ok-turn.ensures.adds.grows.floor ∙ c.requires.coding.floor in
+    turn_denial c.run_turn.new.encoding c.in_ok-turn.ensures.built.coding first c.in_ok-turn.turn c.in_ok-turn.ensures.turn c.in_ok-found.found c.in_ok-found.ensures

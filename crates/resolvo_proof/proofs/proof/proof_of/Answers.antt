@@ -9,6 +9,7 @@ use Rattle.resolvo_proof.specs.Written.{AreSteps, AreStepsThen}
 use Rattle.resolvo_proof.proofs.Parts.{refusal_step}
 use Rattle.resolvo_proof.proofs.Proving.{steps_prove, refusal_proves, refusal_in_range, ends_empty}
 use Rattle.resolvo_proof.proofs.Convincing.{convinces}
+use Rattle.resolvo_proof.proofs.OnePlace.{steps_one_place, refusal_one_place}
 use Rattle.resolvo_proof.proofs.proof.proof_of.Goals as goal
 
 pub write_derived-requires-clause-in_range : goal.write_derived-requires-clause-in_range
@@ -52,3 +53,14 @@ returns-in_ok-push-in-Some-clause-empty g c =
 
 pub returns-in_ok-push-in-Some-clause-convinces : goal.returns-in_ok-push-in-Some-clause-convinces
 returns-in_ok-push-in-Some-clause-convinces g c = convinces c.push.new.self.items
+
+pub returns-in-None-clause-places : goal.returns-in-None-clause-places
+returns-in-None-clause-places g c = λ r package_of tied named. steps_one_place c.args.coding.now r c.requires.coding tied package_of named c.in_ok-steps.steps.items c.in_ok-steps.ensures.steps
+
+pub returns-in_ok-push-in-Some-clause-places : goal.returns-in_ok-push-in-Some-clause-places
+returns-in_ok-push-in-Some-clause-places g c = λ t package_of tied named.
+    let coding = c.args.coding.now in
+    let r = c.in-Some.refusal.now in
+    refusal_one_place coding t c.requires.coding tied package_of named r.literals.items r.causes.items c.push.new.self.items
+    (refusal_step coding r.literals.items c.as_slice-literals.result.now r.causes.items c.as_slice.result.now c.in_ok-steps.steps.items c.push.new.self.items c.in_ok-step-in-Some.step c.in_ok-push-in-Some.ensures.items c.in_ok-steps.ensures.steps
+    c.as_slice-literals.ensures.value c.as_slice.ensures.value c.in_ok-step-in-Some.ensures.step)

@@ -1,0 +1,91 @@
+//! A search with its proof. `Solver` keeps what `solve` gives; a program that needs no solver may call it itself.
+ghost use Rattle.std.specs.Prelude.{◌≡◌, length, IfOk, IfErr};
+ghost use Rattle.resolvo_pool.specs.Cached.{IsCancelledBy};
+ghost use Rattle.resolvo_pool.specs.RuleKeeping.{Rules};
+ghost use Rattle.resolvo_coding.specs.Coding.{IsCoding};
+ghost use Rattle.resolvo_encoding.specs.Encoded.{IsPlain};
+ghost use Rattle.resolvo_proof.specs.Proof.{Proves};
+ghost use Rattle.resolvo.specs.Solving.{IsDenial, IsProvable, IsSolved, EndsSo, Counts};
+
+use crate::deciding::Activity;
+use crate::search::{Found, Searched, search};
+use resolvo_answers::answering::Answering;
+use resolvo_coding::coding::Coding;
+use resolvo_pool::cache::CacheFault;
+use resolvo_pool::requirement::ConditionalRequirement;
+use resolvo_pool::solver_id::SolverId;
+use resolvo_pool::want::R;
+use resolvo_proof::proof::proof_of;
+use resolvo_proof::step::ProofStep;
+use std::alloc::Global;
+
+/// What was found, of how many clauses, and the steps that prove it.
+#[derive(Drop)]
+pub struct Solved<N, S> {
+    pub found: Found<S>,
+    pub clause_count: usize,
+    pub proof: Vec<ProofStep<N, S>>,
+}
+
+/// The steps of the clauses, and of a clash.
+fn steps_of<N: SolverId, S: SolverId>(
+    alloc: Global,
+    coding: &Coding<N, S>,
+    found: &Found<S>,
+) -> R<Vec<ProofStep<N, S>>>
+    requires coding { IsCoding coding.now }
+    requires denial { IsDenial coding.now found.now }
+    ensures proof { IfOk result (λ v. Proves coding.now v.items) }
+    ensures ends { IfOk result (λ v. EndsSo found.now v.items) }
+    ensures count { IfOk result (λ v. Counts found.now (length coding.now.search.clauses) (length v.items)) }
+{
+    match found {
+        Found::Chosen(_) => proof_of(alloc, coding, None),
+        Found::Clash(refusal) => proof_of(alloc, coding, Some(refusal)),
+    }
+}
+
+/// Writes the proof of what was found.
+fn prove<N: SolverId + Drop, S: SolverId>(
+    alloc: Global,
+    searched: Searched<N, S>,
+) -> R<Solved<N, S>>
+    requires { IsProvable searched }
+    ensures found { IfOk result (λ s. s.found ≡ searched.found) }
+    ensures count { IfOk result (λ s. Counts s.found s.clause_count (length s.proof.items)) }
+    ensures proof { IfOk result (λ s. Proves searched.encoding.coding s.proof.items) }
+    ensures ends { IfOk result (λ s. EndsSo s.found s.proof.items) }
+{
+    let Searched { encoding, found } = searched;
+    let proof = steps_of(alloc, &encoding.coding, &found)?;
+    Ok(Solved {
+        found,
+        clause_count: encoding.coding.search.clauses.len(),
+        proof,
+    })
+}
+
+/// Searches for solvables that keep the rules of a root with these requirements, and of each other, and writes the
+/// proof. What it says is true of plain problems: no requirement has a condition, nothing is limited, locked,
+/// excluded or unknown. Of others nothing is promised. It stops with `Memory`, `Ids`, or a value with which the
+/// answers are cancelled.
+pub fn solve<A: Answering>(
+    alloc: Global,
+    answers: &mut A,
+    activity: Activity,
+    requirements: &[ConditionalRequirement],
+) -> Result<Solved<A::NameId, A::SolvableId>, CacheFault<A::Cancel>>
+    ensures same { answers.new ≡ answers.old }
+    ensures solved { IfOk result (λ s. (root : Rules) → root.requirements ≡ requirements.now → IsPlain A.SolvableId.eq (A.packages answers.old) root → IsSolved A.SolvableId.eq (A.packages answers.old) (A.orders answers.old) root s) }
+    ensures ends { IfOk result (λ s. EndsSo s.found s.proof.items) }
+    ensures count { IfOk result (λ s. Counts s.found s.clause_count (length s.proof.items)) }
+    ensures cancelled { IfErr result (IsCancelledBy (A.may_cancel answers.old)) }
+{
+    match search(alloc, answers, activity, requirements) {
+        Ok(searched) => {
+            let solved = prove(alloc, searched)?;
+            Ok(solved)
+        }
+        Err(fault) => Err(fault),
+    }
+}

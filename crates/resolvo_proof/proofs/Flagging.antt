@@ -1,0 +1,129 @@
+-- Flags of the steps that lead to a proof's last one, found from the back.
+use Rattle.std.proofs.Common.{◌≡◌, ℕ, zero, suc, ◌-◌, ◌<◌, ◌≤◌, inl, inr, Bool, true, false, List, [], ◌∷◌, ◌++◌, length, take, replicate, Some, Vec, Global, refl, sym, ◌∙◌, ap, subst, arith}
+use Rattle.std.specs.Prelude.{slice_get, slice_set, Contains}
+use Rattle.std.proofs.lemmas.Option.{slice_get_within}
+use Rattle.std.proofs.lemmas.List.{length-set, length-replicate, take_all}
+use Rattle.std.proofs.lemmas.Bool.{cases_eq}
+use Rattle.std.proofs.Math.Seq.{take-nil}
+use Rattle.resolvo_rules.proofs.Lists.{contains_none, contains_one, contains_left, contains_right, contains_parts, contains_first}
+use Rattle.resolvo_coding.proofs.Positions.{get_set_here, get_set_other}
+use Rattle.resolvo_proof.specs.declared.step.ProofStep.{ProofStep}
+use Rattle.resolvo_proof.specs.declared.step.ProofLiteral.{ProofLiteral}
+use Rattle.resolvo_proof.specs.declared.step.ProofStep.TheVariants.{Derived}
+use Rattle.resolvo_proof.specs.Trimmed.{Names, IsFlagged, Flags, AreLeadingFrom}
+
+-- no steps are named at first
+pub flags_none : (place : ℕ) (flags : List Bool) → Flags (Contains []) place flags flags
+flags_none place flags = (refl, λ k h. h, λ k n below. absurd (contains_none k n), λ k h. inl h)
+
+-- one more that is named
+pub flags_more : (xs : List ℕ) (c place : ℕ) (old mid : List Bool) → c < place → place ≤ length old → Flags (Contains xs) place old mid → Flags (Contains (xs ++ c ∷ [])) place old (slice_set mid c true)
+flags_more xs c place old mid below long (same, kept, named, only) = (
+  length-set mid c true ∙ same,
+  λ k h. keep k (kept k h),
+  λ k n small. elim (contains_parts k xs (c ∷ []) n) [
+    | inl a ↦ keep k (named k a small)
+    | inr a ↦ subst (IsFlagged (slice_set mid c true)) (sym (contains_one k c a)) here
+  ],
+  λ k h. elim (cases_eq k c) [
+    | inl e ↦ inr (contains_right k xs (c ∷ []) (contains_first k c [] (sym e)), omega arith)
+    | inr other ↦ elim (only k (sym (get_set_other mid c k true other) ∙ h)) [ inl a ↦ inl a | inr (a, small) ↦ inr (contains_left k xs (c ∷ []) a, small) ]
+  ],
+)
+  where
+    here : IsFlagged (slice_set mid c true) c
+    here = get_set_here mid c true (omega arith)
+
+    keep : (k : ℕ) → IsFlagged mid k → IsFlagged (slice_set mid c true) k
+    keep k h = elim (cases_eq k c) [ inl e ↦ subst (IsFlagged (slice_set mid c true)) (sym e) here | inr other ↦ get_set_other mid c k true other ∙ h ]
+
+-- one more that is no earlier step
+pub flags_skip : (xs : List ℕ) (c place : ℕ) (old new : List Bool) → place ≤ c → Flags (Contains xs) place old new → Flags (Contains (xs ++ c ∷ [])) place old new
+flags_skip xs c place old new past (same, kept, named, only) = (
+  same,
+  kept,
+  λ k n small. elim (contains_parts k xs (c ∷ []) n) [
+    | inl a ↦ named k a small
+    | inr a ↦ (let e : k ≡ c = contains_one k c a in absurd (omega arith))
+  ],
+  λ k h. elim (only k h) [ inl a ↦ inl a | inr (a, small) ↦ inr (contains_left k xs (c ∷ []) a, small) ],
+)
+
+-- one step further to the front, which is flagged
+pub leads_more : {N S : Type 0} (steps : List (ProofStep N S)) (p : ℕ) (step : ProofStep N S) (old new : List Bool) → slice_get steps p ≡ Some step → IsFlagged old p → Flags (Names step) p old new → AreLeadingFrom (suc p) steps old → AreLeadingFrom p steps new
+leads_more {N} {S} steps p step old new at flagged (same, kept, marked, only) leads = record {
+  count = same ∙ leads.count;
+  final = λ k last. kept k (leads.final k last);
+  closed = λ k cause s from is there names below. elim (cases_eq k p) [
+    | inl e ↦ marked cause (subst (λ (x : ProofStep N S). Names x cause) (one_step k s e there) names) (omega arith)
+    | inr other ↦ elim (only k is) [
+      | inl was ↦ kept cause (leads.closed k cause s (omega (arith, other)) was there names below)
+      | inr (n, small) ↦ absurd (omega arith)
+    ]
+  ];
+  named = λ k is early. elim (only k is) [
+    | inl was ↦ let (later, s, after, f, there, names) = leads.named k was early in (later, s, after, kept later f, there, names)
+    | inr (n, small) ↦ (p, step, small, kept p flagged, at, n)
+  ];
+}
+  where
+    one_step : (k : ℕ) (s : ProofStep N S) → k ≡ p → slice_get steps k ≡ Some s → s ≡ step
+    one_step k s e there = let both : Some s ≡ Some step = sym there ∙ (ap (slice_get steps) e ∙ at) in cc
+
+-- one that is not
+pub leads_skip : {N S : Type 0} (steps : List (ProofStep N S)) (p : ℕ) (flags : List Bool) → (IsFlagged flags p → ⊥) → AreLeadingFrom (suc p) steps flags → AreLeadingFrom p steps flags
+leads_skip steps p flags out leads = record {
+  count = leads.count;
+  final = leads.final;
+  closed = λ k cause s from is there names below. elim (cases_eq k p) [
+    | inl e ↦ absurd (out (subst (IsFlagged flags) e is))
+    | inr other ↦ leads.closed k cause s (omega (arith, other)) is there names below
+  ];
+  named = leads.named;
+}
+
+-- all causes of the step
+pub flags_done : {N S : Type 0} (step : ProofStep N S) (literals : Vec (ProofLiteral N S) Global) (causes : Vec ℕ Global) (xs : List ℕ) (i place : ℕ) (old new : List Bool) → step ≡ Derived literals causes → xs ≡ causes.items → length xs ≤ i
+    → Flags (Contains (take i xs)) place old new → Flags (Names step) place old new
+flags_done step literals causes xs i place old new is items all flags =
+    subst (λ (x : ProofStep _ _). Flags (Names x) place old new) (sym is)
+    (subst (λ (ys : List ℕ). Flags (Contains ys) place old new) (take_all i xs all ∙ items) flags)
+
+-- at first the last step alone is flagged
+pub leads_first : {N S : Type 0} (steps : List (ProofStep N S)) (last : ℕ) (flags : List Bool) → length steps ≡ suc last → length flags ≡ length steps → ((k : ℕ) → IsFlagged flags k → ⊥) → AreLeadingFrom (length steps) steps (slice_set flags last true)
+leads_first steps last flags long many none = record {
+  count = count;
+  final = λ place e. subst (IsFlagged (slice_set flags last true)) (omega arith) here;
+  closed = λ place cause s from is there names below. absurd (let within : place < length steps = slice_get_within steps place s there in omega arith);
+  named = λ place is early. absurd (not_yet place is early);
+}
+  where
+    count : length (slice_set flags last true) ≡ length steps
+    count = length-set flags last true ∙ many
+
+    here : IsFlagged (slice_set flags last true) last
+    here = get_set_here flags last true (omega arith)
+
+    not_yet : (place : ℕ) → IsFlagged (slice_set flags last true) place → suc place < length steps → ⊥
+    not_yet place is early = none place (sym (get_set_other flags last place true (λ e. omega arith)) ∙ is)
+
+-- no step leads to one of none
+pub leads_none : {N S : Type 0} (steps : List (ProofStep N S)) (flags : List Bool) → length steps ≡ 0 → length flags ≡ length steps → AreLeadingFrom (length steps) steps flags
+leads_none steps flags none count = record {
+  count = count;
+  final = λ place e. absurd (omega arith);
+  closed = λ place cause s from is there names below. absurd (let within : place < length steps = slice_get_within steps place s there in omega arith);
+  named = λ place is early. absurd (omega arith);
+}
+
+get_replicate : (n k : ℕ) → IsFlagged (replicate n false) k → ⊥
+get_replicate zero k h = absurd cc
+get_replicate (suc n) zero h = (let e : Some false ≡ Some true = h in absurd cc)
+get_replicate (suc n) (suc k) h = get_replicate n k h
+
+-- none is flagged before
+pub none_flagged : (n k : ℕ) (old flags : List Bool) → old ≡ [] → k ≡ 0 → flags ≡ take n old ++ replicate (n - k) false → (length flags ≡ n) × ((k : ℕ) → IsFlagged flags k → ⊥)
+none_flagged n k old flags empty at_start is = (ap length plain ∙ length-replicate n false, λ i h. get_replicate n i (subst (λ xs. IsFlagged xs i) plain h))
+  where
+    plain : flags ≡ replicate n false
+    plain = is ∙ (ap (λ (xs : List Bool). take n xs ++ replicate (n - k) false) empty ∙ (ap (λ (xs : List Bool). xs ++ replicate (n - k) false) (take-nil n) ∙ ap (λ i. replicate i false) (omega arith)))

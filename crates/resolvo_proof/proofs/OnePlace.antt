@@ -1,0 +1,98 @@
+-- The steps of a coding tell one place of each solvable.
+use Rattle.std.proofs.Common.{◌≡◌, ℕ, zero, suc, ◌⊎◌, inl, inr, Bool, true, false, List, [], ◌∷◌, ◌++◌, length, Option, Some, None, refl, sym, ◌∙◌, ap, subst}
+use Rattle.std.specs.Prelude.{slice_get}
+use Rattle.resolvo_pool.specs.declared.id.VariableId.{VariableId}
+use Rattle.resolvo_pool.specs.declared.id.ClauseId.{ClauseId}
+use Rattle.resolvo_store.specs.Signed.{Signed}
+use Rattle.resolvo_store.specs.AtMostOne.{Tracking}
+use Rattle.resolvo_coding.specs.declared.atom.ProofAtom.TheVariants.{Solvable}
+use Rattle.resolvo_coding.specs.declared.coding.Coding.{Coding}
+use Rattle.resolvo_coding.specs.declared.registry.Registry.{Registry}
+use Rattle.resolvo_coding.specs.declared.stated.Stated.{Stated}
+use Rattle.resolvo_coding.specs.declared.stated.Stated.TheVariants as Says
+use Rattle.resolvo_coding.specs.Coding.{IsCoding}
+use Rattle.resolvo_coding.specs.Registered.{IsPlaced, AreTied, IsTied, IsTracked, IsRegistered}
+use Rattle.resolvo_coding.specs.Statements.{stated_at}
+use Rattle.resolvo_coding.proofs.Growth.{stands_once}
+use Rattle.resolvo_coding.proofs.Positions.{get_contains, get_push}
+use Rattle.resolvo_proof.specs.declared.step.ProofRule.{ProofRule}
+use Rattle.resolvo_proof.specs.declared.step.ProofRule.TheVariants.{Digit}
+use Rattle.resolvo_proof.specs.declared.step.ProofStep.{ProofStep}
+use Rattle.resolvo_proof.specs.declared.step.ProofStep.TheVariants.{Rule, Derived}
+use Rattle.resolvo_proof.specs.Places.{HaveOnePlace, AreNamedBy}
+use Rattle.resolvo_proof.specs.Trimmed.{IsRenumbered, IsTrimmed}
+use Rattle.resolvo_proof.specs.Written.{IsTold, IsStepOf, IsStepAt, AreSteps, AreStepsThen}
+use Rattle.resolvo_proof.proofs.Numbering.{one_place}
+use Rattle.resolvo_proof.proofs.Shortened.{stood}
+
+-- the clause of a step that tells a digit states it
+digit_stated : {N S : Type 0} (x : Stated N S) (s : S) (k bit : ℕ) → IsTold x (Some (Digit s k bit)) → (name : N) × (x ≡ Says.Digit name s k bit)
+digit_stated Says.Root s k bit h = absurd cc
+digit_stated (Says.Needs parent need case) s k bit (copy, t, same) = absurd cc
+digit_stated (Says.Gated t r) s k bit h = absurd cc
+digit_stated (Says.Shared r) s k bit h = absurd cc
+digit_stated (Says.Limits parent v t) s k bit h = absurd cc
+digit_stated (Says.LimitsOutside parent v) s k bit h = absurd cc
+digit_stated (Says.IsOut v t) s k bit h = absurd cc
+digit_stated (Says.Locked locked t) s k bit h = absurd cc
+digit_stated (Says.Excluded t reason) s k bit h = absurd cc
+digit_stated (Says.Digit name t l other) s k bit h =
+    let one : t ≡ s = cc in
+    let at : l ≡ k = cc in
+    let same : other ≡ bit = cc in
+    (name, λ i. Says.Digit name (one i) (at i) (same i))
+digit_stated (Says.IsThere n t) s k bit h = absurd cc
+digit_stated Says.Learnt s k bit h = absurd cc
+
+rule_same : {N S : Type 0} (x : ProofRule N S) (y : ProofRule N S) → Rule x ≡ Rule y → x ≡ y
+rule_same x y e = cc
+
+module _ {N S : Type 0} (c : Coding N S) (r : Registry N) (coding : IsCoding c) (tied : AreTied r c) (package_of : S → N) (named : AreNamedBy r c package_of) where
+  -- a step that tells a digit tells that of the place where the solvable stands
+  placed : (n : ℕ) (s : S) (k bit : ℕ) → IsStepAt c n (Rule (Digit s k bit)) → (name : N) × IsPlaced r c name k s
+  placed n s k bit at = go at.writes
+    where
+      go : IsStepOf c.atoms.keys at.stated at.clause (Rule (Digit s k bit)) → (name : N) × IsPlaced r c name k s
+      go (inl (x, e, told)) =
+          let (name, is) = digit_stated at.stated s k bit (subst (λ (y : ProofRule N S). IsTold at.stated (Some y)) (sym (rule_same (Digit s k bit) x e)) told) in
+          (name, tied.placed n name s k bit (at.states ∙ ap Some is))
+      go (inr (e, d)) = absurd (let both : Rule (Digit s k bit) ≡ Derived d.literals d.causes = d.derived in cc)
+
+  registered : (name : N) (k : ℕ) (s : S) → IsPlaced r c name k s → IsRegistered r c name s
+  registered name k s p = (p.variable, p.means, record { place = p.number; tracker = p.tracker; named = p.named; tracked = p.tracked; stands = get_contains p.tracker.variables k p.variable p.stands })
+
+  -- a solvable stands at one place
+  stands_at_one : (m n : N) (k l : ℕ) (s : S) → IsPlaced r c m k s → IsPlaced r c n l s → k ≡ l
+  stands_at_one m n k l s p q =
+      let same : m ≡ n = named m s (registered m k s p) ∙ sym (named n s (registered n l s q)) in
+      let number : p.number ≡ q.number = tied.once p.number q.number n (p.named ∙ ap Some same) q.named in
+      let tracker : p.tracker ≡ q.tracker = one_place r.trackers.items p.number q.number p.tracker q.tracker number p.tracked q.tracked in
+      let variable : p.variable ≡ q.variable = stands_once c p.variable q.variable (Solvable s) coding p.means q.means in
+      let is : IsTied n q.tracker c = tied.tied q.number n q.tracker q.named q.tracked in
+      is.once k l q.variable (subst (λ (t : Tracking VariableId). slice_get t.variables k ≡ Some q.variable) tracker (p.stands ∙ ap Some variable)) q.stands
+
+  one_place_told : (m n : ℕ) (s : S) (k l bit other : ℕ) → IsStepAt c m (Rule (Digit s k bit)) → IsStepAt c n (Rule (Digit s l other)) → k ≡ l
+  one_place_told m n s k l bit other a b = let (x, p) = placed m s k bit a in let (y, q) = placed n s l other b in stands_at_one x y k l s p q
+
+  pub steps_one_place : (steps : List (ProofStep N S)) → AreSteps c steps → HaveOnePlace steps
+  steps_one_place steps are m n s k l bit other a b = one_place_told (suc m) (suc n) s k l bit other (are.each m (Rule (Digit s k bit)) a) (are.each n (Rule (Digit s l other)) b)
+
+  pub refusal_one_place : (literals : List Signed) (causes : List ClauseId) (steps : List (ProofStep N S)) → AreStepsThen c literals causes steps → HaveOnePlace steps
+  refusal_one_place literals causes steps are m n s k l bit other a b = steps_one_place are.earlier are.clauses m n s k l bit other (early m s k bit a) (early n s l other b)
+    where
+      early : (i : ℕ) (t : S) (at low : ℕ) → slice_get steps i ≡ Some (Rule (Digit t at low)) → slice_get are.earlier i ≡ Some (Rule (Digit t at low))
+      early i t at low h = elim (get_push are.earlier are.final (Rule (Digit t at low)) i (subst (λ (xs : List (ProofStep N S)). slice_get xs i ≡ Some (Rule (Digit t at low))) are.ends h)) [
+        | inl old ↦ old
+        | inr (e, is) ↦ absurd (let both : Rule (Digit t at low) ≡ Derived are.derivation.literals are.derivation.causes = is ∙ are.derivation.derived in cc)
+      ]
+
+-- what is left of steps tells no other places
+pub trimmed_one_place : {N S : Type 0} (steps kept : List (ProofStep N S)) → IsTrimmed steps kept → HaveOnePlace steps → HaveOnePlace kept
+trimmed_one_place {N} {S} steps kept trimmed one m n s k l bit other a b = let (i, at) = old m s k bit a in let (j, there) = old n s l other b in one i j s k l bit other at there
+  where
+    rule_was : (from : List ℕ) (place : ℕ) (x : ProofStep N S) (t : S) (at low : ℕ) → IsRenumbered from place x (Rule (Digit t at low)) → x ≡ Rule (Digit t at low)
+    rule_was from place (Rule y) t at low h = sym h
+    rule_was from place (Derived literals causes) t at low (renumbered, is, zip) = absurd cc
+
+    old : (i : ℕ) (t : S) (at low : ℕ) → slice_get kept i ≡ Some (Rule (Digit t at low)) → (place : ℕ) × (slice_get steps place ≡ Some (Rule (Digit t at low)))
+    old i t at low h = let (place, x, here, there, is) = stood steps kept trimmed i (Rule (Digit t at low)) h in (place, there ∙ ap Some (rule_was trimmed.from place x t at low is))

@@ -1,0 +1,14 @@
+//! The refused report of a proof.
+//!
+//! A proof tells its steps by ids of a provider over a catalogue. Here each step becomes one of a report: packages,
+//! versions and SPECs by their texts, and each rule by the first line that states it. The program writes the report,
+//! and whoever asks the judge of `resolvo_judge` is told that it holds.
+#![tactic(auto)]
+
+mod lines;
+mod literals;
+mod named;
+mod report;
+mod steps;
+
+pub use report::refused_report;

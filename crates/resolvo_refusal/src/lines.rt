@@ -1,0 +1,205 @@
+//! The first line of a text that states a rule. The lines of a place are looked through in order, those of the request
+//! or those of a version; where several state the rule, the first one is found.
+
+use resolvo_catalogue::{Catalogue, Request, Rule, Spec, VersionNo};
+use resolvo_pool::want::R;
+use std::alloc::Global;
+
+/// A catalogue, and a request over it.
+#[derive(Clone, Copy)]
+pub(crate) struct Texts<'a> {
+    pub catalogue: &'a Catalogue,
+    pub request: &'a Request,
+}
+
+/// A line `needs`, and one of the cases of its condition, from 1.
+#[derive(Clone, Copy, Debug)]
+pub(crate) struct NeedLine {
+    pub line: u32,
+    pub case: u32,
+}
+
+/// A line by which a version is barred for a reason.
+#[derive(Clone, Copy, Debug)]
+pub(crate) enum BarringLine {
+    Exclude(u32),
+    Unknown(u32),
+}
+
+impl<'a> Texts<'a> {
+    /// What line `line` of a place states, if it states a rule. The place is a version, or none for the request.
+    fn rule(self, place: Option<VersionNo>, line: u32) -> Option<&'a Rule> {
+        match place {
+            None => self.request.rule(line),
+            Some(_) => self.catalogue.rule(line),
+        }
+    }
+
+    /// The numbers of the lines of a place, rising.
+    fn lines_of(self, alloc: Global, place: Option<VersionNo>) -> R<Vec<u32>> {
+        match place {
+            None => numbers_up_to(alloc, self.request.line_count()),
+            Some(version) => Ok(Vec::from_slice(alloc, self.catalogue.lines_of(version))?),
+        }
+    }
+
+    /// The first line of a place that needs these alternatives in this case, and the first such case of it.
+    pub fn need_line(
+        self,
+        alloc: Global,
+        place: Option<VersionNo>,
+        alternatives: &[Spec],
+        case: &[Spec],
+    ) -> R<Option<NeedLine>> {
+        let lines = self.lines_of(alloc, place)?;
+        for line in lines.as_slice() {
+            if let Some(rule) = self.rule(place, *line) {
+                if let Some(case) = need_case(alloc, rule, alternatives, case)? {
+                    return Ok(Some(NeedLine { line: *line, case }));
+                }
+            }
+        }
+        Ok(None)
+    }
+
+    /// The first line of a place that limits its set to this SPEC.
+    pub fn limit_line(
+        self,
+        alloc: Global,
+        place: Option<VersionNo>,
+        spec: &Spec,
+    ) -> R<Option<u32>> {
+        let lines = self.lines_of(alloc, place)?;
+        for line in lines.as_slice() {
+            if let Some(Rule::Limits { spec: stated, .. }) = self.rule(place, *line) {
+                if same_spec(stated, spec) {
+                    return Ok(Some(*line));
+                }
+            }
+        }
+        Ok(None)
+    }
+
+    /// The line that excludes the version for this reason, or that says for this reason that its needs are unknown: the
+    /// first of them.
+    pub fn barring_line(
+        self,
+        excluding: &[Option<u32>],
+        version: VersionNo,
+        reason: &str,
+    ) -> Option<BarringLine> {
+        let exclude = self.exclude_line(excluding, version, reason);
+        let unknown = self.unknown_line(version, reason);
+        match (exclude, unknown) {
+            (Some(one), Some(other)) => {
+                if one < other {
+                    Some(BarringLine::Exclude(one))
+                } else {
+                    Some(BarringLine::Unknown(other))
+                }
+            }
+            (Some(line), None) => Some(BarringLine::Exclude(line)),
+            (None, Some(line)) => Some(BarringLine::Unknown(line)),
+            (None, None) => None,
+        }
+    }
+
+    /// The line that excludes the version for this reason.
+    fn exclude_line(
+        self,
+        excluding: &[Option<u32>],
+        version: VersionNo,
+        reason: &str,
+    ) -> Option<u32> {
+        let line = (*excluding.get(version.0 as usize)?)?;
+        match self.catalogue.rule(line)? {
+            Rule::Exclude { word, .. } => {
+                if word.as_str() == reason {
+                    Some(line)
+                } else {
+                    None
+                }
+            }
+            _ => None,
+        }
+    }
+
+    /// The line that says for this reason that the version's needs are unknown.
+    fn unknown_line(self, version: VersionNo, reason: &str) -> Option<u32> {
+        for line in self.catalogue.lines_of(version) {
+            if let Some(Rule::Unknown { word, .. }) = self.catalogue.rule(*line) {
+                if word.as_str() == reason {
+                    return Some(*line);
+                }
+            }
+        }
+        None
+    }
+}
+
+/// For each version of a catalogue the line that excludes it, if one does.
+pub(crate) fn excluding_lines(alloc: Global, catalogue: &Catalogue) -> R<Vec<Option<u32>>> {
+    let mut excluding = Vec::new(alloc);
+    excluding.resize(catalogue.versions().len(), None)?;
+    for place in 0..catalogue.line_count() {
+        let line = place + 1;
+        if let Some(Rule::Exclude { version, .. }) = catalogue.rule(line) {
+            let number = version.0 as usize;
+            if number < excluding.len() {
+                excluding[number] = Some(line);
+            }
+        }
+    }
+    Ok(excluding)
+}
+
+/// The numbers from 1 up to this one.
+fn numbers_up_to(alloc: Global, count: u32) -> R<Vec<u32>> {
+    let mut numbers = Vec::new(alloc);
+    for place in 0..count {
+        numbers.push(place + 1)?;
+    }
+    Ok(numbers)
+}
+
+/// The first case of a need, from 1, that is this one, if the need has these alternatives.
+fn need_case(alloc: Global, rule: &Rule, alternatives: &[Spec], case: &[Spec]) -> R<Option<u32>> {
+    if !needs(rule, alternatives) {
+        return Ok(None);
+    }
+    let cases = rule.cases(alloc)?;
+    let mut number: u32 = 0;
+    for one in cases.iter() {
+        number = number.saturating_add(1);
+        if same_specs(one.as_slice(), case) {
+            return Ok(Some(number));
+        }
+    }
+    Ok(None)
+}
+
+/// Whether the rule needs these alternatives, under whatever condition.
+fn needs(rule: &Rule, alternatives: &[Spec]) -> bool {
+    match rule {
+        Rule::Needs {
+            alternatives: stated,
+            ..
+        } => same_specs(stated.as_slice(), alternatives),
+        _ => false,
+    }
+}
+
+/// Whether two SPECs ask for the same versions of one package.
+pub(crate) fn same_spec(one: &Spec, other: &Spec) -> bool {
+    one.name == other.name && one.span == other.span
+}
+
+/// Whether these are the same SPECs in the same order.
+pub(crate) fn same_specs(some: &[Spec], others: &[Spec]) -> bool {
+    if some.len() != others.len() {
+        return false;
+    }
+    some.iter()
+        .zip(others)
+        .all(|(one, other)| same_spec(one, other))
+}

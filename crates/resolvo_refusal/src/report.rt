@@ -1,0 +1,76 @@
+//! The report: the steps one by one, and the lines that they rest on.
+
+ghost use Rattle.std.specs.Prelude.{IfOk};
+ghost use Rattle.std.specs.List.{AllZip};
+ghost use Rattle.resolvo_report.specs.View.{report_of, steps_of};
+ghost use Rattle.resolvo_refusal.specs.Writing.{IsWritten, IsRefusedBy};
+
+use crate::lines::{Texts, excluding_lines};
+use crate::named::{Text, named_lines};
+use crate::steps::Writing;
+use resolvo_catalogue::{Catalogue, Request};
+use resolvo_pool::id::{NameId, SolvableId};
+use resolvo_pool::want::{R, Want};
+use resolvo_proof::step::ProofStep;
+use resolvo_provider::provider::CatalogueProvider;
+use resolvo_report::{Report, Step};
+use std::alloc::Global;
+
+/// The report of a proof over the provider of a catalogue: each rule by the first line that states it.
+/// `Ids` where there are more steps than numbers.
+pub fn refused_report(
+    alloc: Global,
+    catalogue: &Catalogue,
+    request: &Request,
+    provider: &CatalogueProvider,
+    steps: &[ProofStep<NameId, SolvableId>],
+) -> R<Report>
+    ensures { IfOk result (λ r. IsRefusedBy catalogue.now request.now.lines provider.now.ids steps.now (report_of r)) }
+{
+    if u32::try_from(steps.len()).is_err() {
+        return Err(Want::Ids);
+    }
+    let texts = Texts { catalogue, request };
+    let written = write_steps(alloc, texts, provider, steps)?;
+    let in_catalogue = named_lines(
+        alloc,
+        Text::Catalogue,
+        catalogue.line_count(),
+        written.as_slice(),
+    )?;
+    let in_request = named_lines(
+        alloc,
+        Text::Request,
+        request.line_count(),
+        written.as_slice(),
+    )?;
+    Ok(Report::Refused {
+        catalogue: in_catalogue,
+        request: in_request,
+        steps: written,
+        message: Vec::new(alloc),
+    })
+}
+
+/// The steps as they stand in a report.
+fn write_steps(
+    alloc: Global,
+    texts: Texts,
+    provider: &CatalogueProvider,
+    steps: &[ProofStep<NameId, SolvableId>],
+) -> R<Vec<Step>>
+    ensures { IfOk result (λ v. AllZip (IsWritten texts.entry.catalogue.now provider.now.ids) steps.now (steps_of v.items)) }
+{
+    let excluding = excluding_lines(alloc, texts.catalogue)?;
+    let writing = Writing {
+        alloc,
+        texts,
+        provider,
+        excluding: excluding.as_slice(),
+    };
+    let mut written = Vec::new(alloc);
+    for step in steps {
+        written.push(writing.step(step)?)?;
+    }
+    Ok(written)
+}

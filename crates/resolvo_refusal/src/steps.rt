@@ -1,0 +1,239 @@
+//! Steps of a proof, written as those of a report.
+
+ghost use Rattle.std.specs.Prelude.{◌≡◌, ◌⊎◌, ℕ, IfOk, map};
+ghost use Rattle.resolvo_text.specs.View.{version_of};
+ghost use Rattle.resolvo_report.specs.Value as told;
+ghost use Rattle.resolvo_report.specs.View.{step_of, place_of};
+ghost use Rattle.resolvo_proof.specs.declared.step.ProofStep.TheVariants.{Rule as RuleStep};
+ghost use Rattle.resolvo_proof.specs.declared.step.ProofRule.TheVariants.{Limit};
+ghost use Rattle.resolvo_refusal.specs.Writing.{version_at, place_at, number_of, IsWritten};
+
+use crate::lines::{BarringLine, NeedLine, Texts};
+use crate::literals::{sorted_literals, version_of};
+use resolvo_catalogue::{Spec, Version, VersionNo};
+use resolvo_pool::id::{NameId, SolvableId, StringId, VersionSetId};
+use resolvo_pool::requirement::Requirement;
+use resolvo_pool::want::R;
+use resolvo_proof::step::{ProofRule, ProofStep};
+use resolvo_provider::provider::CatalogueProvider;
+use resolvo_report::{Place, Step};
+use std::alloc::Global;
+
+/// What steps are written with: the two texts, the provider of their ids, and for each version the line that excludes
+/// it. A rule that no line states is written with line 0, which no text has.
+#[derive(Clone, Copy)]
+pub(crate) struct Writing<'a> {
+    pub alloc: Global,
+    pub texts: Texts<'a>,
+    pub provider: &'a CatalogueProvider,
+    pub excluding: &'a [Option<u32>],
+}
+
+impl Writing<'_> {
+    /// The step as it stands in a report.
+    pub fn step(self, step: &ProofStep<NameId, SolvableId>) -> R<Step>
+        ensures { IfOk result (λ w. IsWritten self.entry.texts.catalogue.now self.entry.provider.now.ids step.now (step_of w)) }
+    {
+        match step {
+            ProofStep::Rule(rule) => self.rule(rule),
+            ProofStep::Derived { literals, causes } => Ok(Step::Derive {
+                literals: sorted_literals(
+                    self.alloc,
+                    self.texts.catalogue,
+                    self.provider,
+                    literals.as_slice(),
+                )?,
+                causes: numbers_of(self.alloc, causes.as_slice())?,
+            }),
+        }
+    }
+
+    /// The step of a rule.
+    fn rule(self, rule: &ProofRule<NameId, SolvableId>) -> R<Step>
+        ensures { IfOk result (λ w. IsWritten self.entry.texts.catalogue.now self.entry.provider.now.ids (RuleStep rule.now) (step_of w)) }
+    {
+        match rule {
+            ProofRule::Needs {
+                parent,
+                requirement,
+                case,
+            } => self.need(*parent, *requirement, case.as_slice()),
+            ProofRule::GateOf {
+                parent,
+                requirement,
+            } => self.gate(*parent, *requirement),
+            ProofRule::Shared { requirement } => Ok(Step::Shared {
+                alternatives: self.provider.alternatives_of(*requirement)?,
+            }),
+            ProofRule::Limit {
+                parent,
+                version_set,
+                barred,
+            } => self.limit(*parent, *version_set, *barred),
+            ProofRule::Outside {
+                version_set,
+                solvable,
+            } => Ok(Step::Outside {
+                spec: self.provider.spec_of(*version_set)?,
+                version: self.version(*solvable)?,
+            }),
+            ProofRule::Locked { barred, .. } => self.lock(*barred),
+            ProofRule::Excluded { solvable, reason } => self.exclusion(*solvable, *reason),
+            ProofRule::Digit {
+                solvable,
+                place,
+                bit,
+            } => Ok(Step::Digit {
+                version: self.version(*solvable)?,
+                place: *place,
+                bit: *bit,
+            }),
+            ProofRule::AtLeastOne { solvable, .. } => Ok(Step::Any {
+                version: self.version(*solvable)?,
+            }),
+        }
+    }
+
+    /// The step of a need, by the first line that states it.
+    fn need(
+        self,
+        parent: Option<SolvableId>,
+        requirement: Requirement,
+        case: &[VersionSetId],
+    ) -> R<Step>
+        ensures { IfOk result (λ w. (line k : ℕ) × (step_of w ≡ told.Need (place_at self.entry.texts.catalogue.now parent) line k)) }
+    {
+        let alternatives = self.provider.alternatives_of(requirement)?;
+        let case = self.specs(case)?;
+        let place = self.place_number(parent);
+        let found = self.texts.need_line(
+            self.alloc,
+            place,
+            alternatives.as_slice(),
+            case.as_slice(),
+        )?;
+        let NeedLine { line, case } = found.unwrap_or(NeedLine { line: 0, case: 0 });
+        Ok(Step::Need {
+            place: self.place(parent)?,
+            line,
+            case,
+        })
+    }
+
+    /// The step of a gate, by the first line that states the need without condition.
+    fn gate(self, parent: SolvableId, requirement: Requirement) -> R<Step>
+        ensures { IfOk result (λ w. (line : ℕ) × (step_of w ≡ told.Gate (version_at self.entry.texts.catalogue.now parent) line)) }
+    {
+        let alternatives = self.provider.alternatives_of(requirement)?;
+        let place = self.place_number(Some(parent));
+        let found = self
+            .texts
+            .need_line(self.alloc, place, alternatives.as_slice(), &[])?;
+        let NeedLine { line, .. } = found.unwrap_or(NeedLine { line: 0, case: 0 });
+        Ok(Step::Gate {
+            version: self.version(parent)?,
+            line,
+        })
+    }
+
+    /// The step of a limit, by the first line that states it.
+    fn limit(
+        self,
+        parent: Option<SolvableId>,
+        version_set: VersionSetId,
+        barred: Option<SolvableId>,
+    ) -> R<Step>
+        ensures { IfOk result (λ w. IsWritten self.entry.texts.catalogue.now self.entry.provider.now.ids (RuleStep (Limit parent version_set barred)) (step_of w)) }
+    {
+        let spec = self.provider.spec_of(version_set)?;
+        let place = self.place_number(parent);
+        let found = self.texts.limit_line(self.alloc, place, &spec)?;
+        let line = found.unwrap_or(0);
+        let place = self.place(parent)?;
+        match barred {
+            None => Ok(Step::Limit { place, line }),
+            Some(barred) => Ok(Step::LimitBars {
+                place,
+                line,
+                version: self.version(barred)?,
+            }),
+        }
+    }
+
+    /// The step of a lock: the line that bars the version, where it is one that locks another version.
+    fn lock(self, barred: SolvableId) -> R<Step>
+        ensures { IfOk result (λ w. (line : ℕ) × (step_of w ≡ told.Lock line (version_at self.entry.texts.catalogue.now barred))) }
+    {
+        let number = self.provider.version_of(barred);
+        let line = self.texts.catalogue.barred(number).unwrap_or(0);
+        Ok(Step::Lock {
+            line,
+            version: self.version(barred)?,
+        })
+    }
+
+    /// The step of an exclusion, by the first line that states it.
+    fn exclusion(self, solvable: SolvableId, reason: StringId) -> R<Step>
+        ensures { IfOk result (λ w. (line : ℕ) × ((step_of w ≡ told.Exclude line) ⊎ (step_of w ≡ told.Unknown line))) }
+    {
+        let number = self.provider.version_of(solvable);
+        let reason = self.provider.word_of(reason);
+        match self.texts.barring_line(self.excluding, number, reason) {
+            Some(BarringLine::Unknown(line)) => Ok(Step::Unknown { line }),
+            Some(BarringLine::Exclude(line)) => Ok(Step::Exclude { line }),
+            None => Ok(Step::Exclude { line: 0 }),
+        }
+    }
+
+    /// The number of a parent's version; the root has none.
+    fn place_number(self, parent: Option<SolvableId>) -> Option<VersionNo> {
+        let parent = parent?;
+        Some(self.provider.version_of(parent))
+    }
+
+    /// The place of a parent, in the words of a report.
+    fn place(self, parent: Option<SolvableId>) -> R<Place>
+        ensures { IfOk result (λ p. place_of p ≡ place_at self.entry.texts.catalogue.now parent) }
+    {
+        match parent {
+            None => Ok(Place::Request),
+            Some(parent) => Ok(Place::Version(self.version(parent)?)),
+        }
+    }
+
+    fn version(self, solvable: SolvableId) -> R<Version>
+        ensures { IfOk result (λ v. version_of v ≡ version_at self.entry.texts.catalogue.now solvable) }
+    {
+        version_of(self.alloc, self.texts.catalogue, solvable)
+    }
+
+    fn specs(self, version_sets: &[VersionSetId]) -> R<Vec<Spec>> {
+        let mut specs = Vec::new(self.alloc);
+        for version_set in version_sets {
+            specs.push(self.provider.spec_of(*version_set)?)?;
+        }
+        Ok(specs)
+    }
+}
+
+/// The numbers of steps, from 1, by their places, from 0.
+fn numbers_of(alloc: Global, places: &[usize]) -> R<Vec<u32>>
+    ensures { IfOk result (λ v. v.items ≡ map number_of places.now) }
+{
+    let mut numbers = Vec::new(alloc);
+    for place in places {
+        numbers.push(number_of(*place))?;
+    }
+    Ok(numbers)
+}
+
+/// The number of the step at this place. There are fewer than 2^32 steps.
+fn number_of(place: usize) -> u32
+    ensures { result ≡ number_of place }
+{
+    if place < 4_294_967_295 {
+        place as u32 + 1
+    } else {
+        4_294_967_295
+    }
+}
