@@ -17,7 +17,7 @@ use Rattle.resolvo_coding.specs.declared.stated.Stated.TheVariants as Says
 use Rattle.resolvo_coding.specs.Statements.{rule_of}
 use Rattle.resolvo_encoding.specs.Encoded.{Asks}
 use Rattle.resolvo_encoding.proofs.Requiring.{some_one}
-use Rattle.resolvo_encoding.specs.Telling.{IsDenial, IsPair}
+use Rattle.resolvo_encoding.specs.Telling.{IsRestraint, IsPair}
 
 -- whether the literal is that a solvable is chosen
 abbrev is_choice_of : {N S : Type 0} → Atom N S → Bool → Bool
@@ -31,8 +31,8 @@ abbrev is_choice : {N S : Type 0} → Literal (Atom N S) → Bool
 is_choice l = is_choice_of l.atom l.positive
 
 module _ {N S : Type 0} where
-  -- a denial asks for no match
-  pub asks_none : (r : Rule N S) → IsDenial r → Asks r → ⊥
+  -- a restraint asks for no match
+  pub asks_none : (r : Rule N S) → IsRestraint r → Asks r → ⊥
   asks_none (Rule.needs parent need case) d a = d
   asks_none (Rule.gated s r) d a = a
   asks_none (Rule.shared r) d a = d
@@ -44,10 +44,10 @@ module _ {N S : Type 0} where
   asks_none (Rule.is_there n s) d a = a
 
   -- its clause makes no solvable true
-  pub makes_none : (same : S → S → Bool) (p : Packages N S) (r : Rule N S) → IsDenial r → (t : S) → Contains (literals_of same p r) (plus (Atom.solvable t)) → ⊥
+  pub makes_none : (same : S → S → Bool) (p : Packages N S) (r : Rule N S) → IsRestraint r → (t : S) → Contains (literals_of same p r) (plus (Atom.solvable t)) → ⊥
   makes_none same p r d t h = both_ways _ (none r d) (contained_any is_choice (plus (Atom.solvable t)) (literals_of same p r) h refl)
     where
-      none : (q : Rule N S) → IsDenial q → list_any is_choice (literals_of same p q) ≡ false
+      none : (q : Rule N S) → IsRestraint q → list_any is_choice (literals_of same p q) ≡ false
       none (Rule.needs parent need case) d = absurd d
       none (Rule.gated s r) d = refl
       none (Rule.shared r) d = absurd d
@@ -61,10 +61,10 @@ module _ {N S : Type 0} where
       none (Rule.is_there n s) d = absurd d
 
   -- what states it tells no digit
-  pub not_digit : (x : Stated N S) (r : Rule N S) → rule_of x ≡ Some r → IsDenial r → (m : N) (t : S) (at bit : ℕ) → x ≡ Says.Digit m t at bit → ⊥
+  pub not_digit : (x : Stated N S) (r : Rule N S) → rule_of x ≡ Some r → IsRestraint r → (m : N) (t : S) (at bit : ℕ) → x ≡ Says.Digit m t at bit → ⊥
   not_digit x r states d m t at bit is =
       let one : Rule.has_digit t bit (digit at bit) ≡ r = some_one (Rule.has_digit t bit (digit at bit)) r (sym (ap (λ (y : Stated N S). rule_of y) is) ∙ states) in
-      subst IsDenial (sym one) d
+      subst IsRestraint (sym one) d
 
 -- ---- clauses of two literals
 

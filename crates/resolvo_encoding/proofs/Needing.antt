@@ -40,7 +40,7 @@ use Rattle.resolvo_coding.specs.Coding.{IsCoding, States, Gives}
 use Rattle.resolvo_coding.specs.Registered.{AreTied, IsTracked}
 use Rattle.resolvo_encoding.specs.Encoded.{IsParentVariable, IsCandidate, IsQueuedFor, Asks, IsGuarded, Registered, IsEncoding}
 use Rattle.resolvo_encoding.specs.Encoded as E
-use Rattle.resolvo_encoding.specs.Telling.{IsDenial}
+use Rattle.resolvo_encoding.specs.Telling.{IsRestraint}
 use Rattle.resolvo_encoding.proofs.Denials.{makes_none, asks_none, not_digit, pair_spells}
 use Rattle.resolvo_encoding.specs.Steps.{StatesNeed, IsNeed, SameButCoding, IsBegunEncoding}
 use Rattle.resolvo_encoding.specs.declared.encoding.Encoding.{Encoding}
@@ -316,7 +316,7 @@ module _ {N S : Type 0} (same : S → S → Bool) (exact : IsExact same) (p : Pa
 
   -- A clause came that states a rule, with its literals; none of these makes a solvable true, and the rule asks for no
   -- match and tells no digit.
-  pub clause_keeps : (x : Stated N S) (rule : Rule N S) (literals : List Signed) (id : ClauseId) (old new : Encoding N S) → IsEncoding same p root old → rule_of x ≡ Some rule → IsDenial rule → IsRule same p root rule
+  pub clause_keeps : (x : Stated N S) (rule : Rule N S) (literals : List Signed) (id : ClauseId) (old new : Encoding N S) → IsEncoding same p root old → rule_of x ≡ Some rule → IsRestraint rule → IsRule same p root rule
       → Spells (origin old.coding.atoms.keys) literals (literals_of same p rule) → States x literals id old.coding new.coding → SameButCoding old new → IsEncoding same p root new × E.rules_of new rule
   clause_keeps x rule literals id old new e states_rule denial is_rule spells states rest = (carried same exact p root old new e carries, (length old.coding.search.clauses, rule_here))
     where

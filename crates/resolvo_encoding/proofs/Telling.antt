@@ -38,7 +38,7 @@ use Rattle.resolvo_encoding.specs.declared.encoding.Noted.{Noted}
 use Rattle.resolvo_encoding.specs.Encoded.{IsEncoding, IsNoted, IsParentVariable}
 use Rattle.resolvo_encoding.specs.Encoded as E
 use Rattle.resolvo_encoding.specs.Steps.{IsBuilt, Extends}
-use Rattle.resolvo_encoding.specs.Telling.{IsDenial, IsPair, StatesPair, Tells, bar_rules, limit_rules, out_rules}
+use Rattle.resolvo_encoding.specs.Telling.{IsRestraint, IsPair, StatesPair, Tells, bar_rules, limit_rules, out_rules}
 use Rattle.resolvo_encoding.proofs.Building.{built_grows, built_rest}
 use Rattle.resolvo_encoding.proofs.Denials.{Reads, pair_members, pair_spells, one_spells, not_digit}
 use Rattle.resolvo_encoding.proofs.Needing.{gives_keeps, clause_keeps}
@@ -107,7 +107,7 @@ module _ {N S : Type 0} (same : S → S → Bool) (exact : IsExact same) where
   }
 
   -- a clause of two literals came, which are the rule's
-  pub pair_tells : (x : Stated N S) (rule : Rule N S) (a b : Signed) (old new : Encoding N S) → IsBuilt old → rule_of x ≡ Some rule → IsDenial rule
+  pub pair_tells : (x : Stated N S) (rule : Rule N S) (a b : Signed) (old new : Encoding N S) → IsBuilt old → rule_of x ≡ Some rule → IsRestraint rule
       → ((p : Packages N S) (literals : List Signed) → IsPair a b literals → Spells (origin old.coding.atoms.keys) literals (literals_of same p rule)) → StatesPair x a b old new → Tells same (rule ∷ []) old new
   pair_tells x rule a b old new built is denial spells came = record {
     built = built_rest old new built came.states.coding came.states.grows (digits_more x old.coding new.coding came.states.stated (not_digit x rule is denial)) came.rest;

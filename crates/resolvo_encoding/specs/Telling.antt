@@ -14,16 +14,16 @@ use Rattle.resolvo_encoding.specs.Encoded.{rules_of, IsEncoding}
 use Rattle.resolvo_encoding.specs.Steps.{SameButCoding, Extends, IsBuilt}
 
 -- the rule's clause makes no solvable true, asks for no match, and tells no digit
-abbrev pub IsDenial : {N S : Type 0} → Rule N S → Type 0
-IsDenial (Rule.needs parent need case) = ⊥
-IsDenial (Rule.gated s r) = Unit {0}
-IsDenial (Rule.shared r) = ⊥
-IsDenial (Rule.limits parent v s) = Unit {0}
-IsDenial (Rule.limits_outside parent v) = Unit {0}
-IsDenial (Rule.is_out v s) = Unit {0}
-IsDenial (Rule.bars s) = Unit {0}
-IsDenial (Rule.has_digit s bit b) = ⊥
-IsDenial (Rule.is_there n s) = ⊥
+abbrev pub IsRestraint : {N S : Type 0} → Rule N S → Type 0
+IsRestraint (Rule.needs parent need case) = ⊥
+IsRestraint (Rule.gated s r) = Unit {0}
+IsRestraint (Rule.shared r) = ⊥
+IsRestraint (Rule.limits parent v s) = Unit {0}
+IsRestraint (Rule.limits_outside parent v) = Unit {0}
+IsRestraint (Rule.is_out v s) = Unit {0}
+IsRestraint (Rule.bars s) = Unit {0}
+IsRestraint (Rule.has_digit s bit b) = ⊥
+IsRestraint (Rule.is_there n s) = ⊥
 
 -- the clause has these two literals, or the one that both are
 abbrev pub IsPair : Signed → Signed → List Signed → Type 0
