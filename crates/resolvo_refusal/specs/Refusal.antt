@@ -1,0 +1,137 @@
+-- What the refused report of a proof over the provider of a catalogue is, where the problem is plain.
+use Rattle.std.specs.Prelude.{◌≡◌, ◌↔◌, ℕ, suc, Bool, ◌<◌, ⊤, List, [], map, None, Some, Contains, slice_get}
+use Rattle.std.specs.List.{AllZip}
+use Rattle.std.proofs.Common.{Vec, Global}
+use Rattle.resolvo_text.specs.Line.{Version, Spec, Line, Needs}
+use Rattle.resolvo_catalogue.specs.Listed.{listed}
+use Rattle.resolvo_catalogue.specs.Questions.{Said}
+use Rattle.resolvo_pool.specs.declared.requirement.Requirement.{Requirement}
+use Rattle.resolvo_rules.specs.Encoding.{Atom, IsExact}
+use Rattle.resolvo_coding.specs.declared.atom.ProofAtom.{ProofAtom}
+use Rattle.resolvo_coding.specs.declared.atom.ProofAtom.TheVariants as atom
+use Rattle.resolvo_proof.specs.declared.step.ProofLiteral.{ProofLiteral}
+use Rattle.resolvo_proof.specs.declared.step.ProofStep.{ProofStep}
+use Rattle.resolvo_proof.specs.declared.step.ProofStep.TheVariants.{Rule, Derived}
+use Rattle.resolvo_proof.specs.declared.step.ProofRule.TheVariants.{Needs as NeedsRule, GateOf, Shared, Limit, Outside, Locked, Excluded, Digit, AtLeastOne}
+use Rattle.resolvo_proof.specs.Proof.{IsProof, EndsEmpty}
+use Rattle.resolvo_proof.specs.Steps.{literal_in}
+use Rattle.resolvo_proof.specs.Members.{HaveOneSign}
+use Rattle.resolvo_proof.specs.Places.{HaveOnePlace}
+use Rattle.resolvo_provider.specs.Ids.{Ids, NameId, SolvableId, IsPackage, IsSpec, AreAlternatives}
+use Rattle.resolvo_provider.specs.Known.{name_text, spec_at, alternatives_at}
+use Rattle.resolvo_provider.specs.Provider.{Provider, packages_of}
+use Rattle.resolvo_provider.specs.Over.{IsOver, AreAsked}
+use Rattle.resolvo_provider.specs.Keeping.{root_of}
+use Rattle.resolvo_provider.specs.declared.provider.RequestIds.{RequestIds}
+use Rattle.resolvo_report.specs.Value.{Place, OfVersion, Literal, Step, Report, Refused}
+use Rattle.resolvo_report.specs.Value as told
+use Rattle.resolvo_report.specs.Text.{report_lines}
+use Rattle.resolvo_report.specs.Grammar.{IsReport}
+use Rattle.resolvo_judge.specs.StepClauses.{line_of}
+use Rattle.resolvo_judge.specs.Judgement.{IsClaimTrue}
+use Rattle.resolvo_judge.specs.Refusal.{IsAccepted}
+use Rattle.resolvo_refusal.specs.Writing.{version_at, place_at}
+
+-- ---- ids that the provider knows
+
+module _ (catalogue : List Line) (ids : Ids) where
+  abbrev pub IsVersion : SolvableId → Type 0
+  IsVersion s = (v : Version) × (slice_get (listed catalogue) s.raw ≡ Some v)
+
+  abbrev pub IsRequirement : Requirement → Type 0
+  IsRequirement r = (alternatives : List Spec) × AreAlternatives ids r alternatives
+
+  abbrev pub IsName : NameId → Type 0
+  IsName n = (name : List ℕ) × IsPackage ids n name
+
+  -- what the atom is about is the catalogue's, and a digit is one of the first 32
+  abbrev pub IsKnownAtom : ProofAtom NameId SolvableId → Type 0
+  IsKnownAtom (atom.Solvable s) = IsVersion s
+  IsKnownAtom (atom.AtLeastOne n) = IsName n
+  IsKnownAtom (atom.Gate r) = IsRequirement r
+  IsKnownAtom (atom.Outside v) = (s : Spec) × IsSpec ids v s
+  IsKnownAtom (atom.Bit n bit) = IsName n × (bit < 32)
+
+  -- The step is one of a plain problem, and what it names that no rule of the problem tells is known.
+  abbrev pub IsKnownStep : ProofStep NameId SolvableId → Type 0
+  IsKnownStep (Rule (NeedsRule parent r case)) = case.items ≡ []
+  IsKnownStep (Rule (GateOf s r)) = ⊤
+  IsKnownStep (Rule (Shared r)) = IsRequirement r
+  IsKnownStep (Rule (Limit parent v barred)) = ⊥
+  IsKnownStep (Rule (Outside v s)) = ⊥
+  IsKnownStep (Rule (Locked locked s)) = ⊥
+  IsKnownStep (Rule (Excluded s reason)) = ⊥
+  IsKnownStep (Rule (Digit s place bit)) = IsVersion s × (bit < 32)
+  IsKnownStep (Rule (AtLeastOne n s)) = ⊥
+  IsKnownStep (Derived literals causes) = (l : ProofLiteral NameId SolvableId) → Contains literals.items l → IsKnownAtom l.atom
+
+-- ---- how steps are told
+
+module _ (catalogue : List Line) (ids : Ids) where
+  -- the atom in the words of a report
+  abbrev pub atom_at : ProofAtom NameId SolvableId → told.Atom
+  atom_at (atom.Solvable s) = told.Chosen (version_at catalogue s)
+  atom_at (atom.AtLeastOne n) = told.AnyOf (name_text ids n)
+  atom_at (atom.Gate r) = told.SharedBy (alternatives_at ids r)
+  atom_at (atom.Outside v) = told.OutsideOf (spec_at ids v)
+  atom_at (atom.Bit n bit) = told.BitOf bit (name_text ids n)
+
+  abbrev pub literal_at : ProofLiteral NameId SolvableId → Literal
+  literal_at l = record { atom = atom_at l.atom; positive = l.positive }
+
+  -- the same literals, in any order and number
+  abbrev pub AreLiterals : List (ProofLiteral NameId SolvableId) → List Literal → Type 0
+  AreLiterals literals written = (l : Literal) → Contains written l ↔ ((k : ProofLiteral NameId SolvableId) × Contains literals k × (l ≡ literal_at k))
+
+  -- line n of the place needs these alternatives, without a condition
+  abbrev pub NeedsAt : List Line → Place → List Spec → ℕ → Type 0
+  NeedsAt request place alternatives n = line_of catalogue request place n ≡ Some (Needs alternatives None)
+
+  -- The line needs them, and none before it does.
+  pub record IsFirstNeed (request : List Line) (place : Place) (alternatives : List Spec) (n : ℕ) : Type 0 where
+    pub needs : NeedsAt request place alternatives n
+    pub first : (m : ℕ) → m < n → NeedsAt request place alternatives m → ⊥
+
+  -- The step tells the proof's step: a rule by the first line that states it, a derived clause by its literals and the
+  -- numbers of its causes.
+  abbrev pub IsToldBy : List Line → ProofStep NameId SolvableId → Step → Type 0
+  IsToldBy request (Rule (NeedsRule parent r case)) step = (line : ℕ) × (step ≡ told.Need (place_at catalogue parent) line 1) × IsFirstNeed request (place_at catalogue parent) (alternatives_at ids r) line
+  IsToldBy request (Rule (GateOf s r)) step = (line : ℕ) × (step ≡ told.Gate (version_at catalogue s) line) × IsFirstNeed request (OfVersion (version_at catalogue s)) (alternatives_at ids r) line
+  IsToldBy request (Rule (Shared r)) step = step ≡ told.Shared (alternatives_at ids r)
+  IsToldBy request (Rule (Limit parent v barred)) step = ⊥
+  IsToldBy request (Rule (Outside v s)) step = ⊥
+  IsToldBy request (Rule (Locked locked s)) step = ⊥
+  IsToldBy request (Rule (Excluded s reason)) step = ⊥
+  IsToldBy request (Rule (Digit s place bit)) step = step ≡ told.Digit (version_at catalogue s) place bit
+  IsToldBy request (Rule (AtLeastOne n s)) step = ⊥
+  IsToldBy request (Derived literals causes) step = (written : List Literal) × (step ≡ told.Derive written (map suc causes.items)) × AreLiterals literals.items written
+
+-- ---- reports
+
+-- Over a provider of the catalogue, with what a request asks, the steps are a proof of a plain problem, and end with the
+-- empty clause.
+pub record Refutes (catalogue : List Line) (said : Said) (provider : Provider) (steps : List (ProofStep NameId SolvableId)) : Type 0 where
+  pub over : IsOver catalogue provider
+  pub ids : RequestIds
+  pub asked : AreAsked provider.ids said ids
+  pub same_atom : Atom NameId SolvableId → Atom NameId SolvableId → Bool
+  pub exact_atom : IsExact same_atom
+  pub same : SolvableId → SolvableId → Bool
+  pub exact : IsExact same
+  pub proof : IsProof same_atom same (packages_of provider) (root_of ids) steps
+  pub empty : EndsEmpty steps
+  pub known : (n : ℕ) (s : ProofStep NameId SolvableId) → slice_get steps n ≡ Some s → IsKnownStep catalogue provider.ids s
+  -- no derived clause has a literal beside its opposite, and no solvable has two places
+  pub one_sign : (n : ℕ) (literals : Vec (ProofLiteral NameId SolvableId) Global) (causes : Vec ℕ Global) → slice_get steps n ≡ Some (Derived literals causes) → HaveOneSign (map literal_in literals.items)
+  pub one_place : HaveOnePlace steps
+
+-- The report is a refusal of these steps that the judge accepts, so what it claims is true.
+pub record IsRefusalOf (catalogue request : List Line) (ids : Ids) (steps : List (ProofStep NameId SolvableId)) (r : Report) : Type 0 where
+  pub in_catalogue : List ℕ
+  pub in_request : List ℕ
+  pub written : List Step
+  pub refuses : r ≡ Refused in_catalogue in_request written []
+  pub each : AllZip (IsToldBy catalogue ids request) steps written
+  pub report : IsReport r
+  pub accepted : IsAccepted catalogue request (report_lines r)
+  pub claim : IsClaimTrue catalogue request r
