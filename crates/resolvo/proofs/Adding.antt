@@ -1,26 +1,33 @@
 -- Clauses and parents come, step by step.
-use Rattle.std.proofs.Common.{◌≡◌, inl, inr, Bool, ◌+◌, ◌≤◌, List, [], ◌∷◌, ◌++◌, Option, Some, refl, sym, ◌∙◌, ap, subst, arith}
+use Rattle.std.proofs.Common.{◌≡◌, inl, inr, Bool, false, ◌+◌, ◌≤◌, List, [], ◌∷◌, ◌++◌, Option, None, Some, refl, sym, ◌∙◌, ap, subst, arith}
 use Rattle.std.specs.Prelude.{slice_get, Contains}
 use Rattle.resolvo_pool.specs.Text.{solvable_of}
 use Rattle.resolvo_pool.specs.declared.requirement.ConditionalRequirement.{ConditionalRequirement}
 use Rattle.resolvo_pool.specs.declared.requirement.Requirement.{Requirement}
 use Rattle.resolvo_pool.specs.declared.solver_id.SolvableIdOrRoot.{SolvableIdOrRoot}
-use Rattle.resolvo_pool.specs.RuleKeeping.{Packages, Rules, rules_for}
-use Rattle.resolvo_rules.proofs.Lists.{contains_one, contains_parts}
-use Rattle.resolvo_rules.specs.Encoding.{IsExact}
+use Rattle.resolvo_pool.specs.declared.id.StringId.{StringId}
+use Rattle.resolvo_pool.specs.declared.id.VersionSetId.{VersionSetId}
+use Rattle.resolvo_pool.specs.declared.requirement.Requirement.TheVariants.{Single}
+use Rattle.resolvo_pool.specs.declared.provider.KnownDependencies.{KnownDependencies}
+use Rattle.resolvo_pool.specs.declared.provider.Dependencies.TheVariants.{Known, Unknown}
+use Rattle.resolvo_pool.specs.Provider.{Needs as Asked, needs_of}
+use Rattle.resolvo_pool.specs.RuleKeeping.{Packages, Rules, rules_of as rules_in, is_unknown}
+use Rattle.std.proofs.lemmas.Bool.{or_right}
+use Rattle.resolvo_rules.proofs.Lists.{contains_none, contains_one, contains_only, contains_parts}
+use Rattle.resolvo_rules.specs.Encoding.{IsExact, Rule, IsRule}
 use Rattle.resolvo_rules.specs.Ending.{IsNeedEncoded}
 use Rattle.resolvo_coding.proofs.Growth.{grows_same, grows_then}
 use Rattle.resolvo_coding.proofs.Positions.{front_equal, front_get, front_same, front_then}
 use Rattle.resolvo_coding.specs.declared.coding.Coding.{Coding}
 use Rattle.resolvo_coding.specs.Coding.{Grows}
 use Rattle.resolvo_encoding.specs.declared.encoding.Encoding.{Encoding}
-use Rattle.resolvo_encoding.specs.Encoded.{rules_of, AreOrdered, IsEncoding}
+use Rattle.resolvo_encoding.specs.Encoded.{rules_of, AreOrdered, IsGuarded, IsLimitEncoded, IsParentEncoded, IsEncoding}
 use Rattle.resolvo_encoding.specs.Steps.{Extends, AddsParent, IsNextEncoded}
 use Rattle.resolvo_encoding.specs.Going.{GoesOn}
 use Rattle.resolvo_encoding.proofs.Parents.{parent_keeps}
 use Rattle.resolvo_encoding.proofs.Picking.{ordered_stays}
-use Rattle.resolvo_encoding.proofs.Requiring.{need_grows, some_one}
-use Rattle.resolvo.specs.Encoder.{IsInOrder, AddsNeeds, AddsParents}
+use Rattle.resolvo_encoding.proofs.Requiring.{need_grows, limit_grows, guard_grows, some_one}
+use Rattle.resolvo.specs.Encoder.{IsRoot, AreRulesOf, IsInOrder, AddsNeeds, AddsParents}
 
 -- ---- parents alone
 
@@ -90,14 +97,54 @@ more_encoded same exact p root a b parent done last adds before now need h = eli
   | inr c ↦ subst (λ (x : ConditionalRequirement). IsNeedEncoded same p (rules_of b) parent x []) (sym (contains_one need last c)) now
 ]
 
--- so the next parent's needs are, where these are
+-- so it is with limits, and what bars the candidates that they name
+pub more_limited : {N S : Type 0} (same : S → S → Bool) (exact : IsExact same) (p : Packages N S) (root : Rules) (a b : Encoding N S) (parent : Option S) (done : List VersionSetId) (last : VersionSetId) → AddsNeeds a b
+    → ((v : VersionSetId) → Contains done v → IsLimitEncoded same p (rules_of a) parent v × IsGuarded same p (rules_of a) (Single v)) → IsLimitEncoded same p (rules_of b) parent last × IsGuarded same p (rules_of b) (Single last)
+    → (v : VersionSetId) → Contains (done ++ last ∷ []) v → IsLimitEncoded same p (rules_of b) parent v × IsGuarded same p (rules_of b) (Single v)
+more_limited same exact p root a b parent done last adds before now v h = elim (contains_parts v done (last ∷ []) h) [
+  | inl c ↦ let (limited, guarded) = before v c in (limit_grows same exact p root a b parent v adds.grows limited, guard_grows same exact p root a b (Single v) adds.grows guarded)
+  | inr c ↦ subst (λ (x : VersionSetId). IsLimitEncoded same p (rules_of b) parent x × IsGuarded same p (rules_of b) (Single x)) (sym (contains_one v last c)) now
+]
+
+-- the next parent is encoded, where this one is
 pub next_all : {N S : Type 0} (same : S → S → Bool) (p : Packages N S) (root : Rules) (a b : Encoding N S) (parent : SolvableIdOrRoot S) → AddsNeeds a b → slice_get a.parents.keys a.encoded ≡ Some parent
-    → ((need : ConditionalRequirement) → Contains (rules_for same p root (solvable_of parent)).requirements need → IsNeedEncoded same p (rules_of b) (solvable_of parent) need []) → IsNextEncoded same p root b
-next_all {N} {S} same p root a b parent adds here done other need at listed =
+    → IsParentEncoded same p (rules_of b) root (solvable_of parent) → IsNextEncoded same p root b
+next_all {N} {S} same p root a b parent adds here done other at =
     let there : slice_get b.parents.keys b.encoded ≡ Some parent = subst (λ n. slice_get b.parents.keys n ≡ Some parent) (sym adds.encoded) (front_get a.parents.keys b.parents.keys a.encoded parent adds.parents here) in
     let one : other ≡ parent = some_one other parent (sym at ∙ there) in
-    subst (λ (x : SolvableIdOrRoot S). IsNeedEncoded same p (rules_of b) (solvable_of x) need []) (sym one)
-    (done need (subst (λ (x : SolvableIdOrRoot S). Contains (rules_for same p root (solvable_of x)).requirements need) one listed))
+    subst (λ (x : SolvableIdOrRoot S). IsParentEncoded same p (rules_of b) root (solvable_of x)) (sym one) done
+
+-- ---- the rules of a parent
+
+none_some : {X : Type 0} (x : X) → None ≡ Some x → ⊥
+none_some x h = cc
+
+-- the root's are given
+pub root_rules : {N S : Type 0} (same : S → S → Bool) (p : Packages N S) (root : Rules) (requirements : List ConditionalRequirement) (constraints : List VersionSetId) → IsRoot requirements constraints root → AreRulesOf same p root None requirements constraints
+root_rules same p root requirements constraints (needs, limits) = record { requirements = needs; constraints = limits; known = λ s h. absurd (none_some s h) }
+
+-- a solvable's, where they are known
+pub known_rules : {N S : Type 0} (same : S → S → Bool) (p : Packages N S) (root : Rules) (s : S) (known : KnownDependencies) (requirements : List ConditionalRequirement) (constraints : List VersionSetId) → p.dependencies_of s ≡ needs_of (Known known)
+    → requirements ≡ known.requirements.items → constraints ≡ known.constrains.items → AreRulesOf same p root (Some s) requirements constraints
+known_rules same p root s known requirements constraints asked needs limits = record {
+  requirements = ap (λ (n : Asked). (rules_in n).requirements) asked ∙ sym needs;
+  constraints = ap (λ (n : Asked). (rules_in n).constraints) asked ∙ sym limits;
+  known = λ t is. subst (λ x. is_unknown (p.dependencies_of x) ≡ false) (some_one s t is) (ap is_unknown asked);
+}
+
+-- a solvable whose dependencies are unknown is kept out
+pub bars_rule : {N S : Type 0} (same : S → S → Bool) (p : Packages N S) (root : Rules) (s : S) (why : StringId) → p.dependencies_of s ≡ needs_of (Unknown why) → (r : Rule N S) → Contains (Rule.bars s ∷ []) r → IsRule same p root r
+bars_rule same p root s why asked r h = subst (IsRule same p root) (sym (contains_one r (Rule.bars s) h)) (or_right _ _ (ap is_unknown asked))
+
+-- and has no other rules
+pub unknown_encoded : {N S : Type 0} (same : S → S → Bool) (p : Packages N S) (root : Rules) (rules : Rule N S → Type 0) (s : S) (why : StringId) → p.dependencies_of s ≡ needs_of (Unknown why) → ((r : Rule N S) → Contains (Rule.bars s ∷ []) r → rules r)
+    → IsParentEncoded same p rules root (Some s)
+unknown_encoded same p root rules s why asked stated = record {
+  needs = λ need h. absurd (contains_none need (subst (λ (n : Asked). Contains (rules_in n).requirements need) asked h));
+  limits = λ v h. absurd (contains_none v (subst (λ (n : Asked). Contains (rules_in n).constraints v) asked h));
+  guarded = λ v h. absurd (contains_none v (subst (λ (n : Asked). Contains (rules_in n).constraints v) asked h));
+  unknown = λ t is h. subst (λ x. rules (Rule.bars x)) (some_one s t is) (stated (Rule.bars s) (contains_only (Rule.bars s)));
+}
 
 -- ---- encoded parents
 

@@ -12,7 +12,7 @@ use Rattle.resolvo_rules.specs.Encoding.{IsExact}
 use Rattle.resolvo_coding.specs.Coding.{IsCoding}
 use Rattle.resolvo_proof.specs.Proof.{DenyRoot}
 use Rattle.resolvo_encoding.specs.declared.encoding.Encoding.{Encoding}
-use Rattle.resolvo_encoding.specs.Encoded.{IsEncoding, IsPlain}
+use Rattle.resolvo_encoding.specs.Encoded.{IsEncoding, IsUnconditional}
 use Rattle.resolvo_encoding.specs.Steps.{IsBegunEncoding}
 use Rattle.resolvo_encoding.proofs.Turning.{turn_keeps, turn_preferred, refused, root_denied}
 use Rattle.resolvo.specs.declared.search.Found.{Found}
@@ -34,7 +34,7 @@ begun_in_order same p orders root e begun holds = record { encoding = holds; ord
 
 module _ {N S : Type 0} (same_name : N → N → Bool) (names : IsExact same_name) (same : S → S → Bool) (exact : IsExact same) (p : Packages N S) (orders : Requirement → List S → Type 0) (root : Rules) (lawful : IsLawful p) (e : Encoding N S) where
   -- what the end of the root's turn tells
-  pub turn_found : IsInOrder same p orders root e → IsPlain same p root → e.coding.search.floor ≡ 1 → (turn : Option Refusal) → IsTurn e turn → (f : Found S) → IsFoundBy e turn f → IsFound same p root e f × IsPreferred same p orders root f
+  pub turn_found : IsInOrder same p orders root e → IsUnconditional same p root → e.coding.search.floor ≡ 1 → (turn : Option Refusal) → IsTurn e turn → (f : Found S) → IsFoundBy e turn f → IsFound same p root e f × IsPreferred same p orders root f
   turn_found holds plain first None (settled, whole) (Chosen v) chosen =
       let (keeping, reached, inside) = turn_keeps same exact p root lawful e same_name names holds.encoding plain settled.values settled.score settled.agree settled.quiet settled.decided v.items chosen (whole v.items chosen) in (
         record { keeping = keeping; reached = reached; inside = inside },

@@ -1,11 +1,23 @@
 -- How the encoding of parents goes on.
-use Rattle.std.specs.Prelude.{◌≡◌, ◌≤◌, Bool, List, length}
+use Rattle.std.specs.Prelude.{◌≡◌, ◌≤◌, Bool, false, List, length, Option, Some}
+use Rattle.resolvo_pool.specs.declared.id.VersionSetId.{VersionSetId}
+use Rattle.resolvo_pool.specs.declared.requirement.ConditionalRequirement.{ConditionalRequirement}
 use Rattle.resolvo_pool.specs.declared.requirement.Requirement.{Requirement}
-use Rattle.resolvo_pool.specs.RuleKeeping.{Packages, Rules}
+use Rattle.resolvo_pool.specs.RuleKeeping.{Packages, Rules, rules_for, is_unknown}
 use Rattle.resolvo_store.specs.AtMostOne.{IsFrontOf}
 use Rattle.resolvo_coding.specs.Coding.{Grows}
 use Rattle.resolvo_encoding.specs.declared.encoding.Encoding.{Encoding}
 use Rattle.resolvo_encoding.specs.Encoded.{AreOrdered, IsEncoding}
+
+-- the root has these requirements and constraints
+abbrev pub IsRoot : List ConditionalRequirement → List VersionSetId → Rules → Type 0
+IsRoot requirements constraints root = (root.requirements ≡ requirements) × (root.constraints ≡ constraints)
+
+-- the parent, whose dependencies are known, has these requirements and constraints
+pub record AreRulesOf {N S : Type 0} (same : S → S → Bool) (p : Packages N S) (root : Rules) (parent : Option S) (needs : List ConditionalRequirement) (limits : List VersionSetId) : Type 0 where
+  pub requirements : (rules_for same p root parent).requirements ≡ needs
+  pub constraints : (rules_for same p root parent).constraints ≡ limits
+  pub known : (s : S) → parent ≡ Some s → is_unknown (p.dependencies_of s) ≡ false
 
 -- the encoding is one of the packages, and the candidates that requirements have got are in an order of theirs
 pub record IsInOrder {N S : Type 0} (same : S → S → Bool) (p : Packages N S) (orders : Requirement → List S → Type 0) (root : Rules) (e : Encoding N S) : Type 0 where

@@ -3,8 +3,9 @@ ghost use Rattle.std.specs.Prelude.{◌≡◌, length, IfOk, IfErr};
 ghost use Rattle.resolvo_pool.specs.Cached.{IsCancelledBy};
 ghost use Rattle.resolvo_pool.specs.RuleKeeping.{Rules};
 ghost use Rattle.resolvo_coding.specs.Coding.{IsCoding};
-ghost use Rattle.resolvo_encoding.specs.Encoded.{IsPlain};
+ghost use Rattle.resolvo_encoding.specs.Encoded.{IsUnconditional};
 ghost use Rattle.resolvo_proof.specs.Proof.{Proves};
+ghost use Rattle.resolvo.specs.Encoder.{IsRoot};
 ghost use Rattle.resolvo.specs.Solving.{IsDenial, IsProvable, IsSolved, EndsSo, Counts};
 
 use crate::deciding::Activity;
@@ -12,6 +13,7 @@ use crate::search::{Found, Searched, search};
 use resolvo_answers::answering::Answering;
 use resolvo_coding::coding::Coding;
 use resolvo_pool::cache::CacheFault;
+use resolvo_pool::id::VersionSetId;
 use resolvo_pool::requirement::ConditionalRequirement;
 use resolvo_pool::solver_id::SolverId;
 use resolvo_pool::want::R;
@@ -65,23 +67,23 @@ fn prove<N: SolverId + Drop, S: SolverId>(
     })
 }
 
-/// Searches for solvables that keep the rules of a root with these requirements, and of each other, and writes the
-/// proof. What it says is true of plain problems: no requirement has a condition, nothing is limited, locked,
-/// excluded or unknown. Of others nothing is promised. It stops with `Memory`, `Ids`, or a value with which the
-/// answers are cancelled.
+/// Searches for solvables that keep the rules of a root with these requirements and constraints, and of each other, and
+/// writes the proof. What it says is true where no requirement has a condition; of other problems nothing is promised.
+/// It stops with `Memory`, `Ids`, or a value with which the answers are cancelled.
 pub fn solve<A: Answering>(
     alloc: Global,
     answers: &mut A,
     activity: Activity,
     requirements: &[ConditionalRequirement],
+    constraints: &[VersionSetId],
 ) -> Result<Solved<A::NameId, A::SolvableId>, CacheFault<A::Cancel>>
     ensures same { answers.new ≡ answers.old }
-    ensures solved { IfOk result (λ s. (root : Rules) → root.requirements ≡ requirements.now → IsPlain A.SolvableId.eq (A.packages answers.old) root → IsSolved A.SolvableId.eq (A.packages answers.old) (A.orders answers.old) root s) }
+    ensures solved { IfOk result (λ s. (root : Rules) → IsRoot requirements.now constraints.now root → IsUnconditional A.SolvableId.eq (A.packages answers.old) root → IsSolved A.SolvableId.eq (A.packages answers.old) (A.orders answers.old) root s) }
     ensures ends { IfOk result (λ s. EndsSo s.found s.proof.items) }
     ensures count { IfOk result (λ s. Counts s.found s.clause_count (length s.proof.items)) }
     ensures cancelled { IfErr result (IsCancelledBy (A.may_cancel answers.old)) }
 {
-    match search(alloc, answers, activity, requirements) {
+    match search(alloc, answers, activity, requirements, constraints) {
         Ok(searched) => {
             let solved = prove(alloc, searched)?;
             Ok(solved)

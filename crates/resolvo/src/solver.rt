@@ -127,7 +127,7 @@ impl<D: DependencyProvider> Solver<D> {
     }
 
     /// Searches for solvables that keep the rules of the problem, in the order in which they were chosen. A search begins
-    /// anew, with the answers as they are. Of problems that are not plain nothing is promised yet.
+    /// anew, with the answers as they are. Of problems in which a requirement has a condition nothing is promised yet.
     pub fn solve(
         &mut self,
         problem: Problem<D::SolvableId>,
@@ -140,7 +140,14 @@ impl<D: DependencyProvider> Solver<D> {
         self.clause_count = 0;
         self.proof = Vec::new(self.alloc);
         let requirements = problem.requirements.as_slice();
-        match solve(self.alloc, &mut self.answers, self.activity, requirements) {
+        let constraints = problem.constraints.as_slice();
+        match solve(
+            self.alloc,
+            &mut self.answers,
+            self.activity,
+            requirements,
+            constraints,
+        ) {
             Ok(solved) => {
                 let Solved {
                     found,

@@ -3,10 +3,10 @@
 ghost use Rattle.std.specs.Prelude.{◌≡◌, IfOk, IfErr, OnOk};
 ghost use Rattle.resolvo_pool.specs.Cached.{IsCancelledBy};
 ghost use Rattle.resolvo_pool.specs.RuleKeeping.{Rules};
-ghost use Rattle.resolvo_encoding.specs.Encoded.{IsPlain};
+ghost use Rattle.resolvo_encoding.specs.Encoded.{IsUnconditional};
 ghost use Rattle.resolvo_encoding.specs.Steps.{IsBuilt, AddsParent};
 ghost use Rattle.resolvo_encoding.specs.Going.{IsDecision};
-ghost use Rattle.resolvo.specs.Encoder.{IsInOrder, AddsParents, AddsAll};
+ghost use Rattle.resolvo.specs.Encoder.{IsInOrder, IsRoot, AddsParents, AddsAll};
 ghost use Rattle.resolvo.specs.Turn.{AddsChosen, IsNextRound, IsRound, IsTurn};
 
 use crate::deciding::{Activity, decide};
@@ -14,6 +14,7 @@ use crate::encoder::encode_parents;
 use resolvo_answers::answering::Answering;
 use resolvo_encoding::encoding::Encoding;
 use resolvo_pool::cache::CacheFault;
+use resolvo_pool::id::VersionSetId;
 use resolvo_pool::requirement::ConditionalRequirement;
 use resolvo_pool::solver_id::SolverId;
 use resolvo_pool::want::R;
@@ -53,16 +54,17 @@ fn encode<A: Answering>(
     answers: &mut A,
     encoding: &mut Encoding<A::NameId, A::SolvableId>,
     requirements: &[ConditionalRequirement],
+    constraints: &[VersionSetId],
 ) -> Result<(), CacheFault<A::Cancel>>
     requires { IsBuilt encoding.old }
     ensures same { answers.new ≡ answers.old }
-    ensures encoded { OnOk result ((root : Rules) → root.requirements ≡ requirements.now → IsPlain A.SolvableId.eq (A.packages answers.old) root → IsInOrder A.SolvableId.eq (A.packages answers.old) (A.orders answers.old) root encoding.old → IsInOrder A.SolvableId.eq (A.packages answers.old) (A.orders answers.old) root encoding.new) }
+    ensures encoded { OnOk result ((root : Rules) → IsRoot requirements.now constraints.now root → IsUnconditional A.SolvableId.eq (A.packages answers.old) root → IsInOrder A.SolvableId.eq (A.packages answers.old) (A.orders answers.old) root encoding.old → IsInOrder A.SolvableId.eq (A.packages answers.old) (A.orders answers.old) root encoding.new) }
     ensures all { OnOk result (AddsAll encoding.old encoding.new) }
     ensures built { OnOk result (IsBuilt encoding.new) }
     ensures cancelled { IfErr result (IsCancelledBy (A.may_cancel answers.old)) }
 {
     let before = encoding.coding.search.clauses.len();
-    encode_parents(alloc, answers, encoding, requirements)?;
+    encode_parents(alloc, answers, encoding, requirements, constraints)?;
     if !is_any_broken(&encoding.coding.search, before) {
         return Ok(());
     }
@@ -78,16 +80,17 @@ fn encode_and_decide<A: Answering>(
     scores: &mut <A::NameId as SolverId>::Scores,
     activity: Activity,
     requirements: &[ConditionalRequirement],
+    constraints: &[VersionSetId],
 ) -> Result<Option<Refusal>, CacheFault<A::Cancel>>
     requires { IsBuilt encoding.old }
     ensures same { answers.new ≡ answers.old }
-    ensures stays { OnOk result ((root : Rules) → root.requirements ≡ requirements.now → IsPlain A.SolvableId.eq (A.packages answers.old) root → IsInOrder A.SolvableId.eq (A.packages answers.old) (A.orders answers.old) root encoding.old → IsInOrder A.SolvableId.eq (A.packages answers.old) (A.orders answers.old) root encoding.new) }
+    ensures stays { OnOk result ((root : Rules) → IsRoot requirements.now constraints.now root → IsUnconditional A.SolvableId.eq (A.packages answers.old) root → IsInOrder A.SolvableId.eq (A.packages answers.old) (A.orders answers.old) root encoding.old → IsInOrder A.SolvableId.eq (A.packages answers.old) (A.orders answers.old) root encoding.new) }
     ensures all { OnOk result (AddsAll encoding.old encoding.new) }
     ensures decided { IfOk result (IsDecision encoding.new) }
     ensures built { OnOk result (IsBuilt encoding.new) }
     ensures cancelled { IfErr result (IsCancelledBy (A.may_cancel answers.old)) }
 {
-    encode(alloc, answers, encoding, requirements)?;
+    encode(alloc, answers, encoding, requirements, constraints)?;
     let refusal = decide(alloc, answers, encoding, scores, activity)?;
     Ok(refusal)
 }
@@ -111,17 +114,26 @@ fn run_round<A: Answering>(
     scores: &mut <A::NameId as SolverId>::Scores,
     activity: Activity,
     requirements: &[ConditionalRequirement],
+    constraints: &[VersionSetId],
 ) -> Result<Round, CacheFault<A::Cancel>>
     requires built { IsBuilt encoding.old }
     requires next { IsNextRound encoding.old }
     ensures same { answers.new ≡ answers.old }
-    ensures stays { OnOk result ((root : Rules) → root.requirements ≡ requirements.now → IsPlain A.SolvableId.eq (A.packages answers.old) root → IsInOrder A.SolvableId.eq (A.packages answers.old) (A.orders answers.old) root encoding.old → IsInOrder A.SolvableId.eq (A.packages answers.old) (A.orders answers.old) root encoding.new) }
+    ensures stays { OnOk result ((root : Rules) → IsRoot requirements.now constraints.now root → IsUnconditional A.SolvableId.eq (A.packages answers.old) root → IsInOrder A.SolvableId.eq (A.packages answers.old) (A.orders answers.old) root encoding.old → IsInOrder A.SolvableId.eq (A.packages answers.old) (A.orders answers.old) root encoding.new) }
     ensures adds { OnOk result (AddsParents encoding.old encoding.new) }
     ensures round { IfOk result (IsRound encoding.old encoding.new) }
     ensures built { OnOk result (IsBuilt encoding.new) }
     ensures cancelled { IfErr result (IsCancelledBy (A.may_cancel answers.old)) }
 {
-    let decided = encode_and_decide(alloc, answers, encoding, scores, activity, requirements)?;
+    let decided = encode_and_decide(
+        alloc,
+        answers,
+        encoding,
+        scores,
+        activity,
+        requirements,
+        constraints,
+    )?;
     if let Some(refusal) = decided {
         return Ok(Round::Refused(refusal));
     }
@@ -141,18 +153,27 @@ pub fn run_turn<A: Answering>(
     scores: &mut <A::NameId as SolverId>::Scores,
     activity: Activity,
     requirements: &[ConditionalRequirement],
+    constraints: &[VersionSetId],
 ) -> Result<Option<Refusal>, CacheFault<A::Cancel>>
     requires built { IsBuilt encoding.old }
     requires next { IsNextRound encoding.old }
     ensures same { answers.new ≡ answers.old }
-    ensures stays { OnOk result ((root : Rules) → root.requirements ≡ requirements.now → IsPlain A.SolvableId.eq (A.packages answers.old) root → IsInOrder A.SolvableId.eq (A.packages answers.old) (A.orders answers.old) root encoding.old → IsInOrder A.SolvableId.eq (A.packages answers.old) (A.orders answers.old) root encoding.new) }
+    ensures stays { OnOk result ((root : Rules) → IsRoot requirements.now constraints.now root → IsUnconditional A.SolvableId.eq (A.packages answers.old) root → IsInOrder A.SolvableId.eq (A.packages answers.old) (A.orders answers.old) root encoding.old → IsInOrder A.SolvableId.eq (A.packages answers.old) (A.orders answers.old) root encoding.new) }
     ensures adds { OnOk result (AddsParents encoding.old encoding.new) }
     ensures turn { IfOk result (IsTurn encoding.new) }
     ensures built { OnOk result (IsBuilt encoding.new) }
     ensures cancelled { IfErr result (IsCancelledBy (A.may_cancel answers.old)) }
 {
     loop {
-        match run_round(alloc, answers, encoding, scores, activity, requirements)? {
+        match run_round(
+            alloc,
+            answers,
+            encoding,
+            scores,
+            activity,
+            requirements,
+            constraints,
+        )? {
             Round::Goes => {}
             Round::Whole => return Ok(None),
             Round::Refused(refusal) => return Ok(Some(refusal)),

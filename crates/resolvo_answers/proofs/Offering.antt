@@ -1,5 +1,5 @@
 -- The sorted candidates of a requirement are the solvables that meet it.
-use Rattle.std.proofs.Common.{◌≡◌, suc, Bool, true, false, ◌&&◌, ◌||◌, List, [], ◌∷◌, map, cond, refl, sym, ◌∙◌, ap, arith}
+use Rattle.std.proofs.Common.{◌≡◌, suc, Bool, true, false, not, ◌&&◌, ◌||◌, List, [], ◌∷◌, map, cond, refl, sym, ◌∙◌, ap, arith}
 use Rattle.std.specs.Prelude.{Option, Some, None, All}
 use Rattle.std.specs.List.{list_any, flat_map, AllByRecursion}
 use Rattle.std.specs.List.Sorted.{IsPermutation}
@@ -64,6 +64,10 @@ module _ {S : Type 0} (same : S → S → Bool) (exact : (x y : S) → same x y 
       go true e false f later = rw f later
       go false e true f later = rw f (later ∙ (rw (sym (ap m (exact x s f)) ∙ e) (both_false (list_any (λ y. same y s) xs))))
       go false e false f later = rw f later
+
+  -- a solvable is among those that don't pass exactly if it is listed and doesn't
+  pub unkept_members : (m : S → Bool) (s : S) (xs : List S) → list_any (λ x. same x s) (kept m true xs) ≡ (list_any (λ x. same x s) xs && not (m s))
+  unkept_members m s xs = kept_members (λ x. not (m x)) s xs
 
   module _ {N : Type 0} (p : Packages N S) (sorts : List S → List S → Type 0) (permutes : (xs ys : List S) → sorts xs ys → IsPermutation xs ys) where
     -- what is tried for a version set are its matches

@@ -8,7 +8,7 @@ use Rattle.resolvo_pool.specs.declared.condition.Condition.{Condition}
 use Rattle.resolvo_pool.specs.declared.requirement.Requirement.{Requirement}
 use Rattle.resolvo_pool.specs.Provider.{Listing, Needs, matching_in, tried_first, IsTriedFor}
 use Rattle.resolvo_pool.specs.Text.{alternatives_of}
-use Rattle.resolvo_pool.specs.RuleKeeping.{Packages, is_in, meets}
+use Rattle.resolvo_pool.specs.RuleKeeping.{Packages, is_in, is_outside, meets}
 use Rattle.resolvo_answers.specs.declared.answering.Offered.{Offered}
 
 -- what a provider says of its packages, by its ghost members
@@ -40,4 +40,9 @@ offered_solvables list = map (λ o. o.solvable) list
 -- The list holds the solvables that meet the requirement, each with its package.
 pub record AreOffered {N S : Type 0} (same : S → S → Bool) (p : Packages N S) (r : Requirement) (list : List (Offered N S)) : Type 0 where
   pub matches : (s : S) → is_in same p (offered_solvables list) s ≡ meets same p r s
+  pub named : AllByRecursion (λ o. o.name ≡ p.package_of o.solvable) list
+
+-- The list holds the candidates of the version set's package that don't match it, each with its package.
+pub record AreOutside {N S : Type 0} (same : S → S → Bool) (p : Packages N S) (v : VersionSetId) (list : List (Offered N S)) : Type 0 where
+  pub outside : (s : S) → is_in same p (offered_solvables list) s ≡ is_outside same p v s
   pub named : AllByRecursion (λ o. o.name ≡ p.package_of o.solvable) list

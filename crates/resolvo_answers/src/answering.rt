@@ -1,21 +1,41 @@
 //! What a solver asks of packages, answered by value.
-ghost use Rattle.std.specs.Prelude.{◌≡◌, List, IfOk, IfErr};
+ghost use Rattle.std.specs.Prelude.{◌≡◌, List, IfOk, IfErr, map};
 ghost use Rattle.resolvo_pool.specs.Provider.{needs_of};
 ghost use Rattle.resolvo_pool.specs.Cached.{IsCancelledBy};
 ghost use Rattle.resolvo_pool.specs.RuleKeeping.{Packages, IsLawful};
 ghost use Rattle.resolvo_pool.specs.declared.requirement.Requirement.{Requirement};
-ghost use Rattle.resolvo_answers.specs.Answering.{AreOffered, offered_solvables};
+ghost use Rattle.resolvo_pool.specs.Text.{alternatives_of};
+ghost use Rattle.resolvo_answers.specs.Answering.{AreOffered, AreOutside, offered_solvables};
+ghost use Rattle.resolvo_answers.specs.Barring.{AreBarred};
 
 use resolvo_pool::cache::CacheFault;
+use resolvo_pool::id::{StringId, VersionSetId};
 use resolvo_pool::provider::Dependencies;
 use resolvo_pool::requirement::Requirement;
 use resolvo_pool::solver_id::SolverId;
+use resolvo_pool::want::R;
 
 /// A candidate of a requirement, with its package.
 #[derive(Clone, Copy, Debug)]
 pub struct Offered<N, S> {
     pub solvable: S,
     pub name: N,
+}
+
+/// Why a solvable is kept out of its package.
+#[derive(Clone, Copy, Debug)]
+pub enum Why<S> {
+    /// Another one of its package is locked.
+    Locked { locked: S },
+    /// It is excluded, for this reason.
+    Excluded { reason: StringId },
+}
+
+/// A solvable that a lock or an exclusion keeps out of its package.
+#[derive(Clone, Copy, Debug)]
+pub struct Barred<S> {
+    pub solvable: S,
+    pub why: Why<S>,
 }
 
 /// Answers to a solver's questions of packages. Each question is answered with the same value whenever it is
@@ -62,6 +82,28 @@ pub trait Answering {
         ensures same { self.new ≡ self.old }
         ensures offered { IfOk result (λ v. AreOffered Self.SolvableId.eq (packages self.old) requirement v.items) }
         ensures ordered { IfOk result (λ v. orders self.old requirement (offered_solvables v.items)) }
+        ensures cancelled { IfErr result (IsCancelledBy (may_cancel self.old)) };
+
+    /// The packages of a requirement's version sets.
+    fn named(&self, requirement: Requirement) -> R<Vec<Self::NameId>>
+        ensures { IfOk result (λ v. v.items ≡ map (packages self.now).set_package (alternatives_of (packages self.now).members_of requirement)) };
+
+    /// What locks and exclusions keep out of a package.
+    fn barred(
+        &mut self,
+        name: Self::NameId,
+    ) -> Result<Vec<Barred<Self::SolvableId>>, CacheFault<Self::Cancel>>
+        ensures same { self.new ≡ self.old }
+        ensures barred { IfOk result (λ v. AreBarred Self.SolvableId.eq (packages self.old) name v.items) }
+        ensures cancelled { IfErr result (IsCancelledBy (may_cancel self.old)) };
+
+    /// The candidates of a version set's package that don't match it.
+    fn outside(
+        &mut self,
+        version_set: VersionSetId,
+    ) -> Result<Vec<Offered<Self::NameId, Self::SolvableId>>, CacheFault<Self::Cancel>>
+        ensures same { self.new ≡ self.old }
+        ensures outside { IfOk result (λ v. AreOutside Self.SolvableId.eq (packages self.old) version_set v.items) }
         ensures cancelled { IfErr result (IsCancelledBy (may_cancel self.old)) };
 
     /// Whether a solvable's dependencies are at hand. It decides when they are asked for, not what they are.

@@ -1,12 +1,15 @@
 //! Answers by value, over a cache of the provider's.
-ghost use Rattle.std.specs.Prelude.{◌≡◌, IfOk, map};
-ghost use Rattle.resolvo_pool.specs.Provider.{needs_of};
+ghost use Rattle.std.specs.Prelude.{◌≡◌, ◌++◌, IfOk, OnOk, map};
+ghost use Rattle.resolvo_pool.specs.Provider.{listing, needs_of};
 ghost use Rattle.resolvo_answers.specs.Answering.{packages_by, orders_by, offer_by};
+ghost use Rattle.resolvo_answers.specs.Barring.{excluded_by, locked_out, kept_out};
 
-use crate::answering::{Answering, Offered};
+use crate::answering::{Answering, Barred, Offered, Why};
 use resolvo_pool::cache::{CacheFault, SolverCache};
-use resolvo_pool::provider::{Dependencies, DependencyProvider, KnownDependencies};
+use resolvo_pool::id::{StringId, VersionSetId};
+use resolvo_pool::provider::{Candidates, Dependencies, DependencyProvider, KnownDependencies};
 use resolvo_pool::requirement::Requirement;
+use resolvo_pool::solver_id::SolverId;
 use resolvo_pool::want::R;
 use std::alloc::Global;
 use std::marker::Model;
@@ -55,6 +58,17 @@ impl<D: DependencyProvider> Answers<D> {
         }
         Ok(offered)
     }
+
+    /// The packages of these version sets.
+    fn names_of(&self, version_sets: &[VersionSetId]) -> R<Vec<D::NameId>>
+        ensures { IfOk result (λ v. v.items ≡ map (D.name_of_version_set self.now) version_sets.now) }
+    {
+        let mut names = Vec::new(self.alloc);
+        for version_set in version_sets {
+            names.push(self.cache.provider().version_set_name(*version_set))?;
+        }
+        Ok(names)
+    }
 }
 
 impl<D: DependencyProvider> Answering for Answers<D> {
@@ -101,6 +115,37 @@ impl<D: DependencyProvider> Answering for Answers<D> {
         Ok(offered)
     }
 
+    fn named(&self, requirement: Requirement) -> R<Vec<D::NameId>> {
+        match requirement {
+            Requirement::Single(version_set) => {
+                let mut names = Vec::new(self.alloc);
+                names.push(self.cache.provider().version_set_name(version_set))?;
+                Ok(names)
+            }
+            Requirement::Union(union) => {
+                self.names_of(self.cache.provider().version_sets_in_union(union))
+            }
+        }
+    }
+
+    fn barred(
+        &mut self,
+        name: D::NameId,
+    ) -> Result<Vec<Barred<D::SolvableId>>, CacheFault<D::Cancel>> {
+        self.cache.cache_candidates(name)?;
+        let barred = bars_of(self.alloc, self.cache.candidates(name))?;
+        Ok(barred)
+    }
+
+    fn outside(
+        &mut self,
+        version_set: VersionSetId,
+    ) -> Result<Vec<Offered<D::NameId, D::SolvableId>>, CacheFault<D::Cancel>> {
+        self.cache.cache_non_matching_candidates(version_set)?;
+        let outside = self.offered(self.cache.non_matching_candidates(version_set))?;
+        Ok(outside)
+    }
+
     fn are_dependencies_available_for(&self, solvable: D::SolvableId) -> bool {
         self.cache.are_dependencies_available_for(solvable)
     }
@@ -117,4 +162,46 @@ fn copy_of(alloc: Global, found: &Dependencies) -> R<Dependencies>
         })),
         Dependencies::Unknown(why) => Ok(Dependencies::Unknown(*why)),
     }
+}
+
+/// What its lock and its exclusions keep out of a package.
+fn bars_of<S: SolverId>(alloc: Global, found: &Candidates<S>) -> R<Vec<Barred<S>>>
+    ensures { IfOk result (λ v. v.items ≡ kept_out S.eq (listing found.now)) }
+{
+    let mut barred = barred_by(alloc, found.locked, found.candidates.as_slice())?;
+    add_excluded(&mut barred, found.excluded.as_slice())?;
+    Ok(barred)
+}
+
+/// The candidates that a lock keeps out.
+fn barred_by<S: SolverId>(alloc: Global, lock: Option<S>, candidates: &[S]) -> R<Vec<Barred<S>>>
+    ensures { IfOk result (λ v. v.items ≡ locked_out S.eq lock candidates.now) }
+{
+    let mut barred = Vec::new(alloc);
+    let locked = match lock {
+        None => return Ok(barred),
+        Some(locked) => locked,
+    };
+    for solvable in candidates {
+        if locked != *solvable {
+            barred.push(Barred {
+                solvable: *solvable,
+                why: Why::Locked { locked },
+            })?;
+        }
+    }
+    Ok(barred)
+}
+
+/// Puts what is excluded behind the others.
+fn add_excluded<S: SolverId>(barred: &mut Vec<Barred<S>>, excluded: &[(S, StringId)]) -> R<()>
+    ensures { OnOk result (barred.new.items ≡ barred.old.items ++ map excluded_by excluded.now) }
+{
+    for one in excluded {
+        barred.push(Barred {
+            solvable: one.0,
+            why: Why::Excluded { reason: one.1 },
+        })?;
+    }
+    Ok(())
 }

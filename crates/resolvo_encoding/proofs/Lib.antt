@@ -1,7 +1,9 @@
 pub mod Picking
 pub mod Carrying
 pub mod Requiring
+pub mod Denials
 pub mod Needing
+pub mod Telling
 pub mod Parents
 pub mod Deciding
 pub mod Building

@@ -4,6 +4,7 @@ use Rattle.std.specs.Prelude.{Contains, slice_get}
 use Rattle.std.proofs.lemmas.Bool.{both_ways}
 use Rattle.resolvo_pool.specs.declared.id.ClauseId.{ClauseId}
 use Rattle.resolvo_pool.specs.declared.id.VariableId.{VariableId}
+use Rattle.resolvo_pool.specs.declared.id.VersionSetId.{VersionSetId}
 use Rattle.resolvo_pool.specs.declared.requirement.ConditionalRequirement.{ConditionalRequirement}
 use Rattle.resolvo_pool.specs.declared.requirement.Requirement.{Requirement}
 use Rattle.resolvo_pool.specs.ByRequirement.{slot_of, PutsAt}
@@ -37,8 +38,10 @@ use Rattle.resolvo_coding.specs.Atoms.{origin, StandsFor}
 use Rattle.resolvo_coding.specs.Statements.{rule_of, stated_at, rule_at}
 use Rattle.resolvo_coding.specs.Coding.{IsCoding, States, Gives}
 use Rattle.resolvo_coding.specs.Registered.{AreTied, IsTracked}
-use Rattle.resolvo_encoding.specs.Encoded.{IsParentVariable, IsCandidate, IsQueuedFor, Asks, Registered, IsEncoding}
+use Rattle.resolvo_encoding.specs.Encoded.{IsParentVariable, IsCandidate, IsQueuedFor, Asks, IsGuarded, Registered, IsEncoding}
 use Rattle.resolvo_encoding.specs.Encoded as E
+use Rattle.resolvo_encoding.specs.Telling.{IsRestraint}
+use Rattle.resolvo_encoding.proofs.Denials.{makes_none, asks_none, not_digit, pair_spells}
 use Rattle.resolvo_encoding.specs.Steps.{StatesNeed, IsNeed, SameButCoding, IsBegunEncoding}
 use Rattle.resolvo_encoding.specs.declared.encoding.Encoding.{Encoding}
 use Rattle.resolvo_coding.proofs.Positions.{get_last}
@@ -46,7 +49,7 @@ use Rattle.resolvo_coding.proofs.Origins.{means_solvable, solvable_means, means_
 use Rattle.resolvo_coding.proofs.Rules.{rule_stated}
 use Rattle.resolvo_coding.proofs.Growth.{rule_split, rules_split}
 use Rattle.resolvo_coding.proofs.Registering.{digits_same, digits_more, ties_grow, nothing_tied}
-use Rattle.resolvo_encoding.proofs.Requiring.{Came, Carries, carried, candidate_grows, queued_keeps, within_keeps, encoded_keeps, gates_keep, put_at, put_other, NoneAsks, kept_carries, some_one}
+use Rattle.resolvo_encoding.proofs.Requiring.{Came, Carries, carried, candidate_grows, queued_keeps, within_keeps, encoded_keeps, gates_keep, put_at, put_other, NoneAsks, kept_carries, guard_grows, noted_grows, some_one}
 
 -- the requirement that a rule's clause asks for a match of
 abbrev requirement_in : {N S : Type 0} → Requirement → Rule N S → Requirement
@@ -59,14 +62,6 @@ requirement_in r (Rule.is_out v s) = r
 requirement_in r (Rule.bars s) = r
 requirement_in r (Rule.has_digit s bit b) = r
 requirement_in r (Rule.is_there n s) = r
-
--- whether the atom is that a solvable is chosen
-abbrev is_choice : {N S : Type 0} → Atom N S → Bool
-is_choice (Atom.solvable s) = true
-is_choice (Atom.gate r) = false
-is_choice (Atom.outside v) = false
-is_choice (Atom.any_of n) = false
-is_choice (Atom.digit n bit) = false
 
 -- a literal of candidates is one's own
 pub literal_in : {N : Type 0} (cs : List (Candidate N)) (l : Signed) → has (literals_in cs) l ≡ true → (c : Candidate N) × Contains cs c × (c.literal ≡ l)
@@ -203,9 +198,9 @@ module _ {N S : Type 0} (same : S → S → Bool) (exact : IsExact same) (p : Pa
         (subst (λ (xs : List (Stated N S)). slice_get xs (length old.stated.items) ≡ Some x) (sym states.stated) (get_last old.stated.items x))
 
   -- A clause of a need, or of a gate, came.
-  pub need_keeps : (x : Stated N S) (v : VariableId) (r : Requirement) (old new : Encoding N S) → IsEncoding same p root old → has_candidates old.lists r ≡ true → IsNeed same p root old.coding.atoms.keys x v r → StatesNeed x v r old new
+  pub need_keeps : (x : Stated N S) (v : VariableId) (r : Requirement) (old new : Encoding N S) → IsEncoding same p root old → has_candidates old.lists r ≡ true → IsGuarded same p (E.rules_of old) r → IsNeed same p root old.coding.atoms.keys x v r → StatesNeed x v r old new
       → IsEncoding same p root new × ((q : Rule N S) → rule_of x ≡ Some q → E.rules_of new q)
-  need_keeps x v r old new e has_list need came = (carried same exact p root old new e carries, λ q is. (length old.coding.search.clauses, rule_stated new.coding.stated.items (length old.coding.search.clauses) x stated_here ∙ is))
+  need_keeps x v r old new e has_list guarded need came = (carried same exact p root old new e carries, λ q is. (length old.coding.search.clauses, rule_stated new.coding.stated.items (length old.coding.search.clauses) x stated_here ∙ is))
     where
       literals : List Signed
       literals = no v ∷ literals_in (candidates_in old.lists r)
@@ -267,6 +262,19 @@ module _ {N S : Type 0} (same : S → S → Bool) (exact : IsExact same) (p : Pa
         | inr (n, low, high, at) ↦ lists_same q (subst (λ y. has_candidates old.lists y ≡ true) (sym (asks_need old.coding.atoms.keys x v r need q (inr (same_rule n (Rule.shared q) low high at)))) has_list)
       ]
 
+      guard : (q : Requirement) → IsGuarded same p (E.rules_of old) q → IsGuarded same p (E.rules_of new) q
+      guard q = guard_grows same exact p root old new q came.states.grows
+
+      bar : (q : Requirement) → HasClause same p (E.rules_of new) q → IsGuarded same p (E.rules_of new) q
+      bar q (inl (parent, wanted, vs, stands, is)) = elim (rules_split old.coding new.coding e.coding came.states.coding came.states.grows (Rule.needs parent wanted vs) stands) [
+        | inl a ↦ guard q (e.bar q (inl (parent, wanted, vs, a, is)))
+        | inr (n, low, high, at) ↦ guard q (subst (λ y. IsGuarded same p (E.rules_of old) y) (sym (asks_need old.coding.atoms.keys x v r need q (inl (parent, wanted, vs, same_rule n (Rule.needs parent wanted vs) low high at, is)))) guarded)
+      ]
+      bar q (inr stands) = elim (rules_split old.coding new.coding e.coding came.states.coding came.states.grows (Rule.shared q) stands) [
+        | inl a ↦ guard q (e.bar q (inr a))
+        | inr (n, low, high, at) ↦ guard q (subst (λ y. IsGuarded same p (E.rules_of old) y) (sym (asks_need old.coding.atoms.keys x v r need q (inr (same_rule n (Rule.shared q) low high at)))) guarded)
+      ]
+
       next : NeedClause
       next = record { parent = v; requirement = r; condition = None; clause = came.number }
 
@@ -300,28 +308,23 @@ module _ {N S : Type 0} (same : S → S → Bool) (exact : IsExact same) (p : Pa
           | inr (low, high) ↦ (next, subst (λ qs. Contains qs next) (sym came.queue) (contains_right next old.queue (next ∷ []) (contains_only next)), number ∙ sym (place n low high))
         ];
         gates = gates_keep same exact p root lawful old new e came.states.grows came.gates;
+        bar = bar;
+        noted = noted_grows same exact p root old new came.states.grows came.noted e.noted;
         within = within_keeps same exact p root lawful old new e came.parents came.encoded;
         encoded = encoded_keeps same exact p root lawful old new e came.states.grows came.parents came.encoded;
       }
 
-  -- the clause that a solvable opens a gate came
-  pub gated_keeps : (s : S) (v gate : VariableId) (need : ConditionalRequirement) (id : ClauseId) (old new : Encoding N S) → IsEncoding same p root old
-      → Contains (rules_for same p root (Some s)).requirements need → need.condition ≡ None → StandsFor old.coding.atoms.keys v (Solvable s) → StandsFor old.coding.atoms.keys gate (Gate need.requirement)
-      → States (Says.Gated s need.requirement) (no v ∷ yes gate ∷ []) id old.coding new.coding → SameButCoding old new
-      → IsEncoding same p root new × E.rules_of new (Rule.gated s need.requirement)
-  gated_keeps s v gate need id old new e listed free stands opens states rest = (carried same exact p root old new e carries, (length old.coding.search.clauses, rule_stated new.coding.stated.items (length old.coding.search.clauses) x stated_here))
+  -- A clause came that states a rule, with its literals; none of these makes a solvable true, and the rule asks for no
+  -- match and tells no digit.
+  pub clause_keeps : (x : Stated N S) (rule : Rule N S) (literals : List Signed) (id : ClauseId) (old new : Encoding N S) → IsEncoding same p root old → rule_of x ≡ Some rule → IsRestraint rule → IsRule same p root rule
+      → Spells (origin old.coding.atoms.keys) literals (literals_of same p rule) → States x literals id old.coding new.coding → SameButCoding old new → IsEncoding same p root new × E.rules_of new rule
+  clause_keeps x rule literals id old new e states_rule denial is_rule spells states rest = (carried same exact p root old new e carries, (length old.coding.search.clauses, rule_here))
     where
-      r : Requirement
-      r = need.requirement
-
-      x : Stated N S
-      x = Says.Gated s r
-
-      literals : List Signed
-      literals = no v ∷ yes gate ∷ []
-
       stated_here : stated_at new.coding.stated.items (length old.coding.search.clauses) ≡ Some x
       stated_here = came_stated x literals id old.coding new.coding e.coding states
+
+      rule_here : rule_at new.coding.stated.items (length old.coding.search.clauses) ≡ Some rule
+      rule_here = rule_stated new.coding.stated.items (length old.coding.search.clauses) x stated_here ∙ states_rule
 
       literals_here : clause_at (clauses_of new.coding.search) (length old.coding.search.clauses) ≡ literals
       literals_here = came_literals x literals id old.coding new.coding e.coding states
@@ -332,61 +335,48 @@ module _ {N S : Type 0} (same : S → S → Bool) (exact : IsExact same) (p : Pa
       atoms : new.coding.atoms.keys ≡ old.coding.atoms.keys
       atoms = ap (λ a. a.keys) states.atoms
 
-      asks_it : asks (rules_of (p.dependencies_of s)).requirements r ≡ true
-      asks_it = contained_any (λ (n : ConditionalRequirement). not (has_condition n.condition) && same_requirement r n.requirement) need (rules_of (p.dependencies_of s)).requirements listed
-          (ap (λ c. not (has_condition c) && same_requirement r need.requirement) free ∙ same_requirement-self r)
-
-      head : Means (origin old.coding.atoms.keys) (no v) (minus (Atom.solvable s))
-      head = means_atom old.coding.atoms.keys (no v) (Solvable s) stands
-
-      door : Means (origin old.coding.atoms.keys) (yes gate) (plus (Atom.gate r))
-      door = means_atom old.coding.atoms.keys (yes gate) (Gate r) opens
-
-      spells : Spells (origin old.coding.atoms.keys) literals (minus (Atom.solvable s) ∷ plus (Atom.gate r) ∷ [])
-      spells = record {
-        only = λ l h. inr (elim (has-cons (no v) (yes gate ∷ []) l h) [
-          | inl is ↦ subst (λ (y : Signed). (0 < y.variable.0) × Contains (minus (Atom.solvable s) ∷ plus (Atom.gate r) ∷ []) (meaning (origin old.coding.atoms.keys) y)) is (head.0, contains_first _ (minus (Atom.solvable s)) (plus (Atom.gate r) ∷ []) head.1)
-          | inr a ↦ subst (λ (y : Signed). (0 < y.variable.0) × Contains (minus (Atom.solvable s) ∷ plus (Atom.gate r) ∷ []) (meaning (origin old.coding.atoms.keys) y)) (only_one l a) (door.0, contains_later _ (minus (Atom.solvable s)) (plus (Atom.gate r) ∷ []) (contains_first _ (plus (Atom.gate r)) [] door.1))
-        ]);
-        each = λ m h. elim (contains_cases m (minus (Atom.solvable s)) (plus (Atom.gate r) ∷ []) h) [
-          | inl is ↦ (no v, has_here (no v) (yes gate ∷ []) (no v) refl, subst (Means (origin old.coding.atoms.keys) (no v)) (sym is) head)
-          | inr a ↦ (yes gate, has_later (no v) (yes gate ∷ []) (yes gate) (has_here (yes gate) [] (yes gate) refl), subst (Means (origin old.coding.atoms.keys) (yes gate)) (sym (contains_one m (plus (Atom.gate r)) a)) door)
-        ];
-      }
-        where
-          only_one : (l : Signed) → has (yes gate ∷ []) l ≡ true → yes gate ≡ l
-          only_one l a = elim (has-cons (yes gate) [] l a) [ inl is ↦ is | inr f ↦ absurd (both_ways false refl f) ]
+      spells_new : Spells (origin new.coding.atoms.keys) literals (literals_of same p rule)
+      spells_new = subst (λ ks. Spells (origin ks) literals (literals_of same p rule)) (sym atoms) spells
 
       no_solvable : (l : Signed) (t : S) → has literals l ≡ true → Means (origin new.coding.atoms.keys) l (plus (Atom.solvable t)) → ⊥
-      no_solvable l t h m = elim ((subst (λ ks. Spells (origin ks) literals (minus (Atom.solvable s) ∷ plus (Atom.gate r) ∷ [])) (sym atoms) spells).only l h) [
+      no_solvable l t h m = elim (spells_new.only l h) [
         | inl z ↦ both_ways false refl (ap (λ (y : Signed). y.positive) (sym z) ∙ (means_solvable new.coding.atoms.keys l t m).0)
-        | inr (z, c) ↦ elim (contains_cases (meaning (origin new.coding.atoms.keys) l) (minus (Atom.solvable s)) (plus (Atom.gate r) ∷ []) c) [
-          | inl is ↦ both_ways false refl (ap (λ (y : Literal (Atom N S)). y.positive) (sym is) ∙ ap (λ (y : Literal (Atom N S)). y.positive) (sym m.1))
-          | inr b ↦ both_ways false refl (sym (ap (λ (y : Literal (Atom N S)). is_choice y.atom) m.1 ∙ ap (λ (y : Literal (Atom N S)). is_choice y.atom) (contains_one (meaning (origin new.coding.atoms.keys) l) (plus (Atom.gate r)) b)))
-        ]
+        | inr (z, c) ↦ makes_none same p rule denial t (subst (Contains (literals_of same p rule)) (sym m.1) c)
       ]
 
       right : Came same exact p root new (length old.coding.search.clauses)
       right = record {
         stated = x;
         at = stated_here;
-        rule = λ q is. (let one : Rule.gated s r ≡ q = some_one (Rule.gated s r) q is in
+        rule = λ q is. (let one : rule ≡ q = some_one rule q (sym states_rule ∙ is) in
             subst (λ (y : Rule N S). IsRule same p root y × Spells (origin new.coding.atoms.keys) (clause_at (clauses_of new.coding.search) (length old.coding.search.clauses)) (literals_of same p y)) one
-            (asks_it, subst (λ (cl : List Signed). Spells (origin new.coding.atoms.keys) cl (minus (Atom.solvable s) ∷ plus (Atom.gate r) ∷ [])) (sym literals_here) (subst (λ ks. Spells (origin ks) literals (minus (Atom.solvable s) ∷ plus (Atom.gate r) ∷ [])) (sym atoms) spells)));
+            (is_rule, subst (λ (cl : List Signed). Spells (origin new.coding.atoms.keys) cl (literals_of same p rule)) (sym literals_here) spells_new));
         positive = λ l t h m. absurd (no_solvable l t (subst (λ (cl : List Signed). has cl l ≡ true) literals_here h) m);
       }
 
       none : NoneAsks same exact p root lawful old new
       none n q low high at a =
-          let one : Rule.gated s r ≡ q = some_one (Rule.gated s r) q (sym (rule_stated new.coding.stated.items (length old.coding.search.clauses) x stated_here) ∙ subst (λ k. rule_at new.coding.stated.items k ≡ Some q) (place n low high) at) in
-          subst Asks (sym one) a
-
-      no_digit : (m : N) (t : S) (at bit : ℕ) → Says.Gated s r ≡ Says.Digit m t at bit → ⊥
-      no_digit m t at bit is = absurd cc
+          let one : rule ≡ q = some_one rule q (sym rule_here ∙ subst (λ k. rule_at new.coding.stated.items k ≡ Some q) (place n low high) at) in
+          asks_none rule denial (subst Asks (sym one) a)
 
       carries : Carries same exact p root old new
       carries = kept_carries same exact p root lawful old new e states.coding states.grows states.trail rest (λ n low high. subst (λ k. Came same exact p root new k) (sym (place n low high)) right) none
-          (digits_more x old.coding new.coding states.stated no_digit)
+          (digits_more x old.coding new.coding states.stated (not_digit x rule states_rule denial))
+
+  -- the clause that a solvable opens a gate came
+  pub gated_keeps : (s : S) (v gate : VariableId) (need : ConditionalRequirement) (id : ClauseId) (old new : Encoding N S) → IsEncoding same p root old
+      → Contains (rules_for same p root (Some s)).requirements need → need.condition ≡ None → StandsFor old.coding.atoms.keys v (Solvable s) → StandsFor old.coding.atoms.keys gate (Gate need.requirement)
+      → States (Says.Gated s need.requirement) (no v ∷ yes gate ∷ []) id old.coding new.coding → SameButCoding old new
+      → IsEncoding same p root new × E.rules_of new (Rule.gated s need.requirement)
+  gated_keeps s v gate need id old new e listed free stands opens states rest =
+      clause_keeps (Says.Gated s need.requirement) (Rule.gated s need.requirement) (no v ∷ yes gate ∷ []) id old new e refl tt asks_it
+      (pair_spells (origin old.coding.atoms.keys) (no v) (yes gate) (no v ∷ yes gate ∷ []) (minus (Atom.solvable s) ∷ []) (plus (Atom.gate need.requirement) ∷ []) (inl refl)
+      (inr (minus (Atom.solvable s), refl, means_atom old.coding.atoms.keys (no v) (Solvable s) stands)) (inr (plus (Atom.gate need.requirement), refl, means_atom old.coding.atoms.keys (yes gate) (Gate need.requirement) opens)))
+      states rest
+    where
+      asks_it : asks (rules_of (p.dependencies_of s)).requirements need.requirement ≡ true
+      asks_it = contained_any (λ (n : ConditionalRequirement). not (has_condition n.condition) && same_requirement need.requirement n.requirement) need (rules_of (p.dependencies_of s)).requirements listed
+          (ap (λ c. not (has_condition c) && same_requirement need.requirement need.requirement) free ∙ same_requirement-self need.requirement)
 
   -- a variable came, or nothing
   pub gives_keeps : (a : ProofAtom N S) (v : VariableId) (old new : Encoding N S) → IsEncoding same p root old → Gives a v old.coding new.coding → SameButCoding old new → IsEncoding same p root new
@@ -412,6 +402,8 @@ module _ {N S : Type 0} (same : S → S → Bool) (exact : IsExact same) (p : Pa
     fixed = e.fixed;
     queued = e.queued;
     asked = e.asked;
+    bar = e.bar;
+    noted = record { packages = e.noted.packages; version_sets = e.noted.version_sets };
     gates = λ q u at. elim (put_other old.gates new.gates r q v puts) [
       | inl same_one ↦ (let one : v ≡ u = some_one v u (sym (ap (slot_of new.gates) same_one ∙ put_at old.gates new.gates r v puts) ∙ at) in
           (subst (λ y. StandsFor old.coding.atoms.keys u (Gate y)) (sym same_one) (subst (λ w. StandsFor old.coding.atoms.keys w (Gate r)) one stands), subst (λ y. E.rules_of old (Rule.shared y)) (sym same_one) rule))
@@ -439,7 +431,12 @@ module _ {N S : Type 0} (same : S → S → Bool) (exact : IsExact same) (p : Pa
     asked = λ n r h a. absurd (no_rule n r h);
     gates = λ r v at. absurd (none_some v (sym (b.gates r) ∙ at));
     within = (let none : e.encoded ≡ 0 = b.encoded in omega arith);
-    encoded = λ i parent need below at stands. (let none : e.encoded ≡ 0 = b.encoded in absurd (omega arith));
+    bar = λ r h. absurd (elim h [ inl (parent, need, case, (n, at), is) ↦ no_rule n (Rule.needs parent need case) at | inr (n, at) ↦ no_rule n (Rule.shared r) at ]);
+    noted = record {
+      packages = λ n s a barred. absurd (contains_none n (subst (λ (ks : List N). Contains ks n) b.packages a));
+      version_sets = λ v s a outside. absurd (contains_none v (subst (λ (ks : List VersionSetId). Contains ks v) b.version_sets a));
+    };
+    encoded = λ i parent below at. (let none : e.encoded ≡ 0 = b.encoded in absurd (omega arith));
     called = λ x older stands is other. absurd (no_choice x older stands other);
   }
     where

@@ -6,7 +6,7 @@ use Rattle.indexmap.specs.IndexSet.{insert_key}
 use Rattle.resolvo_pool.specs.declared.solver_id.SolvableIdOrRoot.{SolvableIdOrRoot}
 use Rattle.resolvo_pool.specs.RuleKeeping.{Packages, Rules}
 use Rattle.resolvo_store.specs.AtMostOne.{IsFrontOf}
-use Rattle.resolvo_rules.proofs.Lists.{any_contained, contains_first, contains_right}
+use Rattle.resolvo_rules.proofs.Lists.{any_contained, contains_first, contains_right, contains_one, contains_parts}
 use Rattle.resolvo_coding.proofs.Positions.{get_old, front_long, front_same}
 use Rattle.resolvo_encoding.proofs.Carrying.{split_at}
 use Rattle.resolvo_encoding.specs.Encoded.{IsEncoding}
@@ -21,13 +21,25 @@ front_insert {X} eq xs x = go (list_any (eq x) xs)
     go true = front_same xs
     go false = (x ∷ [], refl)
 
+-- a value that equals one of a list stands there
+pub any_stands : {X : Type 0} (eq : X → X → Bool) (xs : List X) (x : X) → ((y : X) → eq x y ≡ true → y ≡ x) → list_any (eq x) xs ≡ true → Contains xs x
+any_stands eq xs x exact h = let (y, stands, same) = any_contained (eq x) xs h in subst (Contains xs) (exact y same) stands
+
 -- what is put into a list stands there
 pub inserted : {X : Type 0} (eq : X → X → Bool) (xs : List X) (x : X) → ((y : X) → eq x y ≡ true → y ≡ x) → Contains (insert_key eq xs x) x
 inserted {X} eq xs x exact = go (list_any (eq x) xs) refl
   where
     go : (b : Bool) → list_any (eq x) xs ≡ b → Contains (cond b xs (xs ++ x ∷ [])) x
-    go true h = let (y, stands, same) = any_contained (eq x) xs h in subst (Contains xs) (exact y same) stands
+    go true h = any_stands eq xs x exact h
     go false h = contains_right x xs (x ∷ []) (contains_first x x [] refl)
+
+-- what stands in a list stood there before a value was put into it, or is the value
+pub inserted_only : {X : Type 0} (eq : X → X → Bool) (xs : List X) (x y : X) → Contains (insert_key eq xs x) y → Contains xs y ⊎ (y ≡ x)
+inserted_only {X} eq xs x y = go (list_any (eq x) xs)
+  where
+    go : (b : Bool) → Contains (cond b xs (xs ++ x ∷ [])) y → Contains xs y ⊎ (y ≡ x)
+    go true h = inl h
+    go false h = elim (contains_parts y xs (x ∷ []) h) [ inl a ↦ inl a | inr a ↦ inr (contains_one y x a) ]
 
 module _ {N S : Type 0} (same : S → S → Bool) (p : Packages N S) (root : Rules) where
   -- more parents leave the encoding one
@@ -46,9 +58,11 @@ module _ {N S : Type 0} (same : S → S → Bool) (p : Packages N S) (root : Rul
     queued = e.queued;
     asked = e.asked;
     gates = e.gates;
+    bar = e.bar;
+    noted = record { packages = e.noted.packages; version_sets = e.noted.version_sets };
     within = (let a : length old.parents.keys ≤ length new.parents.keys = front_long old.parents.keys new.parents.keys added.front in let b : old.encoded ≤ length old.parents.keys = e.within in omega arith);
-    encoded = λ i parent need below at stands. (let b : old.encoded ≤ length old.parents.keys = e.within in let (more, is) = added.front in
-        e.encoded i parent need below (get_old old.parents.keys more i parent (omega arith) (subst (λ (ks : List (SolvableIdOrRoot S)). slice_get ks i ≡ Some parent) is at)) stands);
+    encoded = λ i parent below at. (let b : old.encoded ≤ length old.parents.keys = e.within in let (more, is) = added.front in
+        e.encoded i parent below (get_old old.parents.keys more i parent (omega arith) (subst (λ (ks : List (SolvableIdOrRoot S)). slice_get ks i ≡ Some parent) is at)));
     called = e.called;
   })
 
@@ -68,10 +82,12 @@ module _ {N S : Type 0} (same : S → S → Bool) (p : Packages N S) (root : Rul
     queued = e.queued;
     asked = e.asked;
     gates = e.gates;
+    bar = e.bar;
+    noted = record { packages = e.noted.packages; version_sets = e.noted.version_sets };
     within = omega arith;
-    encoded = λ i parent need low at stands. elim (last_or_before i old.encoded low) [
-      | inl before ↦ e.encoded i parent need before at stands
-      | inr is ↦ next parent need (subst (λ n. slice_get old.parents.keys n ≡ Some parent) is at) stands
+    encoded = λ i parent low at. elim (last_or_before i old.encoded low) [
+      | inl before ↦ e.encoded i parent before at
+      | inr is ↦ next parent (subst (λ n. slice_get old.parents.keys n ≡ Some parent) is at)
     ];
     called = e.called;
   }

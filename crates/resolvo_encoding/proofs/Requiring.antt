@@ -14,7 +14,7 @@ use Rattle.resolvo_pool.specs.Slots.{at}
 use Rattle.resolvo_pool.specs.OnePass.{Literal}
 use Rattle.resolvo_pool.specs.Provider.{listed}
 use Rattle.resolvo_pool.specs.Text.{solvable_of, alternatives_of}
-use Rattle.resolvo_pool.specs.RuleKeeping.{Packages, Rules, IsLawful, is_in, is_match, meets, rules_for}
+use Rattle.resolvo_pool.specs.RuleKeeping.{Packages, Rules, IsLawful, is_in, is_match, meets}
 use Rattle.resolvo_store.specs.AtMostOne.{digit}
 use Rattle.resolvo_store.specs.Signed.{Signed, has}
 use Rattle.resolvo_store.specs.Lists.{has_candidates, candidates_in, items_or_none, FixesCandidates}
@@ -41,10 +41,11 @@ use Rattle.resolvo_coding.specs.Atoms.{origin, StandsFor}
 use Rattle.resolvo_coding.specs.Statements.{rule_of, stated_at, rule_at}
 use Rattle.resolvo_coding.specs.Coding.{IsCoding, Grows, SameTrail}
 use Rattle.resolvo_coding.specs.Registered.{AreTied, IsTracked, IsRegistered, IsDigitClause, digit_literals}
-use Rattle.resolvo_encoding.specs.Encoded.{IsParentVariable, IsCandidate, AreCandidates, HasOrder, IsQueuedFor, Asks, Registered, IsEncoding}
+use Rattle.resolvo_encoding.specs.Encoded.{IsParentVariable, IsCandidate, AreCandidates, HasOrder, IsQueuedFor, Asks, IsGuarded, IsLimitEncoded, IsNoted, IsParentEncoded, Registered, IsEncoding}
 use Rattle.resolvo_encoding.specs.Encoded as E
 use Rattle.resolvo_encoding.specs.Steps.{IsOfferedAs, RegistersAll, KeepsLists, AddsCandidates, Fixes, StatesNeed, SameButCoding, Extends}
 use Rattle.resolvo_encoding.specs.declared.encoding.Encoding.{Encoding}
+use Rattle.resolvo_encoding.specs.declared.encoding.Noted.{Noted}
 use Rattle.resolvo_encoding.proofs.Picking.{candidates_grow, taken_grows}
 use Rattle.resolvo_coding.proofs.Origins.{solvable_stands}
 use Rattle.resolvo_coding.proofs.Registering.{KeepsDigits, ties_grow}
@@ -94,8 +95,9 @@ module _ {N S : Type 0} (same : S → S → Bool) (exact : IsExact same) (p : Pa
     pub asked : (n : ℕ) (r : Rule N S) → rule_at new.coding.stated.items n ≡ Some r → Asks r → (q : NeedClause) × Contains new.queue q × (q.clause.0 ≡ n)
     pub gates : (r : Requirement) (v : VariableId) → slot_of new.gates r ≡ Some v → StandsFor new.coding.atoms.keys v (Gate r) × E.rules_of new (Rule.shared r)
     pub within : new.encoded ≤ length new.parents.keys
-    pub encoded : (i : ℕ) (parent : SolvableIdOrRoot S) (need : ConditionalRequirement) → i < new.encoded → slice_get new.parents.keys i ≡ Some parent
-        → Contains (rules_for same p root (solvable_of parent)).requirements need → IsNeedEncoded same p (E.rules_of new) (solvable_of parent) need []
+    pub bar : (r : Requirement) → HasClause same p (E.rules_of new) r → IsGuarded same p (E.rules_of new) r
+    pub noted : IsNoted same p (E.rules_of new) new.noted
+    pub encoded : (i : ℕ) (parent : SolvableIdOrRoot S) → i < new.encoded → slice_get new.parents.keys i ≡ Some parent → IsParentEncoded same p (E.rules_of new) root (solvable_of parent)
 
   pub carried : (old new : Encoding N S) → IsEncoding same p root old → Carries old new → IsEncoding same p root new
   carried old new e h = record {
@@ -115,6 +117,8 @@ module _ {N S : Type 0} (same : S → S → Bool) (exact : IsExact same) (p : Pa
     queued = h.queued;
     asked = h.asked;
     gates = h.gates;
+    bar = h.bar;
+    noted = h.noted;
     within = h.within;
     encoded = h.encoded;
     called = called_grows_trail (IsFirstPick same p (HasOrder old) (E.rules_of old)) (IsFirstPick same p (HasOrder new) (E.rules_of new)) (taken_grows old new h.grows h.lists same p) old.coding new.coding e.coding h.grows h.trail e.called;
@@ -137,6 +141,33 @@ module _ {N S : Type 0} (same : S → S → Bool) (exact : IsExact same) (p : Pa
   need_grows old new parent need case grows (inl a) = inl (rules_grow old.coding new.coding grows (Rule.needs parent need case) a)
   need_grows old new parent need case grows (inr (inl (s, e, a, b))) = inr (inl (s, e, rules_grow old.coding new.coding grows (Rule.gated s need.requirement) a, rules_grow old.coding new.coding grows (Rule.shared need.requirement) b))
   need_grows old new parent need case grows (inr (inr a)) = inr (inr a)
+
+  -- what bars candidates of a requirement's packages goes on to be stated
+  pub guard_grows : (old new : Encoding N S) (r : Requirement) → Grows old.coding new.coding → IsGuarded same p (E.rules_of old) r → IsGuarded same p (E.rules_of new) r
+  guard_grows old new r grows h v s a barred = rules_grow old.coding new.coding grows (Rule.bars s) (h v s a barred)
+
+  -- a limit that is encoded stays so
+  pub limit_grows : (old new : Encoding N S) (parent : Option S) (v : VersionSetId) → Grows old.coding new.coding → IsLimitEncoded same p (E.rules_of old) parent v → IsLimitEncoded same p (E.rules_of new) parent v
+  limit_grows old new parent v grows h s outside = elim (h s outside) [
+    | inl a ↦ inl (rules_grow old.coding new.coding grows (Rule.limits parent v s) a)
+    | inr (a, b) ↦ inr (rules_grow old.coding new.coding grows (Rule.limits_outside parent v) a, rules_grow old.coding new.coding grows (Rule.is_out v s) b)
+  ]
+
+  -- a parent that is encoded stays so
+  pub parent_grows : (old new : Encoding N S) (parent : Option S) → Grows old.coding new.coding → IsParentEncoded same p (E.rules_of old) root parent → IsParentEncoded same p (E.rules_of new) root parent
+  parent_grows old new parent grows h = record {
+    needs = λ need a. need_grows old new parent need [] grows (h.needs need a);
+    limits = λ v a. limit_grows old new parent v grows (h.limits v a);
+    guarded = λ v a. guard_grows old new (Single v) grows (h.guarded v a);
+    unknown = λ s is a. rules_grow old.coding new.coding grows (Rule.bars s) (h.unknown s is a);
+  }
+
+  -- what is noted goes on to be stated
+  pub noted_grows : (old new : Encoding N S) → Grows old.coding new.coding → new.noted ≡ old.noted → IsNoted same p (E.rules_of old) old.noted → IsNoted same p (E.rules_of new) new.noted
+  noted_grows old new grows noted h = record {
+    packages = λ n s a barred. rules_grow old.coding new.coding grows (Rule.bars s) (h.packages n s (subst (λ (x : Noted N). Contains x.packages.keys n) noted a) barred);
+    version_sets = λ v s a outside. rules_grow old.coding new.coding grows (Rule.is_out v s) (h.version_sets v s (subst (λ (x : Noted N). Contains x.version_sets.keys v) noted a) outside);
+  }
 
 -- what a map by requirement has at one where it was put
 pub put_at : {V : Type 0} (m n : List (Option V) × List (Option V)) (r : Requirement) (x : V) → PutsAt m n r x → slot_of n r ≡ Some x
@@ -164,7 +195,7 @@ fix_at r given old new f = put_at old.candidates new.candidates r given f.put
 pub fix_other : {N : Type 0} (r q : Requirement) (given : Vec (Candidate N) Global) (old new : FixedLists N) → FixesCandidates r given old new → (q ≡ r) ⊎ (slot_of new.candidates q ≡ slot_of old.candidates q)
 fix_other r q given old new f = put_other old.candidates new.candidates r q given f.put
 
-each_of : {X : Type 0} (P : X → Type 0) (xs : List X) (x : X) → AllByRecursion P xs → Contains xs x → P x
+pub each_of : {X : Type 0} (P : X → Type 0) (xs : List X) (x : X) → AllByRecursion P xs → Contains xs x → P x
 each_of P [] x h c = absurd (contains_none x c)
 each_of P (y ∷ ys) x (h, hs) c = elim (contains_cases x y ys c) [ inl e ↦ subst P (sym e) h | inr d ↦ each_of P ys x hs d ]
 
@@ -238,11 +269,19 @@ module _ {N S : Type 0} (same : S → S → Bool) (exact : IsExact same) (p : Pa
   within_keeps old new e parents encoded = subst (λ n. n ≤ length new.parents.keys) (sym encoded) (subst (λ ps. old.encoded ≤ length ps.keys) (sym parents) e.within)
 
   pub encoded_keeps : (old new : Encoding N S) → IsEncoding same p root old → Grows old.coding new.coding → new.parents ≡ old.parents → new.encoded ≡ old.encoded
-      → (i : ℕ) (parent : SolvableIdOrRoot S) (need : ConditionalRequirement) → i < new.encoded → slice_get new.parents.keys i ≡ Some parent
-      → Contains (rules_for same p root (solvable_of parent)).requirements need → IsNeedEncoded same p (E.rules_of new) (solvable_of parent) need []
-  encoded_keeps old new e grows parents encoded i parent need below at stands =
-      need_grows same exact p root old new (solvable_of parent) need [] grows
-      (e.encoded i parent need (subst (λ n. i < n) encoded below) (sym (ap (λ ps. slice_get ps.keys i) parents) ∙ at) stands)
+      → (i : ℕ) (parent : SolvableIdOrRoot S) → i < new.encoded → slice_get new.parents.keys i ≡ Some parent → IsParentEncoded same p (E.rules_of new) root (solvable_of parent)
+  encoded_keeps old new e grows parents encoded i parent below at =
+      parent_grows same exact p root old new (solvable_of parent) grows (e.encoded i parent (subst (λ n. i < n) encoded below) (sym (ap (λ ps. slice_get ps.keys i) parents) ∙ at))
+
+  bar_keeps : (old new : Encoding N S) → IsEncoding same p root old → IsCoding new.coding → Grows old.coding new.coding → NoneAsks old new → (r : Requirement) → HasClause same p (E.rules_of new) r → IsGuarded same p (E.rules_of new) r
+  bar_keeps old new e coding grows none r (inl (parent, need, case, stands, is)) = elim (rules_split old.coding new.coding e.coding coding grows (Rule.needs parent need case) stands) [
+    | inl a ↦ guard_grows same exact p root old new r grows (e.bar r (inl (parent, need, case, a, is)))
+    | inr (n, low, high, at) ↦ absurd (none n (Rule.needs parent need case) low high at tt)
+  ]
+  bar_keeps old new e coding grows none r (inr stands) = elim (rules_split old.coding new.coding e.coding coding grows (Rule.shared r) stands) [
+    | inl a ↦ guard_grows same exact p root old new r grows (e.bar r (inr a))
+    | inr (n, low, high, at) ↦ absurd (none n (Rule.shared r) low high at tt)
+  ]
 
   -- where registered solvables, lists, queue and parents stay, and what came with each clause is right
   pub kept_carries : (old new : Encoding N S) → IsEncoding same p root old → IsCoding new.coding → Grows old.coding new.coding → SameTrail old.coding new.coding → SameButCoding old new
@@ -262,6 +301,8 @@ module _ {N S : Type 0} (same : S → S → Bool) (exact : IsExact same) (p : Pa
     queued = λ q a. queued_keeps old new e grows q (subst (λ qs. Contains qs q) rest.queue a);
     asked = asked_keeps old new e coding grows rest.queue none;
     gates = gates_keep old new e grows rest.gates;
+    bar = bar_keeps old new e coding grows none;
+    noted = noted_grows same exact p root old new grows rest.noted e.noted;
     within = within_keeps old new e rest.parents rest.encoded;
     encoded = encoded_keeps old new e grows rest.parents rest.encoded;
   }
@@ -372,6 +413,8 @@ module _ {N S : Type 0} (same : S → S → Bool) (exact : IsExact same) (p : Pa
             queued = λ q a. queued_keeps old new e all.grows q (subst (λ qs. Contains qs q) f.queue a);
             asked = asked_keeps old new e all.coding all.grows f.queue none;
             gates = gates_keep old new e all.grows f.gates;
+            bar = bar_keeps old new e all.coding all.grows none;
+            noted = noted_grows same exact p root old new all.grows f.noted e.noted;
             within = within_keeps old new e f.parents f.encoded;
             encoded = encoded_keeps old new e all.grows f.parents f.encoded;
           }

@@ -1,4 +1,4 @@
--- The end of a turn, for what was encoded of plain packages.
+-- The end of a turn, for what was encoded of a problem whose requirements have no condition.
 use Rattle.std.proofs.Common.{◌≡◌, ℕ, suc, ◌<◌, ◌≤◌, ◌⊎◌, inl, inr, Bool, true, false, List, [], ◌∷◌, ◌++◌, length, Option, Some, None, refl, sym, ◌∙◌, ap, subst, arith}
 use Rattle.std.specs.Prelude.{Contains}
 use Rattle.std.specs.List.{list_all}
@@ -9,7 +9,7 @@ use Rattle.resolvo_pool.specs.declared.id.VersionSetId.{VersionSetId}
 use Rattle.resolvo_pool.specs.declared.requirement.ConditionalRequirement.{ConditionalRequirement}
 use Rattle.resolvo_pool.specs.declared.requirement.Requirement.{Requirement}
 use Rattle.resolvo_pool.specs.declared.solver_id.SolvableIdOrRoot.TheVariants as Place
-use Rattle.resolvo_pool.specs.RuleKeeping.{Packages, Rules, IsLawful, is_in, is_member, meets, rules_for, IsRuleKeeping, IsReached}
+use Rattle.resolvo_pool.specs.RuleKeeping.{Packages, Rules, IsLawful, is_in, is_member, meets, IsRuleKeeping, IsReached}
 use Rattle.resolvo_pool.specs.OnePass.{Literal, negate}
 use Rattle.resolvo_pool.specs.Text.{alternatives_of}
 use Rattle.resolvo_pool.specs.declared.id.VariableId.{VariableId}
@@ -31,7 +31,7 @@ use Rattle.resolvo_rules.specs.Encoding.{IsExact, Atom, Rule, plus, minus, cases
 use Rattle.resolvo_rules.specs.Ending as Ending
 use Rattle.resolvo_rules.specs.First.{ArePreferred}
 use Rattle.resolvo_rules.specs.Numbered.{meaning, Means, known_of, IsTurnEnd}
-use Rattle.resolvo_rules.proofs.Lists.{contains_none, contains_one, contains_cases, contains_parts}
+use Rattle.resolvo_rules.proofs.Lists.{contains_none, contains_one, contains_only, contains_cases, contains_parts}
 use Rattle.resolvo_rules.proofs.Meanings.{found}
 use Rattle.resolvo_rules.proofs.Turns.{turn_accepted, turn_keeps_rules, turn_prefers, turn_refused}
 use Rattle.resolvo_rules.proofs.Members.{stands_candidate, in_contained, contained_in}
@@ -48,7 +48,7 @@ use Rattle.resolvo_coding.proofs.Origins.{coding_once, means_atom, means_solvabl
 use Rattle.resolvo_coding.proofs.Growth.{stands_once, stands_in_range, coding_coded}
 use Rattle.resolvo_coding.proofs.Registering.{told}
 use Rattle.resolvo_coding.specs.Registered.{IsRegistered}
-use Rattle.resolvo_encoding.specs.Encoded.{IsParentVariable, IsCandidate, AreOrdered, IsQueuedFor, Asks, IsEncoding, IsPlain, Registered}
+use Rattle.resolvo_encoding.specs.Encoded.{IsParentVariable, IsCandidate, AreOrdered, IsQueuedFor, Asks, IsParentEncoded, IsEncoding, IsUnconditional, Registered}
 use Rattle.resolvo_encoding.specs.Encoded as E
 use Rattle.resolvo_encoding.specs.Turning.{AreValues, IsDecided, AreAmongEncoded}
 use Rattle.resolvo_encoding.proofs.Digits.{digit_told, digits_agree}
@@ -84,22 +84,22 @@ root_denied e coding first literals causes refusal l h =
 
 module _ {N S : Type 0} (same : S → S → Bool) (exact : IsExact same) (p : Packages N S) (root : Rules) (lawful : IsLawful p) (e : Encoding N S) where
   -- a stated need has one case, which asks for nothing
-  no_case : IsEncoding same p root e → IsPlain same p root → (parent : Option S) (need : ConditionalRequirement) (case : List VersionSetId) → E.rules_of e (Rule.needs parent need case) → case ≡ []
-  no_case holds plain parent need case stands =
+  no_case : IsEncoding same p root e → IsUnconditional same p root → (parent : Option S) (need : ConditionalRequirement) (case : List VersionSetId) → E.rules_of e (Rule.needs parent need case) → case ≡ []
+  no_case holds free parent need case stands =
       let (listed, one) = holds.rule (Rule.needs parent need case) stands in
-      contains_one case [] (subst (λ c. Contains (cases_under p.condition_of c) case) (plain.unconditional parent need listed) one)
+      contains_one case [] (subst (λ c. Contains (cases_under p.condition_of c) case) (free.unconditional parent need listed) one)
 
   -- What holds of the clauses whatever stands on the trail.
-  pub register : IsEncoding same p root e → IsPlain same p root → Ending.AreRegistered same p (E.rules_of e) root (Registered same p root e) []
-  register holds plain = record {
+  pub register : IsEncoding same p root e → IsUnconditional same p root → Ending.AreRegistered same p (E.rules_of e) root (Registered same p root e) []
+  register holds free = record {
     rule = holds.rule;
     wish = λ s h. absurd (both_ways false refl h);
     candidate = λ r s has fits. (let (c, stands, is) = holds.offered r s (holds.fixed r has) fits in (c.literal.variable, is.stands, is.tracked));
-    out = λ parent need case v s stands h outside. absurd (contains_none v (subst (λ (vs : List VersionSetId). Contains vs v) (no_case holds plain parent need case stands) h));
+    out = λ parent need case v s stands h outside. absurd (contains_none v (subst (λ (vs : List VersionSetId). Contains vs v) (no_case holds free parent need case stands) h));
     candidates = holds.candidates;
     told = λ s t a b named. told e.registry e.coding (p.package_of s) s t holds.tied a (subst (λ (n : N). IsRegistered e.registry e.coding n t) (sym named) b);
-    there = λ parent need case v s stands h registered named. absurd (contains_none v (subst (λ (vs : List VersionSetId). Contains vs v) (no_case holds plain parent need case stands) h));
-    bar = λ r v s has h barred. absurd (both_ways _ (plain.unbarred s) barred.1);
+    there = λ parent need case v s stands h registered named. absurd (contains_none v (subst (λ (vs : List VersionSetId). Contains vs v) (no_case holds free parent need case stands) h));
+    bar = λ r v s has h barred. holds.bar r has v s h barred;
   }
 
   -- a clause that states a rule is one of the clauses
@@ -130,11 +130,11 @@ module _ {N S : Type 0} (same : S → S → Bool) (exact : IsExact same) (p : Pa
       other (holds.coding.ready.state.in_range n l stands) (subst (λ (x : Literal (Atom N S)). Contains (known_of (origin e.coding.atoms.keys) (history e.coding.search)) (negate x)) (sym is) h)
 
   -- A literal of a clause that asks, which is not false, is that a match of the requirement is chosen.
-  asking_candidate : IsEncoding same p root e → IsPlain same p root → (n : ℕ) (r : Requirement) (k : Ending.IsAsked same p (E.rules_of e) (known_of (origin e.coding.atoms.keys) (history e.coding.search)) r) (l : Signed)
+  asking_candidate : IsEncoding same p root e → IsUnconditional same p root → (n : ℕ) (r : Requirement) (k : Ending.IsAsked same p (E.rules_of e) (known_of (origin e.coding.atoms.keys) (history e.coding.search)) r) (l : Signed)
       → rule_at e.coding.stated.items n ≡ Some (Ending.asking same p (E.rules_of e) (known_of (origin e.coding.atoms.keys) (history e.coding.search)) r k)
       → has (clause_at (clauses_of e.coding.search) n) l ≡ true → has (made_true (history e.coding.search)) (negation l) ≡ false
       → (s : S) × (meets same p r s ≡ true) × Means (origin e.coding.atoms.keys) l (plus (Atom.solvable s))
-  asking_candidate holds plain n r k l at stands open_still = elim ((holds.spelled n (Ending.asking same p (E.rules_of e) (known_of (origin e.coding.atoms.keys) (history e.coding.search)) r k) at).only l stands) [
+  asking_candidate holds free n r k l at stands open_still = elim ((holds.spelled n (Ending.asking same p (E.rules_of e) (known_of (origin e.coding.atoms.keys) (history e.coding.search)) r k) at).only l stands) [
     | inl z ↦ absurd (both_ways _ open_still (subst (λ (x : Signed). has (made_true (history e.coding.search)) (negation x) ≡ true) (sym z) (root_known (history e.coding.search) holds.coding.ready.state.rooted)))
     | inr (other, c) ↦ go other k c
   ]
@@ -239,47 +239,44 @@ module _ {N S : Type 0} (same : S → S → Bool) (exact : IsExact same) (p : Pa
   ]
 
   -- What is asked for is met, where the clauses are quiet and nothing is left to decide.
-  pub met : IsEncoding same p root e → IsPlain same p root → (values : ℕ → Option Bool) (score : N → ℕ) → AreValues values (made_true (history e.coding.search))
+  pub met : IsEncoding same p root e → IsUnconditional same p root → (values : ℕ → Option Bool) (score : N → ℕ) → AreValues values (made_true (history e.coding.search))
       → ((n : ℕ) → n < length e.coding.search.clauses → IsQuiet (made_true (history e.coding.search)) (clause_at (clauses_of e.coding.search) n)) → IsDecided e values score
       → (r : Requirement) → Ending.IsAsked same p (E.rules_of e) (known_of (origin e.coding.atoms.keys) (history e.coding.search)) r
       → (s : S) × (meets same p r s ≡ true) × ((l : Signed) × (has (made_true (history e.coding.search)) l ≡ true) × Means (origin e.coding.atoms.keys) l (plus (Atom.solvable s)))
-  met holds plain values score agree quiet decided r k =
+  met holds free values score agree quiet decided r k =
       let (n, at) = rule_stands r k in
       let (q, queued, number) = holds.asked n _ at (rule_asks r k) in
       let (x, said, states) = stated_rule e.coding.stated.items n _ at in
       let asking : IsAsking r q = queue_fits holds r k q x (subst (λ o. IsQueuedFor e.coding.atoms.keys o q) (ap (stated_at e.coding.stated.items) number ∙ said) (holds.queued q queued)) states in
       let (l, stands, unfalse) = unfallen holds (clause_at (clauses_of e.coding.search) n) (quiet n (rule_within holds n _ at)) in
-      let (s, fits, means) = asking_candidate holds plain n r k l at stands unfalse in
+      let (s, fits, means) = asking_candidate holds free n r k l at stands unfalse in
       let (c, listed, is) = holds.offered r s (holds.fixed r (has_clause same p root e r k)) fits in
       let literal : c.literal ≡ l = candidate_is holds (p.package_of s) s c l is means in
       let (d, there, known) = true_candidate holds values score agree r q c asking (decided q queued) listed (subst (λ (y : Signed). has (made_true (history e.coding.search)) (negation y) ≡ false) (sym literal) unfalse) in
       let (t, one, suits) = holds.listed r d there in
       (t, suits, (d.literal, known, solvable_means e.coding.atoms.keys d.literal t one.positive one.stands))
 
-  -- the needs of the root and of the members are clauses, and they have nothing else that clauses state
-  members_encoded : IsEncoding same p root e → IsPlain same p root → (members : List S) → AreAmongEncoded e members → Ending.AreEncoded same p (E.rules_of e) root members
-  members_encoded holds plain members among = record {
+  -- the needs and the limits of the root and of the members are clauses, and so is what bars them
+  members_encoded : IsEncoding same p root e → IsUnconditional same p root → (members : List S) → AreAmongEncoded e members → Ending.AreEncoded same p (E.rules_of e) root members
+  members_encoded holds free members among = record {
     need = λ parent need case member listed one truth. subst (λ (vs : List VersionSetId). Ending.IsNeedEncoded same p (E.rules_of e) parent need vs)
-        (sym (contains_one case [] (subst (λ c. Contains (cases_under p.condition_of c) case) (plain.unconditional parent need listed) one))) (go parent need member listed);
-    limit = λ parent v s member listed outside. absurd (no_limit parent v listed);
-    bar = λ parent v s member listed barred. absurd (no_limit parent v listed);
-    unknown = λ s member unknown. absurd (both_ways _ (plain.known s) unknown);
+        (sym (contains_one case [] (subst (λ c. Contains (cases_under p.condition_of c) case) (free.unconditional parent need listed) one))) ((encoded parent member).needs need listed);
+    limit = λ parent v s member listed outside. (encoded parent member).limits v listed s outside;
+    bar = λ parent v s member listed barred. (encoded parent member).guarded v listed v s (contains_only v) barred;
+    unknown = λ s member unknown. (encoded (Some s) member).unknown s refl unknown;
   }
     where
-      no_limit : (parent : Option S) (v : VersionSetId) → Contains (rules_for same p root parent).constraints v → ⊥
-      no_limit parent v h = contains_none v (subst (λ (vs : List VersionSetId). Contains vs v) (plain.unlimited parent) h)
-
-      go : (parent : Option S) (need : ConditionalRequirement) → is_member same p root members parent ≡ true → Contains (rules_for same p root parent).requirements need → Ending.IsNeedEncoded same p (E.rules_of e) parent need []
-      go None need member listed = let (i, below, at) = among.root in holds.encoded i Place.Root need below at listed
-      go (Some s) need member listed = let (i, below, at) = among.each s (in_contained same exact p members s member) in holds.encoded i (Place.Solvable s) need below at listed
+      encoded : (parent : Option S) → is_member same p root members parent ≡ true → IsParentEncoded same p (E.rules_of e) root parent
+      encoded None member = let (i, below, at) = among.root in holds.encoded i Place.Root below at
+      encoded (Some s) member = let (i, below, at) = among.each s (in_contained same exact p members s member) in holds.encoded i (Place.Solvable s) below at
 
   -- Where the clauses are quiet, nothing is left to decide, and the needs of the root and of the chosen solvables are
   -- clauses, the turn has ended.
-  pub turn_ended : IsEncoding same p root e → IsPlain same p root → (values : ℕ → Option Bool) (score : N → ℕ) → AreValues values (made_true (history e.coding.search))
+  pub turn_ended : IsEncoding same p root e → IsUnconditional same p root → (values : ℕ → Option Bool) (score : N → ℕ) → AreValues values (made_true (history e.coding.search))
       → ((n : ℕ) → n < length e.coding.search.clauses → IsQuiet (made_true (history e.coding.search)) (clause_at (clauses_of e.coding.search) n)) → IsDecided e values score
       → (members : List S) → AreChosen e.coding.atoms.keys (made_true (history e.coding.search)) members → AreAmongEncoded e members
       → IsTurnEnd (origin e.coding.atoms.keys) same p (E.rules_of e) root (Registered same p root e) [] (count_of e.coding.search) e.coding.search.clauses (history e.coding.search) members
-  turn_ended holds plain values score agree quiet decided members chosen among = record {
+  turn_ended holds free values score agree quiet decided members chosen among = record {
     lawful = lawful;
     coded = coding_coded same p (Registered same p root e) e.coding holds.coding holds.spelled holds.positive;
     trail = holds.coding.ready.state.trail;
@@ -288,28 +285,28 @@ module _ {N S : Type 0} (same : S → S → Bool) (exact : IsExact same) (p : Pa
     quiet = quiet;
     true_on_trail = λ s h. chosen.each s (in_contained same exact p members s h);
     chosen = λ l s h means. contained_in same exact p members s (chosen.all l s h means);
-    met = λ r k. (let (s, fits, (l, h, means)) = met holds plain values score agree quiet decided r k in inr (s, fits, contained_in same exact p members s (chosen.all l s h means)));
-    register = register holds plain;
-    encoded = members_encoded holds plain members among;
+    met = λ r k. (let (s, fits, (l, h, means)) = met holds free values score agree quiet decided r k in inr (s, fits, contained_in same exact p members s (chosen.all l s h means)));
+    register = register holds free;
+    encoded = members_encoded holds free members among;
   }
 
   -- The chosen solvables keep all rules, and are those that the root reaches.
-  pub turn_keeps : (same_name : N → N → Bool) → IsExact same_name → IsEncoding same p root e → IsPlain same p root → (values : ℕ → Option Bool) (score : N → ℕ) → AreValues values (made_true (history e.coding.search))
+  pub turn_keeps : (same_name : N → N → Bool) → IsExact same_name → IsEncoding same p root e → IsUnconditional same p root → (values : ℕ → Option Bool) (score : N → ℕ) → AreValues values (made_true (history e.coding.search))
       → ((n : ℕ) → n < length e.coding.search.clauses → IsQuiet (made_true (history e.coding.search)) (clause_at (clauses_of e.coding.search) n)) → IsDecided e values score
       → (members : List S) → AreChosen e.coding.atoms.keys (made_true (history e.coding.search)) members → AreAmongEncoded e members
       → IsRuleKeeping same p root members × ((s : S) → is_in same p members s ≡ true → IsReached same p root [] members s) × ((s : S) → IsReached same p root [] members s → is_in same p members s ≡ true)
-  turn_keeps same_name names holds plain values score agree quiet decided members chosen among =
-      let ended = turn_ended holds plain values score agree quiet decided members chosen among in
+  turn_keeps same_name names holds free values score agree quiet decided members chosen among =
+      let ended = turn_ended holds free values score agree quiet decided members chosen among in
       let accepted = turn_accepted same exact same_name names p root (origin e.coding.atoms.keys) (E.rules_of e) (Registered same p root e) [] (count_of e.coding.search) e.coding.search.clauses (history e.coding.search) members ended in
       (turn_keeps_rules same exact same_name names p root (origin e.coding.atoms.keys) (E.rules_of e) (Registered same p root e) (count_of e.coding.search) e.coding.search.clauses (history e.coding.search) members ended, accepted.reached, accepted.inside)
 
   -- They were chosen in the order in which they are tried.
-  pub turn_preferred : (same_name : N → N → Bool) → IsExact same_name → IsEncoding same p root e → IsPlain same p root → (orders : Requirement → List S → Type 0) → AreOrdered orders e → (values : ℕ → Option Bool) (score : N → ℕ) → AreValues values (made_true (history e.coding.search))
+  pub turn_preferred : (same_name : N → N → Bool) → IsExact same_name → IsEncoding same p root e → IsUnconditional same p root → (orders : Requirement → List S → Type 0) → AreOrdered orders e → (values : ℕ → Option Bool) (score : N → ℕ) → AreValues values (made_true (history e.coding.search))
       → ((n : ℕ) → n < length e.coding.search.clauses → IsQuiet (made_true (history e.coding.search)) (clause_at (clauses_of e.coding.search) n)) → IsDecided e values score
       → (members : List S) → AreChosen e.coding.atoms.keys (made_true (history e.coding.search)) members → AreAmongEncoded e members → ArePreferred same p orders root members
-  turn_preferred same_name names holds plain orders ordered values score agree quiet decided members chosen among =
+  turn_preferred same_name names holds free orders ordered values score agree quiet decided members chosen among =
       turn_prefers same exact same_name names p root (origin e.coding.atoms.keys) (E.rules_of e) (Registered same p root e) orders (digit_told same e.coding.stated.items) (count_of e.coding.search) e.coding.search.clauses (history e.coding.search) members
-      (turn_ended holds plain values score agree quiet decided members chosen among) (λ x older stands is other. taken_ordered orders e same p ordered _ _ (holds.called x older stands is other)) (digits_agree same exact p root e holds)
+      (turn_ended holds free values score agree quiet decided members chosen among) (λ x older stands is other. taken_ordered orders e same p ordered _ _ (holds.called x older stands is other)) (digits_agree same exact p root e holds)
 
   -- A clause that denies choices of the first level alone, by clauses that digits of places agree with, leaves no
   -- rule-keeping set.

@@ -1,19 +1,21 @@
 -- What was encoded, and what it tells of the packages.
-use Rattle.std.specs.Prelude.{◌≡◌, ℕ, ◌<◌, ◌≤◌, Bool, true, false, List, [], ◌∷◌, length, slice_get, Option, Some, None, Contains}
+use Rattle.std.specs.Prelude.{◌≡◌, ℕ, ◌<◌, ◌≤◌, ◌⊎◌, Bool, true, List, [], ◌∷◌, length, slice_get, Option, Some, None, Contains}
 use Rattle.resolvo_pool.specs.declared.id.VariableId.{VariableId}
+use Rattle.resolvo_pool.specs.declared.id.VersionSetId.{VersionSetId}
 use Rattle.resolvo_pool.specs.declared.requirement.ConditionalRequirement.{ConditionalRequirement}
 use Rattle.resolvo_pool.specs.declared.requirement.Requirement.{Requirement}
+use Rattle.resolvo_pool.specs.declared.requirement.Requirement.TheVariants.{Single}
 use Rattle.resolvo_pool.specs.declared.solver_id.SolvableIdOrRoot.{SolvableIdOrRoot}
 use Rattle.resolvo_pool.specs.ByRequirement.{slot_of}
 use Rattle.resolvo_pool.specs.Provider.{listed}
-use Rattle.resolvo_pool.specs.Text.{solvable_of}
-use Rattle.resolvo_pool.specs.RuleKeeping.{Packages, Rules, is_in, meets, rules_for, is_barred, is_unknown}
+use Rattle.resolvo_pool.specs.Text.{solvable_of, alternatives_of}
+use Rattle.resolvo_pool.specs.RuleKeeping.{Packages, Rules, is_in, meets, rules_for, is_outside, is_unknown}
 use Rattle.resolvo_store.specs.Clauses.{root as root_variable}
 use Rattle.resolvo_store.specs.declared.decide_queue.NeedClause.{NeedClause}
 use Rattle.resolvo_store.specs.declared.lists.Candidate.{Candidate}
 use Rattle.resolvo_store.specs.Lists.{has_candidates, candidates_in}
 use Rattle.resolvo_search.specs.State.{history}
-use Rattle.resolvo_rules.specs.Encoding.{Rule, IsRule}
+use Rattle.resolvo_rules.specs.Encoding.{Rule, IsRule, IsBarredIn}
 use Rattle.resolvo_rules.specs.Ending.{IsNeedEncoded, HasClause}
 use Rattle.resolvo_rules.specs.First.{IsFirstPick}
 use Rattle.resolvo_rules.specs.Numbered.{AreCalledFor}
@@ -27,6 +29,7 @@ use Rattle.resolvo_coding.specs.Coding.{IsCoding}
 use Rattle.resolvo_coding.specs.Registered.{AreTied, IsTracked, IsRegistered}
 use Rattle.resolvo_coding.specs.Spelled.{Spelled, AreRegistered}
 use Rattle.resolvo_encoding.specs.declared.encoding.Encoding.{Encoding}
+use Rattle.resolvo_encoding.specs.declared.encoding.Noted.{Noted}
 
 -- the rules that clauses state
 abbrev pub rules_of : {N S : Type 0} → Encoding N S → Rule N S → Type 0
@@ -86,12 +89,31 @@ Asks (Rule.bars s) = ⊥
 Asks (Rule.has_digit s bit b) = ⊥
 Asks (Rule.is_there n s) = ⊥
 
--- No requirement has a condition, nothing is limited, locked or excluded, and all dependencies are known.
-pub record IsPlain {N S : Type 0} (same : S → S → Bool) (p : Packages N S) (root : Rules) : Type 0 where
+module _ {N S : Type 0} (same : S → S → Bool) (p : Packages N S) (rules : Rule N S → Type 0) where
+  -- what locks and exclusions bar in the requirement's packages is stated
+  abbrev pub IsGuarded : Requirement → Type 0
+  IsGuarded r = (v : VersionSetId) (s : S) → Contains (alternatives_of p.members_of r) v → IsBarredIn same p (p.set_package v) s → rules (Rule.bars s)
+
+  -- a clause keeps out each candidate outside the parent's version set, or two clauses do
+  abbrev pub IsLimitEncoded : Option S → VersionSetId → Type 0
+  IsLimitEncoded parent v = (s : S) → is_outside same p v s ≡ true → rules (Rule.limits parent v s) ⊎ (rules (Rule.limits_outside parent v) × rules (Rule.is_out v s))
+
+  -- What locks and exclusions bar in the noted packages is stated, and what is outside the noted version sets.
+  pub record IsNoted (noted : Noted N) : Type 0 where
+    pub packages : (n : N) (s : S) → Contains noted.packages.keys n → IsBarredIn same p n s → rules (Rule.bars s)
+    pub version_sets : (v : VersionSetId) (s : S) → Contains noted.version_sets.keys v → is_outside same p v s ≡ true → rules (Rule.is_out v s)
+
+  -- The parent's needs and limits are clauses, and so is what bars candidates that its limits name, and the parent itself
+  -- if its dependencies are unknown.
+  pub record IsParentEncoded (root : Rules) (parent : Option S) : Type 0 where
+    pub needs : (need : ConditionalRequirement) → Contains (rules_for same p root parent).requirements need → IsNeedEncoded same p rules parent need []
+    pub limits : (v : VersionSetId) → Contains (rules_for same p root parent).constraints v → IsLimitEncoded parent v
+    pub guarded : (v : VersionSetId) → Contains (rules_for same p root parent).constraints v → IsGuarded (Single v)
+    pub unknown : (s : S) → parent ≡ Some s → is_unknown (p.dependencies_of s) ≡ true → rules (Rule.bars s)
+
+-- no requirement has a condition
+pub record IsUnconditional {N S : Type 0} (same : S → S → Bool) (p : Packages N S) (root : Rules) : Type 0 where
   pub unconditional : (parent : Option S) (need : ConditionalRequirement) → Contains (rules_for same p root parent).requirements need → need.condition ≡ None
-  pub unlimited : (parent : Option S) → (rules_for same p root parent).constraints ≡ []
-  pub unbarred : (s : S) → is_barred same p s ≡ false
-  pub known : (s : S) → is_unknown (p.dependencies_of s) ≡ false
 
 module _ {N S : Type 0} (same : S → S → Bool) (p : Packages N S) (root : Rules) where
   -- the solvable is registered as one of its package's
@@ -118,9 +140,11 @@ module _ {N S : Type 0} (same : S → S → Bool) (p : Packages N S) (root : Rul
     pub asked : (n : ℕ) (r : Rule N S) → rule_at e.coding.stated.items n ≡ Some r → Asks r → (q : NeedClause) × Contains e.queue q × (q.clause.0 ≡ n)
     -- each gate has its clause
     pub gates : (r : Requirement) (v : VariableId) → slot_of e.gates r ≡ Some v → StandsFor e.coding.atoms.keys v (Gate r) × rules_of e (Rule.shared r)
-    -- the needs of the first parents are clauses
+    -- what bars candidates of requirements with a clause is stated, and so is what is noted
+    pub bar : (r : Requirement) → HasClause same p (rules_of e) r → IsGuarded same p (rules_of e) r
+    pub noted : IsNoted same p (rules_of e) e.noted
+    -- the needs and the limits of the first parents are clauses
     pub within : e.encoded ≤ length e.parents.keys
-    pub encoded : (i : ℕ) (parent : SolvableIdOrRoot S) (need : ConditionalRequirement) → i < e.encoded → slice_get e.parents.keys i ≡ Some parent
-        → Contains (rules_for same p root (solvable_of parent)).requirements need → IsNeedEncoded same p (rules_of e) (solvable_of parent) need []
+    pub encoded : (i : ℕ) (parent : SolvableIdOrRoot S) → i < e.encoded → slice_get e.parents.keys i ≡ Some parent → IsParentEncoded same p (rules_of e) root (solvable_of parent)
     -- each choice is the first candidate that was not false, of a requirement that was asked for
     pub called : AreCalledFor (origin e.coding.atoms.keys) (IsFirstPick same p (HasOrder e) (rules_of e)) (history e.coding.search)

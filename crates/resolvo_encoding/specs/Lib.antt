@@ -1,4 +1,5 @@
 pub mod Encoded
 pub mod Steps
+pub mod Telling
 pub mod Turning
 pub mod Going

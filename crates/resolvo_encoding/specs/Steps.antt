@@ -21,8 +21,7 @@ use Rattle.resolvo_coding.specs.declared.stated.Stated.TheVariants as Says
 use Rattle.resolvo_pool.specs.Text.{solvable_of}
 use Rattle.resolvo_pool.specs.declared.solver_id.SolvableIdOrRoot.{SolvableIdOrRoot}
 use Rattle.resolvo_store.specs.AtMostOne.{IsFrontOf}
-use Rattle.resolvo_rules.specs.Ending.{IsNeedEncoded}
-use Rattle.resolvo_encoding.specs.Encoded.{IsParentVariable, AreCandidates, rules_of}
+use Rattle.resolvo_encoding.specs.Encoded.{IsParentVariable, IsParentEncoded, AreCandidates, rules_of}
 use Rattle.resolvo_coding.specs.declared.stated.Stated.{Stated}
 use Rattle.resolvo_coding.specs.declared.coding.Coding.{Coding}
 use Rattle.resolvo_coding.specs.declared.registry.Registry.{Registry}
@@ -68,6 +67,7 @@ AddsCandidates r offered old new = (q : Requirement) → has_candidates new.list
 pub record Fixes {N S : Type 0} (r : Requirement) (offered : List (Offered N S)) (old new : Encoding N S) : Type 0 where
   pub queue : new.queue ≡ old.queue
   pub gates : new.gates ≡ old.gates
+  pub noted : new.noted ≡ old.noted
   pub parents : new.parents ≡ old.parents
   pub encoded : new.encoded ≡ old.encoded
   pub fixed : ((has_candidates old.lists r ≡ true) × (new ≡ old))
@@ -82,6 +82,7 @@ pub record StatesNeed {N S : Type 0} (stated : Stated N S) (v : VariableId) (r :
   pub registry : new.registry ≡ old.registry
   pub lists : new.lists ≡ old.lists
   pub gates : new.gates ≡ old.gates
+  pub noted : new.noted ≡ old.noted
   pub parents : new.parents ≡ old.parents
   pub encoded : new.encoded ≡ old.encoded
 
@@ -107,6 +108,7 @@ pub record SameButCoding {N S : Type 0} (old new : Encoding N S) : Type 0 where
   pub lists : new.lists ≡ old.lists
   pub queue : new.queue ≡ old.queue
   pub gates : new.gates ≡ old.gates
+  pub noted : new.noted ≡ old.noted
   pub parents : new.parents ≡ old.parents
   pub encoded : new.encoded ≡ old.encoded
 
@@ -149,6 +151,8 @@ pub record IsBegunEncoding {N S : Type 0} (e : Encoding N S) : Type 0 where
   pub lists : IsEmpty e.lists
   pub queue : e.queue ≡ []
   pub gates : (r : Requirement) → slot_of e.gates r ≡ None
+  pub packages : e.noted.packages.keys ≡ []
+  pub version_sets : e.noted.version_sets.keys ≡ []
   pub parents : e.parents.keys ≡ Root ∷ []
   pub encoded : e.encoded ≡ 0
 
@@ -157,7 +161,6 @@ pub record AddsParent {N S : Type 0} (old new : Encoding N S) : Type 0 where
   pub front : IsFrontOf old.parents.keys new.parents.keys
   pub rest : new ≡ record old { parents = new.parents }
 
--- each need of the next parent is a clause
+-- the needs and the limits of the next parent are clauses
 abbrev pub IsNextEncoded : {N S : Type 0} → (S → S → Bool) → Packages N S → Rules → Encoding N S → Type 0
-IsNextEncoded {N} {S} same p root e = (parent : SolvableIdOrRoot S) (need : ConditionalRequirement) → slice_get e.parents.keys e.encoded ≡ Some parent
-    → Contains (rules_for same p root (solvable_of parent)).requirements need → IsNeedEncoded same p (rules_of e) (solvable_of parent) need []
+IsNextEncoded {N} {S} same p root e = (parent : SolvableIdOrRoot S) → slice_get e.parents.keys e.encoded ≡ Some parent → IsParentEncoded same p (rules_of e) root (solvable_of parent)

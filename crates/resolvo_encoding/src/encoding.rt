@@ -1,6 +1,6 @@
 //! What was encoded: the clauses with what they state, the registered solvables, the candidates of
 //! requirements, the need clauses in their order, and the parents whose needs are encoded in turn.
-ghost use Rattle.std.specs.Prelude.{◌≡◌, ◌<◌, ◌∷◌, [], true, Some, OnOk, IfOk, IsSome, Contains, slice_get, length, ◌+◌};
+ghost use Rattle.std.specs.Prelude.{◌≡◌, ◌⊎◌, ◌<◌, ◌∷◌, [], true, Some, OnOk, IfOk, IsSome, Contains, slice_get, length, ◌+◌};
 ghost use Rattle.resolvo_pool.specs.declared.solver_id.SolvableIdOrRoot.TheVariants.{Solvable as Parent};
 ghost use Rattle.resolvo_pool.specs.RuleKeeping.{Packages, Rules, IsLawful};
 ghost use Rattle.resolvo_store.specs.AtMostOne.{IsFrontOf};
@@ -13,7 +13,7 @@ ghost use Rattle.resolvo_rules.specs.Encoding.{Rule};
 ghost use Rattle.resolvo_rules.specs.Ending.{IsNeedEncoded};
 ghost use Rattle.resolvo_coding.specs.declared.atom.ProofAtom.TheVariants.{Gate};
 ghost use Rattle.resolvo_coding.specs.Atoms.{StandsFor};
-ghost use Rattle.resolvo_encoding.specs.Encoded.{rules_of, IsEncoding};
+ghost use Rattle.resolvo_encoding.specs.Encoded.{rules_of, IsGuarded, IsEncoding};
 ghost use Rattle.resolvo_coding.specs.Statements.{rule_of};
 ghost use Rattle.resolvo_coding.specs.Coding.{IsCoding};
 ghost use Rattle.resolvo_coding.specs.Registered.{AreTied};
@@ -25,7 +25,7 @@ use resolvo_coding::atom::ProofAtom;
 use resolvo_coding::coding::Coding;
 use resolvo_coding::registry::Registry;
 use resolvo_coding::stated::Stated;
-use resolvo_pool::id::{ClauseId, VariableId};
+use resolvo_pool::id::{ClauseId, VariableId, VersionSetId};
 use resolvo_pool::requirement::{ConditionalRequirement, Requirement, RequirementMap};
 use resolvo_pool::solver_id::{SolvableIdOrRoot, SolverId};
 use resolvo_pool::want::R;
@@ -35,8 +35,18 @@ use resolvo_store::literal::Literal;
 use std::alloc::Global;
 use std::hash::Hash;
 
-/// From so many candidates on a gate stands between a requirement and those that ask for it.
-const GATED: usize = 4;
+/// From so many candidates on a gate stands between a requirement and those that ask for it, and a variable between a
+/// limit and those that it keeps out.
+pub const GATED: usize = 4;
+
+/// What was stated of packages and version sets as a whole, each once.
+#[derive(Drop)]
+pub struct Noted<N: Eq + Hash> {
+    /// The packages whose locks and exclusions are clauses.
+    pub packages: IndexSet<N>,
+    /// The version sets for which clauses say which candidates are outside.
+    pub version_sets: IndexSet<VersionSetId>,
+}
 
 /// What was encoded so far.
 #[derive(Drop)]
@@ -47,6 +57,8 @@ pub struct Encoding<N: Eq + Hash, S: Eq + Hash> {
     pub queue: DecideQueue,
     /// The gate of each requirement that has one.
     pub gates: RequirementMap<VariableId>,
+    /// What was stated of packages and version sets as a whole.
+    pub noted: Noted<N>,
     /// The parents whose needs are to be encoded, first come first.
     pub parents: IndexSet<SolvableIdOrRoot<S>>,
     /// How many of them were.
@@ -68,6 +80,10 @@ impl<N: SolverId + Drop, S: SolverId> Encoding<N, S> {
             lists: FixedLists::new(alloc)?,
             queue: DecideQueue::new(alloc),
             gates: RequirementMap::new(alloc)?,
+            noted: Noted {
+                packages: IndexSet::new(alloc),
+                version_sets: IndexSet::new(alloc),
+            },
             parents,
             encoded: 0,
         })
@@ -83,7 +99,7 @@ impl<N: SolverId + Drop, S: SolverId> Encoding<N, S> {
         offered: &[Offered<N, S>],
     ) -> R<()>
         requires { IsBuilt self.old }
-        ensures encoded { OnOk result ((p : Packages N S) (root : Rules) → IsLawful p → IsEncoding S.eq p root self.old → AreOffered S.eq p need.requirement offered.now → Needs S.eq p root parent need → IsEncoding S.eq p root self.new × IsNeedEncoded S.eq p (rules_of self.new) parent need []) }
+        ensures encoded { OnOk result ((p : Packages N S) (root : Rules) → IsLawful p → IsEncoding S.eq p root self.old → AreOffered S.eq p need.requirement offered.now → IsGuarded S.eq p (rules_of self.old) need.requirement → Needs S.eq p root parent need → IsEncoding S.eq p root self.new × IsNeedEncoded S.eq p (rules_of self.new) parent need []) }
         ensures candidates { OnOk result (AddsCandidates need.requirement offered.now self.old self.new) }
         ensures kept { OnOk result (Extends self.old self.new) }
         ensures built { OnOk result (IsBuilt self.new) }
@@ -110,7 +126,7 @@ impl<N: SolverId + Drop, S: SolverId> Encoding<N, S> {
         count: usize,
     ) -> R<()>
         requires { IsBuilt self.old }
-        ensures encoded { OnOk result ((p : Packages N S) (root : Rules) → IsLawful p → IsEncoding S.eq p root self.old → has_candidates self.old.lists need.requirement ≡ true → Needs S.eq p root (Some solvable) need → IsEncoding S.eq p root self.new × IsNeedEncoded S.eq p (rules_of self.new) (Some solvable) need []) }
+        ensures encoded { OnOk result ((p : Packages N S) (root : Rules) → IsLawful p → IsEncoding S.eq p root self.old → has_candidates self.old.lists need.requirement ≡ true → IsGuarded S.eq p (rules_of self.old) need.requirement → Needs S.eq p root (Some solvable) need → IsEncoding S.eq p root self.new × IsNeedEncoded S.eq p (rules_of self.new) (Some solvable) need []) }
         ensures lists { OnOk result (self.new.lists ≡ self.old.lists) }
         ensures kept { OnOk result (Extends self.old self.new) }
         ensures built { OnOk result (IsBuilt self.new) }
@@ -192,7 +208,7 @@ impl<N: SolverId + Drop, S: SolverId> Encoding<N, S> {
     /// The variable of the requirement's gate, with its clause.
     fn gate(&mut self, alloc: Global, requirement: Requirement) -> R<VariableId>
         requires { IsBuilt self.old }
-        ensures encoded { OnOk result ((p : Packages N S) (root : Rules) → IsLawful p → IsEncoding S.eq p root self.old → has_candidates self.old.lists requirement ≡ true → IsEncoding S.eq p root self.new × rules_of self.new (Rule.shared requirement)) }
+        ensures encoded { OnOk result ((p : Packages N S) (root : Rules) → IsLawful p → IsEncoding S.eq p root self.old → has_candidates self.old.lists requirement ≡ true → IsGuarded S.eq p (rules_of self.old) requirement → IsEncoding S.eq p root self.new × rules_of self.new (Rule.shared requirement)) }
         ensures stands { IfOk result (λ gate. StandsFor self.new.coding.atoms.keys gate (Gate requirement)) }
         ensures lists { OnOk result (self.new.lists ≡ self.old.lists) }
         ensures kept { OnOk result (Extends self.old self.new) }
@@ -322,9 +338,10 @@ fn register_one<N: SolverId, S: SolverId>(
 }
 
 /// Puts a value behind the others, unless it stands there.
-fn add_key<K: Copy + Eq + Hash + Drop>(keys: &mut IndexSet<K>, key: K) -> R<()>
+pub fn add_key<K: Copy + Eq + Hash + Drop>(keys: &mut IndexSet<K>, key: K) -> R<()>
     ensures front { OnOk result (IsFrontOf keys.old.keys keys.new.keys) }
     ensures stands { OnOk result (((other : K) → K.eq key other ≡ true → other ≡ key) → Contains keys.new.keys key) }
+    ensures only { OnOk result ((other : K) → Contains keys.new.keys other → Contains keys.old.keys other ⊎ (other ≡ key)) }
 {
     keys.insert(key)?;
     Ok(())

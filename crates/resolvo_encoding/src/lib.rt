@@ -2,5 +2,6 @@
 //! that a provider offers. The encoding of a provider's packages stays one, step by step.
 #![tactic(auto)]
 
+pub mod barring;
 pub mod choosing;
 pub mod encoding;

@@ -42,7 +42,9 @@ fn chosen(
 ) -> Result<Option<Vec<VersionNo>>, Fail> {
     let mut provider = CatalogueProvider::new(alloc, catalogue, hint)?;
     let root = provider.intern_request(request)?;
-    let problem = Problem::new(alloc).requirements(root.requirements);
+    let problem = Problem::new(alloc)
+        .requirements(root.requirements)
+        .constraints(root.constraints);
     let mut solver = Solver::new(alloc, provider);
     match solver.solve(problem) {
         Ok(chosen) => Ok(Some(versions(alloc, &solver, &chosen)?)),
@@ -90,6 +92,40 @@ fn newest_would_clash(rt: HostRuntime) -> Result<(), Fail> {
 fn nothing_fits(rt: HostRuntime) -> Result<(), Fail> {
     let set = solved(rt.alloc(), MARKET, "needs a 2\nneeds b 2\n")?;
     assert!(rt; set.is_none());
+    Ok(())
+}
+
+#[test]
+fn root_limits(rt: HostRuntime) -> Result<(), Fail> {
+    let set = solved(rt.alloc(), MARKET, "needs b\nlimits b 1\n")?;
+    assert_eq!(rt; set.as_deref(), Some([VersionNo(2)].as_slice()));
+    Ok(())
+}
+
+static BARRED: &str =
+    "version b 1\nversion b 2\nversion b 3\nunknown later\nversion b 4\nexclude b 4 old\nversion c 1\nversion c 2\nlock c 1\n";
+
+#[test]
+fn barred_are_not_chosen(rt: HostRuntime) -> Result<(), Fail> {
+    let set = solved(rt.alloc(), BARRED, "needs b\n")?;
+    assert_eq!(rt; set.as_deref(), Some([VersionNo(1)].as_slice()));
+    let locked = solved(rt.alloc(), BARRED, "needs c\n")?;
+    assert_eq!(rt; locked.as_deref(), Some([VersionNo(4)].as_slice()));
+    Ok(())
+}
+
+static MANY: &str =
+    "version a 1\nlimits b 1\nversion b 1\nversion b 2\nversion b 3\nversion b 4\nversion b 5\n";
+
+#[test]
+fn many_are_limited(rt: HostRuntime) -> Result<(), Fail> {
+    let none = solved(rt.alloc(), MANY, "needs a\nneeds b 2\n")?;
+    assert!(rt; none.is_none());
+    let set = solved(rt.alloc(), MANY, "needs a\nneeds b\n")?;
+    assert_eq!(rt;
+        set.as_deref(),
+        Some([VersionNo(0), VersionNo(1)].as_slice())
+    );
     Ok(())
 }
 

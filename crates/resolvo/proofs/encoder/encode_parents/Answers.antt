@@ -1,12 +1,10 @@
-use Rattle.std.proofs.Common.{◌≡◌, ◌≤◌, ◌+◌, [], None, Some, length, refl, sym, ◌∙◌, subst, arith}
-use Rattle.std.specs.Prelude.{slice_get, Contains}
-use Rattle.resolvo_pool.specs.declared.requirement.ConditionalRequirement.{ConditionalRequirement}
-use Rattle.resolvo_pool.specs.RuleKeeping.{Rules, rules_for}
+use Rattle.std.proofs.Common.{◌≡◌, ◌≤◌, ◌+◌, None, Some, length, refl, sym, ◌∙◌, subst, arith}
+use Rattle.std.specs.Prelude.{slice_get}
+use Rattle.resolvo_pool.specs.RuleKeeping.{Rules}
 use Rattle.resolvo_pool.specs.Text.{solvable_of}
-use Rattle.resolvo_rules.specs.Ending.{IsNeedEncoded}
 use Rattle.resolvo_encoding.specs.declared.encoding.Encoding.{Encoding}
-use Rattle.resolvo_encoding.specs.Encoded.{IsPlain, rules_of}
-use Rattle.resolvo.specs.Encoder.{IsInOrder, AddsParents}
+use Rattle.resolvo_encoding.specs.Encoded.{IsUnconditional, IsParentEncoded, rules_of}
+use Rattle.resolvo.specs.Encoder.{IsInOrder, IsRoot, AddsParents}
 use Rattle.resolvo.proofs.Adding.{next_in_order, all_none, all_then, one_more, next_all}
 use Rattle.resolvo.proofs.Ending.{past_end}
 use Rattle.resolvo.proofs.encoder.encode_parents.Goals as goal
@@ -21,8 +19,8 @@ loop-parent-preserved g c =
     let before = c.loop-parent.invariant in
     let middle = c.encode_parent.new.encoding in
     let kept = c.in_ok-encode_parent.ensures.kept in
-    let came = subst (λ (a : g.row.A.Denot). (root : Rules) → root.requirements ≡ c.args.requirements.now → IsPlain same (g.A.Answering.packages a) root → IsInOrder same (g.A.Answering.packages a) (g.A.Answering.orders a) root c.loop-parent.encoding
-    → IsInOrder same (g.A.Answering.packages a) (g.A.Answering.orders a) root middle × ((need : ConditionalRequirement) → Contains (rules_for same (g.A.Answering.packages a) root (solvable_of c.in-Some.parent)).requirements need → IsNeedEncoded same (g.A.Answering.packages a) (rules_of middle) (solvable_of c.in-Some.parent) need []))
+    let came = subst (λ (a : g.row.A.Denot). (root : Rules) → IsRoot c.args.requirements.now c.args.constraints.now root → IsUnconditional same (g.A.Answering.packages a) root → IsInOrder same (g.A.Answering.packages a) (g.A.Answering.orders a) root c.loop-parent.encoding
+    → IsInOrder same (g.A.Answering.packages a) (g.A.Answering.orders a) root middle × IsParentEncoded same (g.A.Answering.packages a) (rules_of middle) root (solvable_of c.in-Some.parent))
     before.same c.in_ok-encode_parent.ensures.encoded in
     let here : slice_get c.loop-parent.encoding.parents.keys c.loop-parent.encoding.encoded ≡ Some c.in-Some.parent = sym c.next_parent.ensures.parent ∙ c.in-Some.is in
     record {

@@ -1,15 +1,15 @@
 use Rattle.std.proofs.Common.{◌≡◌, ◌-◌}
 use Rattle.resolvo_pool.specs.RuleKeeping.{Rules}
-use Rattle.resolvo_encoding.specs.Encoded.{IsPlain}
+use Rattle.resolvo_encoding.specs.Encoded.{IsUnconditional}
 use Rattle.resolvo_encoding.specs.Steps.{IsBuilt}
-use Rattle.resolvo.specs.Encoder.{IsInOrder, AddsParents}
+use Rattle.resolvo.specs.Encoder.{IsInOrder, IsRoot, AddsParents}
 use Rattle.resolvo.proofs.encoder.encode_parents.Given as goal
 
 -- the encoding is one of the packages, with parents more
 abbrev pub invariant-loop-parent : goal.invariant-loop-parent
 invariant-loop-parent g l = record {
   same : l.answers ≡ l.initial.answers;
-  encoded : (root : Rules) → root.requirements ≡ l.requirements → IsPlain g.A.SolvableId.PartialEq.eq (g.A.Answering.packages l.initial.answers) root
+  encoded : (root : Rules) → IsRoot l.requirements l.constraints root → IsUnconditional g.A.SolvableId.PartialEq.eq (g.A.Answering.packages l.initial.answers) root
       → IsInOrder g.A.SolvableId.PartialEq.eq (g.A.Answering.packages l.initial.answers) (g.A.Answering.orders l.initial.answers) root l.initial.encoding
       → IsInOrder g.A.SolvableId.PartialEq.eq (g.A.Answering.packages l.initial.answers) (g.A.Answering.orders l.initial.answers) root l.encoding;
   adds : AddsParents l.initial.encoding l.encoding;

@@ -1,7 +1,7 @@
-use Rattle.std.proofs.Common.{◌≡◌, ◌<◌, refl, ◌∙◌, subst, arith}
+use Rattle.std.proofs.Common.{◌<◌, refl, ◌∙◌, subst, arith}
 use Rattle.resolvo_pool.specs.RuleKeeping.{Rules}
-use Rattle.resolvo_encoding.specs.Encoded.{IsPlain}
-use Rattle.resolvo.specs.Encoder.{IsInOrder}
+use Rattle.resolvo_encoding.specs.Encoded.{IsUnconditional}
+use Rattle.resolvo.specs.Encoder.{IsInOrder, IsRoot}
 use Rattle.resolvo.specs.declared.turn.Round.{Round}
 use Rattle.resolvo.specs.Turn.{IsRound}
 use Rattle.resolvo.proofs.Adding.{all_none, all_then}
@@ -29,7 +29,7 @@ loop-refusal-preserved g c =
     let (more, small, waiting) = subst (λ (r : Round). IsRound c.loop-refusal.encoding c.run_round.new.encoding r) c.in-Goes.is c.in_ok-run_round.ensures.round in
     let same = g.A.SolvableId.PartialEq.eq in
     let before = c.loop-refusal.invariant in
-    let stays = subst (λ (a : g.row.A.Denot). (root : Rules) → root.requirements ≡ c.args.requirements.now → IsPlain same (g.A.Answering.packages a) root → IsInOrder same (g.A.Answering.packages a) (g.A.Answering.orders a) root c.loop-refusal.encoding
+    let stays = subst (λ (a : g.row.A.Denot). (root : Rules) → IsRoot c.args.requirements.now c.args.constraints.now root → IsUnconditional same (g.A.Answering.packages a) root → IsInOrder same (g.A.Answering.packages a) (g.A.Answering.orders a) root c.loop-refusal.encoding
     → IsInOrder same (g.A.Answering.packages a) (g.A.Answering.orders a) root c.run_round.new.encoding) before.same c.in_ok-run_round.ensures.stays in
     record {
       same = c.in_ok-run_round.ensures.same ∙ before.same;
@@ -42,7 +42,7 @@ loop-refusal-preserved g c =
 pub returns-in-Whole-clause-stays : goal.returns-in-Whole-clause-stays
 returns-in-Whole-clause-stays g c = λ root is plain e.
     let same = g.A.SolvableId.PartialEq.eq in
-    (subst (λ (a : g.row.A.Denot). (root : Rules) → root.requirements ≡ c.args.requirements.now → IsPlain same (g.A.Answering.packages a) root → IsInOrder same (g.A.Answering.packages a) (g.A.Answering.orders a) root c.loop-refusal.encoding
+    (subst (λ (a : g.row.A.Denot). (root : Rules) → IsRoot c.args.requirements.now c.args.constraints.now root → IsUnconditional same (g.A.Answering.packages a) root → IsInOrder same (g.A.Answering.packages a) (g.A.Answering.orders a) root c.loop-refusal.encoding
     → IsInOrder same (g.A.Answering.packages a) (g.A.Answering.orders a) root c.run_round.new.encoding) c.loop-refusal.invariant.same c.in_ok-run_round.ensures.stays) root is plain (c.loop-refusal.invariant.stays root is plain e)
 
 pub returns-in-Whole-clause-same : goal.returns-in-Whole-clause-same
@@ -57,7 +57,7 @@ returns-in-Whole-clause-turn g c = subst (λ (r : Round). IsRound c.loop-refusal
 pub returns-in-Refused-clause-stays : goal.returns-in-Refused-clause-stays
 returns-in-Refused-clause-stays g c = λ root is plain e.
     let same = g.A.SolvableId.PartialEq.eq in
-    (subst (λ (a : g.row.A.Denot). (root : Rules) → root.requirements ≡ c.args.requirements.now → IsPlain same (g.A.Answering.packages a) root → IsInOrder same (g.A.Answering.packages a) (g.A.Answering.orders a) root c.loop-refusal.encoding
+    (subst (λ (a : g.row.A.Denot). (root : Rules) → IsRoot c.args.requirements.now c.args.constraints.now root → IsUnconditional same (g.A.Answering.packages a) root → IsInOrder same (g.A.Answering.packages a) (g.A.Answering.orders a) root c.loop-refusal.encoding
     → IsInOrder same (g.A.Answering.packages a) (g.A.Answering.orders a) root c.run_round.new.encoding) c.loop-refusal.invariant.same c.in_ok-run_round.ensures.stays) root is plain (c.loop-refusal.invariant.stays root is plain e)
 
 pub returns-in-Refused-clause-same : goal.returns-in-Refused-clause-same

@@ -1,8 +1,8 @@
 use Rattle.std.proofs.Common.{◌≡◌, ◌-◌}
 use Rattle.resolvo_pool.specs.RuleKeeping.{Rules}
-use Rattle.resolvo_encoding.specs.Encoded.{IsPlain}
+use Rattle.resolvo_encoding.specs.Encoded.{IsUnconditional}
 use Rattle.resolvo_encoding.specs.Steps.{IsBuilt}
-use Rattle.resolvo.specs.Encoder.{IsInOrder, AddsParents}
+use Rattle.resolvo.specs.Encoder.{IsInOrder, IsRoot, AddsParents}
 use Rattle.resolvo.specs.Turn.{IsNextRound}
 use Rattle.resolvo.proofs.turn.run_turn.Given as goal
 
@@ -10,7 +10,7 @@ use Rattle.resolvo.proofs.turn.run_turn.Given as goal
 abbrev pub invariant-loop-refusal : goal.invariant-loop-refusal
 invariant-loop-refusal g l = record {
   same : l.answers ≡ l.initial.answers;
-  stays : (root : Rules) → root.requirements ≡ l.requirements → IsPlain g.A.SolvableId.PartialEq.eq (g.A.Answering.packages l.initial.answers) root
+  stays : (root : Rules) → IsRoot l.requirements l.constraints root → IsUnconditional g.A.SolvableId.PartialEq.eq (g.A.Answering.packages l.initial.answers) root
       → IsInOrder g.A.SolvableId.PartialEq.eq (g.A.Answering.packages l.initial.answers) (g.A.Answering.orders l.initial.answers) root l.initial.encoding
       → IsInOrder g.A.SolvableId.PartialEq.eq (g.A.Answering.packages l.initial.answers) (g.A.Answering.orders l.initial.answers) root l.encoding;
   adds : AddsParents l.initial.encoding l.encoding;

@@ -7,6 +7,7 @@ returns g c = record {
   fixed = record {
     queue = refl;
     gates = refl;
+    noted = refl;
     parents = refl;
     encoded = refl;
     fixed = inr (where_none c.candidates.result _ _ c.candidates.ensures (sym c.if-is_some.ensures), c.in_ok-candidates.candidates, c.in_ok-candidates.ensures.registered, c.in_ok-fix_candidates.ensures.fixed);

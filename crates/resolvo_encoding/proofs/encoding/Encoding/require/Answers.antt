@@ -6,7 +6,7 @@ use Rattle.resolvo_encoding.specs.Encoded.{rules_of}
 use Rattle.resolvo_store.specs.Clauses.{root as root_variable}
 use Rattle.resolvo_rules.specs.Ending.{IsNeedEncoded}
 use Rattle.resolvo_encoding.specs.Steps.{Needs}
-use Rattle.resolvo_encoding.proofs.Requiring.{fixes_keep, fixes_add, extends_then, fixes_extend, need_extends}
+use Rattle.resolvo_encoding.proofs.Requiring.{fixes_keep, fixes_add, extends_then, fixes_extend, need_extends, guard_grows}
 use Rattle.resolvo_encoding.proofs.Needing.{need_keeps}
 use Rattle.resolvo_encoding.proofs.Building.{built_fixes, built_states}
 use Rattle.resolvo_encoding.proofs.encoding.Encoding.require.Goals as goal
@@ -18,13 +18,13 @@ pub require_of-requires : goal.require_of-requires
 require_of-requires g c = built_fixes c.args.need.requirement c.args.offered.now c.args.self.now c.fix_candidates.new.self c.requires c.in_ok-fix_candidates.ensures.fixed
 
 pub returns-in_ok-need_directly-in-None-clause-encoded : goal.returns-in_ok-need_directly-in-None-clause-encoded
-returns-in_ok-need_directly-in-None-clause-encoded g c = λ p root lawful e offered needs.
+returns-in_ok-need_directly-in-None-clause-encoded g c = λ p root lawful e offered guarded needs.
     let exact : IsExact g.S.PartialEq.eq = record { one = g.met.S.Exact.exact; own = g.met.S.Eq.laws.refl } in
     let (fixed, has) = fixes_keep g.S.PartialEq.eq exact p root lawful c.args.need.requirement c.args.offered.now c.args.self.now c.fix_candidates.new.self e offered c.in_ok-fix_candidates.ensures.fixed in
     let needed = c.in_ok-need_directly-in-None.ensures.needed in
     let rooted : c.root.result ≡ root_variable = ap (λ n. let v : VariableId = record { 0 = n } in v) c.root.ensures in
     let own : Needs g.S.PartialEq.eq p root None c.args.need = subst (λ (x : Option _). Needs g.S.PartialEq.eq p root x c.args.need) c.in-None.is needs in
-    let (stated, rules) = need_keeps g.S.PartialEq.eq exact p root lawful (Says.Needs None c.args.need needed.case) c.root.result c.args.need.requirement c.fix_candidates.new.self c.need_directly.new.self fixed has (needed.none, refl, rooted, own.listed, own.free) needed.states in (
+    let (stated, rules) = need_keeps g.S.PartialEq.eq exact p root lawful (Says.Needs None c.args.need needed.case) c.root.result c.args.need.requirement c.fix_candidates.new.self c.need_directly.new.self fixed has (guard_grows g.S.PartialEq.eq exact p root c.args.self.now c.fix_candidates.new.self c.args.need.requirement (fixes_extend c.args.need.requirement c.args.offered.now c.args.self.now c.fix_candidates.new.self c.in_ok-fix_candidates.ensures.fixed).grows guarded) (needed.none, refl, rooted, own.listed, own.free) needed.states in (
       stated,
       subst (λ (x : Option _). IsNeedEncoded g.S.PartialEq.eq p (rules_of c.need_directly.new.self) x c.args.need []) (sym c.in-None.is)
           (inl (subst (λ vs. rules_of c.need_directly.new.self (Rule.needs None c.args.need vs)) needed.none (rules (Rule.needs None c.args.need needed.case.items) refl))),
@@ -42,11 +42,11 @@ returns-in_ok-need_directly-in-None-clause-kept g c =
     (need_extends (Says.Needs None c.args.need needed.case) c.root.result c.args.need.requirement c.fix_candidates.new.self c.need_directly.new.self needed.states)
 
 pub returns-in_ok-require_of-in-Some-clause-encoded : goal.returns-in_ok-require_of-in-Some-clause-encoded
-returns-in_ok-require_of-in-Some-clause-encoded g c = λ p root lawful e offered needs.
+returns-in_ok-require_of-in-Some-clause-encoded g c = λ p root lawful e offered guarded needs.
     let exact : IsExact g.S.PartialEq.eq = record { one = g.met.S.Exact.exact; own = g.met.S.Eq.laws.refl } in
     let (fixed, has) = fixes_keep g.S.PartialEq.eq exact p root lawful c.args.need.requirement c.args.offered.now c.args.self.now c.fix_candidates.new.self e offered c.in_ok-fix_candidates.ensures.fixed in
     let own : Needs g.S.PartialEq.eq p root (Some c.in-Some.solvable) c.args.need = subst (λ (x : Option _). Needs g.S.PartialEq.eq p root x c.args.need) c.in-Some.is needs in
-    let (stated, encoded) = c.in_ok-require_of-in-Some.ensures.encoded p root lawful fixed has own in
+    let (stated, encoded) = c.in_ok-require_of-in-Some.ensures.encoded p root lawful fixed has (guard_grows g.S.PartialEq.eq exact p root c.args.self.now c.fix_candidates.new.self c.args.need.requirement (fixes_extend c.args.need.requirement c.args.offered.now c.args.self.now c.fix_candidates.new.self c.in_ok-fix_candidates.ensures.fixed).grows guarded) own in
     (stated, subst (λ (x : Option _). IsNeedEncoded g.S.PartialEq.eq p (rules_of c.require_of.new.self) x c.args.need []) (sym c.in-Some.is) encoded)
 
 pub returns-in_ok-require_of-in-Some-clause-candidates : goal.returns-in_ok-require_of-in-Some-clause-candidates

@@ -7,7 +7,7 @@ use Rattle.resolvo_encoding.specs.Encoded.{rules_of}
 use Rattle.resolvo_encoding.specs.Steps.{SameButCoding, Extends}
 use Rattle.resolvo_coding.proofs.Growth.{stands_grow, rules_grow, stands_in_range}
 use Rattle.resolvo_coding.proofs.Registering.{digits_same, digits_more}
-use Rattle.resolvo_encoding.proofs.Requiring.{extends_then, need_extends}
+use Rattle.resolvo_encoding.proofs.Requiring.{extends_then, need_extends, guard_grows}
 use Rattle.resolvo_encoding.proofs.Needing.{need_keeps, gated_keeps, gives_keeps}
 use Rattle.resolvo_encoding.proofs.Building.{built_grows, built_rest, built_states}
 use Rattle.resolvo_encoding.proofs.encoding.Encoding.require_of.Goals as goal
@@ -22,14 +22,14 @@ pub need_directly-requires-clause-in_range : goal.need_directly-requires-clause-
 need_directly-requires-clause-in_range g c = stands_in_range c.variable.new.self c.in_ok-variable.variable (Solvable c.args.solvable) c.in_ok-variable.ensures.given.coding c.in_ok-variable.ensures.given.stands
 
 pub returns-then-count-lt-GATED-clause-encoded : goal.returns-then-count-lt-GATED-clause-encoded
-returns-then-count-lt-GATED-clause-encoded g c = λ p root lawful e has needs.
+returns-then-count-lt-GATED-clause-encoded g c = λ p root lawful e has guarded needs.
     let exact : IsExact g.S.PartialEq.eq = record { one = g.met.S.Exact.exact; own = g.met.S.Eq.laws.refl } in
     let middle : Encoding _ _ = record c.args.self.now { coding = c.variable.new.self } in
     let gives = c.in_ok-variable.ensures.given in
-    let rest : SameButCoding c.args.self.now middle = record { registry = refl; lists = refl; queue = refl; gates = refl; parents = refl; encoded = refl } in
+    let rest : SameButCoding c.args.self.now middle = record { registry = refl; lists = refl; queue = refl; gates = refl; noted = refl; parents = refl; encoded = refl } in
     let kept = gives_keeps g.S.PartialEq.eq exact p root lawful (Solvable c.args.solvable) c.in_ok-variable.variable c.args.self.now middle e gives rest in
     let needed = c.in_ok-need_directly.ensures.needed in
-    let (stated, rules) = need_keeps g.S.PartialEq.eq exact p root lawful (Says.Needs (Some c.args.solvable) c.args.need needed.case) c.in_ok-variable.variable c.args.need.requirement middle c.need_directly.new.self kept has (needed.none, refl, gives.stands, needs.listed, needs.free) needed.states in
+    let (stated, rules) = need_keeps g.S.PartialEq.eq exact p root lawful (Says.Needs (Some c.args.solvable) c.args.need needed.case) c.in_ok-variable.variable c.args.need.requirement middle c.need_directly.new.self kept has (guard_grows g.S.PartialEq.eq exact p root c.args.self.now middle c.args.need.requirement gives.grows guarded) (needed.none, refl, gives.stands, needs.listed, needs.free) needed.states in
     (stated, inl (subst (λ vs. rules_of c.need_directly.new.self (Rule.needs (Some c.args.solvable) c.args.need vs)) needed.none (rules (Rule.needs (Some c.args.solvable) c.args.need needed.case.items) refl)))
 
 pub returns-then-count-lt-GATED-clause-kept : goal.returns-then-count-lt-GATED-clause-kept
@@ -55,13 +55,13 @@ pub open_gate-requires-clause-gate_in_range : goal.open_gate-requires-clause-gat
 open_gate-requires-clause-gate_in_range g c = stands_in_range c.gate.new.self.coding c.in_ok-gate.gate (Gate c.args.need.requirement) c.in_ok-gate.ensures.built.coding c.in_ok-gate.ensures.stands
 
 pub returns-clause-encoded : goal.returns-clause-encoded
-returns-clause-encoded g c = λ p root lawful e has needs.
+returns-clause-encoded g c = λ p root lawful e has guarded needs.
     let exact : IsExact g.S.PartialEq.eq = record { one = g.met.S.Exact.exact; own = g.met.S.Eq.laws.refl } in
     let middle : Encoding _ _ = record c.args.self.now { coding = c.variable.new.self } in
     let gives = c.in_ok-variable.ensures.given in
-    let rest : SameButCoding c.args.self.now middle = record { registry = refl; lists = refl; queue = refl; gates = refl; parents = refl; encoded = refl } in
+    let rest : SameButCoding c.args.self.now middle = record { registry = refl; lists = refl; queue = refl; gates = refl; noted = refl; parents = refl; encoded = refl } in
     let kept = gives_keeps g.S.PartialEq.eq exact p root lawful (Solvable c.args.solvable) c.in_ok-variable.variable c.args.self.now middle e gives rest in
-    let (gated, shared) = c.in_ok-gate.ensures.encoded p root lawful kept has in
+    let (gated, shared) = c.in_ok-gate.ensures.encoded p root lawful kept has (guard_grows g.S.PartialEq.eq exact p root c.args.self.now middle c.args.need.requirement gives.grows guarded) in
     let opened = c.in_ok-open_gate.ensures.opened in
     let stands = stands_grow c.variable.new.self c.gate.new.self.coding c.in_ok-variable.variable (Solvable c.args.solvable) c.in_ok-gate.ensures.kept.grows gives.stands in
     let (last, rule) = gated_keeps g.S.PartialEq.eq exact p root lawful c.args.solvable c.in_ok-variable.variable c.in_ok-gate.gate c.args.need opened.number c.gate.new.self c.open_gate.new.self gated needs.listed needs.free stands c.in_ok-gate.ensures.stands opened.states opened.rest in

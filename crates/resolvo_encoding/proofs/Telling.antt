@@ -1,0 +1,231 @@
+-- Rules become clauses that keep solvables out, one after another.
+use Rattle.std.proofs.Common.{◌≡◌, ◌<◌, ◌⊎◌, inl, inr, Bool, true, not, ◌||◌, List, [], ◌∷◌, ◌++◌, map, length, Option, Some, None, refl, sym, ◌∙◌, ap, subst, arith, ℕ}
+use Rattle.std.specs.Prelude.{Contains}
+use Rattle.std.specs.List.{list_any}
+use Rattle.std.proofs.lemmas.List.{map-append}
+use Rattle.std.proofs.lemmas.Bool.{or_left, or_right}
+use Rattle.resolvo_pool.specs.declared.id.StringId.{StringId}
+use Rattle.resolvo_pool.specs.declared.id.VariableId.{VariableId}
+use Rattle.resolvo_pool.specs.declared.id.VersionSetId.{VersionSetId}
+use Rattle.resolvo_pool.specs.Provider.{listing_or_empty}
+use Rattle.resolvo_pool.specs.RuleKeeping.{Packages, Rules, rules_for, is_outside, is_barred, locks_out}
+use Rattle.resolvo_store.specs.Signed.{Signed}
+use Rattle.resolvo_store.specs.Clauses.{yes, no}
+use Rattle.resolvo_search.specs.Steps.{AreInRange}
+use Rattle.resolvo_answers.specs.declared.answering.Barred.{Barred}
+use Rattle.resolvo_answers.specs.declared.answering.Offered.{Offered}
+use Rattle.resolvo_answers.specs.declared.answering.Why.{Why}
+use Rattle.resolvo_answers.specs.declared.answering.Why.TheVariants.{Locked, Excluded}
+use Rattle.resolvo_answers.specs.Answering.{offered_solvables, AreOutside}
+use Rattle.resolvo_answers.specs.Barring.{KeepsOut, barred_solvables, AreBarred}
+use Rattle.resolvo_rules.specs.Encoding.{IsExact, Atom, Rule, plus, minus, IsRule, IsBarredIn, literals_of, parent_literals}
+use Rattle.resolvo_rules.specs.Numbered.{Spells}
+use Rattle.resolvo_rules.proofs.Lists.{contains_none, contains_only, contains_left, contains_right, contains_parts, contains_one, contains_map, map_contains, contained_any}
+use Rattle.resolvo_rules.proofs.Members.{in_contained, contained_in}
+use Rattle.resolvo_coding.specs.declared.atom.ProofAtom.{ProofAtom}
+use Rattle.resolvo_coding.specs.declared.atom.ProofAtom.TheVariants.{Solvable, Outside}
+use Rattle.resolvo_coding.specs.declared.coding.Coding.{Coding}
+use Rattle.resolvo_coding.specs.declared.stated.Stated.{Stated}
+use Rattle.resolvo_coding.specs.declared.stated.Stated.TheVariants as Says
+use Rattle.resolvo_coding.specs.Atoms.{origin, StandsFor}
+use Rattle.resolvo_coding.specs.Coding.{Gives}
+use Rattle.resolvo_coding.specs.Statements.{rule_of}
+use Rattle.resolvo_coding.proofs.Growth.{grows_same, rules_grow, stands_grow}
+use Rattle.resolvo_coding.proofs.Origins.{means_atom}
+use Rattle.resolvo_coding.proofs.Registering.{digits_same, digits_more}
+use Rattle.resolvo_encoding.specs.declared.encoding.Encoding.{Encoding}
+use Rattle.resolvo_encoding.specs.declared.encoding.Noted.{Noted}
+use Rattle.resolvo_encoding.specs.Encoded.{IsEncoding, IsNoted, IsParentVariable}
+use Rattle.resolvo_encoding.specs.Encoded as E
+use Rattle.resolvo_encoding.specs.Steps.{IsBuilt, Extends}
+use Rattle.resolvo_encoding.specs.Telling.{IsRestraint, IsPair, StatesPair, Tells, bar_rules, limit_rules, out_rules}
+use Rattle.resolvo_encoding.proofs.Building.{built_grows, built_rest}
+use Rattle.resolvo_encoding.proofs.Denials.{Reads, pair_members, pair_spells, one_spells, not_digit}
+use Rattle.resolvo_encoding.proofs.Needing.{gives_keeps, clause_keeps}
+use Rattle.resolvo_encoding.proofs.Requiring.{each_of, extends_then}
+
+-- the literals of a pair have variables
+pub pair_in_range : (count : ℕ) (a b : Signed) (literals : List Signed) → IsPair a b literals → a.variable.0 < count → b.variable.0 < count → AreInRange count literals
+pair_in_range count a b literals pair first second l h = elim (pair_members a b l literals pair h) [
+  | inl is ↦ subst (λ (x : Signed). x.variable.0 < count) is first
+  | inr is ↦ subst (λ (x : Signed). x.variable.0 < count) is second
+]
+
+pub pair_long : (a b : Signed) (literals : List Signed) → IsPair a b literals → 0 < length literals
+pair_long a b literals (inl two) = subst (λ (x : List Signed). 0 < length x) (sym two) (omega arith)
+pair_long a b literals (inr (both, one)) = subst (λ (x : List Signed). 0 < length x) (sym one) (omega arith)
+
+-- the parent's variable stays its own
+pub parent_variable_grows : {N S : Type 0} (old new : Encoding N S) (parent : Option S) (v : VariableId) → Extends old new → IsParentVariable old.coding.atoms.keys parent v → IsParentVariable new.coding.atoms.keys parent v
+parent_variable_grows old new None v h is = is
+parent_variable_grows old new (Some s) v h stands = stands_grow old.coding new.coding v (Solvable s) h.grows stands
+
+-- its denial is what a clause of the parent begins with
+pub parent_reads : {N S : Type 0} (atoms : List (ProofAtom N S)) (parent : Option S) (v : VariableId) → IsParentVariable atoms parent v → Reads (origin atoms) (no v) (parent_literals parent)
+parent_reads atoms None v is = inl (ap no is, refl)
+parent_reads atoms (Some s) v stands = inr (minus (Atom.solvable s), refl, means_atom atoms (no v) (Solvable s) stands)
+
+module _ {N S : Type 0} (same : S → S → Bool) (exact : IsExact same) where
+  -- ---- one after another
+
+  pub tells_none : (e : Encoding N S) → IsBuilt e → Tells same [] e e
+  tells_none e built = record {
+    built = built;
+    extends = record { grows = grows_same e.coding; parents = refl; encoded = refl };
+    lists = refl;
+    noted = refl;
+    encoding = λ p root lawful holds rules. (holds, λ r h. absurd (contains_none r h));
+  }
+
+  pub tells_then : (xs ys : List (Rule N S)) (a b c : Encoding N S) → Tells same xs a b → Tells same ys b c → Tells same (xs ++ ys) a c
+  tells_then xs ys a b c f g = record {
+    built = g.built;
+    extends = extends_then a b c f.extends g.extends;
+    lists = g.lists ∙ f.lists;
+    noted = g.noted ∙ f.noted;
+    encoding = λ p root lawful holds rules.
+        let (middle, first) = f.encoding p root lawful holds (λ r h. rules r (contains_left r xs ys h)) in
+        let (last, second) = g.encoding p root lawful middle (λ r h. rules r (contains_right r xs ys h)) in
+        (last, λ r h. elim (contains_parts r xs ys h) [ inl k ↦ rules_grow b.coding c.coding g.extends.grows r (first r k) | inr k ↦ second r k ]);
+  }
+
+  -- one more of a list
+  pub tells_more : {X : Type 0} (rule : X → Rule N S) (xs : List X) (x : X) (a b c : Encoding N S) → Tells same (map rule xs) a b → Tells same (rule x ∷ []) b c → Tells same (map rule (xs ++ x ∷ [])) a c
+  tells_more rule xs x a b c f g = subst (λ (rs : List (Rule N S)). Tells same rs a c) (sym (map-append rule xs (x ∷ []))) (tells_then (map rule xs) (rule x ∷ []) a b c f g)
+
+  -- a variable came, or nothing
+  pub gives_tells : (atom : ProofAtom N S) (v : VariableId) (old : Encoding N S) (c : Coding N S) → IsBuilt old → Gives atom v old.coding c → Tells same [] old (record old { coding = c })
+  gives_tells atom v old c built gives = record {
+    built = built_grows old (record old { coding = c }) built gives.coding gives.grows refl refl refl refl refl (digits_same old.coding c gives.stated);
+    extends = record { grows = gives.grows; parents = refl; encoded = refl };
+    lists = refl;
+    noted = refl;
+    encoding = λ p root lawful holds rules. (
+      gives_keeps same exact p root lawful atom v old (record old { coding = c }) holds gives (record { registry = refl; lists = refl; queue = refl; gates = refl; noted = refl; parents = refl; encoded = refl }),
+      λ r h. absurd (contains_none r h),
+    );
+  }
+
+  -- a clause of two literals came, which are the rule's
+  pub pair_tells : (x : Stated N S) (rule : Rule N S) (a b : Signed) (old new : Encoding N S) → IsBuilt old → rule_of x ≡ Some rule → IsRestraint rule
+      → ((p : Packages N S) (literals : List Signed) → IsPair a b literals → Spells (origin old.coding.atoms.keys) literals (literals_of same p rule)) → StatesPair x a b old new → Tells same (rule ∷ []) old new
+  pair_tells x rule a b old new built is denial spells came = record {
+    built = built_rest old new built came.states.coding came.states.grows (digits_more x old.coding new.coding came.states.stated (not_digit x rule is denial)) came.rest;
+    extends = record { grows = came.states.grows; parents = came.rest.parents; encoded = came.rest.encoded };
+    lists = came.rest.lists;
+    noted = came.rest.noted;
+    encoding = λ p root lawful holds rules.
+        let (keeps, stands) = clause_keeps same exact p root lawful x rule came.literals came.number old new holds is denial (rules rule (contains_only rule)) (spells p came.literals came.pair) came.states came.rest in
+        (keeps, λ r h. subst (λ (y : Rule N S). E.rules_of new y) (sym (contains_one r rule h)) stands);
+  }
+
+  -- the parent's version set keeps a solvable out
+  pub limit_tells : (parent : Option S) (v : VersionSetId) (s : S) (first second : VariableId) (old new : Encoding N S) → IsBuilt old → IsParentVariable old.coding.atoms.keys parent first → StandsFor old.coding.atoms.keys second (Solvable s)
+      → StatesPair (Says.Limits parent v s) (no first) (no second) old new → Tells same (Rule.limits parent v s ∷ []) old new
+  limit_tells parent v s first second old new built is stands = pair_tells (Says.Limits parent v s) (Rule.limits parent v s) (no first) (no second) old new built refl tt
+      (λ p literals pair. pair_spells (origin old.coding.atoms.keys) (no first) (no second) literals (parent_literals parent) (minus (Atom.solvable s) ∷ []) pair (parent_reads old.coding.atoms.keys parent first is)
+          (inr (minus (Atom.solvable s), refl, means_atom old.coding.atoms.keys (no second) (Solvable s) stands)))
+
+  -- it keeps out whatever is outside it
+  pub outside_tells : (parent : Option S) (v : VersionSetId) (first second : VariableId) (old new : Encoding N S) → IsBuilt old → IsParentVariable old.coding.atoms.keys parent first → StandsFor old.coding.atoms.keys second (Outside v)
+      → StatesPair (Says.LimitsOutside parent v) (no first) (no second) old new → Tells same (Rule.limits_outside parent v ∷ []) old new
+  outside_tells parent v first second old new built is stands = pair_tells (Says.LimitsOutside parent v) (Rule.limits_outside parent v) (no first) (no second) old new built refl tt
+      (λ p literals pair. pair_spells (origin old.coding.atoms.keys) (no first) (no second) literals (parent_literals parent) (minus (Atom.outside v) ∷ []) pair (parent_reads old.coding.atoms.keys parent first is)
+          (inr (minus (Atom.outside v), refl, means_atom old.coding.atoms.keys (no second) (Outside v) stands)))
+
+  -- a solvable is outside it
+  pub out_tells : (v : VersionSetId) (s : S) (first second : VariableId) (old new : Encoding N S) → IsBuilt old → StandsFor old.coding.atoms.keys first (Solvable s) → StandsFor old.coding.atoms.keys second (Outside v)
+      → StatesPair (Says.IsOut v s) (no first) (yes second) old new → Tells same (Rule.is_out v s ∷ []) old new
+  out_tells v s first second old new built is stands = pair_tells (Says.IsOut v s) (Rule.is_out v s) (no first) (yes second) old new built refl tt
+      (λ p literals pair. pair_spells (origin old.coding.atoms.keys) (no first) (yes second) literals (minus (Atom.solvable s) ∷ []) (plus (Atom.outside v) ∷ []) pair
+          (inr (minus (Atom.solvable s), refl, means_atom old.coding.atoms.keys (no first) (Solvable s) is)) (inr (plus (Atom.outside v), refl, means_atom old.coding.atoms.keys (yes second) (Outside v) stands)))
+
+  -- a solvable is kept out
+  pub bar_tells : (x : Stated N S) (s : S) (v : VariableId) (old new : Encoding N S) → IsBuilt old → rule_of x ≡ Some (Rule.bars s) → StandsFor old.coding.atoms.keys v (Solvable s) → StatesPair x (no v) (no v) old new → Tells same (Rule.bars s ∷ []) old new
+  bar_tells x s v old new built is stands = pair_tells x (Rule.bars s) (no v) (no v) old new built is tt
+      (λ p literals pair. one_spells (origin old.coding.atoms.keys) (no v) literals (minus (Atom.solvable s)) pair (means_atom old.coding.atoms.keys (no v) (Solvable s) stands))
+
+  -- ---- what is noted
+
+  -- what is kept out of a package is barred
+  pub kept_barred : (p : Packages N S) (n : N) (b : Barred S) → (p.package_of b.solvable ≡ n) × KeepsOut same (listing_or_empty (p.candidates_of n)) b.solvable b.why → is_barred same p b.solvable ≡ true
+  kept_barred p n b (named, kept) = subst (λ m. (locks_out same (listing_or_empty (p.candidates_of m)).locked b.solvable || list_any (λ e. same e.0 b.solvable) (listing_or_empty (p.candidates_of m)).excluded) ≡ true) (sym named) (go b.why kept)
+    where
+      go : (why : Why S) → KeepsOut same (listing_or_empty (p.candidates_of n)) b.solvable why → (locks_out same (listing_or_empty (p.candidates_of n)).locked b.solvable || list_any (λ e. same e.0 b.solvable) (listing_or_empty (p.candidates_of n)).excluded) ≡ true
+      go (Locked l) (is, other) = or_left _ _ (ap (λ o. locks_out same o b.solvable) is ∙ ap not other)
+      go (Excluded reason) h = or_right _ _ (contained_any (λ (e : S × StringId). same e.0 b.solvable) (b.solvable, reason) (listing_or_empty (p.candidates_of n)).excluded h (exact.own b.solvable))
+
+  module _ (p : Packages N S) (root : Rules) where
+    -- what is barred of a package are rules of the problem
+    pub bars_are_rules : (n : N) (list : List (Barred S)) → AreBarred same p n list → (r : Rule N S) → Contains (bar_rules list) r → IsRule same p root r
+    bars_are_rules n list barred r h =
+        let (b, there, is) = map_contains (λ (x : Barred S). Rule.bars x.solvable) r list h in
+        subst (IsRule same p root) (sym is) (or_left _ _ (kept_barred p n b (each_of _ list b barred.all there)))
+
+    pub bars_stated : (n : N) (list : List (Barred S)) (rules : Rule N S → Type 0) → AreBarred same p n list → ((r : Rule N S) → Contains (bar_rules list) r → rules r) → (s : S) → IsBarredIn same p n s → rules (Rule.bars s)
+    bars_stated n list rules barred each s (listed, bars) =
+        let (b, there, is) = map_contains (λ (x : Barred S). x.solvable) s list (in_contained same exact p (barred_solvables list) s (barred.each s listed bars)) in
+        subst (λ y. rules (Rule.bars y)) (sym is) (each (Rule.bars b.solvable) (contains_map (λ (x : Barred S). Rule.bars x.solvable) b list there))
+
+    -- what is offered as outside a version set is, and nothing else is
+    offered_outside : (v : VersionSetId) (list : List (Offered N S)) (o : Offered N S) → AreOutside same p v list → Contains list o → is_outside same p v o.solvable ≡ true
+    offered_outside v list o outside h = sym (outside.outside o.solvable) ∙ contained_in same exact p (offered_solvables list) o.solvable (contains_map (λ (x : Offered N S). x.solvable) o list h)
+
+    pub outs_are_rules : (v : VersionSetId) (list : List (Offered N S)) → AreOutside same p v list → (r : Rule N S) → Contains (out_rules v list) r → IsRule same p root r
+    outs_are_rules v list outside r h =
+        let (o, there, is) = map_contains (λ (x : Offered N S). Rule.is_out v x.solvable) r list h in
+        subst (IsRule same p root) (sym is) (offered_outside v list o outside there)
+
+    pub limits_are_rules : (parent : Option S) (v : VersionSetId) (list : List (Offered N S)) → AreOutside same p v list → Contains (rules_for same p root parent).constraints v → (r : Rule N S) → Contains (limit_rules parent v list) r → IsRule same p root r
+    limits_are_rules parent v list outside limited r h =
+        let (o, there, is) = map_contains (λ (x : Offered N S). Rule.limits parent v x.solvable) r list h in
+        subst (IsRule same p root) (sym is) (limited, offered_outside v list o outside there)
+
+    pub outside_stated : (v : VersionSetId) (list : List (Offered N S)) (rule : S → Rule N S) (rules : Rule N S → Type 0) → AreOutside same p v list → ((r : Rule N S) → Contains (map (λ (o : Offered N S). rule o.solvable) list) r → rules r)
+        → (s : S) → is_outside same p v s ≡ true → rules (rule s)
+    outside_stated v list rule rules outside each s h =
+        let (o, there, is) = map_contains (λ (x : Offered N S). x.solvable) s list (in_contained same exact p (offered_solvables list) s (outside.outside s ∙ h)) in
+        subst (λ y. rules (rule y)) (sym is) (each (rule o.solvable) (contains_map (λ (x : Offered N S). rule x.solvable) o list there))
+
+    -- what was stated is noted
+    pub noted_keeps : (old : Encoding N S) (x : Noted N) → IsEncoding same p root old → IsNoted same p (E.rules_of old) x → IsEncoding same p root (record old { noted = x })
+    noted_keeps old x e noted = record {
+      coding = e.coding;
+      tied = e.tied;
+      spelled = e.spelled;
+      rule = e.rule;
+      positive = e.positive;
+      named = e.named;
+      candidates = e.candidates;
+      listed = λ q c a. (let (s, fits, m) = e.listed q c a in (s, record { positive = fits.positive; stands = fits.stands; tracked = fits.tracked }, m));
+      offered = λ q s h m. (let (c, a, fits) = e.offered q s h m in (c, a, record { positive = fits.positive; stands = fits.stands; tracked = fits.tracked }));
+      fixed = e.fixed;
+      queued = e.queued;
+      asked = e.asked;
+      gates = e.gates;
+      bar = e.bar;
+      noted = record { packages = noted.packages; version_sets = noted.version_sets };
+      within = e.within;
+      encoded = e.encoded;
+      called = e.called;
+    }
+
+    pub package_noted : (old : Encoding N S) (x : Noted N) (n : N) → IsEncoding same p root old → ((m : N) → Contains x.packages.keys m → Contains old.noted.packages.keys m ⊎ (m ≡ n)) → x.version_sets ≡ old.noted.version_sets
+        → ((s : S) → IsBarredIn same p n s → E.rules_of old (Rule.bars s)) → IsEncoding same p root (record old { noted = x })
+    package_noted old x n e only others bars = noted_keeps old x e (record {
+      packages = λ m s h barred. elim (only m h) [ inl a ↦ e.noted.packages m s a barred | inr is ↦ bars s (subst (λ y. IsBarredIn same p y s) is barred) ];
+      version_sets = λ v s h outside. e.noted.version_sets v s (subst (λ ks. Contains ks.keys v) others h) outside;
+    })
+
+    pub set_noted : (old : Encoding N S) (x : Noted N) (v : VersionSetId) → IsEncoding same p root old → ((w : VersionSetId) → Contains x.version_sets.keys w → Contains old.noted.version_sets.keys w ⊎ (w ≡ v)) → x.packages ≡ old.noted.packages
+        → ((s : S) → is_outside same p v s ≡ true → E.rules_of old (Rule.is_out v s)) → IsEncoding same p root (record old { noted = x })
+    set_noted old x v e only others outside = noted_keeps old x e (record {
+      packages = λ m s h barred. e.noted.packages m s (subst (λ ks. Contains ks.keys m) others h) barred;
+      version_sets = λ w s h out. elim (only w h) [
+        | inl a ↦ e.noted.version_sets w s a out
+        | inr is ↦ subst (λ y. E.rules_of old (Rule.is_out y s)) (sym is) (outside s (subst (λ y. is_outside same p y s ≡ true) is out))
+      ];
+    })
+
+pub built_noted : {N S : Type 0} (e : Encoding N S) (x : Noted N) → IsBuilt e → IsBuilt (record e { noted = x })
+built_noted e x b = record { coding = b.coding; tied = b.tied; candidates = b.candidates; gates = b.gates; within = b.within }
