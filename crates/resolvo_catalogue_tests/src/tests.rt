@@ -230,15 +230,32 @@ fn versions(rt: HostRuntime) -> Result<(), Fail> {
     market.lines_are_in_place();
     assert_eq!(rt; market.versions().len(), 4);
     assert_eq!(rt; market.line_count(), 12);
-    assert_eq!(rt; market.find("b", 1), Some(VersionNo(2)));
-    assert_eq!(rt; market.find("b", 3), None);
-    assert_eq!(rt; market.find("c", 1), None);
-    assert_eq!(rt;
-        market.versions_of("b"),
-        [VersionNo(2), VersionNo(3)].as_slice()
-    );
-    assert_eq!(rt; market.versions_of("c"), [].as_slice());
     assert_eq!(rt; market.favours(), [(7, VersionNo(0))].as_slice());
+    for (name, number, found) in [
+        ("b", 1u32, Some(VersionNo(2))),
+        ("b", 3, None),
+        ("c", 1, None),
+    ] {
+        assert_eq!(rt; market.find(name, number), found, "{name} {number}");
+    }
+    Ok(())
+}
+
+#[test]
+fn versions_of_packages(rt: HostRuntime) -> Result<(), Fail> {
+    let market = catalogue_of(rt.alloc(), MARKET, 7)?;
+    for (name, versions) in [
+        ("b", [VersionNo(2), VersionNo(3)].as_slice()),
+        ("c", [].as_slice()),
+    ] {
+        assert_eq!(rt; market.versions_of(name), versions, "{name}");
+    }
+    Ok(())
+}
+
+#[test]
+fn lines_of_versions(rt: HostRuntime) -> Result<(), Fail> {
+    let market = catalogue_of(rt.alloc(), MARKET, 7)?;
     for (number, lines, barred) in [
         (0u32, [4u32].as_slice(), None),
         (1, [6].as_slice(), None),
@@ -250,13 +267,23 @@ fn versions(rt: HostRuntime) -> Result<(), Fail> {
         assert_eq!(rt; market.lines_of(version), lines, "{number}");
         assert_eq!(rt; market.barred(version), barred, "{number}");
     }
+    Ok(())
+}
+
+#[test]
+fn matches_of_a_spec(rt: HostRuntime) -> Result<(), Fail> {
+    let market = catalogue_of(rt.alloc(), MARKET, 7)?;
     let spec = Spec {
         name: String::from_str(rt.alloc(), "b")?,
         span: Span::Range(0, 2),
     };
-    assert!(rt; market.match_of(&spec, VersionNo(2)));
-    assert!(rt; !market.match_of(&spec, VersionNo(3)));
-    assert!(rt; !market.match_of(&spec, VersionNo(0)));
+    for (number, is_match) in [(2u32, true), (3, false), (0, false)] {
+        assert_eq!(rt;
+            market.match_of(&spec, VersionNo(number)),
+            is_match,
+            "{number}"
+        );
+    }
     Ok(())
 }
 
