@@ -1,0 +1,2 @@
+pub mod ServedLines
+pub mod Unconditional

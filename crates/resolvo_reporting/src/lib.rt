@@ -1,0 +1,4 @@
+//! From a catalogue and a request to the report of the solver's answer.
+#![tactic(auto)]
+
+pub mod serving;
