@@ -1,3 +1,4 @@
 pub mod Naming
 pub mod Renaming
 pub mod Clauses
+pub mod Following
