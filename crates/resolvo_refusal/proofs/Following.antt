@@ -46,7 +46,7 @@ use Rattle.resolvo_refusal.proofs.Clauses.{Spells, IsSpelled, spelled_members, n
 
 -- ---- lists, place by place
 
-zip_right : {X Y : Type 0} (R : X → Y → Type 0) (xs : List X) (ys : List Y) → AllZip R xs ys → (n : ℕ) (y : Y) → slice_get ys n ≡ Some y → (x : X) × (slice_get xs n ≡ Some x) × R x y
+pub zip_right : {X Y : Type 0} (R : X → Y → Type 0) (xs : List X) (ys : List Y) → AllZip R xs ys → (n : ℕ) (y : Y) → slice_get ys n ≡ Some y → (x : X) × (slice_get xs n ≡ Some x) × R x y
 zip_right R [] [] z n y e = absurd cc
 zip_right R [] (w ∷ ys) z n y e = absurd z
 zip_right R (x ∷ xs) [] z n y e = absurd z
