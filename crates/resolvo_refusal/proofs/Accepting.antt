@@ -1,12 +1,12 @@
 -- The judge accepts the refused report whose steps tell a plain problem's proof, and its claim is true.
-use Rattle.std.proofs.Common.{◌≡◌, ◌⊎◌, inl, inr, ℕ, zero, suc, ◌+◌, ◌<◌, ◌≤◌, Bool, true, false, List, [], ◌∷◌, ◌++◌, map, take, length, Option, Some, None, refl, sym, ap, subst, ◌∙◌, arith, cond}
+use Rattle.std.proofs.Common.{◌≡◌, ◌⊎◌, inl, inr, ℕ, zero, suc, ◌+◌, ◌<◌, true, List, [], ◌∷◌, ◌++◌, map, take, length, Some, None, refl, sym, ap, subst, ◌∙◌}
 use Rattle.std.specs.Prelude.{◌==◌, Contains, slice_get}
 use Rattle.std.specs.List.{AllZip, flat_map}
 use Rattle.std.proofs.lemmas.Bool.{eq-eqb}
 use Rattle.std.proofs.lemmas.Option.{slice_get_within}
 use Rattle.std.proofs.lemmas.List.{append_assoc, append-nil}
 use Rattle.std.proofs.lemmas.List.Concat.{flat_map-append}
-use Rattle.resolvo_text.specs.Line.{Spec, Line, Needs}
+use Rattle.resolvo_text.specs.Line.{Line, Needs}
 use Rattle.resolvo_catalogue.specs.Grammar.{line_at}
 use Rattle.resolvo_catalogue.specs.Questions.{Said, AreAll}
 use Rattle.resolvo_catalogue.proofs.Placing.{at_from_contains, contains_from_at}
@@ -15,17 +15,18 @@ use Rattle.resolvo_proof.specs.declared.step.ProofStep.{ProofStep}
 use Rattle.resolvo_provider.specs.Ids.{NameId, SolvableId}
 use Rattle.resolvo_provider.specs.Provider.{Provider}
 use Rattle.resolvo_provider.proofs.Marking.{one_some}
-use Rattle.resolvo_report.specs.Value.{Step, ReportLine, RefusedHead, CatalogueLine, RequestLine, Numbered, Message, Refused}
+use Rattle.resolvo_report.specs.Value.{Step, Report, ReportLine, RefusedHead, CatalogueLine, RequestLine, Numbered, Refused}
 use Rattle.resolvo_report.specs.Text.{numbered, report_lines}
+use Rattle.resolvo_report.specs.Grammar.{IsReport}
 use Rattle.resolvo_judge.specs.Proof.{may_stand, is_named, ends_empty}
-use Rattle.resolvo_judge.specs.Refusal.{catalogue_line_in, request_line_in, step_in, catalogue_lines_in, request_lines_in, steps_in, is_refusal, states_rule, passes, ArePassed, IsAccepted}
+use Rattle.resolvo_judge.specs.Refusal.{catalogue_line_in, request_line_in, step_in, catalogue_lines_in, request_lines_in, steps_in, states_rule, passes, ArePassed, IsAccepted}
 use Rattle.resolvo_judge.specs.Judgement.{IsClaimTrue}
 use Rattle.resolvo_judge.proofs.JudgeLemmas.{claim_true}
 use Rattle.resolvo_refusal.specs.declared.named.Text.{Text}
 use Rattle.resolvo_refusal.specs.declared.named.Text.TheVariants as text
 use Rattle.resolvo_refusal.specs.Named.{line_in, IsNamedBy}
-use Rattle.resolvo_refusal.specs.Refusal.{IsToldBy, Refutes}
-use Rattle.resolvo_refusal.proofs.Renaming.{AreSeveral}
+use Rattle.resolvo_refusal.specs.Writing.{IsRefusedBy}
+use Rattle.resolvo_refusal.specs.Refusal.{IsToldBy, Refutes, IsRefusalOf}
 use Rattle.resolvo_refusal.proofs.Following.{zip_right, rests, lines_in, line_stated, stands, written_ends}
 
 -- ---- lists, place by place
@@ -102,7 +103,7 @@ number_within : (lines : List Line) (n : ℕ) (l : Line) → line_at lines n ≡
 number_within lines zero l e = absurd cc
 number_within lines (suc k) l e = (k, refl, slice_get_within lines k l e)
 
-module _ (catalogue : List Line) (said : Said) (provider : Provider) (steps : List (ProofStep NameId SolvableId)) (refuted : Refutes catalogue said provider steps) (several : AreSeveral provider.ids)
+module _ (catalogue : List Line) (said : Said) (provider : Provider) (steps : List (ProofStep NameId SolvableId)) (refuted : Refutes catalogue said provider steps)
     (in_catalogue in_request : List ℕ) (written : List Step) (each : AllZip (IsToldBy catalogue provider.ids said.lines) steps written)
     (named : AreAll in_catalogue (IsNamedBy text.Catalogue (length catalogue) written)) (asked : AreAll in_request (IsNamedBy text.Request (length said.lines) written)) where
   -- a named line states a rule
@@ -111,14 +112,14 @@ module _ (catalogue : List Line) (said : Said) (provider : Provider) (steps : Li
       let (k, is, below, (t, there, rests_on)) = (all.all n).0 h in
       let (m, e) = at_from_contains written t there in
       let (s, at, tells) = zip_right (IsToldBy catalogue provider.ids said.lines) steps written each m t e in
-      let (alternatives, stated) = line_stated catalogue said provider steps refuted several of s t n tells rests_on in
+      let (alternatives, stated) = line_stated catalogue said provider steps refuted of s t n tells rests_on in
       ap states_rule stated
 
   -- the line that a step rests on is named
   names : (of : Text) (numbers : List ℕ) (m : ℕ) (t : Step) (n : ℕ) → AreAll numbers (IsNamedBy of (length (lines_in catalogue said.lines of)) written) → slice_get written m ≡ Some t → line_in of t ≡ Some n → is_named numbers n ≡ true
   names of numbers m t n all e rests_on =
       let (s, at, tells) = zip_right (IsToldBy catalogue provider.ids said.lines) steps written each m t e in
-      let (alternatives, stated) = line_stated catalogue said provider steps refuted several of s t n tells rests_on in
+      let (alternatives, stated) = line_stated catalogue said provider steps refuted of s t n tells rests_on in
       let (k, is, below) = number_within (lines_in catalogue said.lines of) n (Needs alternatives None) stated in
       listed_named numbers n ((all.all n).1 (k, is, below, (t, contains_from_at written t m e, rests_on)))
 
@@ -128,16 +129,16 @@ module _ (catalogue : List Line) (said : Said) (provider : Provider) (steps : Li
     | inr (m, there, above) ↦ elim (get_parts (map (λ x. RequestLine x) in_request) (numbered 1 written) m l there) [
       | inl a ↦ (let (x, h, is) = map_contains (λ (x : ℕ). RequestLine x) l in_request a in ap (passes catalogue said.lines (RefusedHead ∷ take n (lines_to in_catalogue in_request written))) is ∙ states text.Request in_request (length said.lines) x asked h)
       | inr (k, at, over) ↦ (
-        let (number, t, step, is, before) = numbered_at 1 written k l at in
-        let whole : take n (lines_to in_catalogue in_request written) ≡ lines_to in_catalogue in_request (take k written) =
-            above ∙ ap (λ ls. map (λ x. CatalogueLine x) in_catalogue ++ ls) (over ∙ ap (λ ls. map (λ x. RequestLine x) in_request ++ ls) before) in
-        let may = stands catalogue said provider steps refuted several written each (is_named in_catalogue) (is_named in_request) k t step
-            (rests (is_named in_catalogue) (is_named in_request) t (λ x g. names text.Catalogue in_catalogue k t x named step g) (λ x g. names text.Request in_request k t x asked step g)) in
-        ap (passes catalogue said.lines (RefusedHead ∷ take n (lines_to in_catalogue in_request written))) is
-        ∙ (ap (λ ls. passes catalogue said.lines (RefusedHead ∷ ls) (Numbered number t)) whole
-        ∙ step_passes catalogue said.lines (lines_to in_catalogue in_request (take k written)) in_catalogue in_request (take k written) number t
+          let (number, t, step, is, before) = numbered_at 1 written k l at in
+          let whole : take n (lines_to in_catalogue in_request written) ≡ lines_to in_catalogue in_request (take k written) =
+          above ∙ ap (λ ls. map (λ x. CatalogueLine x) in_catalogue ++ ls) (over ∙ ap (λ ls. map (λ x. RequestLine x) in_request ++ ls) before) in
+          let may = stands catalogue said provider steps refuted written each (is_named in_catalogue) (is_named in_request) k t step
+          (rests (is_named in_catalogue) (is_named in_request) t (λ x g. names text.Catalogue in_catalogue k t x named step g) (λ x g. names text.Request in_request k t x asked step g)) in
+          ap (passes catalogue said.lines (RefusedHead ∷ take n (lines_to in_catalogue in_request written))) is
+          ∙ (ap (λ ls. passes catalogue said.lines (RefusedHead ∷ ls) (Numbered number t)) whole
+          ∙ step_passes catalogue said.lines (lines_to in_catalogue in_request (take k written)) in_catalogue in_request (take k written) number t
           (catalogue_named in_catalogue in_request (take k written)) (request_named in_catalogue in_request (take k written)) (steps_told in_catalogue in_request (take k written)) may)
-      )
+          )
     ]
   ]
 
@@ -151,8 +152,22 @@ module _ (catalogue : List Line) (said : Said) (provider : Provider) (steps : Li
   pub accepted : IsAccepted catalogue said.lines (report_lines (Refused in_catalogue in_request written []))
   accepted = subst (IsAccepted catalogue said.lines) (sym lines_are) (record {
     passed = all_pass;
-    ends = ap ends_empty (steps_told in_catalogue in_request written) ∙ written_ends catalogue said provider steps refuted several written each;
+    ends = ap ends_empty (steps_told in_catalogue in_request written) ∙ written_ends catalogue said provider steps refuted written each;
   })
 
   pub claimed : IsClaimTrue catalogue said.lines (Refused in_catalogue in_request written [])
   claimed = claim_true catalogue said.lines (Refused in_catalogue in_request written []) accepted
+
+-- A refused report of the proof, whose steps tell the proof's, is a refusal that the judge accepts.
+pub refusal_of : (catalogue : List Line) (said : Said) (provider : Provider) (steps : List (ProofStep NameId SolvableId)) → Refutes catalogue said provider steps → (r : Report) (refused : IsRefusedBy catalogue said.lines provider.ids steps r)
+    → AllZip (IsToldBy catalogue provider.ids said.lines) steps refused.written → IsReport r → IsRefusalOf catalogue said.lines provider.ids steps r
+refusal_of catalogue said provider steps refuted r refused each report = record {
+  in_catalogue = refused.in_catalogue;
+  in_request = refused.in_request;
+  written = refused.written;
+  refuses = refused.is;
+  each = each;
+  report = report;
+  accepted = subst (λ (x : Report). IsAccepted catalogue said.lines (report_lines x)) (sym refused.is) (accepted catalogue said provider steps refuted refused.in_catalogue refused.in_request refused.written each refused.named refused.asked);
+  claim = subst (λ (x : Report). IsClaimTrue catalogue said.lines x) (sym refused.is) (claimed catalogue said provider steps refuted refused.in_catalogue refused.in_request refused.written each refused.named refused.asked);
+}

@@ -1,12 +1,10 @@
 -- The clause of each step of a plain problem's proof, and that of the step in a report which tells it.
-use Rattle.std.proofs.Common.{◌≡◌, ◌==◌, ◌⊎◌, inl, inr, ℕ, zero, suc, ◌/◌, Bool, true, false, List, [], ◌∷◌, ◌++◌, map, length, Option, Some, None, refl, sym, ap, subst, ◌∙◌, arith, cond}
+use Rattle.std.proofs.Common.{◌≡◌, ◌==◌, inl, inr, ℕ, zero, suc, ◌/◌, Bool, true, List, [], ◌∷◌, ◌++◌, map, length, Option, Some, None, refl, sym, ap, subst, ◌∙◌, arith}
 use Rattle.std.specs.Prelude.{◌&&◌, ◌<◌, not, filter, unwrap_or, Contains, slice_get, nat_lt}
-use Rattle.std.specs.List.{flat_map, list_all}
 use Rattle.std.specs.Int.{bit_at}
-use Rattle.std.proofs.Common.{Vec, Global}
 use Rattle.std.proofs.lemmas.Bool.{and_parts, eqb-true}
 use Rattle.std.proofs.lemmas.Bool.Decides.{Decides-ltb}
-use Rattle.std.proofs.lemmas.Option.{get_or_from_slice_get, slice_get-get_or, slice_get_within, unwrap_or-slice_get}
+use Rattle.std.proofs.lemmas.Option.{slice_get-get_or, slice_get_within, unwrap_or-slice_get}
 use Rattle.std.proofs.lemmas.Nat.Bits.{bit_at_lowest, bit_at-suc}
 use Rattle.resolvo_text.specs.Line.{Version, Spec, Line, Needs}
 use Rattle.resolvo_text.specs.Matching as lines
@@ -32,8 +30,8 @@ use Rattle.resolvo_coding.specs.Atoms.{atom_of}
 use Rattle.resolvo_proof.specs.Members.{SameMembers}
 use Rattle.resolvo_proof.specs.Steps.{literal_in}
 use Rattle.resolvo_proof.specs.declared.step.ProofLiteral.{ProofLiteral}
-use Rattle.resolvo_provider.specs.Ids.{Ids, NameId, SolvableId, solvable_id, IsSpec, AreEach, IsNeed, IsSolvable}
-use Rattle.resolvo_provider.specs.Known.{name_text, name_of, set_at, spec_at, members_of, alternatives_at}
+use Rattle.resolvo_provider.specs.Ids.{NameId, SolvableId, solvable_id, IsSpec, AreEach, IsNeed, IsSolvable}
+use Rattle.resolvo_provider.specs.Known.{name_text, name_of, set_at, members_of, alternatives_at}
 use Rattle.resolvo_provider.specs.Told.{Told}
 use Rattle.resolvo_provider.specs.Provider.{Provider, packages_of, candidates_of, matches, told_at, no_lines, needs_of, dependencies_of}
 use Rattle.resolvo_provider.specs.Over.{IsOver, AreAsked}
@@ -46,8 +44,8 @@ use Rattle.resolvo_report.specs.Value as told
 use Rattle.resolvo_judge.specs.StepClauses as judge
 use Rattle.resolvo_judge.proofs.Sets.{is_contained}
 use Rattle.resolvo_refusal.specs.Writing.{version_at, place_at}
-use Rattle.resolvo_refusal.specs.Refusal.{IsVersion, IsRequirement, IsName, IsKnownAtom, atom_at, literal_at, AreLiterals}
-use Rattle.resolvo_refusal.proofs.Renaming.{AreSeveral, IsKnown, IsKnownClause, name, name_literal, name_clause, version_is, name_is, specs_are, members_known}
+use Rattle.resolvo_refusal.specs.Refusal.{IsVersion, IsRequirement, IsKnownAtom, atom_at, literal_at, AreLiterals}
+use Rattle.resolvo_refusal.proofs.Renaming.{IsKnown, IsKnownClause, name, name_literal, name_clause, version_is, name_is, specs_are, members_known}
 
 -- the digit of a place is its bit
 digit_bit : (k i : ℕ) → digit k i ≡ (bit_at k i == 1)
@@ -69,29 +67,29 @@ same_requirement_is (Union v) (Union w) h = (let e : v.0 ≡ w.0 = eqb-true v.0 
 same_requirement_is (Single v) (Union w) h = absurd cc
 same_requirement_is (Union v) (Single w) h = absurd cc
 
-module _ (catalogue : List Line) (provider : Provider) (over : IsOver catalogue provider) (several : AreSeveral provider.ids) where
+module _ (catalogue : List Line) (provider : Provider) (over : IsOver catalogue provider) where
   -- The second clause has the names of the first one's literals, which are known.
   pub record Spells (c : List (pass.Literal (Atom NameId SolvableId))) (d : List (pass.Literal told.Atom)) : Type 0 where
-    pub known : IsKnownClause catalogue provider over several c
-    pub only : (l : pass.Literal (Atom NameId SolvableId)) → Contains c l → Contains d (name_literal catalogue provider over several l)
-    pub each : (m : pass.Literal told.Atom) → Contains d m → (l : pass.Literal (Atom NameId SolvableId)) × Contains c l × (m ≡ name_literal catalogue provider over several l)
+    pub known : IsKnownClause catalogue provider over c
+    pub only : (l : pass.Literal (Atom NameId SolvableId)) → Contains c l → Contains d (name_literal catalogue provider over l)
+    pub each : (m : pass.Literal told.Atom) → Contains d m → (l : pass.Literal (Atom NameId SolvableId)) × Contains c l × (m ≡ name_literal catalogue provider over l)
 
-  pub spelled_members : (c : List (pass.Literal (Atom NameId SolvableId))) (d : List (pass.Literal told.Atom)) → Spells c d → SameMembers (name_clause catalogue provider over several c) d
+  pub spelled_members : (c : List (pass.Literal (Atom NameId SolvableId))) (d : List (pass.Literal told.Atom)) → Spells c d → SameMembers (name_clause catalogue provider over c) d
   spelled_members c d s = record {
-    only = λ m h. (let (l, a, e) = map_contains (name_literal catalogue provider over several) m c h in subst (λ x. Contains d x) (sym e) (s.only l a));
-    each = λ m h. (let (l, a, e) = s.each m h in subst (λ x. Contains (name_clause catalogue provider over several c) x) (sym e) (contains_map (name_literal catalogue provider over several) l c a));
+    only = λ m h. (let (l, a, e) = map_contains (name_literal catalogue provider over) m c h in subst (λ x. Contains d x) (sym e) (s.only l a));
+    each = λ m h. (let (l, a, e) = s.each m h in subst (λ x. Contains (name_clause catalogue provider over c) x) (sym e) (contains_map (name_literal catalogue provider over) l c a));
   }
 
   spelled_none : Spells [] []
   spelled_none = record { known = λ l h. absurd (contains_none l h); only = λ l h. absurd (contains_none l h); each = λ m h. absurd (contains_none m h) }
 
   spelled_more : (l : pass.Literal (Atom NameId SolvableId)) (m : pass.Literal told.Atom) (c : List (pass.Literal (Atom NameId SolvableId))) (d : List (pass.Literal told.Atom))
-      → IsKnown catalogue provider over several l.atom → m ≡ name_literal catalogue provider over several l → Spells c d → Spells (l ∷ c) (m ∷ d)
+      → IsKnown catalogue provider over l.atom → m ≡ name_literal catalogue provider over l → Spells c d → Spells (l ∷ c) (m ∷ d)
   spelled_more l m c d known is s = record {
-    known = λ x h. elim (contains_cases x l c h) [ inl e ↦ subst (λ (y : pass.Literal (Atom NameId SolvableId)). IsKnown catalogue provider over several y.atom) (sym e) known | inr a ↦ s.known x a ];
+    known = λ x h. elim (contains_cases x l c h) [ inl e ↦ subst (λ (y : pass.Literal (Atom NameId SolvableId)). IsKnown catalogue provider over y.atom) (sym e) known | inr a ↦ s.known x a ];
     only = λ x h. elim (contains_cases x l c h) [
-      | inl e ↦ contains_first (name_literal catalogue provider over several x) m d (is ∙ ap (name_literal catalogue provider over several) (sym e))
-      | inr a ↦ contains_later (name_literal catalogue provider over several x) m d (s.only x a)
+      | inl e ↦ contains_first (name_literal catalogue provider over x) m d (is ∙ ap (name_literal catalogue provider over) (sym e))
+      | inr a ↦ contains_later (name_literal catalogue provider over x) m d (s.only x a)
     ];
     each = λ x h. elim (contains_cases x m d h) [
       | inl e ↦ (l, contains_first l l c refl, e ∙ is)
@@ -103,8 +101,8 @@ module _ (catalogue : List Line) (provider : Provider) (over : IsOver catalogue 
   spelled_append c e d f s t = record {
     known = λ x h. elim (contains_parts x c e h) [ inl a ↦ s.known x a | inr a ↦ t.known x a ];
     only = λ x h. elim (contains_parts x c e h) [
-      | inl a ↦ contains_left (name_literal catalogue provider over several x) d f (s.only x a)
-      | inr a ↦ contains_right (name_literal catalogue provider over several x) d f (t.only x a)
+      | inl a ↦ contains_left (name_literal catalogue provider over x) d f (s.only x a)
+      | inr a ↦ contains_right (name_literal catalogue provider over x) d f (t.only x a)
     ];
     each = λ x h. elim (contains_parts x d f h) [
       | inl a ↦ (let (y, b, g) = s.each x a in (y, contains_left y c e b, g))
@@ -115,7 +113,7 @@ module _ (catalogue : List Line) (provider : Provider) (over : IsOver catalogue 
   -- ---- versions
 
   pub is_listed : (s : SolvableId) → IsVersion catalogue provider.ids s → judge.is_listed catalogue (version_at catalogue s) ≡ true
-  is_listed s (v, e) = is_contained (listed catalogue) (version_at catalogue s) (subst (λ (x : Version). Contains (listed catalogue) x) (sym (version_is catalogue provider over several s v e)) (contains_from_at (listed catalogue) v s.raw e))
+  is_listed s (v, e) = is_contained (listed catalogue) (version_at catalogue s) (subst (λ (x : Version). Contains (listed catalogue) x) (sym (version_is catalogue provider over s v e)) (contains_from_at (listed catalogue) v s.raw e))
 
   pub fails_spelled : (parent : Option SolvableId) → ((s : SolvableId) → parent ≡ Some s → IsVersion catalogue provider.ids s) → Spells (parent_literals parent) (judge.place_fails (place_at catalogue parent))
   fails_spelled None known = spelled_none
@@ -137,27 +135,28 @@ module _ (catalogue : List Line) (provider : Provider) (over : IsOver catalogue 
         → Spells (solvables (filter (matches provider w) (pool.listed (candidates_of provider (set_at provider.ids w).0)))) (judge.each_listed catalogue (lines.matches s))
     matches_spelled w s spec = record {
       known = λ l h. (
-        let (x, a, e) = map_contains (λ (y : SolvableId). plus (Atom.solvable y)) l (filter (matches provider w) candidates) h in
-        subst (λ (y : pass.Literal (Atom NameId SolvableId)). IsKnown catalogue provider over several y.atom) (sym e) (candidate_listed (set_at provider.ids w).0 x (filter_contains (matches provider w) x candidates a).0)
-      );
+          let (x, a, e) = map_contains (λ (y : SolvableId). plus (Atom.solvable y)) l (filter (matches provider w) candidates) h in
+          subst (λ (y : pass.Literal (Atom NameId SolvableId)). IsKnown catalogue provider over y.atom) (sym e) (candidate_listed (set_at provider.ids w).0 x (filter_contains (matches provider w) x candidates a).0)
+          );
       only = λ l h. (
-        let (x, a, e) = map_contains (λ (y : SolvableId). plus (Atom.solvable y)) l (filter (matches provider w) candidates) h in
-        let (b, t) = filter_contains (matches provider w) x candidates a in
-        let (v, g) = candidate_listed (set_at provider.ids w).0 x b in
-        let m : lines.matches s v ≡ true = sym (admits provider (listed catalogue) over.versions over.once same apart w s x v spec g) ∙ t in
-        let there : Contains (judge.each_listed catalogue (lines.matches s)) (judge.is_in v) = contains_map judge.is_in v (filter (lines.matches s) (listed catalogue)) (contains_filter (lines.matches s) v (listed catalogue) (contains_from_at (listed catalogue) v x.raw g) m) in
-        subst (λ y. Contains (judge.each_listed catalogue (lines.matches s)) (name_literal catalogue provider over several y)) (sym e) (subst (λ (u : Version). Contains (judge.each_listed catalogue (lines.matches s)) (judge.is_in u)) (sym (version_is catalogue provider over several x v g)) there)
-      );
+          let (x, a, e) = map_contains (λ (y : SolvableId). plus (Atom.solvable y)) l (filter (matches provider w) candidates) h in
+          let (b, t) = filter_contains (matches provider w) x candidates a in
+          let (v, g) = candidate_listed (set_at provider.ids w).0 x b in
+          let m : lines.matches s v ≡ true = sym (admits provider (listed catalogue) over.versions over.once same apart w s x v spec g) ∙ t in
+          let there : Contains (judge.each_listed catalogue (lines.matches s)) (judge.is_in v) = contains_map judge.is_in v (filter (lines.matches s) (listed catalogue)) (contains_filter (lines.matches s) v (listed catalogue) (contains_from_at (listed catalogue) v x.raw g) m) in
+          subst (λ y. Contains (judge.each_listed catalogue (lines.matches s)) (name_literal catalogue provider over y)) (sym e) (subst (λ (u : Version). Contains (judge.each_listed catalogue (lines.matches s)) (judge.is_in u)) (sym (version_is catalogue provider over x v g)) there)
+          );
       each = λ m h. (
-        let (v, a, e) = map_contains judge.is_in m (filter (lines.matches s) (listed catalogue)) h in
-        let (b, t) = filter_contains (lines.matches s) v (listed catalogue) a in
-        let (k, g) = at_from_contains (listed catalogue) v b in
-        let x : SolvableId = solvable_id k in
-        let p = and_parts _ _ (match_same provider (listed catalogue) over.versions over.once same apart w s x v spec g ∙ t) in
-        (plus (Atom.solvable x),
-          contains_map (λ (y : SolvableId). plus (Atom.solvable y)) x (filter (matches provider w) candidates) (contains_filter (matches provider w) x candidates (in_from provider (listed catalogue) over.versions over.once same apart candidates x p.0) p.1),
-          e ∙ ap judge.is_in (sym (version_is catalogue provider over several x v g)))
-      );
+          let (v, a, e) = map_contains judge.is_in m (filter (lines.matches s) (listed catalogue)) h in
+          let (b, t) = filter_contains (lines.matches s) v (listed catalogue) a in
+          let (k, g) = at_from_contains (listed catalogue) v b in
+          let x : SolvableId = solvable_id k in
+          let p = and_parts _ _ (match_same provider (listed catalogue) over.versions over.once same apart w s x v spec g ∙ t) in (
+            plus (Atom.solvable x),
+            contains_map (λ (y : SolvableId). plus (Atom.solvable y)) x (filter (matches provider w) candidates) (contains_filter (matches provider w) x candidates (in_from provider (listed catalogue) over.versions over.once same apart candidates x p.0) p.1),
+            e ∙ ap judge.is_in (sym (version_is catalogue provider over x v g)),
+          )
+          );
     }
       where
         candidates : List SolvableId
@@ -172,8 +171,8 @@ module _ (catalogue : List Line) (provider : Provider) (over : IsOver catalogue 
     -- what meets a requirement, and the listed matches of its alternatives
     pub alternatives_spelled : (r : Requirement) → IsRequirement catalogue provider.ids r → Spells (candidate_literals same (packages_of provider) (alternatives_of (members_of provider.ids) r)) (judge.some_match catalogue (alternatives_at provider.ids r))
     alternatives_spelled r known =
-        let (ss, each) = members_known catalogue provider over several r known in
-        subst (λ (ts : List Spec). Spells (candidate_literals same (packages_of provider) (alternatives_of (members_of provider.ids) r)) (judge.some_match catalogue ts)) (sym (specs_are catalogue provider over several _ ss each))
+        let (ss, each) = members_known catalogue provider over r known in
+        subst (λ (ts : List Spec). Spells (candidate_literals same (packages_of provider) (alternatives_of (members_of provider.ids) r)) (judge.some_match catalogue ts)) (sym (specs_are catalogue provider over _ ss each))
         (candidates_spelled (alternatives_of (members_of provider.ids) r) ss each)
 
     -- ---- rules
@@ -248,12 +247,11 @@ module _ (catalogue : List Line) (provider : Provider) (over : IsOver catalogue 
         → IsSpelled request (literals_of same (packages_of provider) (Rule.has_digit s bit (digit place bit))) (told.Digit (version_at catalogue s) place bit)
     digit_spelled request s place bit known below =
         let (v, e) = known in
-        let at : version_at catalogue s ≡ v = version_is catalogue provider over several s v e in
+        let at : version_at catalogue s ≡ v = version_is catalogue provider over s v e in
         let packaged = is_package provider (listed catalogue) over.versions over.once same apart s v e in
-        let text : (version_at catalogue s).name ≡ name_text provider.ids (name_of provider.ids s) = ap (λ (x : Version). x.name) at ∙ sym (name_is catalogue provider over several (name_of provider.ids s) v.name packaged) in
+        let text : (version_at catalogue s).name ≡ name_text provider.ids (name_of provider.ids s) = ap (λ (x : Version). x.name) at ∙ sym (name_is catalogue provider over (name_of provider.ids s) v.name packaged) in
         let lists : judge.is_listed catalogue (version_at catalogue s) ≡ true = is_listed s known in
-        let within : nat_lt bit 32 ≡ true = (Decides-ltb bit 32).1 below in
-        (
+        let within : nat_lt bit 32 ≡ true = (Decides-ltb bit 32).1 below in (
           judge.not_in (version_at catalogue s) ∷ judge.literal (told.BitOf bit (version_at catalogue s).name) (bit_at place bit == 1) ∷ [],
           rw (lists, within) refl,
           spelled_more (minus (Atom.solvable s)) _ _ _ known refl (spelled_more _ _ [] [] (v.name, packaged) (λ i. record { atom = told.BitOf bit (text i); positive = sym (digit_bit place bit) i }) spelled_none),
@@ -261,14 +259,14 @@ module _ (catalogue : List Line) (provider : Provider) (over : IsOver catalogue 
 
   -- ---- derived clauses
 
-  known_atom : (a : ProofAtom NameId SolvableId) → IsKnownAtom catalogue provider.ids a → IsKnown catalogue provider over several (atom_of a)
+  known_atom : (a : ProofAtom NameId SolvableId) → IsKnownAtom catalogue provider.ids a → IsKnown catalogue provider over (atom_of a)
   known_atom (atom.Solvable s) h = h
   known_atom (atom.AtLeastOne n) h = h
   known_atom (atom.Gate r) h = h
   known_atom (atom.Outside v) h = h
   known_atom (atom.Bit n bit) h = h.0
 
-  named_atom : (a : ProofAtom NameId SolvableId) → name catalogue provider over several (atom_of a) ≡ atom_at catalogue provider.ids a
+  named_atom : (a : ProofAtom NameId SolvableId) → name catalogue provider over (atom_of a) ≡ atom_at catalogue provider.ids a
   named_atom (atom.Solvable s) = refl
   named_atom (atom.AtLeastOne n) = refl
   named_atom (atom.Gate r) = refl
@@ -282,26 +280,26 @@ module _ (catalogue : List Line) (provider : Provider) (over : IsOver catalogue 
   is_atom (atom.Outside v) h = refl
   is_atom (atom.Bit n bit) h = refl
 
-  named_literal : (l : ProofLiteral NameId SolvableId) → name_literal catalogue provider over several (literal_in l) ≡ judge.literal_of (literal_at catalogue provider.ids l)
+  named_literal : (l : ProofLiteral NameId SolvableId) → name_literal catalogue provider over (literal_in l) ≡ judge.literal_of (literal_at catalogue provider.ids l)
   named_literal l i = record { atom = named_atom l.atom i; positive = l.positive }
 
   pub literals_spelled : (literals : List (ProofLiteral NameId SolvableId)) (written : List told.Literal) → ((l : ProofLiteral NameId SolvableId) → Contains literals l → IsKnownAtom catalogue provider.ids l.atom)
       → AreLiterals catalogue provider.ids literals written → Spells (map literal_in literals) (map judge.literal_of written)
   literals_spelled literals written known are = record {
-    known = λ l h. (let (k, a, e) = map_contains literal_in l literals h in subst (λ (x : pass.Literal (Atom NameId SolvableId)). IsKnown catalogue provider over several x.atom) (sym e) (known_atom k.atom (known k a)));
+    known = λ l h. (let (k, a, e) = map_contains literal_in l literals h in subst (λ (x : pass.Literal (Atom NameId SolvableId)). IsKnown catalogue provider over x.atom) (sym e) (known_atom k.atom (known k a)));
     only = λ l h. (
-      let (k, a, e) = map_contains literal_in l literals h in
-      let there = contains_map judge.literal_of (literal_at catalogue provider.ids k) written ((are (literal_at catalogue provider.ids k)).1 (k, a, refl)) in
-      subst (λ x. Contains (map judge.literal_of written) x) (sym (ap (name_literal catalogue provider over several) e ∙ named_literal k)) there
-    );
+        let (k, a, e) = map_contains literal_in l literals h in
+        let there = contains_map judge.literal_of (literal_at catalogue provider.ids k) written ((are (literal_at catalogue provider.ids k)).1 (k, a, refl)) in
+        subst (λ x. Contains (map judge.literal_of written) x) (sym (ap (name_literal catalogue provider over) e ∙ named_literal k)) there
+        );
     each = λ m h. (
-      let (w, b, e) = map_contains judge.literal_of m written h in
-      let (k, a, is) = (are w).0 b in
-      (literal_in k, contains_map literal_in k literals a, e ∙ (ap judge.literal_of is ∙ sym (named_literal k)))
-    );
+        let (w, b, e) = map_contains judge.literal_of m written h in
+        let (k, a, is) = (are w).0 b in
+        (literal_in k, contains_map literal_in k literals a, e ∙ (ap judge.literal_of is ∙ sym (named_literal k)))
+        );
   }
 
   pub derived_spelled : (request : List Line) (literals : List (ProofLiteral NameId SolvableId)) (written : List told.Literal) (causes : List ℕ) → ((l : ProofLiteral NameId SolvableId) → Contains literals l → IsKnownAtom catalogue provider.ids l.atom)
       → AreLiterals catalogue provider.ids literals written → judge.clause_of catalogue request (told.Derive written causes) ≡ Some (map judge.literal_of written)
   derived_spelled request literals written causes known are = rw (contained_all (λ (l : told.Literal). judge.is_atom catalogue l.atom) written
-    (λ w b. (let (k, a, is) = (are w).0 b in ap (λ (l : told.Literal). judge.is_atom catalogue l.atom) is ∙ is_atom k.atom (known k a)))) refl
+      (λ w b. (let (k, a, is) = (are w).0 b in ap (λ (l : told.Literal). judge.is_atom catalogue l.atom) is ∙ is_atom k.atom (known k a)))) refl

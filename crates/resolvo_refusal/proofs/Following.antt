@@ -1,7 +1,7 @@
 -- The steps that tell a plain problem's proof are one of the judge: each may stand after those before it.
-use Rattle.std.proofs.Common.{◌≡◌, ◌⊎◌, inl, inr, ℕ, zero, suc, ◌<◌, ◌≤◌, Bool, true, false, List, [], ◌∷◌, ◌++◌, map, take, length, Option, Some, None, refl, sym, ap, subst, ◌∙◌, arith, cond, Vec, Global}
-use Rattle.std.specs.Prelude.{◌&&◌, ◌||◌, ◌==◌, not, unwrap_or, is_some, nat_lt, nat_le, Contains, slice_get}
-use Rattle.std.specs.List.{AllZip, list_all}
+use Rattle.std.proofs.Common.{◌≡◌, ℕ, zero, suc, ◌<◌, Bool, true, false, List, [], ◌∷◌, ◌++◌, map, take, length, Option, Some, None, refl, sym, ap, subst, ◌∙◌, arith, cond, Vec, Global}
+use Rattle.std.specs.Prelude.{◌||◌, ◌==◌, not, unwrap_or, is_some, Contains, slice_get}
+use Rattle.std.specs.List.{AllZip}
 use Rattle.std.specs.Option.{option_and_then}
 use Rattle.std.proofs.lemmas.Bool.{and_from, eq-eqb, lt-ltb, le-leb}
 use Rattle.std.proofs.lemmas.Option.{slice_get_within}
@@ -9,15 +9,12 @@ use Rattle.std.proofs.lemmas.List.{length-take-le}
 use Rattle.resolvo_text.specs.Line.{Version, Spec, Line, Needs}
 use Rattle.resolvo_text.specs.Matching.{same_version}
 use Rattle.resolvo_catalogue.specs.Grammar.{line_at}
-use Rattle.resolvo_catalogue.specs.Listed.{listed}
 use Rattle.resolvo_catalogue.specs.Questions.{Said}
 use Rattle.resolvo_catalogue.proofs.Placing.{at_from_contains}
 use Rattle.resolvo_pool.specs.declared.requirement.Requirement.{Requirement}
 use Rattle.resolvo_pool.specs.declared.id.VersionSetId.{VersionSetId}
-use Rattle.resolvo_pool.specs.OnePass as pass
-use Rattle.resolvo_pool.specs.OnePass.{one_pass}
 use Rattle.resolvo_pool.specs.Text.{alternatives_of}
-use Rattle.resolvo_rules.specs.Encoding.{Atom, parent_literals, case_literals, candidate_literals}
+use Rattle.resolvo_rules.specs.Encoding.{parent_literals, case_literals, candidate_literals}
 use Rattle.resolvo_rules.proofs.Lists.{contains_none, contains_first, contains_later, map_contains, contained_all}
 use Rattle.resolvo_proof.specs.Members.{SameMembers}
 use Rattle.resolvo_proof.specs.Steps.{literal_in, clause_of, clause_at}
@@ -32,7 +29,6 @@ use Rattle.resolvo_provider.proofs.Marking.{one_some}
 use Rattle.resolvo_provider.proofs.RulesKept.{below_take, taken}
 use Rattle.resolvo_report.specs.Value as told
 use Rattle.resolvo_judge.specs.StepClauses as judge
-use Rattle.resolvo_judge.specs.Helpers.{same_atom}
 use Rattle.resolvo_judge.specs.Passing.{is_earlier}
 use Rattle.resolvo_judge.specs.Proof.{rests_on_named, allows_place, cause_of, follows, may_stand, ends_empty, derives_empty}
 use Rattle.resolvo_judge.proofs.Sets.{same_is}
@@ -40,9 +36,9 @@ use Rattle.resolvo_refusal.specs.declared.named.Text.{Text}
 use Rattle.resolvo_refusal.specs.declared.named.Text.TheVariants as text
 use Rattle.resolvo_refusal.specs.Named.{line_in}
 use Rattle.resolvo_refusal.specs.Writing.{version_at, place_at}
-use Rattle.resolvo_refusal.specs.Refusal.{IsVersion, IsToldBy, AreLiterals, Refutes}
-use Rattle.resolvo_refusal.proofs.Renaming.{AreSeveral, IsKnownClause, name_clause, version_is, pass_told}
-use Rattle.resolvo_refusal.proofs.Clauses.{Spells, IsSpelled, spelled_members, needed, asked_for, gate_asked, need_spelled, gate_spelled, shared_spelled, digit_spelled, literals_spelled, derived_spelled}
+use Rattle.resolvo_refusal.specs.Refusal.{IsToldBy, AreLiterals, Refutes}
+use Rattle.resolvo_refusal.proofs.Renaming.{IsKnownClause, name_clause, version_is, pass_told}
+use Rattle.resolvo_refusal.proofs.Clauses.{Spells, IsSpelled, spelled_members, asked_for, gate_asked, need_spelled, gate_spelled, shared_spelled, digit_spelled, literals_spelled, derived_spelled}
 
 -- ---- lists, place by place
 
@@ -94,7 +90,7 @@ gate_line : (of : Text) (v : Version) (line n : ℕ) → line_in of (told.Gate v
 gate_line text.Catalogue v line n e = e
 gate_line text.Request v line n e = e
 
-module _ (catalogue : List Line) (said : Said) (provider : Provider) (steps : List (ProofStep NameId SolvableId)) (refuted : Refutes catalogue said provider steps) (several : AreSeveral provider.ids) where
+module _ (catalogue : List Line) (said : Said) (provider : Provider) (steps : List (ProofStep NameId SolvableId)) (refuted : Refutes catalogue said provider steps) where
   need_stated : (of : Text) (parent : Option SolvableId) (r : Requirement) (line case n : ℕ) → judge.line_of catalogue said.lines (place_at catalogue parent) line ≡ Some (Needs (alternatives_at provider.ids r) None)
       → line_in of (told.Need (place_at catalogue parent) line case) ≡ Some n → line_at (lines_in catalogue said.lines of) n ≡ Some (Needs (alternatives_at provider.ids r) None)
   need_stated text.Catalogue None r line case n needs e = absurd cc
@@ -121,36 +117,36 @@ module _ (catalogue : List Line) (said : Said) (provider : Provider) (steps : Li
   -- ---- clauses
 
   abbrev IsClauseOf : ProofStep NameId SolvableId → told.Step → Type 0
-  IsClauseOf s t = IsSpelled catalogue provider refuted.over several refuted.same refuted.exact said.lines (clause_of refuted.same (packages_of provider) s) t
+  IsClauseOf s t = IsSpelled catalogue provider refuted.over refuted.same refuted.exact said.lines (clause_of refuted.same (packages_of provider) s) t
 
   -- the clause of a written step spells that of the step which it tells
   step_spelled : (n : ℕ) (s : ProofStep NameId SolvableId) (t : told.Step) → slice_get steps n ≡ Some s → IsToldBy catalogue provider.ids said.lines s t → IsClauseOf s t
   step_spelled n (Rule (NeedsRule parent r case)) t at (line, is, first) =
       let (condition, (needs, cases)) = refuted.proof n _ at in
-      let (versions, known) = asked_for catalogue provider refuted.over several refuted.same refuted.exact said refuted.ids refuted.asked parent (record { condition = condition; requirement = r }) needs in
+      let (versions, known) = asked_for catalogue provider refuted.over refuted.same refuted.exact said refuted.ids refuted.asked parent (record { condition = condition; requirement = r }) needs in
       subst (λ (x : told.Step). IsClauseOf (Rule (NeedsRule parent r case)) x) (sym is)
-      (subst (λ (vs : List VersionSetId). IsSpelled catalogue provider refuted.over several refuted.same refuted.exact said.lines
-        (parent_literals parent ++ (case_literals refuted.same (packages_of provider) vs ++ candidate_literals refuted.same (packages_of provider) (alternatives_of (members_of provider.ids) r))) (told.Need (place_at catalogue parent) line 1))
+      (subst (λ (vs : List VersionSetId). IsSpelled catalogue provider refuted.over refuted.same refuted.exact said.lines
+      (parent_literals parent ++ (case_literals refuted.same (packages_of provider) vs ++ candidate_literals refuted.same (packages_of provider) (alternatives_of (members_of provider.ids) r))) (told.Need (place_at catalogue parent) line 1))
       (sym (refuted.known n _ at))
-      (need_spelled catalogue provider refuted.over several refuted.same refuted.exact said.lines parent r line versions known first.needs))
+      (need_spelled catalogue provider refuted.over refuted.same refuted.exact said.lines parent r line versions known first.needs))
   step_spelled n (Rule (GateOf s r)) t at (line, is, first) =
       let (condition, asks) = refuted.proof n _ at in
-      let (version, known) = gate_asked catalogue provider refuted.over several refuted.same refuted.exact s r asks in
-      subst (λ (x : told.Step). IsClauseOf (Rule (GateOf s r)) x) (sym is) (gate_spelled catalogue provider refuted.over several refuted.same refuted.exact said.lines s r line version known first.needs)
+      let (version, known) = gate_asked catalogue provider refuted.over refuted.same refuted.exact s r asks in
+      subst (λ (x : told.Step). IsClauseOf (Rule (GateOf s r)) x) (sym is) (gate_spelled catalogue provider refuted.over refuted.same refuted.exact said.lines s r line version known first.needs)
   step_spelled n (Rule (Shared r)) t at is =
-      subst (λ (x : told.Step). IsClauseOf (Rule (Shared r)) x) (sym is) (shared_spelled catalogue provider refuted.over several refuted.same refuted.exact said.lines r (refuted.known n _ at))
+      subst (λ (x : told.Step). IsClauseOf (Rule (Shared r)) x) (sym is) (shared_spelled catalogue provider refuted.over refuted.same refuted.exact said.lines r (refuted.known n _ at))
   step_spelled n (Rule (Limit parent v barred)) t at h = absurd h
   step_spelled n (Rule (Outside v s)) t at h = absurd h
   step_spelled n (Rule (Locked locked s)) t at h = absurd h
   step_spelled n (Rule (Excluded s reason)) t at h = absurd h
   step_spelled n (Rule (Digit s place bit)) t at is =
       let (version, below) = refuted.known n _ at in
-      subst (λ (x : told.Step). IsClauseOf (Rule (Digit s place bit)) x) (sym is) (digit_spelled catalogue provider refuted.over several refuted.same refuted.exact said.lines s place bit version below)
+      subst (λ (x : told.Step). IsClauseOf (Rule (Digit s place bit)) x) (sym is) (digit_spelled catalogue provider refuted.over refuted.same refuted.exact said.lines s place bit version below)
   step_spelled n (Rule (AtLeastOne m s)) t at h = absurd h
   step_spelled n (Derived literals causes) t at (written, is, are) =
       let known = refuted.known n _ at in
       subst (λ (x : told.Step). IsClauseOf (Derived literals causes) x) (sym is)
-      (map judge.literal_of written, derived_spelled catalogue provider refuted.over several said.lines literals.items written (map suc causes.items) known are, literals_spelled catalogue provider refuted.over several literals.items written known are)
+      (map judge.literal_of written, derived_spelled catalogue provider refuted.over said.lines literals.items written (map suc causes.items) known are, literals_spelled catalogue provider refuted.over literals.items written known are)
 
   module _ (written : List told.Step) (each : AllZip (IsToldBy catalogue provider.ids said.lines) steps written) where
     -- the clause at a place
@@ -161,20 +157,20 @@ module _ (catalogue : List Line) (said : Said) (provider : Provider) (steps : Li
 
     -- the clause of an earlier step spells that of its cause
     cause_spelled : (n k : ℕ) (t : told.Step) → slice_get written n ≡ Some t → k < n
-        → Spells catalogue provider refuted.over several (clause_at refuted.same (packages_of provider) steps k) (cause_of catalogue said.lines (take n written) (suc k))
+        → Spells catalogue provider refuted.over (clause_at refuted.same (packages_of provider) steps k) (cause_of catalogue said.lines (take n written) (suc k))
     cause_spelled n k t at below =
         let (u, there) = get_below written n k t at below in
         let (s, is, tells) = zip_right (IsToldBy catalogue provider.ids said.lines) steps written each k u there in
         let (d, says, spells) = step_spelled k s u is tells in
         let cause : cause_of catalogue said.lines (take n written) (suc k) ≡ d = ap (λ (o : Option told.Step). unwrap_or (option_and_then (judge.clause_of catalogue said.lines) o) []) (below_take written k n u below there) ∙ ap (λ (o : Option judge.Clause). unwrap_or o []) says in
-        subst (λ c. Spells catalogue provider refuted.over several c (cause_of catalogue said.lines (take n written) (suc k))) (sym (clause_there steps k s is))
-        (subst (λ x. Spells catalogue provider refuted.over several (clause_of refuted.same (packages_of provider) s) x) (sym cause) spells)
+        subst (λ c. Spells catalogue provider refuted.over c (cause_of catalogue said.lines (take n written) (suc k))) (sym (clause_there steps k s is))
+        (subst (λ x. Spells catalogue provider refuted.over (clause_of refuted.same (packages_of provider) s) x) (sym cause) spells)
 
     causes_alike : (n : ℕ) (t : told.Step) → slice_get written n ≡ Some t → (causes : List ℕ) → ((k : ℕ) → Contains causes k → k < n)
-        → AllZip SameMembers (map (name_clause catalogue provider refuted.over several) (map (clause_at refuted.same (packages_of provider) steps) causes)) (map (cause_of catalogue said.lines (take n written)) (map suc causes))
+        → AllZip SameMembers (map (name_clause catalogue provider refuted.over) (map (clause_at refuted.same (packages_of provider) steps) causes)) (map (cause_of catalogue said.lines (take n written)) (map suc causes))
     causes_alike n t at [] earlier = tt
     causes_alike n t at (k ∷ causes) earlier = (
-      spelled_members catalogue provider refuted.over several _ _ (cause_spelled n k t at (earlier k (contains_first k k causes refl))),
+      spelled_members catalogue provider refuted.over _ _ (cause_spelled n k t at (earlier k (contains_first k k causes refl))),
       causes_alike n t at causes (λ j h. earlier j (contains_later j k causes h)),
     )
 
@@ -196,7 +192,7 @@ module _ (catalogue : List Line) (said : Said) (provider : Provider) (steps : Li
         one_version e =
             let ((v, a), below) = refuted.known m _ there in
             let ((w, b), within) = refuted.known n _ at in
-            let same : v ≡ w = sym (version_is catalogue provider refuted.over several q v a) ∙ (e ∙ version_is catalogue provider refuted.over several s w b) in
+            let same : v ≡ w = sym (version_is catalogue provider refuted.over q v a) ∙ (e ∙ version_is catalogue provider refuted.over s w b) in
             let raw : q.raw ≡ s.raw = refuted.over.distinct w q.raw s.raw (a ∙ ap (λ (y : Version). Some y) same) b in
             λ i. record { raw = raw i; tag = q.tag }
 
@@ -217,26 +213,26 @@ module _ (catalogue : List Line) (said : Said) (provider : Provider) (steps : Li
     step_follows n (Rule (Excluded q reason)) t at there h = absurd h
     step_follows n (Rule (AtLeastOne o q)) t at there h = absurd h
     step_follows n (Rule (Digit s place bit)) t at there is = ap (follows catalogue said.lines (take n written)) is ∙ contained_all (allows_place (version_at catalogue s) place) (take n written) (λ u h. (
-      let (k, e) = at_from_contains (take n written) u h in
-      let (x, a, tells) = zip_right (IsToldBy catalogue provider.ids said.lines) steps written each k u (taken written n k u e) in
-      no_other_place n k s place bit x u at a tells
-    ))
+        let (k, e) = at_from_contains (take n written) u h in
+        let (x, a, tells) = zip_right (IsToldBy catalogue provider.ids said.lines) steps written each k u (taken written n k u e) in
+        no_other_place n k s place bit x u at a tells
+        ))
     step_follows n (Derived literals causes) t at there (w, is, are) =
         let refutes = refuted.proof n _ at in
         let long : length (take n written) ≡ n = length-take-le n written (let b : n < length written = slice_get_within written n t there in omega (arith, b)) in
-        let known = (literals_spelled catalogue provider refuted.over several literals.items w (refuted.known n _ at) are) in
+        let known = (literals_spelled catalogue provider refuted.over literals.items w (refuted.known n _ at) are) in
         ap (follows catalogue said.lines (take n written)) is
         ∙ and_from _ _
         (contained_all (is_earlier (length (take n written))) (map suc causes.items) (λ m h. (
-          let (k, a, e) = map_contains suc m causes.items h in
-          subst (λ (j : ℕ). is_earlier (length (take n written)) j ≡ true) (sym e) (and_from _ _ (lt-ltb 0 (suc k) (omega arith)) (le-leb (suc k) (length (take n written)) (let b : k < n = refutes.earlier k a in omega (arith, b, long))))
+        let (k, a, e) = map_contains suc m causes.items h in
+        subst (λ (j : ℕ). is_earlier (length (take n written)) j ≡ true) (sym e) (and_from _ _ (lt-ltb 0 (suc k) (omega arith)) (le-leb (suc k) (length (take n written)) (let b : k < n = refutes.earlier k a in omega (arith, b, long))))
         )))
-        (pass_told catalogue provider refuted.over several refuted.same_atom refuted.exact_atom (map literal_in literals.items) (map judge.literal_of w) (map (clause_at refuted.same (packages_of provider) steps) causes.items) (map (cause_of catalogue said.lines (take n written)) (map suc causes.items))
-          known.known
-          (λ c h. (let (k, a, e) = map_contains (clause_at refuted.same (packages_of provider) steps) c causes.items h in subst (IsKnownClause catalogue provider refuted.over several) (sym e) (cause_spelled n k t there (refutes.earlier k a)).known))
-          (refuted.one_sign n literals causes at)
-          (spelled_members catalogue provider refuted.over several _ _ known)
-          (causes_alike n t there causes.items refutes.earlier)
+        (pass_told catalogue provider refuted.over refuted.same_atom refuted.exact_atom (map literal_in literals.items) (map judge.literal_of w) (map (clause_at refuted.same (packages_of provider) steps) causes.items) (map (cause_of catalogue said.lines (take n written)) (map suc causes.items))
+        known.known
+        (λ c h. (let (k, a, e) = map_contains (clause_at refuted.same (packages_of provider) steps) c causes.items h in subst (IsKnownClause catalogue provider refuted.over) (sym e) (cause_spelled n k t there (refutes.earlier k a)).known))
+        (refuted.one_sign n literals causes at)
+        (spelled_members catalogue provider refuted.over _ _ known)
+        (causes_alike n t there causes.items refutes.earlier)
         ∙ refutes.refuted)
 
     -- the step may stand after those before it, where the lines are named that it rests on

@@ -1,5 +1,5 @@
 -- The atoms of a proof over a provider's ids under their names in a report.
-use Rattle.std.proofs.Common.{◌≡◌, ◌⊎◌, inl, inr, ℕ, Bool, true, false, List, [], ◌∷◌, map, Option, Some, refl, sym, ap, subst, ◌∙◌}
+use Rattle.std.proofs.Common.{◌≡◌, ℕ, Bool, true, false, List, [], ◌∷◌, map, Some, refl, sym, ap, subst, ◌∙◌}
 use Rattle.std.specs.Prelude.{Contains, slice_get}
 use Rattle.std.specs.List.{AllZip}
 use Rattle.std.proofs.lemmas.Bool.{both_ways}
@@ -17,7 +17,7 @@ use Rattle.resolvo_rules.specs.Encoding.{Atom, IsExact}
 use Rattle.resolvo_rules.proofs.Lists.{contains_first, contains_later, map_contains}
 use Rattle.resolvo_proof.specs.Members.{SameMembers, HaveOneSign}
 use Rattle.resolvo_proof.proofs.PassMembers.{one_pass_members}
-use Rattle.resolvo_provider.specs.Ids.{Ids, NameId, SolvableId, IsPackage, IsSpec, AreEach, AreAlternatives}
+use Rattle.resolvo_provider.specs.Ids.{NameId, SolvableId, IsPackage, IsSpec, AreEach}
 use Rattle.resolvo_provider.specs.Known.{name_text, set_at, spec_at, members_of, alternatives_at}
 use Rattle.resolvo_provider.specs.Provider.{Provider}
 use Rattle.resolvo_provider.specs.Over.{IsOver}
@@ -28,11 +28,7 @@ use Rattle.resolvo_judge.proofs.Atoms.{same_atom_is, atom_own}
 use Rattle.resolvo_refusal.specs.Writing.{version_at}
 use Rattle.resolvo_refusal.specs.Refusal.{IsVersion, IsRequirement, IsName}
 
--- No union is of one version set.
-abbrev pub AreSeveral : Ids → Type 0
-AreSeveral ids = (u : ℕ) (v : VersionSetId) → slice_get ids.unions u ≡ Some (v ∷ []) → ⊥
-
-module _ (catalogue : List Line) (provider : Provider) (over : IsOver catalogue provider) (several : AreSeveral provider.ids) where
+module _ (catalogue : List Line) (provider : Provider) (over : IsOver catalogue provider) where
   -- what the atom is about is the catalogue's
   abbrev pub IsKnown : Atom NameId SolvableId → Type 0
   IsKnown (Atom.solvable s) = IsVersion catalogue provider.ids s
@@ -128,9 +124,9 @@ module _ (catalogue : List Line) (provider : Provider) (over : IsOver catalogue 
       let at : u.0 ≡ w.0 = over.once.unions u.0 w.0 ws (e ∙ ap (λ (x : List VersionSetId). Some x) same) g in
       λ i. Union (record { 0 = at i })
   one_requirement (Single v) (Union w) x (b, (ws, g, other)) h =
-      absurd (several w.0 v (g ∙ ap (λ (x : List VersionSetId). Some x) (sym (get_or_from_slice_get provider.ids.unions w.0 ws [] g) ∙ sym h)))
+      absurd (over.once.several w.0 v (g ∙ ap (λ (x : List VersionSetId). Some x) (sym (get_or_from_slice_get provider.ids.unions w.0 ws [] g) ∙ sym h)))
   one_requirement (Union u) (Single w) (a, (vs, e, each)) y h =
-      absurd (several u.0 w (e ∙ ap (λ (x : List VersionSetId). Some x) (sym (get_or_from_slice_get provider.ids.unions u.0 vs [] e) ∙ h)))
+      absurd (over.once.several u.0 w (e ∙ ap (λ (x : List VersionSetId). Some x) (sym (get_or_from_slice_get provider.ids.unions u.0 vs [] e) ∙ h)))
 
   chosen_one : {v w : Version} → told.Chosen v ≡ told.Chosen w → v ≡ w
   chosen_one h = cc
