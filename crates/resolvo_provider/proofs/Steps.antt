@@ -19,7 +19,7 @@ use Rattle.resolvo_pool.specs.Interning.{Interned, AreBelow}
 use Rattle.resolvo_pool.specs.Provider.{OperandsBelow}
 use Rattle.resolvo_pool.proofs.Interned.{place_of_text, texts_with}
 use Rattle.resolvo_provider.specs.declared.id_table.Numbers.{Numbers}
-use Rattle.resolvo_provider.specs.Ids.{Ids, NameId, ids_of, IsPackage, IsWord, IsPlaced, Grows, Interns, AreSound}
+use Rattle.resolvo_provider.specs.Ids.{Ids, NameId, ids_of, IsPackage, IsWord, IsPlaced, Grows, Interns, AreSound, AreSeveral}
 use Rattle.resolvo_provider.proofs.Equal.{set_eq, set_exact, set_own, condition_eq, condition_exact, condition_own, lists_eq, lists_exact, lists_own}
 use Rattle.resolvo_provider.proofs.Interning.{placed, at_insert, extends_insert, once_insert}
 use Rattle.resolvo_provider.proofs.Standing.{interns_own}
@@ -51,6 +51,13 @@ below_insert qs q below under = elim (cases_Bool (list_any (condition_eq q) qs))
     | inl old ↦ below i c old
     | inr last ↦ subst (λ (x : Condition). OperandsBelow x (record { 0 = i })) last.1 (subst (λ (n : ℕ). OperandsBelow q (record { 0 = n })) (sym last.0) under)
   ])
+]
+
+-- the unions after one more list, which is not of one version set
+several_insert : (us : List (List VersionSetId)) (key : List VersionSetId) → ((v : VersionSetId) → key ≡ v ∷ [] → ⊥) → AreSeveral us → AreSeveral (insert_key lists_eq us key)
+several_insert us key several are = elim (cases_Bool (list_any (lists_eq key) us)) [
+  | inl h ↦ rw h are
+  | inr h ↦ rw h (λ k v e. elim (get_push us key (v ∷ []) k e) [ inl old ↦ are k v old | inr last ↦ several v last.1 ])
 ]
 
 -- where the name of a package stands
@@ -87,7 +94,7 @@ module _ (us : List (Vec VersionSetId)) (old new : Interned ℕ Numbers (String 
           grows = record { names = extends_insert bytes_eq texts_exact texts_own a.names text; words = λ k x e. e; solvables = λ k x e. e; version_sets = λ k x e. e; unions = λ k x e. e; conditions = λ k x e. e };
           same = refl;
         };
-        once = λ h. record { below = h.below; names = once_insert bytes_eq texts_exact texts_own a.names text h.names; version_sets = h.version_sets; unions = h.unions };
+        once = λ h. record { below = h.below; names = once_insert bytes_eq texts_exact texts_own a.names text h.names; version_sets = h.version_sets; unions = h.unions; several = h.several };
         answer = rw place (at_insert bytes_eq texts_exact texts_own a.names text);
       })
 
@@ -105,7 +112,7 @@ module _ (us : List (Vec VersionSetId)) (old new : Interned ℕ Numbers (String 
           grows = record { names = λ k x e. e; words = extends_insert bytes_eq texts_exact texts_own a.words text; solvables = λ k x e. e; version_sets = λ k x e. e; unions = λ k x e. e; conditions = λ k x e. e };
           same = refl;
         };
-        once = λ h. record { below = h.below; names = h.names; version_sets = h.version_sets; unions = h.unions };
+        once = λ h. record { below = h.below; names = h.names; version_sets = h.version_sets; unions = h.unions; several = h.several };
         answer = rw at (at_insert bytes_eq texts_exact texts_own a.words text);
       })
 
@@ -122,7 +129,7 @@ module _ (us : List (Vec VersionSetId)) (old new : Interned ℕ Numbers (String 
           grows = record { names = λ k x e. e; words = λ k x e. e; solvables = λ k x e. e; version_sets = extends_insert set_eq set_exact set_own a.version_sets key; unions = λ k x e. e; conditions = λ k x e. e };
           same = refl;
         };
-        once = λ h. record { below = h.below; names = h.names; version_sets = once_insert set_eq set_exact set_own a.version_sets key h.version_sets; unions = h.unions };
+        once = λ h. record { below = h.below; names = h.names; version_sets = once_insert set_eq set_exact set_own a.version_sets key h.version_sets; unions = h.unions; several = h.several };
         answer = rw at (at_insert set_eq set_exact set_own a.version_sets key);
       })
 
@@ -139,20 +146,20 @@ module _ (us : List (Vec VersionSetId)) (old new : Interned ℕ Numbers (String 
           grows = record { names = λ k x e. e; words = λ k x e. e; solvables = λ k x e. e; version_sets = λ k x e. e; unions = λ k x e. e; conditions = extends_insert condition_eq condition_exact condition_own a.conditions key };
           same = refl;
         };
-        once = λ h. record { below = below_insert a.conditions key h.below under; names = h.names; version_sets = h.version_sets; unions = h.unions };
+        once = λ h. record { below = below_insert a.conditions key h.below under; names = h.names; version_sets = h.version_sets; unions = h.unions; several = h.several };
         answer = rw at (at_insert condition_eq condition_exact condition_own a.conditions key);
       })
 
   -- one more list of version sets, which had no id
-  pub union_step : (more : List (Vec VersionSetId)) → (key : List VersionSetId) → (place : ℕ) → map (λ u. u.items) more ≡ insert_key lists_eq (map (λ u. u.items) us) key → place ≡ position_or_len (lists_eq key) (map (λ u. u.items) us)
+  pub union_step : (more : List (Vec VersionSetId)) → (key : List VersionSetId) → (place : ℕ) → ((v : VersionSetId) → key ≡ v ∷ [] → ⊥) → map (λ u. u.items) more ≡ insert_key lists_eq (map (λ u. u.items) us) key → place ≡ position_or_len (lists_eq key) (map (λ u. u.items) us)
       → Interns (ids_of old us) (ids_of old more) × (AreSound (ids_of old us) → AreSound (ids_of old more)) × (slice_get (ids_of old more).unions place ≡ Some key)
-  union_step more key place put at =
+  union_step more key place several put at =
       let a : Ids = ids_of old us in (
         record {
           grows = record { names = λ k x e. e; words = λ k x e. e; solvables = λ k x e. e; version_sets = λ k x e. e; unions = rw put (extends_insert lists_eq lists_exact lists_own a.unions key); conditions = λ k x e. e };
           same = refl;
         },
-        λ h. record { below = h.below; names = h.names; version_sets = h.version_sets; unions = rw put (once_insert lists_eq lists_exact lists_own a.unions key h.unions) },
+        λ h. record { below = h.below; names = h.names; version_sets = h.version_sets; unions = rw put (once_insert lists_eq lists_exact lists_own a.unions key h.unions); several = rw put (several_insert a.unions key several h.several) },
         rw (put, at) (at_insert lists_eq lists_exact lists_own a.unions key),
       )
 

@@ -117,12 +117,17 @@ IsPlaced old new place = ((place < length old) × (length new ≡ length old)) �
 abbrev pub AreOnce : {X : Type 0} → List X → Type 0
 AreOnce {X} xs = (i j : ℕ) (x : X) → slice_get xs i ≡ Some x → slice_get xs j ≡ Some x → i ≡ j
 
--- No value has two ids, and the operands of a condition have smaller ids than it.
+-- No list has one element alone.
+abbrev pub AreSeveral : {X : Type 0} → List (List X) → Type 0
+AreSeveral {X} lists = (k : ℕ) (x : X) → slice_get lists k ≡ Some (x ∷ []) → ⊥
+
+-- No value has two ids, no union is of one version set, and the operands of a condition have smaller ids than it.
 pub record AreSound (ids : Ids) : Type 0 where
   pub below : AreBelow ids.conditions
   pub names : AreOnce ids.names
   pub version_sets : AreOnce ids.version_sets
   pub unions : AreOnce ids.unions
+  pub several : AreSeveral ids.unions
 
 -- ---- the versions
 

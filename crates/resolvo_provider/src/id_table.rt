@@ -127,8 +127,9 @@ impl IdTable {
         Ok(ids)
     }
 
-    /// The id of a list of SPECs.
+    /// The id of a list of SPECs, which isn't one alone.
     fn union(&mut self, members: Vec<VersionSetId>) -> R<VersionSetUnionId>
+        requires several { (v : VersionSetId) → members.items ≡ v ∷ [] → ⊥ }
         ensures union { IfOk result (λ u. slice_get self.new.unions u.0 ≡ Some members.items) }
         ensures interns { Interns self.old self.new }
     {

@@ -1,1 +1,5 @@
 pub mod Naming
+pub mod Renaming
+pub mod Clauses
+pub mod Following
+pub mod Accepting

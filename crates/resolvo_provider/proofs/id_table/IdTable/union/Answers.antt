@@ -12,7 +12,7 @@ invariant_of-self-2 c =
     let key = c.args.members.items in
     let place = c.in_ok-place.ensures.place ∙ sym (position_or_len-map (λ (u : Vec VersionSetId). u.items) (lists_eq key) us) in
     let put = ap (map (λ (u : Vec VersionSetId). u.items)) c.in_ok-place.ensures.put ∙ map-insert_key (λ (u : Vec VersionSetId). u.items) lists_eq us c.args.members in
-    (union_step us c.self.inside.pool c.self.inside.pool c.place_of.new.keys.keys key c.in_ok-place.place put place).1 c.self.invariant
+    (union_step us c.self.inside.pool c.self.inside.pool c.place_of.new.keys.keys key c.in_ok-place.place c.requires.several put place).1 c.self.invariant
 
 pub returns-clause-union : goal.returns-clause-union
 returns-clause-union c =
@@ -20,7 +20,7 @@ returns-clause-union c =
     let key = c.args.members.items in
     let place = c.in_ok-place.ensures.place ∙ sym (position_or_len-map (λ (u : Vec VersionSetId). u.items) (lists_eq key) us) in
     let put = ap (map (λ (u : Vec VersionSetId). u.items)) c.in_ok-place.ensures.put ∙ map-insert_key (λ (u : Vec VersionSetId). u.items) lists_eq us c.args.members in
-    rw c.from_index.ensures ((union_step us c.self.inside.pool c.self.inside.pool c.place_of.new.keys.keys key c.in_ok-place.place put place).2)
+    rw c.from_index.ensures ((union_step us c.self.inside.pool c.self.inside.pool c.place_of.new.keys.keys key c.in_ok-place.place c.requires.several put place).2)
 
 pub returns-clause-interns : goal.returns-clause-interns
 returns-clause-interns c =
@@ -28,4 +28,4 @@ returns-clause-interns c =
     let key = c.args.members.items in
     let place = c.in_ok-place.ensures.place ∙ sym (position_or_len-map (λ (u : Vec VersionSetId). u.items) (lists_eq key) us) in
     let put = ap (map (λ (u : Vec VersionSetId). u.items)) c.in_ok-place.ensures.put ∙ map-insert_key (λ (u : Vec VersionSetId). u.items) lists_eq us c.args.members in
-    rw (← c.self.view_is) ((union_step us c.self.inside.pool c.self.inside.pool c.place_of.new.keys.keys key c.in_ok-place.place put place).0)
+    rw (← c.self.view_is) ((union_step us c.self.inside.pool c.self.inside.pool c.place_of.new.keys.keys key c.in_ok-place.place c.requires.several put place).0)

@@ -1,0 +1,305 @@
+-- The clause of each step of a plain problem's proof, and that of the step in a report which tells it.
+use Rattle.std.proofs.Common.{◌≡◌, ◌==◌, inl, inr, ℕ, zero, suc, ◌/◌, Bool, true, List, [], ◌∷◌, ◌++◌, map, length, Option, Some, None, refl, sym, ap, subst, ◌∙◌, arith}
+use Rattle.std.specs.Prelude.{◌&&◌, ◌<◌, not, filter, unwrap_or, Contains, slice_get, nat_lt}
+use Rattle.std.specs.Int.{bit_at}
+use Rattle.std.proofs.lemmas.Bool.{and_parts, eqb-true}
+use Rattle.std.proofs.lemmas.Bool.Decides.{Decides-ltb}
+use Rattle.std.proofs.lemmas.Option.{slice_get-get_or, slice_get_within, unwrap_or-slice_get}
+use Rattle.std.proofs.lemmas.Nat.Bits.{bit_at_lowest, bit_at-suc}
+use Rattle.resolvo_text.specs.Line.{Version, Spec, Line, Needs}
+use Rattle.resolvo_text.specs.Matching as lines
+use Rattle.resolvo_catalogue.specs.Listed.{listed}
+use Rattle.resolvo_catalogue.specs.Questions.{Said}
+use Rattle.resolvo_catalogue.proofs.Placing.{at_from_contains, contains_from_at}
+use Rattle.resolvo_pool.specs.declared.id.VersionSetId.{VersionSetId}
+use Rattle.resolvo_pool.specs.declared.id.StringId.{StringId}
+use Rattle.resolvo_pool.specs.declared.pool.Solvable.{Solvable}
+use Rattle.resolvo_pool.specs.declared.requirement.Requirement.{Requirement}
+use Rattle.resolvo_pool.specs.declared.requirement.Requirement.TheVariants.{Single, Union}
+use Rattle.resolvo_pool.specs.declared.requirement.ConditionalRequirement.{ConditionalRequirement}
+use Rattle.resolvo_pool.specs.OnePass as pass
+use Rattle.resolvo_pool.specs.Provider as pool
+use Rattle.resolvo_pool.specs.RuleKeeping.{rules_of, rules_for}
+use Rattle.resolvo_pool.specs.Text.{alternatives_of}
+use Rattle.resolvo_store.specs.AtMostOne.{digit}
+use Rattle.resolvo_rules.specs.Encoding.{Atom, Rule, IsExact, plus, minus, solvables, parent_literals, candidate_literals, same_requirement, asks, has_condition, literals_of}
+use Rattle.resolvo_rules.proofs.Lists.{contains_none, contains_cases, contains_first, contains_later, contains_left, contains_right, contains_parts, contains_map, map_contains, contains_filter, filter_contains, any_contained, contained_all}
+use Rattle.resolvo_coding.specs.declared.atom.ProofAtom.{ProofAtom}
+use Rattle.resolvo_coding.specs.declared.atom.ProofAtom.TheVariants as atom
+use Rattle.resolvo_coding.specs.Atoms.{atom_of}
+use Rattle.resolvo_proof.specs.Members.{SameMembers}
+use Rattle.resolvo_proof.specs.Steps.{literal_in}
+use Rattle.resolvo_proof.specs.declared.step.ProofLiteral.{ProofLiteral}
+use Rattle.resolvo_provider.specs.Ids.{NameId, SolvableId, solvable_id, IsSpec, AreEach, IsNeed, IsSolvable}
+use Rattle.resolvo_provider.specs.Known.{name_text, name_of, set_at, members_of, alternatives_at}
+use Rattle.resolvo_provider.specs.Told.{Told}
+use Rattle.resolvo_provider.specs.Provider.{Provider, packages_of, candidates_of, matches, told_at, no_lines, needs_of, dependencies_of}
+use Rattle.resolvo_provider.specs.Over.{IsOver, AreAsked}
+use Rattle.resolvo_provider.specs.Keeping.{TellsApart, root_of}
+use Rattle.resolvo_provider.specs.declared.provider.RequestIds.{RequestIds}
+use Rattle.resolvo_provider.proofs.Alike.{member_place, listed_is, is_package, admits, match_same, in_from}
+use Rattle.resolvo_provider.proofs.Marking.{one_some}
+use Rattle.resolvo_provider.proofs.Places.{each_left}
+use Rattle.resolvo_report.specs.Value as told
+use Rattle.resolvo_judge.specs.StepClauses as judge
+use Rattle.resolvo_judge.proofs.Sets.{is_contained}
+use Rattle.resolvo_refusal.specs.Writing.{version_at, place_at}
+use Rattle.resolvo_refusal.specs.Refusal.{IsVersion, IsRequirement, IsKnownAtom, atom_at, literal_at, AreLiterals}
+use Rattle.resolvo_refusal.proofs.Renaming.{IsKnown, IsKnownClause, name, name_literal, name_clause, version_is, name_is, specs_are, members_known}
+
+-- the digit of a place is its bit
+digit_bit : (k i : ℕ) → digit k i ≡ (bit_at k i == 1)
+digit_bit k zero = ap (λ (n : ℕ). n == 1) (sym (bit_at_lowest k))
+digit_bit k (suc i) = digit_bit (k / 2) i ∙ ap (λ (n : ℕ). n == 1) (sym (bit_at-suc k i))
+
+-- what stands for each element of a list
+each_contained : {X Y : Type 0} (R : X → Y → Type 0) (xs : List X) (ys : List Y) → AreEach R xs ys → (x : X) → Contains xs x → (y : Y) × R x y
+each_contained R [] ys each x h = absurd (contains_none x h)
+each_contained R (z ∷ xs) [] each x h = absurd each
+each_contained R (z ∷ xs) (y ∷ ys) each x h = elim (contains_cases x z xs h) [
+  | inl e ↦ (y, subst (λ w. R w y) (sym e) each.0)
+  | inr a ↦ each_contained R xs ys each.1 x a
+]
+
+same_requirement_is : (r q : Requirement) → same_requirement r q ≡ true → r ≡ q
+same_requirement_is (Single v) (Single w) h = (let e : v.0 ≡ w.0 = eqb-true v.0 w.0 h in λ i. Single (record { 0 = e i }))
+same_requirement_is (Union v) (Union w) h = (let e : v.0 ≡ w.0 = eqb-true v.0 w.0 h in λ i. Union (record { 0 = e i }))
+same_requirement_is (Single v) (Union w) h = absurd cc
+same_requirement_is (Union v) (Single w) h = absurd cc
+
+module _ (catalogue : List Line) (provider : Provider) (over : IsOver catalogue provider) where
+  -- The second clause has the names of the first one's literals, which are known.
+  pub record Spells (c : List (pass.Literal (Atom NameId SolvableId))) (d : List (pass.Literal told.Atom)) : Type 0 where
+    pub known : IsKnownClause catalogue provider over c
+    pub only : (l : pass.Literal (Atom NameId SolvableId)) → Contains c l → Contains d (name_literal catalogue provider over l)
+    pub each : (m : pass.Literal told.Atom) → Contains d m → (l : pass.Literal (Atom NameId SolvableId)) × Contains c l × (m ≡ name_literal catalogue provider over l)
+
+  pub spelled_members : (c : List (pass.Literal (Atom NameId SolvableId))) (d : List (pass.Literal told.Atom)) → Spells c d → SameMembers (name_clause catalogue provider over c) d
+  spelled_members c d s = record {
+    only = λ m h. (let (l, a, e) = map_contains (name_literal catalogue provider over) m c h in subst (λ x. Contains d x) (sym e) (s.only l a));
+    each = λ m h. (let (l, a, e) = s.each m h in subst (λ x. Contains (name_clause catalogue provider over c) x) (sym e) (contains_map (name_literal catalogue provider over) l c a));
+  }
+
+  spelled_none : Spells [] []
+  spelled_none = record { known = λ l h. absurd (contains_none l h); only = λ l h. absurd (contains_none l h); each = λ m h. absurd (contains_none m h) }
+
+  spelled_more : (l : pass.Literal (Atom NameId SolvableId)) (m : pass.Literal told.Atom) (c : List (pass.Literal (Atom NameId SolvableId))) (d : List (pass.Literal told.Atom))
+      → IsKnown catalogue provider over l.atom → m ≡ name_literal catalogue provider over l → Spells c d → Spells (l ∷ c) (m ∷ d)
+  spelled_more l m c d known is s = record {
+    known = λ x h. elim (contains_cases x l c h) [ inl e ↦ subst (λ (y : pass.Literal (Atom NameId SolvableId)). IsKnown catalogue provider over y.atom) (sym e) known | inr a ↦ s.known x a ];
+    only = λ x h. elim (contains_cases x l c h) [
+      | inl e ↦ contains_first (name_literal catalogue provider over x) m d (is ∙ ap (name_literal catalogue provider over) (sym e))
+      | inr a ↦ contains_later (name_literal catalogue provider over x) m d (s.only x a)
+    ];
+    each = λ x h. elim (contains_cases x m d h) [
+      | inl e ↦ (l, contains_first l l c refl, e ∙ is)
+      | inr a ↦ (let (y, b, e) = s.each x a in (y, contains_later y l c b, e))
+    ];
+  }
+
+  spelled_append : (c e : List (pass.Literal (Atom NameId SolvableId))) (d f : List (pass.Literal told.Atom)) → Spells c d → Spells e f → Spells (c ++ e) (d ++ f)
+  spelled_append c e d f s t = record {
+    known = λ x h. elim (contains_parts x c e h) [ inl a ↦ s.known x a | inr a ↦ t.known x a ];
+    only = λ x h. elim (contains_parts x c e h) [
+      | inl a ↦ contains_left (name_literal catalogue provider over x) d f (s.only x a)
+      | inr a ↦ contains_right (name_literal catalogue provider over x) d f (t.only x a)
+    ];
+    each = λ x h. elim (contains_parts x d f h) [
+      | inl a ↦ (let (y, b, g) = s.each x a in (y, contains_left y c e b, g))
+      | inr a ↦ (let (y, b, g) = t.each x a in (y, contains_right y c e b, g))
+    ];
+  }
+
+  -- ---- versions
+
+  pub is_listed : (s : SolvableId) → IsVersion catalogue provider.ids s → judge.is_listed catalogue (version_at catalogue s) ≡ true
+  is_listed s (v, e) = is_contained (listed catalogue) (version_at catalogue s) (subst (λ (x : Version). Contains (listed catalogue) x) (sym (version_is catalogue provider over s v e)) (contains_from_at (listed catalogue) v s.raw e))
+
+  pub fails_spelled : (parent : Option SolvableId) → ((s : SolvableId) → parent ≡ Some s → IsVersion catalogue provider.ids s) → Spells (parent_literals parent) (judge.place_fails (place_at catalogue parent))
+  fails_spelled None known = spelled_none
+  fails_spelled (Some s) known = spelled_more (minus (Atom.solvable s)) (judge.not_in (version_at catalogue s)) [] [] (known s refl) refl spelled_none
+
+  module _ (same : SolvableId → SolvableId → Bool) (exact : IsExact same) where
+    apart : TellsApart same
+    apart s t = (exact.one s t, λ e. subst (λ x. same s x ≡ true) e (exact.own s))
+
+    -- a candidate is a listed version
+    candidate_listed : (n : NameId) (s : SolvableId) → Contains (pool.listed (candidates_of provider n)) s → IsVersion catalogue provider.ids s
+    candidate_listed n s h =
+        let (i, x, at, there, is) = member_place (λ (y : Solvable ℕ). y.name.raw == n.raw) 0 provider.ids.solvables s (subst (λ (xs : List SolvableId). Contains xs s) (listed_is provider _) h) in
+        let (v, e, more) = each_left (IsSolvable provider.ids) provider.ids.solvables (listed catalogue) over.versions i x there in
+        (v, subst (λ (k : ℕ). slice_get (listed catalogue) k ≡ Some v) (let e : i ≡ s.raw = omega (arith, at) in e) e)
+
+    -- the matches of a version set, and the listed versions that its SPEC matches
+    matches_spelled : (w : VersionSetId) (s : Spec) → IsSpec provider.ids w s
+        → Spells (solvables (filter (matches provider w) (pool.listed (candidates_of provider (set_at provider.ids w).0)))) (judge.each_listed catalogue (lines.matches s))
+    matches_spelled w s spec = record {
+      known = λ l h. (
+          let (x, a, e) = map_contains (λ (y : SolvableId). plus (Atom.solvable y)) l (filter (matches provider w) candidates) h in
+          subst (λ (y : pass.Literal (Atom NameId SolvableId)). IsKnown catalogue provider over y.atom) (sym e) (candidate_listed (set_at provider.ids w).0 x (filter_contains (matches provider w) x candidates a).0)
+          );
+      only = λ l h. (
+          let (x, a, e) = map_contains (λ (y : SolvableId). plus (Atom.solvable y)) l (filter (matches provider w) candidates) h in
+          let (b, t) = filter_contains (matches provider w) x candidates a in
+          let (v, g) = candidate_listed (set_at provider.ids w).0 x b in
+          let m : lines.matches s v ≡ true = sym (admits provider (listed catalogue) over.versions over.once same apart w s x v spec g) ∙ t in
+          let there : Contains (judge.each_listed catalogue (lines.matches s)) (judge.is_in v) = contains_map judge.is_in v (filter (lines.matches s) (listed catalogue)) (contains_filter (lines.matches s) v (listed catalogue) (contains_from_at (listed catalogue) v x.raw g) m) in
+          subst (λ y. Contains (judge.each_listed catalogue (lines.matches s)) (name_literal catalogue provider over y)) (sym e) (subst (λ (u : Version). Contains (judge.each_listed catalogue (lines.matches s)) (judge.is_in u)) (sym (version_is catalogue provider over x v g)) there)
+          );
+      each = λ m h. (
+          let (v, a, e) = map_contains judge.is_in m (filter (lines.matches s) (listed catalogue)) h in
+          let (b, t) = filter_contains (lines.matches s) v (listed catalogue) a in
+          let (k, g) = at_from_contains (listed catalogue) v b in
+          let x : SolvableId = solvable_id k in
+          let p = and_parts _ _ (match_same provider (listed catalogue) over.versions over.once same apart w s x v spec g ∙ t) in (
+            plus (Atom.solvable x),
+            contains_map (λ (y : SolvableId). plus (Atom.solvable y)) x (filter (matches provider w) candidates) (contains_filter (matches provider w) x candidates (in_from provider (listed catalogue) over.versions over.once same apart candidates x p.0) p.1),
+            e ∙ ap judge.is_in (sym (version_is catalogue provider over x v g)),
+          )
+          );
+    }
+      where
+        candidates : List SolvableId
+        candidates = pool.listed (candidates_of provider (set_at provider.ids w).0)
+
+    candidates_spelled : (vs : List VersionSetId) (ss : List Spec) → AreEach (IsSpec provider.ids) vs ss → Spells (candidate_literals same (packages_of provider) vs) (judge.some_match catalogue ss)
+    candidates_spelled [] [] h = spelled_none
+    candidates_spelled [] (s ∷ ss) h = absurd h
+    candidates_spelled (v ∷ vs) [] h = absurd h
+    candidates_spelled (v ∷ vs) (s ∷ ss) h = spelled_append _ _ _ _ (matches_spelled v s h.0) (candidates_spelled vs ss h.1)
+
+    -- what meets a requirement, and the listed matches of its alternatives
+    pub alternatives_spelled : (r : Requirement) → IsRequirement catalogue provider.ids r → Spells (candidate_literals same (packages_of provider) (alternatives_of (members_of provider.ids) r)) (judge.some_match catalogue (alternatives_at provider.ids r))
+    alternatives_spelled r known =
+        let (ss, each) = members_known catalogue provider over r known in
+        subst (λ (ts : List Spec). Spells (candidate_literals same (packages_of provider) (alternatives_of (members_of provider.ids) r)) (judge.some_match catalogue ts)) (sym (specs_are catalogue provider over _ ss each))
+        (candidates_spelled (alternatives_of (members_of provider.ids) r) ss each)
+
+    -- ---- rules
+
+    -- a solvable that needs something is a listed version, and what it needs is known
+    pub needed : (s : SolvableId) (need : ConditionalRequirement) → Contains (rules_of (dependencies_of provider s)).requirements need → IsVersion catalogue provider.ids s × IsRequirement catalogue provider.ids need.requirement
+    needed s need h = go (slice_get provider.told s.raw) refl
+      where
+        told_is : (o : Option Told) → slice_get provider.told s.raw ≡ o → told_at provider s ≡ unwrap_or o no_lines
+        told_is o e = sym (unwrap_or-slice_get provider.told s.raw no_lines) ∙ ap (λ (x : Option Told). unwrap_or x no_lines) e
+
+        stated : (t : Told) (why : Option StringId) → Contains (rules_of (needs_of t why)).requirements need → Contains t.requirements need
+        stated t None a = a
+        stated t (Some w) a = absurd (contains_none need a)
+
+        go : (o : Option Told) → slice_get provider.told s.raw ≡ o → IsVersion catalogue provider.ids s × IsRequirement catalogue provider.ids need.requirement
+        go None e = absurd (contains_none need (stated no_lines None (subst (λ (t : Told). Contains (rules_of (needs_of t t.unknown)).requirements need) (told_is None e) h)))
+        go (Some t) e =
+            let (numbers, all, tells) = over.told.each s.raw t e in
+            let (said, is) = each_contained (IsNeed provider.ids) t.requirements _ tells.requirements need (stated t t.unknown (subst (λ (x : Told). Contains (rules_of (needs_of x x.unknown)).requirements need) (told_is (Some t) e) h)) in
+            let below : s.raw < length provider.told = slice_get_within provider.told s.raw t e in
+            let long : length provider.told ≡ length (listed catalogue) = over.told.as_many in
+            let none : Version = record { name = []; number = 0 } in
+            ((_, slice_get-get_or (listed catalogue) s.raw none (omega (arith, below, long))), (said.0, is.0))
+
+    -- so is what the root needs
+    pub asked_for : (said : Said) (ids : RequestIds) → AreAsked provider.ids said ids → (parent : Option SolvableId) (need : ConditionalRequirement) → Contains (rules_for same (packages_of provider) (root_of ids) parent).requirements need
+        → ((s : SolvableId) → parent ≡ Some s → IsVersion catalogue provider.ids s) × IsRequirement catalogue provider.ids need.requirement
+    asked_for said ids asked None need h =
+        let (x, is) = each_contained (IsNeed provider.ids) ids.requirements.items _ asked.requirements need h in
+        ((λ s e. absurd cc), (x.0, is.0))
+    asked_for said ids asked (Some s) need h =
+        let (v, r) = needed s need h in
+        ((λ t e. (let at : s ≡ t = one_some e in subst (λ (x : SolvableId). IsVersion catalogue provider.ids x) at v)), r)
+
+    pub gate_asked : (s : SolvableId) (r : Requirement) → asks (rules_of (dependencies_of provider s)).requirements r ≡ true → IsVersion catalogue provider.ids s × IsRequirement catalogue provider.ids r
+    gate_asked s r h =
+        let (need, a, t) = any_contained (λ (n : ConditionalRequirement). not (has_condition n.condition) && same_requirement r n.requirement) _ h in
+        let is : r ≡ need.requirement = same_requirement_is r need.requirement (and_parts (not (has_condition need.condition)) _ t).1 in
+        let (v, known) = needed s need a in
+        (v, subst (λ (q : Requirement). IsRequirement catalogue provider.ids q) (sym is) known)
+
+    -- ---- the clauses of steps
+
+    -- the step of a report has a clause, which spells this one
+    abbrev pub IsSpelled : List Line → List (pass.Literal (Atom NameId SolvableId)) → told.Step → Type 0
+    IsSpelled request c step = (d : judge.Clause) × (judge.clause_of catalogue request step ≡ Some d) × Spells c d
+
+    pub need_spelled : (request : List Line) (parent : Option SolvableId) (r : Requirement) (line : ℕ) → ((s : SolvableId) → parent ≡ Some s → IsVersion catalogue provider.ids s) → IsRequirement catalogue provider.ids r
+        → judge.line_of catalogue request (place_at catalogue parent) line ≡ Some (Needs (alternatives_at provider.ids r) None)
+        → IsSpelled request (parent_literals parent ++ candidate_literals same (packages_of provider) (alternatives_of (members_of provider.ids) r)) (told.Need (place_at catalogue parent) line 1)
+    need_spelled request parent r line listed known needs = (
+      judge.place_fails (place_at catalogue parent) ++ judge.some_match catalogue (alternatives_at provider.ids r),
+      ap (judge.need_clause catalogue (place_at catalogue parent) 1) needs,
+      spelled_append _ _ _ _ (fails_spelled parent listed) (alternatives_spelled r known),
+    )
+
+    pub gate_spelled : (request : List Line) (s : SolvableId) (r : Requirement) (line : ℕ) → IsVersion catalogue provider.ids s → IsRequirement catalogue provider.ids r
+        → judge.line_of catalogue request (told.OfVersion (version_at catalogue s)) line ≡ Some (Needs (alternatives_at provider.ids r) None)
+        → IsSpelled request (minus (Atom.solvable s) ∷ plus (Atom.gate r) ∷ []) (told.Gate (version_at catalogue s) line)
+    gate_spelled request s r line listed known needs = (
+      judge.not_in (version_at catalogue s) ∷ judge.literal (told.SharedBy (alternatives_at provider.ids r)) true ∷ [],
+      ap (judge.gate_clause (version_at catalogue s)) needs,
+      spelled_more (minus (Atom.solvable s)) _ _ _ listed refl (spelled_more (plus (Atom.gate r)) _ [] [] known refl spelled_none),
+    )
+
+    pub shared_spelled : (request : List Line) (r : Requirement) → IsRequirement catalogue provider.ids r
+        → IsSpelled request (minus (Atom.gate r) ∷ candidate_literals same (packages_of provider) (alternatives_of (members_of provider.ids) r)) (told.Shared (alternatives_at provider.ids r))
+    shared_spelled request r known = (_, refl, spelled_more (minus (Atom.gate r)) _ _ _ known refl (alternatives_spelled r known))
+
+    pub digit_spelled : (request : List Line) (s : SolvableId) (place bit : ℕ) → IsVersion catalogue provider.ids s → bit < 32
+        → IsSpelled request (literals_of same (packages_of provider) (Rule.has_digit s bit (digit place bit))) (told.Digit (version_at catalogue s) place bit)
+    digit_spelled request s place bit known below =
+        let (v, e) = known in
+        let at : version_at catalogue s ≡ v = version_is catalogue provider over s v e in
+        let packaged = is_package provider (listed catalogue) over.versions over.once same apart s v e in
+        let text : (version_at catalogue s).name ≡ name_text provider.ids (name_of provider.ids s) = ap (λ (x : Version). x.name) at ∙ sym (name_is catalogue provider over (name_of provider.ids s) v.name packaged) in
+        let lists : judge.is_listed catalogue (version_at catalogue s) ≡ true = is_listed s known in
+        let within : nat_lt bit 32 ≡ true = (Decides-ltb bit 32).1 below in (
+          judge.not_in (version_at catalogue s) ∷ judge.literal (told.BitOf bit (version_at catalogue s).name) (bit_at place bit == 1) ∷ [],
+          rw (lists, within) refl,
+          spelled_more (minus (Atom.solvable s)) _ _ _ known refl (spelled_more _ _ [] [] (v.name, packaged) (λ i. record { atom = told.BitOf bit (text i); positive = sym (digit_bit place bit) i }) spelled_none),
+        )
+
+  -- ---- derived clauses
+
+  known_atom : (a : ProofAtom NameId SolvableId) → IsKnownAtom catalogue provider.ids a → IsKnown catalogue provider over (atom_of a)
+  known_atom (atom.Solvable s) h = h
+  known_atom (atom.AtLeastOne n) h = h
+  known_atom (atom.Gate r) h = h
+  known_atom (atom.Outside v) h = h
+  known_atom (atom.Bit n bit) h = h.0
+
+  named_atom : (a : ProofAtom NameId SolvableId) → name catalogue provider over (atom_of a) ≡ atom_at catalogue provider.ids a
+  named_atom (atom.Solvable s) = refl
+  named_atom (atom.AtLeastOne n) = refl
+  named_atom (atom.Gate r) = refl
+  named_atom (atom.Outside v) = refl
+  named_atom (atom.Bit n bit) = refl
+
+  is_atom : (a : ProofAtom NameId SolvableId) → IsKnownAtom catalogue provider.ids a → judge.is_atom catalogue (atom_at catalogue provider.ids a) ≡ true
+  is_atom (atom.Solvable s) h = is_listed s h
+  is_atom (atom.AtLeastOne n) h = refl
+  is_atom (atom.Gate r) h = refl
+  is_atom (atom.Outside v) h = refl
+  is_atom (atom.Bit n bit) h = refl
+
+  named_literal : (l : ProofLiteral NameId SolvableId) → name_literal catalogue provider over (literal_in l) ≡ judge.literal_of (literal_at catalogue provider.ids l)
+  named_literal l i = record { atom = named_atom l.atom i; positive = l.positive }
+
+  pub literals_spelled : (literals : List (ProofLiteral NameId SolvableId)) (written : List told.Literal) → ((l : ProofLiteral NameId SolvableId) → Contains literals l → IsKnownAtom catalogue provider.ids l.atom)
+      → AreLiterals catalogue provider.ids literals written → Spells (map literal_in literals) (map judge.literal_of written)
+  literals_spelled literals written known are = record {
+    known = λ l h. (let (k, a, e) = map_contains literal_in l literals h in subst (λ (x : pass.Literal (Atom NameId SolvableId)). IsKnown catalogue provider over x.atom) (sym e) (known_atom k.atom (known k a)));
+    only = λ l h. (
+        let (k, a, e) = map_contains literal_in l literals h in
+        let there = contains_map judge.literal_of (literal_at catalogue provider.ids k) written ((are (literal_at catalogue provider.ids k)).1 (k, a, refl)) in
+        subst (λ x. Contains (map judge.literal_of written) x) (sym (ap (name_literal catalogue provider over) e ∙ named_literal k)) there
+        );
+    each = λ m h. (
+        let (w, b, e) = map_contains judge.literal_of m written h in
+        let (k, a, is) = (are w).0 b in
+        (literal_in k, contains_map literal_in k literals a, e ∙ (ap judge.literal_of is ∙ sym (named_literal k)))
+        );
+  }
+
+  pub derived_spelled : (request : List Line) (literals : List (ProofLiteral NameId SolvableId)) (written : List told.Literal) (causes : List ℕ) → ((l : ProofLiteral NameId SolvableId) → Contains literals l → IsKnownAtom catalogue provider.ids l.atom)
+      → AreLiterals catalogue provider.ids literals written → judge.clause_of catalogue request (told.Derive written causes) ≡ Some (map judge.literal_of written)
+  derived_spelled request literals written causes known are = rw (contained_all (λ (l : told.Literal). judge.is_atom catalogue l.atom) written
+      (λ w b. (let (k, a, is) = (are w).0 b in ap (λ (l : told.Literal). judge.is_atom catalogue l.atom) is ∙ is_atom k.atom (known k a)))) refl
