@@ -4,6 +4,7 @@ ghost use Rattle.std.specs.Prelude.{IfOk};
 ghost use Rattle.std.specs.List.{AllZip};
 ghost use Rattle.resolvo_report.specs.View.{report_of, steps_of};
 ghost use Rattle.resolvo_refusal.specs.Writing.{IsWritten, IsRefusedBy};
+ghost use Rattle.resolvo_refusal.specs.Telling.{Tells};
 
 use crate::lines::{Texts, excluding_lines};
 use crate::named::{Text, named_lines};
@@ -59,7 +60,8 @@ fn write_steps(
     provider: &CatalogueProvider,
     steps: &[ProofStep<NameId, SolvableId>],
 ) -> R<Vec<Step>>
-    ensures { IfOk result (λ v. AllZip (IsWritten texts.entry.catalogue.now provider.now.ids) steps.now (steps_of v.items)) }
+    ensures tells { IfOk result (λ v. AllZip (Tells texts.entry.catalogue.now texts.entry.request.now.lines provider.now.ids) steps.now (steps_of v.items)) }
+    ensures written { IfOk result (λ v. AllZip (IsWritten texts.entry.catalogue.now provider.now.ids) steps.now (steps_of v.items)) }
 {
     let excluding = excluding_lines(alloc, texts.catalogue)?;
     let writing = Writing {
