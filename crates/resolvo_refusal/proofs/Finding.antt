@@ -1,9 +1,8 @@
 -- The first line that needs something.
-use Rattle.std.proofs.Common.{◌≡◌, ◌<◌, ◌≤◌, ◌+◌, ℕ, zero, suc, List, [], ◌∷◌, ◌++◌, take, length, get_or, Option, Some, None, refl, sym, ◌∙◌, ap, subst, arith, map, inl, inr}
+use Rattle.std.proofs.Common.{◌≡◌, ◌<◌, ◌≤◌, ◌+◌, ℕ, zero, suc, List, [], ◌∷◌, ◌++◌, take, length, get_or, Option, Some, None, refl, sym, ◌∙◌, ap, subst, arith, inl, inr}
 use Rattle.std.specs.Prelude.{IfSome, Contains, slice_get}
 use Rattle.std.specs.List.Sorted.{IsStrictlyIncreasing}
 use Rattle.std.proofs.lemmas.Bool.{cases_eq, cases_lt}
-use Rattle.resolvo_text.specs.Line.{Version, Spec, Line, Needs}
 use Rattle.resolvo_text.specs.declared.spec.Spec as code
 use Rattle.resolvo_text.specs.View.{spec_of, specs_of}
 use Rattle.resolvo_catalogue.specs.Questions.{AreAll}
@@ -37,7 +36,7 @@ specs_at (a ∷ xs) [] i x y at there same = absurd cc
 specs_at (a ∷ xs) (b ∷ ys) zero x y at there same = (let e : a ≡ x = cc in let f : b ≡ y = cc in let g : spec_of a ≡ spec_of b = cc in ap spec_of (sym e) ∙ g ∙ ap spec_of f)
 specs_at (a ∷ xs) (b ∷ ys) (suc i) x y at there same = specs_at xs ys i x y at there cc
 
-length_bound : {X : Type 0} (xs : List X) (j : ℕ) (x : X) → slice_get xs j ≡ Some x → j < length xs
+pub length_bound : {X : Type 0} (xs : List X) (j : ℕ) (x : X) → slice_get xs j ≡ Some x → j < length xs
 length_bound [] j x e = absurd cc
 length_bound (y ∷ xs) zero x e = omega arith
 length_bound (y ∷ xs) (suc j) x e = (let b : j < length xs = length_bound xs j x e in omega (arith, b))

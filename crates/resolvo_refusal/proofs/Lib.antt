@@ -1,3 +1,4 @@
 pub mod Naming
 pub mod Finding
 pub mod Sorting
+pub mod Telling

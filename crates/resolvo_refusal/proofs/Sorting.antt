@@ -1,5 +1,5 @@
 -- Literals by their texts.
-use Rattle.std.proofs.Common.{Ordering, ◌+◌, ◌<◌, take, length, get_or, ◌&&◌, true, ◌≡◌, ◌⊎◌, inl, inr, ℕ, List, [], ◌∷◌, ◌++◌, map, refl, sym, ◌∙◌, ap, subst, Vec, Global, Less, Equal, Greater, arith}
+use Rattle.std.proofs.Common.{Ordering, ◌+◌, ◌<◌, take, length, get_or, ◌&&◌, true, ◌≡◌, ◌⊎◌, inl, inr, ℕ, List, [], ◌∷◌, ◌++◌, map, refl, sym, ◌∙◌, ap, subst, Global, Less, Equal, Greater, arith}
 use Rattle.std.specs.Prelude.{Contains, IsTrue, string_bytes, codes}
 use Rattle.std.specs.List.{join_with_byte}
 use Rattle.std.specs.Fmt.{decimal}
@@ -120,10 +120,10 @@ pub values_told : (catalogue : List Line) (ids : Ids) (literals : List (ProofLit
 values_told catalogue ids literals entries are form = λ l. (
   λ h. (let a = map_contains literal_of l (map (λ e. e.1) entries) h in let b = map_contains (λ (e : String Global × Literal). e.1) a.0 entries a.1 in let f = are.from b.0 b.1 in (f.0, f.1, a.2 ∙ (ap literal_of b.2 ∙ f.2))),
   λ (k, has, is).
-    let a = are.all k has in
-    let f = are.from a.0 a.1 in
-    let same : literal_of a.0.1 ≡ literal_at catalogue ids k = one_literal (literal_of a.0.1) (literal_at catalogue ids k) (subst (λ (x : told.Literal). IsAtom x.atom) (sym f.2) (form f.0 f.1)) (form k has) (sym (are.keyed a.0 a.1) ∙ a.2) in
-    subst (λ (x : told.Literal). Contains (literals_of (map (λ e. e.1) entries)) x) (same ∙ sym is) (contains_map literal_of a.0.1 (map (λ e. e.1) entries) (contains_map (λ (e : String Global × Literal). e.1) a.0 entries a.1)),
+      let a = are.all k has in
+      let f = are.from a.0 a.1 in
+      let same : literal_of a.0.1 ≡ literal_at catalogue ids k = one_literal (literal_of a.0.1) (literal_at catalogue ids k) (subst (λ (x : told.Literal). IsAtom x.atom) (sym f.2) (form f.0 f.1)) (form k has) (sym (are.keyed a.0 a.1) ∙ a.2) in
+      subst (λ (x : told.Literal). Contains (literals_of (map (λ e. e.1) entries)) x) (same ∙ sym is) (contains_map literal_of a.0.1 (map (λ e. e.1) entries) (contains_map (λ (e : String Global × Literal). e.1) a.0 entries a.1)),
 )
 
 -- the keys' order is that of the texts

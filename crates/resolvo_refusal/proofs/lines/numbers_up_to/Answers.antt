@@ -1,5 +1,4 @@
-use Rattle.std.proofs.Common.{◌≤◌, ◌≡◌, ◌+◌, ℕ, List, refl, sym, subst, arith, []}
-use Rattle.std.specs.Prelude.{Contains}
+use Rattle.std.proofs.Common.{◌≤◌, ◌+◌, sym, subst, arith}
 use Rattle.resolvo_catalogue.specs.Questions.{AreAll}
 use Rattle.resolvo_refusal.proofs.Finding.{up_to_more, up_to_all}
 use Rattle.resolvo_refusal.proofs.lines.numbers_up_to.Goals as goal

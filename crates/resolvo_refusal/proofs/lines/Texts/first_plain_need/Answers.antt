@@ -8,6 +8,7 @@ pub returns-then-needs_plainly : goal.returns-then-needs_plainly
 returns-then-needs_plainly c =
     let xs = c.args.lines.now in
     let i = c.loop-line.line-index in
-    let n = get_or xs i 0 in
-    ((Contains-get_or xs i 0 c.loop-line-test.true, c.needs_plainly.ensures.0 c.if-needs_plainly.true),
-     λ m below (has, needs). c.loop-line.invariant m (earlier_in xs i m n c.requires (slice_get-get_or xs i 0 c.loop-line-test.true) has below) needs)
+    let n = get_or xs i 0 in (
+      (Contains-get_or xs i 0 c.loop-line-test.true, c.needs_plainly.ensures.0 c.if-needs_plainly.true),
+      λ m below (has, needs). c.loop-line.invariant m (earlier_in xs i m n c.requires (slice_get-get_or xs i 0 c.loop-line-test.true) has below) needs,
+    )

@@ -1,4 +1,4 @@
-use Rattle.std.proofs.Common.{◌≡◌, sym, ◌∙◌, None, true, false}
+use Rattle.std.proofs.Common.{sym, None}
 use Rattle.std.proofs.lemmas.Bool.{false≢true}
 use Rattle.resolvo_text.specs.Line.{Needs}
 use Rattle.resolvo_text.specs.View.{specs_of}

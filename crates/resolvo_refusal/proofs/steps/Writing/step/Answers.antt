@@ -1,4 +1,4 @@
-use Rattle.std.proofs.Common.{List, ℕ, ap, map, subst, sym, ◌∙◌}
+use Rattle.std.proofs.Common.{List, ℕ, ap, map, subst, ◌∙◌}
 use Rattle.resolvo_provider.specs.Ids.{NameId, SolvableId}
 use Rattle.resolvo_proof.specs.declared.step.ProofLiteral.{ProofLiteral}
 use Rattle.resolvo_report.specs.Value as told
