@@ -1,3 +1,5 @@
 pub mod Named
 pub mod Writing
+pub mod Lines
 pub mod Refusal
+pub mod Telling

@@ -25,7 +25,7 @@ use Rattle.resolvo_provider.specs.Keeping.{root_of}
 use Rattle.resolvo_provider.specs.declared.provider.RequestIds.{RequestIds}
 use Rattle.resolvo_report.specs.Value.{Place, OfVersion, Literal, Step, Report, Refused}
 use Rattle.resolvo_report.specs.Value as told
-use Rattle.resolvo_report.specs.Text.{report_lines}
+use Rattle.resolvo_report.specs.Text.{report_lines, IsAtom}
 use Rattle.resolvo_report.specs.Grammar.{IsReport}
 use Rattle.resolvo_judge.specs.StepClauses.{line_of}
 use Rattle.resolvo_judge.specs.Judgement.{IsClaimTrue}
@@ -78,6 +78,10 @@ module _ (catalogue : List Line) (ids : Ids) where
 
   abbrev pub literal_at : ProofLiteral NameId SolvableId → Literal
   literal_at l = record { atom = atom_at l.atom; positive = l.positive }
+
+  -- Each literal's atom has a text.
+  abbrev pub HaveForm : List (ProofLiteral NameId SolvableId) → Type 0
+  HaveForm literals = (l : ProofLiteral NameId SolvableId) → Contains literals l → IsAtom (atom_at l.atom)
 
   -- the same literals, in any order and number
   abbrev pub AreLiterals : List (ProofLiteral NameId SolvableId) → List Literal → Type 0

@@ -1,6 +1,15 @@
 //! The first line of a text that states a rule. The lines of a place are looked through in order, those of the request
 //! or those of a version; where several state the rule, the first one is found.
 
+ghost use Rattle.std.specs.Prelude.{◌≡◌, ◌<◌, ◌≤◌, ℕ, List, IfOk, IfSome, IfNone, Option, Some, None, false, Contains};
+ghost use Rattle.std.specs.Bool.{Decides};
+ghost use Rattle.std.specs.List.Sorted.{IsStrictlyIncreasing};
+ghost use Rattle.resolvo_text.specs.Line as says;
+ghost use Rattle.resolvo_text.specs.View.{spec_of, specs_of};
+ghost use Rattle.resolvo_catalogue.specs.Grammar.{line_at};
+ghost use Rattle.resolvo_catalogue.specs.Questions.{AreAll, States, is_rule};
+ghost use Rattle.resolvo_refusal.specs.Lines.{IsLeast, text_of, IsLineOf, NeedsPlainly};
+
 use resolvo_catalogue::{Catalogue, Request, Rule, Spec, VersionNo};
 use resolvo_pool::want::R;
 use std::alloc::Global;
@@ -28,7 +37,10 @@ pub(crate) enum BarringLine {
 
 impl<'a> Texts<'a> {
     /// What line `line` of a place states, if it states a rule. The place is a version, or none for the request.
-    fn rule(self, place: Option<VersionNo>, line: u32) -> Option<&'a Rule> {
+    fn rule(self, place: Option<VersionNo>, line: u32) -> Option<&'a Rule>
+        ensures stated { IfSome result (λ r. (l : says.Line) × (versions : List says.Version) × (owner : Option says.Version) × (line_at (text_of self.entry.catalogue.now self.entry.request.now.lines place) line ≡ Some l) × States versions r.now owner l) }
+        ensures none { IfNone result ((l : says.Line) → line_at (text_of self.entry.catalogue.now self.entry.request.now.lines place) line ≡ Some l → is_rule l ≡ false) }
+    {
         match place {
             None => self.request.rule(line),
             Some(_) => self.catalogue.rule(line),
@@ -36,10 +48,54 @@ impl<'a> Texts<'a> {
     }
 
     /// The numbers of the lines of a place, rising.
-    fn lines_of(self, alloc: Global, place: Option<VersionNo>) -> R<Vec<u32>> {
+    fn lines_of(self, alloc: Global, place: Option<VersionNo>) -> R<Vec<u32>>
+        ensures { IfOk result (λ v. AreAll v.items (IsLineOf self.entry.catalogue.now self.entry.request.now.lines place)) }
+    {
         match place {
             None => numbers_up_to(alloc, self.request.line_count()),
             Some(version) => Ok(Vec::from_slice(alloc, self.catalogue.lines_of(version))?),
+        }
+    }
+
+    /// The first line of a place that needs these alternatives without a condition.
+    pub fn plain_need_line(
+        self,
+        alloc: Global,
+        place: Option<VersionNo>,
+        alternatives: &[Spec],
+    ) -> R<Option<u32>>
+        ensures { IfOk result (λ found. IsLeast found (λ n. IsLineOf self.entry.catalogue.now self.entry.request.now.lines place n × NeedsPlainly (text_of self.entry.catalogue.now self.entry.request.now.lines place) (specs_of alternatives.now) n)) }
+    {
+        let lines = self.lines_of(alloc, place)?;
+        let found = self.first_plain_need(place, lines.as_slice(), alternatives);
+        Ok(found)
+    }
+
+    /// The first of these lines that needs these alternatives without a condition. The lines rise.
+    fn first_plain_need(
+        self,
+        place: Option<VersionNo>,
+        lines: &[u32],
+        alternatives: &[Spec],
+    ) -> Option<u32>
+        requires { IsStrictlyIncreasing lines.now }
+        ensures { IsLeast result (λ n. Contains lines.now n × NeedsPlainly (text_of self.entry.catalogue.now self.entry.request.now.lines place) (specs_of alternatives.now) n) }
+    {
+        for line in lines {
+            if self.needs_plainly(place, *line, alternatives) {
+                return Some(*line);
+            }
+        }
+        None
+    }
+
+    /// Whether line `line` of a place needs these alternatives without a condition.
+    fn needs_plainly(self, place: Option<VersionNo>, line: u32, alternatives: &[Spec]) -> bool
+        ensures { Decides result (NeedsPlainly (text_of self.entry.catalogue.now self.entry.request.now.lines place) (specs_of alternatives.now) line) }
+    {
+        match self.rule(place, line) {
+            Some(rule) => is_plain_need(rule, alternatives),
+            None => false,
         }
     }
 
@@ -154,7 +210,9 @@ pub(crate) fn excluding_lines(alloc: Global, catalogue: &Catalogue) -> R<Vec<Opt
 }
 
 /// The numbers from 1 up to this one.
-fn numbers_up_to(alloc: Global, count: u32) -> R<Vec<u32>> {
+fn numbers_up_to(alloc: Global, count: u32) -> R<Vec<u32>>
+    ensures { IfOk result (λ v. AreAll v.items (λ n. (1 ≤ n) × (n ≤ count))) }
+{
     let mut numbers = Vec::new(alloc);
     for place in 0..count {
         numbers.push(place + 1)?;
@@ -178,6 +236,20 @@ fn need_case(alloc: Global, rule: &Rule, alternatives: &[Spec], case: &[Spec]) -
     Ok(None)
 }
 
+/// Whether the rule needs these alternatives without a condition.
+fn is_plain_need(rule: &Rule, alternatives: &[Spec]) -> bool
+    ensures { (versions : List says.Version) (owner : Option says.Version) (line : says.Line) → States versions rule.now owner line → Decides result (line ≡ says.Needs (specs_of alternatives.now) None) }
+{
+    match rule {
+        Rule::Needs {
+            alternatives: stated,
+            condition: None,
+            ..
+        } => same_specs(stated.as_slice(), alternatives),
+        _ => false,
+    }
+}
+
 /// Whether the rule needs these alternatives, under whatever condition.
 fn needs(rule: &Rule, alternatives: &[Spec]) -> bool {
     match rule {
@@ -190,16 +262,23 @@ fn needs(rule: &Rule, alternatives: &[Spec]) -> bool {
 }
 
 /// Whether two SPECs ask for the same versions of one package.
-pub(crate) fn same_spec(one: &Spec, other: &Spec) -> bool {
+pub(crate) fn same_spec(one: &Spec, other: &Spec) -> bool
+    ensures { Decides result (spec_of one.now ≡ spec_of other.now) }
+{
     one.name == other.name && one.span == other.span
 }
 
 /// Whether these are the same SPECs in the same order.
-pub(crate) fn same_specs(some: &[Spec], others: &[Spec]) -> bool {
+pub(crate) fn same_specs(some: &[Spec], others: &[Spec]) -> bool
+    ensures { Decides result (specs_of some.now ≡ specs_of others.now) }
+{
     if some.len() != others.len() {
         return false;
     }
-    some.iter()
-        .zip(others)
-        .all(|(one, other)| same_spec(one, other))
+    for (place, one) in some.iter().enumerate() {
+        if !same_spec(one, &others[place]) {
+            return false;
+        }
+    }
+    true
 }

@@ -1,9 +1,12 @@
 //! Atoms by their texts, and the literals of a derived clause as they stand in a report: in the order of their texts,
 //! each once.
 
-ghost use Rattle.std.specs.Prelude.{◌≡◌, IfOk};
+ghost use Rattle.std.specs.Prelude.{◌≡◌, IfOk, IsTrue, map};
 ghost use Rattle.resolvo_text.specs.View.{version_of};
+ghost use Rattle.resolvo_report.specs.View.{atom_of, literals_of};
+ghost use Rattle.resolvo_report.specs.Text.{are_rising, literal_text};
 ghost use Rattle.resolvo_refusal.specs.Writing.{version_at};
+ghost use Rattle.resolvo_refusal.specs.Refusal.{atom_at, AreLiterals, HaveForm};
 
 use resolvo_catalogue::{Catalogue, Version};
 use resolvo_coding::atom::ProofAtom;
@@ -21,7 +24,10 @@ pub(crate) fn sorted_literals(
     catalogue: &Catalogue,
     provider: &CatalogueProvider,
     literals: &[ProofLiteral<NameId, SolvableId>],
-) -> R<Vec<Literal>> {
+) -> R<Vec<Literal>>
+    ensures same { IfOk result (λ v. HaveForm catalogue.now provider.now.ids literals.now → AreLiterals catalogue.now provider.now.ids literals.now (literals_of v.items)) }
+    ensures rising { IfOk result (λ v. IsTrue (are_rising (map literal_text (literals_of v.items)))) }
+{
     let mut by_text: BTreeMap<String, Literal> = BTreeMap::new(alloc);
     for literal in literals {
         let written = Literal {
@@ -44,7 +50,9 @@ fn atom_of(
     catalogue: &Catalogue,
     provider: &CatalogueProvider,
     atom: ProofAtom<NameId, SolvableId>,
-) -> R<Atom> {
+) -> R<Atom>
+    ensures { IfOk result (λ a. atom_of a ≡ atom_at catalogue.now provider.now.ids atom) }
+{
     match atom {
         ProofAtom::Solvable(solvable) => {
             Ok(Atom::Version(version_of(alloc, catalogue, solvable)?))

@@ -4,6 +4,8 @@ ghost use Rattle.std.specs.Prelude.{IfOk};
 ghost use Rattle.std.specs.List.{AllZip};
 ghost use Rattle.resolvo_report.specs.View.{report_of, steps_of};
 ghost use Rattle.resolvo_refusal.specs.Writing.{IsWritten, IsRefusedBy};
+ghost use Rattle.resolvo_refusal.specs.Telling.{Tells, AreSpelled, IsToldRightly};
+ghost use Rattle.resolvo_refusal.specs.Refusal.{Refutes};
 
 use crate::lines::{Texts, excluding_lines};
 use crate::named::{Text, named_lines};
@@ -25,9 +27,10 @@ pub fn refused_report(
     provider: &CatalogueProvider,
     steps: &[ProofStep<NameId, SolvableId>],
 ) -> R<Report>
-    ensures { IfOk result (λ r. IsRefusedBy catalogue.now request.now.lines provider.now.ids steps.now (report_of r)) }
+    ensures told { IfOk result (λ r. Refutes catalogue.now request.now provider.now steps.now → AreSpelled catalogue.now provider.now.ids steps.now → IsToldRightly catalogue.now request.now.lines provider.now.ids steps.now (report_of r)) }
+    ensures refused { IfOk result (λ r. IsRefusedBy catalogue.now request.now.lines provider.now.ids steps.now (report_of r)) }
 {
-    if u32::try_from(steps.len()).is_err() {
+    if steps.len() > 4_294_967_295 {
         return Err(Want::Ids);
     }
     let texts = Texts { catalogue, request };
@@ -59,7 +62,8 @@ fn write_steps(
     provider: &CatalogueProvider,
     steps: &[ProofStep<NameId, SolvableId>],
 ) -> R<Vec<Step>>
-    ensures { IfOk result (λ v. AllZip (IsWritten texts.entry.catalogue.now provider.now.ids) steps.now (steps_of v.items)) }
+    ensures tells { IfOk result (λ v. AllZip (Tells texts.entry.catalogue.now texts.entry.request.now.lines provider.now.ids) steps.now (steps_of v.items)) }
+    ensures written { IfOk result (λ v. AllZip (IsWritten texts.entry.catalogue.now provider.now.ids) steps.now (steps_of v.items)) }
 {
     let excluding = excluding_lines(alloc, texts.catalogue)?;
     let writing = Writing {

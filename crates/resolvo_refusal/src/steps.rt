@@ -1,12 +1,15 @@
 //! Steps of a proof, written as those of a report.
 
-ghost use Rattle.std.specs.Prelude.{◌≡◌, ◌⊎◌, ℕ, IfOk, map};
+ghost use Rattle.std.specs.Prelude.{◌≡◌, ◌⊎◌, ℕ, [], Some, IfOk, map};
+ghost use Rattle.std.specs.Option.{option_map};
 ghost use Rattle.resolvo_text.specs.View.{version_of};
 ghost use Rattle.resolvo_report.specs.Value as told;
 ghost use Rattle.resolvo_report.specs.View.{step_of, place_of};
 ghost use Rattle.resolvo_proof.specs.declared.step.ProofStep.TheVariants.{Rule as RuleStep};
 ghost use Rattle.resolvo_proof.specs.declared.step.ProofRule.TheVariants.{Limit};
+ghost use Rattle.resolvo_provider.specs.Known.{alternatives_at};
 ghost use Rattle.resolvo_refusal.specs.Writing.{version_at, place_at, number_of, IsWritten};
+ghost use Rattle.resolvo_refusal.specs.Telling.{version_no, IsPlainLine, Tells};
 
 use crate::lines::{BarringLine, NeedLine, Texts};
 use crate::literals::{sorted_literals, version_of};
@@ -32,7 +35,8 @@ pub(crate) struct Writing<'a> {
 impl Writing<'_> {
     /// The step as it stands in a report.
     pub fn step(self, step: &ProofStep<NameId, SolvableId>) -> R<Step>
-        ensures { IfOk result (λ w. IsWritten self.entry.texts.catalogue.now self.entry.provider.now.ids step.now (step_of w)) }
+        ensures tells { IfOk result (λ w. Tells self.entry.texts.catalogue.now self.entry.texts.request.now.lines self.entry.provider.now.ids step.now (step_of w)) }
+        ensures written { IfOk result (λ w. IsWritten self.entry.texts.catalogue.now self.entry.provider.now.ids step.now (step_of w)) }
     {
         match step {
             ProofStep::Rule(rule) => self.rule(rule),
@@ -50,7 +54,8 @@ impl Writing<'_> {
 
     /// The step of a rule.
     fn rule(self, rule: &ProofRule<NameId, SolvableId>) -> R<Step>
-        ensures { IfOk result (λ w. IsWritten self.entry.texts.catalogue.now self.entry.provider.now.ids (RuleStep rule.now) (step_of w)) }
+        ensures tells { IfOk result (λ w. Tells self.entry.texts.catalogue.now self.entry.texts.request.now.lines self.entry.provider.now.ids (RuleStep rule.now) (step_of w)) }
+        ensures written { IfOk result (λ w. IsWritten self.entry.texts.catalogue.now self.entry.provider.now.ids (RuleStep rule.now) (step_of w)) }
     {
         match rule {
             ProofRule::Needs {
@@ -101,8 +106,12 @@ impl Writing<'_> {
         requirement: Requirement,
         case: &[VersionSetId],
     ) -> R<Step>
-        ensures { IfOk result (λ w. (line k : ℕ) × (step_of w ≡ told.Need (place_at self.entry.texts.catalogue.now parent) line k)) }
+        ensures tells { IfOk result (λ w. case.now ≡ [] → (line : ℕ) × (step_of w ≡ told.Need (place_at self.entry.texts.catalogue.now parent) line 1) × IsPlainLine self.entry.texts.catalogue.now self.entry.texts.request.now.lines (option_map version_no parent) (alternatives_at self.entry.provider.now.ids requirement) line) }
+        ensures written { IfOk result (λ w. (line k : ℕ) × (step_of w ≡ told.Need (place_at self.entry.texts.catalogue.now parent) line k)) }
     {
+        if case.is_empty() {
+            return self.plain_need(parent, requirement);
+        }
         let alternatives = self.provider.alternatives_of(requirement)?;
         let case = self.specs(case)?;
         let place = self.place_number(parent);
@@ -120,16 +129,35 @@ impl Writing<'_> {
         })
     }
 
-    /// The step of a gate, by the first line that states the need without condition.
-    fn gate(self, parent: SolvableId, requirement: Requirement) -> R<Step>
-        ensures { IfOk result (λ w. (line : ℕ) × (step_of w ≡ told.Gate (version_at self.entry.texts.catalogue.now parent) line)) }
+    /// The step of a need without a condition, by the first line that states it.
+    fn plain_need(self, parent: Option<SolvableId>, requirement: Requirement) -> R<Step>
+        ensures { IfOk result (λ w. (line : ℕ) × (step_of w ≡ told.Need (place_at self.entry.texts.catalogue.now parent) line 1) × IsPlainLine self.entry.texts.catalogue.now self.entry.texts.request.now.lines (option_map version_no parent) (alternatives_at self.entry.provider.now.ids requirement) line) }
+    {
+        let line = self.plain_line(parent, requirement)?;
+        Ok(Step::Need {
+            place: self.place(parent)?,
+            line,
+            case: 1,
+        })
+    }
+
+    /// The first line of a parent that needs the requirement without a condition.
+    fn plain_line(self, parent: Option<SolvableId>, requirement: Requirement) -> R<u32>
+        ensures { IfOk result (λ line. IsPlainLine self.entry.texts.catalogue.now self.entry.texts.request.now.lines (option_map version_no parent) (alternatives_at self.entry.provider.now.ids requirement) line) }
     {
         let alternatives = self.provider.alternatives_of(requirement)?;
-        let place = self.place_number(Some(parent));
+        let place = self.place_number(parent);
         let found = self
             .texts
-            .need_line(self.alloc, place, alternatives.as_slice(), &[])?;
-        let NeedLine { line, .. } = found.unwrap_or(NeedLine { line: 0, case: 0 });
+            .plain_need_line(self.alloc, place, alternatives.as_slice())?;
+        Ok(found.unwrap_or(0))
+    }
+
+    /// The step of a gate, by the first line that states the need without condition.
+    fn gate(self, parent: SolvableId, requirement: Requirement) -> R<Step>
+        ensures { IfOk result (λ w. (line : ℕ) × (step_of w ≡ told.Gate (version_at self.entry.texts.catalogue.now parent) line) × IsPlainLine self.entry.texts.catalogue.now self.entry.texts.request.now.lines (Some (version_no parent)) (alternatives_at self.entry.provider.now.ids requirement) line) }
+    {
+        let line = self.plain_line(Some(parent), requirement)?;
         Ok(Step::Gate {
             version: self.version(parent)?,
             line,
@@ -186,7 +214,9 @@ impl Writing<'_> {
     }
 
     /// The number of a parent's version; the root has none.
-    fn place_number(self, parent: Option<SolvableId>) -> Option<VersionNo> {
+    fn place_number(self, parent: Option<SolvableId>) -> Option<VersionNo>
+        ensures { result ≡ option_map version_no parent }
+    {
         let parent = parent?;
         Some(self.provider.version_of(parent))
     }

@@ -1,0 +1,225 @@
+-- The lines by which the needs of a plain problem are told.
+use Rattle.std.proofs.lemmas.Bool.Decides.{nat_tests}
+use Rattle.std.proofs.Common.{◌≡◌, ◌+◌, ◌<◌, ◌≤◌, inl, inr, ℕ, zero, suc, Bool, true, false, List, [], ◌∷◌, ◌++◌, map, length, Option, Some, None, refl, sym, ◌∙◌, ap, subst, arith, Vec, Global, not, ◌&&◌}
+use Rattle.std.specs.Prelude.{nat_lt, Contains, slice_get, slice_index_or, unwrap_or, option_to_list, if◌then◌else◌}
+use Rattle.std.specs.List.{AllZip, flat_map}
+use Rattle.std.proofs.lemmas.Option.{get_or_from_slice_get}
+use Rattle.std.proofs.lemmas.Bool.{and_parts, false≢true, eqb-true}
+use Rattle.resolvo_text.specs.Line.{Version, Spec, Cond, Line, Needs}
+use Rattle.resolvo_catalogue.specs.Grammar.{line_at, owner_of}
+use Rattle.resolvo_catalogue.specs.Listed.{listed}
+use Rattle.resolvo_catalogue.specs.Questions.{SaysOf, BelongsTo}
+use Rattle.resolvo_catalogue.proofs.Placing.{at_from_contains}
+use Rattle.resolvo_catalogue.proofs.TableSteps.{same_version_is}
+use Rattle.resolvo_pool.specs.declared.id.ConditionId.{ConditionId}
+use Rattle.resolvo_pool.specs.declared.id.VersionSetId.{VersionSetId}
+use Rattle.resolvo_pool.specs.declared.condition.Condition.{Condition}
+use Rattle.resolvo_pool.specs.declared.condition.Condition.TheVariants.{Binary, Requirement as Asked}
+use Rattle.resolvo_pool.specs.declared.condition.LogicalOperator.TheVariants.{And, Or}
+use Rattle.resolvo_pool.specs.declared.requirement.Requirement.{Requirement}
+use Rattle.resolvo_pool.specs.declared.requirement.ConditionalRequirement.{ConditionalRequirement}
+use Rattle.resolvo_pool.specs.RuleKeeping.{rules_of}
+use Rattle.resolvo_store.specs.Cases.{cases_by, cases_within}
+use Rattle.resolvo_rules.specs.Encoding.{has_condition, same_requirement, cases_under}
+use Rattle.resolvo_rules.proofs.Lists.{contains_none, contains_one, contains_parts, contains_first, contains_later, map_contains, any_contained}
+use Rattle.resolvo_proof.specs.declared.step.ProofStep.{ProofStep}
+use Rattle.resolvo_proof.specs.declared.step.ProofStep.TheVariants.{Rule, Derived}
+use Rattle.resolvo_proof.specs.declared.step.ProofRule.TheVariants.{Needs as NeedsRule, GateOf, Shared, Limit, Outside, Locked, Excluded, Digit, AtLeastOne}
+use Rattle.resolvo_catalogue.specs.Questions.{Said}
+use Rattle.resolvo_pool.specs.declared.requirement.Requirement.TheVariants.{Single, Union}
+use Rattle.resolvo_provider.specs.Ids.{Ids, NameId, SolvableId, AreEach, IsNeed, IsConditionOf}
+use Rattle.resolvo_provider.specs.Known.{alternatives_at, condition_at}
+use Rattle.resolvo_provider.specs.Told.{Told, need_in, lines_at}
+use Rattle.resolvo_provider.specs.Provider.{Provider, told_at, no_lines, dependencies_of}
+use Rattle.resolvo_provider.specs.Over.{IsOver}
+use Rattle.resolvo_provider.proofs.Elements.{flat_from, option_from, each_from_left, need_from}
+use Rattle.resolvo_provider.proofs.RulesKept.{req_from}
+use Rattle.resolvo_provider.proofs.Covering.{alternatives_stand}
+use Rattle.resolvo_provider.proofs.Places.{no_element}
+use Rattle.resolvo_report.specs.Value.{OfRequest, OfVersion, Step}
+use Rattle.resolvo_report.specs.Value as told
+use Rattle.resolvo_judge.specs.StepClauses.{is_owner}
+use Rattle.resolvo_refusal.specs.Writing.{version_at, number_of, IsWritten}
+use Rattle.resolvo_refusal.specs.Lines.{IsLeast, IsLineOf, NeedsPlainly}
+use Rattle.resolvo_refusal.specs.Telling.{version_no, IsPlainLine, Tells, AreSpelled}
+use Rattle.resolvo_refusal.specs.Refusal.{NeedsAt, IsFirstNeed, IsToldBy, Refutes}
+use Rattle.resolvo_refusal.proofs.Finding.{length_bound}
+
+-- ---- cases
+
+front_nil : {X : Type 0} (xs ys : List X) → [] ≡ xs ++ ys → xs ≡ []
+front_nil [] ys e = refl
+front_nil (x ∷ xs) ys e = absurd cc
+
+some_by : (below : ConditionId → List (List VersionSetId)) → ((a : ConditionId) → Contains (below a) [] → ⊥) → (q : Condition) → Contains (cases_by below q) [] → ⊥
+some_by below none (Asked v) h = (let e : [] ≡ v ∷ [] = contains_one [] (v ∷ []) h in absurd cc)
+some_by below none (Binary And a b) h =
+    let (l, has, more) = flat_from (λ (l : List VersionSetId). map (λ r. l ++ r) (below b)) (below a) [] h in
+    let (r, other, is) = map_contains (λ (r : List VersionSetId). l ++ r) [] (below b) more in
+    none a (subst (λ (x : List VersionSetId). Contains (below a) x) (front_nil l r is) has)
+some_by below none (Binary Or a b) h = elim (contains_parts [] (below a) (below b) h) [ inl x ↦ none a x | inr y ↦ none b y ]
+
+-- each case of a condition asks for something
+pub cases_ask : (condition_of : ConditionId → Condition) (n : ℕ) (c : ConditionId) → Contains (cases_within condition_of n c) [] → ⊥
+cases_ask condition_of zero c h = contains_none [] h
+cases_ask condition_of (suc n) c h = some_by (cases_within condition_of n) (cases_ask condition_of n) (condition_of c) h
+
+-- ---- lines that need
+
+abbrev pub plain : Requirement → ConditionalRequirement
+plain r = record { condition = None; requirement = r }
+
+no_condition : (ids : Ids) (c : Option Cond) → IsConditionOf ids None c → c ≡ None
+no_condition ids None h = refl
+no_condition ids (Some c) h = absurd h
+
+pub line_from : (ids : Ids) (needs : List ConditionalRequirement) (ls : List Line) → AreEach (IsNeed ids) needs (flat_map need_in ls) → (r : Requirement) → Contains needs (plain r) → Contains ls (Needs (alternatives_at ids r) None)
+line_from ids needs ls each r has =
+    let (said, among, (alternatives, condition)) = each_from_left (IsNeed ids) needs (flat_map need_in ls) each (plain r) has in
+    let (l, here, says) = flat_from need_in ls said among in
+    let stands : alternatives_at ids r ≡ said.0 = alternatives_stand ids r said.0 alternatives in
+    subst (λ (x : Line). Contains ls x) (need_from l said says ∙ (ap (λ (c : Option Cond). Needs said.0 c) (no_condition ids said.1 condition) ∙ ap (λ (ss : List Spec). Needs ss None) (sym stands))) here
+
+-- the line stands in the request
+pub request_line : (lines : List Line) (l : Line) → Contains lines l → (m : ℕ) × ((1 ≤ m) × (m ≤ length lines)) × (line_at lines m ≡ Some l)
+request_line lines l has = (let (k, there) = at_from_contains lines l has in let b : k < length lines = length_bound lines k l there in (suc k, (omega arith, omega (arith, b)), there))
+
+told_there : (told : List Told) (k : ℕ) (need : ConditionalRequirement) → Contains (slice_index_or told k no_lines).requirements need → slice_get told k ≡ Some (slice_index_or told k no_lines)
+told_there [] k need h = absurd (no_element need h)
+told_there (t ∷ told) zero need h = refl
+told_there (t ∷ told) (suc k) need h = told_there told k need h
+
+-- the line belongs to the version
+pub version_line : (catalogue : List Line) (p : Provider) → IsOver catalogue p → (s : SolvableId) (r : Requirement) → Contains (rules_of (dependencies_of p s)).requirements (plain r) → (m : ℕ) × SaysOf (listed catalogue) catalogue s.raw BelongsTo m × (line_at catalogue m ≡ Some (Needs (alternatives_at p.ids r) None))
+version_line catalogue p over s r h =
+    let has = req_from (told_at p s) (told_at p s).unknown (plain r) h in
+    let (numbers, all, tells) = over.told.each s.raw (told_at p s) (told_there p.told s.raw (plain r) has) in
+    let (m, among, opt) = flat_from (λ (n : ℕ). option_to_list (line_at catalogue n)) numbers (Needs (alternatives_at p.ids r) None) (line_from p.ids (told_at p s).requirements (lines_at catalogue numbers) tells.requirements r has) in
+    (m, (all.all m).0 among, option_from (line_at catalogue m) (Needs (alternatives_at p.ids r) None) opt)
+
+-- ---- the first line
+
+pub least_is : {P : ℕ → Type 0} (found : Option ℕ) (line : ℕ) → line ≡ unwrap_or found 0 → IsLeast found P → (m : ℕ) → P m → P line × ((n : ℕ) → n < line → P n → ⊥)
+least_is None line is none m p = absurd (none m p)
+least_is {P = P} (Some n) line is least m p = subst (λ (k : ℕ). P k × ((j : ℕ) → j < k → P j → ⊥)) (sym is) least
+
+within_line : (lines : List Line) (n : ℕ) (l : Line) → line_at lines n ≡ Some l → (1 ≤ n) × (n ≤ length lines)
+within_line lines zero l e = absurd cc
+within_line lines (suc k) l e = (let b : k < length lines = length_bound lines k l e in (omega arith, omega (arith, b)))
+
+-- by the first line of the request
+pub first_asked : (catalogue : List Line) (ids : Ids) (request : List Line) (alternatives : List Spec) (line : ℕ) → IsPlainLine catalogue request None alternatives line → Contains request (Needs alternatives None) → IsFirstNeed catalogue ids request OfRequest alternatives line
+first_asked catalogue ids request alternatives line (found, is, least) has =
+    let (m, bounds, there) = request_line request (Needs alternatives None) has in
+    let (here, none) = least_is {P = λ n. IsLineOf catalogue request None n × NeedsPlainly request alternatives n} found line is least m (bounds, there) in
+    record { needs = here.1; first = λ n below needs. none n below (within_line request n (Needs alternatives None) needs, needs) }
+
+owner_is : (v : Version) (owner : Option Version) → is_owner v owner ≡ true → owner ≡ Some v
+owner_is v None e = absurd (false≢true e)
+owner_is v (Some w) e = ap (λ (x : Version). Some x) (sym ((same_version_is v w).0 e))
+
+is_own : (v : Version) (owner : Option Version) → owner ≡ Some v → is_owner v owner ≡ true
+is_own v owner e = subst (λ (o : Option Version). is_owner v o ≡ true) (sym e) ((same_version_is v v).1 refl)
+
+taken : (b : Bool) (o : Option Line) (l : Line) → (if b then o else None) ≡ Some l → (b ≡ true) × (o ≡ Some l)
+taken true o l e = (refl, e)
+taken false o l e = absurd cc
+
+-- by the first line of the version
+pub first_told : (catalogue : List Line) (ids : Ids) (request : List Line) (alternatives : List Spec) (s : SolvableId) (line : ℕ) → IsPlainLine catalogue request (Some (version_no s)) alternatives line
+    → (m : ℕ) → SaysOf (listed catalogue) catalogue s.raw BelongsTo m → line_at catalogue m ≡ Some (Needs alternatives None) → IsFirstNeed catalogue ids request (OfVersion (version_at catalogue s)) alternatives line
+first_told catalogue ids request alternatives s line (found, is, least) m says there =
+    let (here, none) = least_is {P = λ n. IsLineOf catalogue request (Some (version_no s)) n × NeedsPlainly catalogue alternatives n} found line is least m (says, there) in
+    record {
+      needs = needed line here.0 here.1;
+      first = λ n below needs. none n below (back n needs);
+    }
+  where
+    v : Version
+    v = says.0
+
+    listed_there : version_at catalogue s ≡ says.0
+    listed_there = get_or_from_slice_get (listed catalogue) s.raw says.0 (record { name = []; number = 0 }) says.1
+
+    owned : (n : ℕ) → SaysOf (listed catalogue) catalogue s.raw BelongsTo n → line_at catalogue n ≡ Some (Needs alternatives None) → owner_of catalogue n ≡ Some (version_at catalogue s)
+    owned n (w, at, (l, stands, belongs)) e =
+        let same : l ≡ Needs alternatives None = (let both : Some l ≡ Some (Needs alternatives None) = sym stands ∙ e in cc) in
+        subst (λ (x : Line). BelongsTo w (owner_of catalogue n) x) same belongs ∙ ap (λ (x : Version). Some x) (sym (get_or_from_slice_get (listed catalogue) s.raw w (record { name = []; number = 0 }) at))
+
+    needed : (n : ℕ) → SaysOf (listed catalogue) catalogue s.raw BelongsTo n → line_at catalogue n ≡ Some (Needs alternatives None) → NeedsAt catalogue ids request (OfVersion (version_at catalogue s)) alternatives n
+    needed n of e = subst (λ (b : Bool). (if b then line_at catalogue n else None) ≡ Some (Needs alternatives None)) (sym (is_own (version_at catalogue s) (owner_of catalogue n) (owned n of e))) e
+
+    back : (n : ℕ) → NeedsAt catalogue ids request (OfVersion (version_at catalogue s)) alternatives n → SaysOf (listed catalogue) catalogue s.raw BelongsTo n × (line_at catalogue n ≡ Some (Needs alternatives None))
+    back n e = (let (own, is) = taken (is_owner (version_at catalogue s) (owner_of catalogue n)) (line_at catalogue n) (Needs alternatives None) e in ((says.0, says.1, (Needs alternatives None, is, owner_is (version_at catalogue s) (owner_of catalogue n) own ∙ ap (λ (x : Version). Some x) listed_there)), is))
+
+-- ---- steps
+
+requirements_same : (r q : Requirement) → same_requirement r q ≡ true → r ≡ q
+requirements_same (Single v) (Single w) e = ap (λ (n : ℕ). Single (record { 0 = n })) (eqb-true v.0 w.0 e)
+requirements_same (Union v) (Union w) e = ap (λ (n : ℕ). Union (record { 0 = n })) (eqb-true v.0 w.0 e)
+requirements_same (Single v) (Union w) e = absurd (false≢true e)
+requirements_same (Union v) (Single w) e = absurd (false≢true e)
+
+-- a need whose case is empty has no condition
+plain_of : (needs : List ConditionalRequirement) (p : Provider) (r : Requirement) (condition : Option ConditionId) (case : Vec VersionSetId Global) → case.items ≡ [] → Contains (cases_under (condition_at p.ids) condition) case.items → Contains needs (record { condition = condition; requirement = r }) → Contains needs (plain r)
+plain_of needs p r None case none among has = has
+plain_of needs p r (Some c) case none among has = absurd (cases_ask (condition_at p.ids) (suc c.0) c (subst (λ (vs : List VersionSetId). Contains (cases_within (condition_at p.ids) (suc c.0) c) vs) none among))
+
+zipped : {A B : Type 0} {P Q R : A → B → Type 0} (xs : List A) (ys : List B) → ((n : ℕ) (x : A) (y : B) → slice_get xs n ≡ Some x → P x y → Q x y → R x y) → AllZip P xs ys → AllZip Q xs ys → AllZip R xs ys
+zipped [] [] f p q = p
+zipped [] (y ∷ ys) f p q = p
+zipped (x ∷ xs) [] f p q = p
+zipped (x ∷ xs) (y ∷ ys) f p q = (f 0 x y refl p.0 q.0, zipped xs ys (λ n a b. f (suc n) a b) p.1 q.1)
+
+numbers_from : (most : ℕ) (causes : List ℕ) → most < 4294967296 → ((k : ℕ) → Contains causes k → k + 1 < most + 1) → map number_of causes ≡ map suc causes
+numbers_from most [] fits below = refl
+numbers_from most (k ∷ causes) fits below =
+    let small : k + 1 < most + 1 = below k (contains_first k k causes refl) in
+    let here : nat_lt k 4294967295 ≡ true = grind (arith, nat_tests) in
+    let one : number_of k ≡ suc k = rw here (omega arith) in
+    ap (λ (n : ℕ). n ∷ map number_of causes) one ∙ ap (λ (ns : List ℕ). suc k ∷ ns) (numbers_from most causes fits (λ j h. below j (contains_later j k causes h)))
+
+same_need : (need : ConditionalRequirement) (r : Requirement) → (not (has_condition need.condition) && same_requirement r need.requirement) ≡ true → need ≡ plain r
+same_need need r e = (let (none, same) = and_parts (not (has_condition need.condition)) (same_requirement r need.requirement) e in by_parts need.condition need.requirement none same)
+  where
+    by_parts : (c : Option ConditionId) (q : Requirement) → not (has_condition c) ≡ true → same_requirement r q ≡ true → ◌≡◌ {A = ConditionalRequirement} (record { condition = c; requirement = q }) (plain r)
+    by_parts (Some c) q none same = absurd (false≢true none)
+    by_parts None q none same = ap plain (sym (requirements_same r q same))
+
+module _ (catalogue : List Line) (said : Said) (p : Provider) (steps : List (ProofStep NameId SolvableId)) (refutes : Refutes catalogue said p steps) (spelled : AreSpelled catalogue p.ids steps) (fits : length steps < 4294967296) where
+  -- a step that is written is told rightly
+  step_told : (n : ℕ) (s : ProofStep NameId SolvableId) (t : Step) → slice_get steps n ≡ Some s → Tells catalogue said.lines p.ids s t → IsWritten catalogue p.ids s t → IsToldBy catalogue p.ids said.lines s t
+  step_told n (Rule (NeedsRule None r case)) t at tells written =
+      let none : case.items ≡ [] = refutes.known n _ at in
+      let (line, is, by) = tells none in
+      let (condition, rule) = refutes.proof n _ at in
+      let (has, among) = rule in
+      (line, is, first_asked catalogue p.ids said.lines (alternatives_at p.ids r) line by (line_from p.ids refutes.ids.requirements.items said.lines refutes.asked.requirements r (plain_of refutes.ids.requirements.items p r condition case none among has)))
+  step_told n (Rule (NeedsRule (Some s) r case)) t at tells written =
+      let none : case.items ≡ [] = refutes.known n _ at in
+      let (line, is, by) = tells none in
+      let (condition, rule) = refutes.proof n _ at in
+      let (has, among) = rule in
+      let (m, of, there) = version_line catalogue p refutes.over s r (plain_of (rules_of (dependencies_of p s)).requirements p r condition case none among has) in
+      (line, is, first_told catalogue p.ids said.lines (alternatives_at p.ids r) s line by m of there)
+  step_told n (Rule (GateOf s r)) t at tells written =
+      let (line, is, by) = tells in
+      let (condition, asked) = refutes.proof n _ at in
+      let (need, has, same) = any_contained (λ (need : ConditionalRequirement). not (has_condition need.condition) && same_requirement r need.requirement) (rules_of (dependencies_of p s)).requirements asked in
+      let (m, of, there) = version_line catalogue p refutes.over s r (subst (λ (x : ConditionalRequirement). Contains (rules_of (dependencies_of p s)).requirements x) (same_need need r same) has) in
+      (line, is, first_told catalogue p.ids said.lines (alternatives_at p.ids r) s line by m of there)
+  step_told n (Rule (Shared r)) t at tells written = written
+  step_told n (Rule (Limit parent v barred)) t at tells written = absurd (refutes.known n _ at)
+  step_told n (Rule (Outside v s)) t at tells written = absurd (refutes.known n _ at)
+  step_told n (Rule (Locked locked s)) t at tells written = absurd (refutes.known n _ at)
+  step_told n (Rule (Excluded s reason)) t at tells written = absurd (refutes.known n _ at)
+  step_told n (Rule (Digit s place bit)) t at tells written = written
+  step_told n (Rule (AtLeastOne name s)) t at tells written = absurd (refutes.known n _ at)
+  step_told n (Derived literals causes) t at tells written =
+      let (clause, is, same, rising) = tells in
+      let below : n < length steps = length_bound steps n _ at in
+      (clause, is ∙ ap (λ (ns : List ℕ). told.Derive clause ns) (numbers_from n causes.items (omega (arith, below, fits)) (λ k h. let e : k < n = (refutes.proof n _ at).earlier k h in omega (arith, e))), same (spelled n literals causes at))
+
+  -- each step is told rightly
+  pub steps_told : (written : List Step) → AllZip (Tells catalogue said.lines p.ids) steps written → AllZip (IsWritten catalogue p.ids) steps written → AllZip (IsToldBy catalogue p.ids said.lines) steps written
+  steps_told written tells are = zipped steps written step_told tells are
