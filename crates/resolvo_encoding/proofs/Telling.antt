@@ -124,21 +124,21 @@ module _ {N S : Type 0} (same : S → S → Bool) (exact : IsExact same) where
       → StatesPair (Says.Limits parent v s) (no first) (no second) old new → Tells same (Rule.limits parent v s ∷ []) old new
   limit_tells parent v s first second old new built is stands = pair_tells (Says.Limits parent v s) (Rule.limits parent v s) (no first) (no second) old new built refl tt
       (λ p literals pair. pair_spells (origin old.coding.atoms.keys) (no first) (no second) literals (parent_literals parent) (minus (Atom.solvable s) ∷ []) pair (parent_reads old.coding.atoms.keys parent first is)
-          (inr (minus (Atom.solvable s), refl, means_atom old.coding.atoms.keys (no second) (Solvable s) stands)))
+      (inr (minus (Atom.solvable s), refl, means_atom old.coding.atoms.keys (no second) (Solvable s) stands)))
 
   -- it keeps out whatever is outside it
   pub outside_tells : (parent : Option S) (v : VersionSetId) (first second : VariableId) (old new : Encoding N S) → IsBuilt old → IsParentVariable old.coding.atoms.keys parent first → StandsFor old.coding.atoms.keys second (Outside v)
       → StatesPair (Says.LimitsOutside parent v) (no first) (no second) old new → Tells same (Rule.limits_outside parent v ∷ []) old new
   outside_tells parent v first second old new built is stands = pair_tells (Says.LimitsOutside parent v) (Rule.limits_outside parent v) (no first) (no second) old new built refl tt
       (λ p literals pair. pair_spells (origin old.coding.atoms.keys) (no first) (no second) literals (parent_literals parent) (minus (Atom.outside v) ∷ []) pair (parent_reads old.coding.atoms.keys parent first is)
-          (inr (minus (Atom.outside v), refl, means_atom old.coding.atoms.keys (no second) (Outside v) stands)))
+      (inr (minus (Atom.outside v), refl, means_atom old.coding.atoms.keys (no second) (Outside v) stands)))
 
   -- a solvable is outside it
   pub out_tells : (v : VersionSetId) (s : S) (first second : VariableId) (old new : Encoding N S) → IsBuilt old → StandsFor old.coding.atoms.keys first (Solvable s) → StandsFor old.coding.atoms.keys second (Outside v)
       → StatesPair (Says.IsOut v s) (no first) (yes second) old new → Tells same (Rule.is_out v s ∷ []) old new
   out_tells v s first second old new built is stands = pair_tells (Says.IsOut v s) (Rule.is_out v s) (no first) (yes second) old new built refl tt
       (λ p literals pair. pair_spells (origin old.coding.atoms.keys) (no first) (yes second) literals (minus (Atom.solvable s) ∷ []) (plus (Atom.outside v) ∷ []) pair
-          (inr (minus (Atom.solvable s), refl, means_atom old.coding.atoms.keys (no first) (Solvable s) is)) (inr (plus (Atom.outside v), refl, means_atom old.coding.atoms.keys (yes second) (Outside v) stands)))
+      (inr (minus (Atom.solvable s), refl, means_atom old.coding.atoms.keys (no first) (Solvable s) is)) (inr (plus (Atom.outside v), refl, means_atom old.coding.atoms.keys (yes second) (Outside v) stands)))
 
   -- a solvable is kept out
   pub bar_tells : (x : Stated N S) (s : S) (v : VariableId) (old new : Encoding N S) → IsBuilt old → rule_of x ≡ Some (Rule.bars s) → StandsFor old.coding.atoms.keys v (Solvable s) → StatesPair x (no v) (no v) old new → Tells same (Rule.bars s ∷ []) old new

@@ -17,8 +17,8 @@ mod writing;
 
 pub use condition::{Cond, cases_are_exact, cases_in, holds};
 pub use device::{Counted, Sink, Source, Trouble};
-pub use line::{Line, LineFault};
 pub use growing::GrowingSink;
+pub use line::{Line, LineFault};
 pub use lines::{LineReader, ReadFault};
 pub use memory::{MemorySink, MemorySource};
 pub use reading::{

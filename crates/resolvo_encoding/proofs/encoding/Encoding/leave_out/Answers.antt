@@ -8,10 +8,10 @@ use Rattle.resolvo_encoding.proofs.encoding.Encoding.leave_out.Goals as goal
 
 pub returns-then-contains-clause-encoded : goal.returns-then-contains-clause-encoded
 returns-then-contains-clause-encoded g c = λ p root lawful holds outside. (
-    holds,
-    λ s h. holds.noted.version_sets c.args.version_set s
-        (any_stands (λ (v w : VersionSetId). v.0 == w.0) c.args.self.now.noted.version_sets.keys c.args.version_set (λ y e. sym (ap (λ n. let v : VersionSetId = record { 0 = n } in v) (eqb-true c.args.version_set.0 y.0 e))) (sym c.contains.ensures ∙ c.if-contains.true)) h,
-  )
+  holds,
+  λ s h. holds.noted.version_sets c.args.version_set s
+      (any_stands (λ (v w : VersionSetId). v.0 == w.0) c.args.self.now.noted.version_sets.keys c.args.version_set (λ y e. sym (ap (λ n. let v : VersionSetId = record { 0 = n } in v) (eqb-true c.args.version_set.0 y.0 e))) (sym c.contains.ensures ∙ c.if-contains.true)) h,
+)
 
 pub returns-clause-encoded : goal.returns-clause-encoded
 returns-clause-encoded g c = λ p root lawful holds outside.
