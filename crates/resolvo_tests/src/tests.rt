@@ -2,11 +2,14 @@
 
 mod pairs;
 
-use resolvo::problem::Problem;
-use resolvo::solver::{Solver, UnsolvableOrCancelled};
+use resolvo::deciding::Activity;
+use resolvo::search::{Found, search};
+use resolvo_answers::answers::Answers;
 use resolvo_catalogue::{Catalogue, MemorySource, Request, VersionNo};
+use resolvo_pool::cache::CacheFault;
 use resolvo_pool::id::SolvableId;
 use resolvo_pool::want::Want;
+use resolvo_provider::lawful::Never;
 use resolvo_provider::provider::{CatalogueProvider, Hint};
 use std::alloc::Global;
 use std::test::Fail;
@@ -20,17 +23,30 @@ fn request(alloc: Global, text: &str, catalogue: &Catalogue) -> Result<Request, 
     Ok(Request::read(alloc, &mut source, catalogue)?)
 }
 
-/// The versions of these solvables.
+fn failed(fault: CacheFault<Never>) -> Fail {
+    match fault {
+        CacheFault::Memory => Fail::from(Want::Memory),
+        CacheFault::Ids => Fail::from(Want::Ids),
+        CacheFault::Cancelled(never) => match never {},
+    }
+}
+
+/// The versions of what was found, if something was.
 fn versions(
     alloc: Global,
-    solver: &Solver<CatalogueProvider>,
-    chosen: &[SolvableId],
-) -> Result<Vec<VersionNo>, Fail> {
-    let mut set = Vec::new(alloc);
-    for one in chosen {
-        set.push(solver.provider().version_of(*one))?;
+    answers: &Answers<CatalogueProvider>,
+    found: &Found<SolvableId>,
+) -> Result<Option<Vec<VersionNo>>, Fail> {
+    match found {
+        Found::Clash(_) => Ok(None),
+        Found::Chosen(chosen) => {
+            let mut set = Vec::new(alloc);
+            for one in chosen {
+                set.push(answers.provider().version_of(*one))?;
+            }
+            Ok(Some(set))
+        }
     }
-    Ok(set)
 }
 
 /// The versions that are chosen for a request, or none where it is refused.
@@ -42,16 +58,18 @@ fn chosen(
 ) -> Result<Option<Vec<VersionNo>>, Fail> {
     let mut provider = CatalogueProvider::new(alloc, catalogue, hint)?;
     let root = provider.intern_request(request)?;
-    let problem = Problem::new(alloc)
-        .requirements(root.requirements)
-        .constraints(root.constraints);
-    let mut solver = Solver::new(alloc, provider);
-    match solver.solve(problem) {
-        Ok(chosen) => Ok(Some(versions(alloc, &solver, &chosen)?)),
-        Err(UnsolvableOrCancelled::Unsolvable(_)) => Ok(None),
-        Err(UnsolvableOrCancelled::Memory) => Err(Fail::from(Want::Memory)),
-        Err(UnsolvableOrCancelled::Ids) => Err(Fail::from(Want::Ids)),
-        Err(UnsolvableOrCancelled::Cancelled(never)) => match never {},
+    let mut answers = Answers::new(alloc, provider);
+    let requirements = root.requirements.as_slice();
+    let constraints = root.constraints.as_slice();
+    match search(
+        alloc,
+        &mut answers,
+        Activity::standard(),
+        requirements,
+        constraints,
+    ) {
+        Ok(done) => versions(alloc, &answers, &done.found),
+        Err(fault) => Err(failed(fault)),
     }
 }
 
@@ -131,19 +149,5 @@ fn many_are_limited(rt: HostRuntime) -> Result<(), Fail> {
         set.as_deref(),
         Some([VersionNo(0), VersionNo(1)].as_slice())
     );
-    Ok(())
-}
-
-/// A new solver has no clause and no step; a problem that asks nothing has the root's clause alone.
-#[test]
-fn nothing_asked(rt: HostRuntime) -> Result<(), Fail> {
-    let catalogue = catalogue(rt.alloc(), MARKET)?;
-    let provider = CatalogueProvider::new(rt.alloc(), &catalogue, Hint::None)?;
-    let mut solver = Solver::new(rt.alloc(), provider);
-    assert_eq!(rt; solver.clause_count(), 0);
-    let chosen = solver.solve(Problem::new(rt.alloc()));
-    assert!(rt; chosen.is_ok_and(|chosen| chosen.is_empty()));
-    assert_eq!(rt; solver.clause_count(), 1);
-    assert_eq!(rt; solver.proof().len(), 0);
     Ok(())
 }
