@@ -1,8 +1,14 @@
 -- What a search found holds, with its proof.
-use Rattle.std.proofs.Common.{◌≡◌, Bool, List, sym, subst}
+use Rattle.std.proofs.Common.{◌≡◌, Bool, List, Result, Ok, Err, sym, subst}
+use Rattle.std.specs.Prelude.{IfOk}
 use Rattle.resolvo_pool.specs.declared.requirement.Requirement.{Requirement}
 use Rattle.resolvo_pool.specs.RuleKeeping.{Packages, Rules}
 use Rattle.resolvo_encoding.specs.declared.encoding.Encoding.{Encoding}
+use Rattle.resolvo_coding.specs.declared.registry.Registry.{Registry}
+use Rattle.resolvo_coding.specs.Registered.{AreTied}
+use Rattle.resolvo_coding.specs.Spelled.{Spelled}
+use Rattle.resolvo_proof.specs.Drawn.{AreDrawn, HaveOneSigns}
+use Rattle.resolvo_proof.specs.Places.{HaveOnePlace, AreNamedBy}
 use Rattle.resolvo_proof.specs.Proof.{Proves}
 use Rattle.resolvo.specs.declared.search.Found.{Found}
 use Rattle.resolvo.specs.declared.search.Found.TheVariants.{Chosen, Clash}
@@ -10,15 +16,25 @@ use Rattle.resolvo.specs.declared.search.Searched.{Searched}
 use Rattle.resolvo.specs.declared.proving.Solved.{Solved}
 use Rattle.resolvo.specs.Solving.{IsFound, IsPreferred, IsSearch, Holds, IsSolved}
 
+-- what is so of an answer where something else is so
+pub with_given : {X E : Type 0} (r : Result X E) (G : Type 0) (P : X → Type 0) → IfOk r (λ v. G → P v) → G → IfOk r P
+with_given (Ok v) G P h given = h given
+with_given (Err e) G P h given = tt
+
 module _ {N S : Type 0} (same : S → S → Bool) (p : Packages N S) (orders : Requirement → List S → Type 0) (root : Rules) where
   found_holds : (e : Encoding N S) (f : Found S) → IsFound same p root e f → Holds same p root f
   found_holds e (Chosen v) h = h
   found_holds e (Clash r) h = h.0
 
   -- what was found, with the steps of its clauses
-  pub search_solved : (s : Searched N S) (x : Solved N S) → IsSearch same p orders root s → x.found ≡ s.found → Proves s.encoding.coding x.proof.items → IsSolved same p orders root x
-  search_solved s x search is proves = record {
+  pub search_solved : (s : Searched N S) (x : Solved N S) → IsSearch same p orders root s → x.found ≡ s.found → Proves s.encoding.coding x.proof.items
+      → ((alike : S → S → Bool) (q : Packages N S) → Spelled alike q s.encoding.coding → AreDrawn alike q x.proof.items) → HaveOneSigns x.proof.items
+      → ((r : Registry N) (package_of : S → N) → AreTied r s.encoding.coding → AreNamedBy r s.encoding.coding package_of → HaveOnePlace x.proof.items) → IsSolved same p orders root x
+  search_solved s x search is proves drawn signs places = record {
     found = subst (λ (f : Found S). Holds same p root f) (sym is) (found_holds s.encoding s.found search.found);
     proof = λ same_atom exact. proves same_atom exact same p root search.encoding.spelled search.encoding.rule;
+    drawn = drawn same p search.encoding.spelled;
+    signs = signs;
+    one_place = places s.encoding.registry p.package_of search.encoding.tied search.encoding.named;
     preferred = subst (λ (f : Found S). IsPreferred same p orders root f) (sym is) search.preferred;
   }

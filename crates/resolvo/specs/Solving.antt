@@ -11,6 +11,8 @@ use Rattle.resolvo_coding.specs.declared.coding.Coding.{Coding}
 use Rattle.resolvo_coding.specs.Chosen.{AreChosen}
 use Rattle.resolvo_encoding.specs.Encoded.{IsEncoding}
 use Rattle.resolvo_encoding.specs.Steps.{IsBuilt}
+use Rattle.resolvo_proof.specs.Drawn.{AreDrawn, HaveOneSigns}
+use Rattle.resolvo_proof.specs.Places.{HaveOnePlace}
 use Rattle.resolvo_proof.specs.Proof.{IsProof, EndsEmpty, DenyRoot}
 use Rattle.resolvo_rules.specs.Encoding.{Atom, IsExact}
 use Rattle.resolvo_proof.specs.declared.step.ProofStep.{ProofStep}
@@ -76,11 +78,14 @@ module _ {N S : Type 0} (same : S → S → Bool) (p : Packages N S) (orders : R
     pub found : IsFound same p root s.encoding s.found
     pub preferred : IsPreferred s.found
 
-  -- What was found holds, each step of the proof may stand, and candidates were chosen in the order in which they are
-  -- tried.
+  -- What was found holds, each step of the proof may stand, each literal of a derived one stands in an earlier one, an atom has
+  -- one sign in it, each solvable has one place, and candidates were chosen in the order in which they are tried.
   pub record IsSolved (s : Solved N S) : Type 0 where
     pub found : Holds same p root s.found
     pub proof : AreProved same p root s.proof.items
+    pub drawn : AreDrawn same p s.proof.items
+    pub signs : HaveOneSigns s.proof.items
+    pub one_place : HaveOnePlace s.proof.items
     pub preferred : IsPreferred s.found
 
 -- after a clash the last step has no literals

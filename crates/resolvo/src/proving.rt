@@ -1,9 +1,14 @@
 //! A search with its proof. `Solver` keeps what `solve` gives; a program that needs no solver may call it itself.
-ghost use Rattle.std.specs.Prelude.{◌≡◌, length, IfOk, IfErr};
+ghost use Rattle.std.specs.Prelude.{◌≡◌, Bool, length, IfOk, IfErr};
 ghost use Rattle.resolvo_pool.specs.Cached.{IsCancelledBy};
-ghost use Rattle.resolvo_pool.specs.RuleKeeping.{Rules};
+ghost use Rattle.resolvo_pool.specs.RuleKeeping.{Packages, Rules};
+ghost use Rattle.resolvo_coding.specs.declared.registry.Registry.{Registry};
 ghost use Rattle.resolvo_coding.specs.Coding.{IsCoding};
+ghost use Rattle.resolvo_coding.specs.Registered.{AreTied};
+ghost use Rattle.resolvo_coding.specs.Spelled.{Spelled};
 ghost use Rattle.resolvo_encoding.specs.Encoded.{IsUnconditional};
+ghost use Rattle.resolvo_proof.specs.Drawn.{AreDrawn, HaveOneSigns};
+ghost use Rattle.resolvo_proof.specs.Places.{HaveOnePlace, AreNamedBy};
 ghost use Rattle.resolvo_proof.specs.Proof.{Proves};
 ghost use Rattle.resolvo.specs.Encoder.{IsRoot};
 ghost use Rattle.resolvo.specs.Solving.{IsDenial, IsProvable, IsSolved, EndsSo, Counts};
@@ -38,6 +43,9 @@ fn steps_of<N: SolverId, S: SolverId>(
     requires coding { IsCoding coding.now }
     requires denial { IsDenial coding.now found.now }
     ensures proof { IfOk result (λ v. Proves coding.now v.items) }
+    ensures drawn { IfOk result (λ v. (same : S → S → Bool) (p : Packages N S) → Spelled same p coding.now → AreDrawn same p v.items) }
+    ensures signs { IfOk result (λ v. HaveOneSigns v.items) }
+    ensures places { IfOk result (λ v. (r : Registry N) (package_of : S → N) → AreTied r coding.now → AreNamedBy r coding.now package_of → HaveOnePlace v.items) }
     ensures ends { IfOk result (λ v. EndsSo found.now v.items) }
     ensures count { IfOk result (λ v. Counts found.now (length coding.now.search.clauses) (length v.items)) }
 {
@@ -56,6 +64,9 @@ fn prove<N: SolverId + Drop, S: SolverId>(
     ensures found { IfOk result (λ s. s.found ≡ searched.found) }
     ensures count { IfOk result (λ s. Counts s.found s.clause_count (length s.proof.items)) }
     ensures proof { IfOk result (λ s. Proves searched.encoding.coding s.proof.items) }
+    ensures drawn { IfOk result (λ s. (same : S → S → Bool) (p : Packages N S) → Spelled same p searched.encoding.coding → AreDrawn same p s.proof.items) }
+    ensures signs { IfOk result (λ s. HaveOneSigns s.proof.items) }
+    ensures places { IfOk result (λ s. (r : Registry N) (package_of : S → N) → AreTied r searched.encoding.coding → AreNamedBy r searched.encoding.coding package_of → HaveOnePlace s.proof.items) }
     ensures ends { IfOk result (λ s. EndsSo s.found s.proof.items) }
 {
     let Searched { encoding, found } = searched;

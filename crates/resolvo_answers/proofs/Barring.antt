@@ -68,13 +68,13 @@ module _ {N S : Type 0} (same : S → S → Bool) (exact : (x y : S) → same x 
     abbrev IsRight : Barred S → Type 0
     IsRight b = (p.package_of b.solvable ≡ n) × KeepsOut same l b.solvable b.why
 
-    locked_right : (k : S) → l.locked ≡ Some k → (xs : List S) → All (λ s. p.package_of s ≡ n) xs → AllByRecursion IsRight (locked_out same (Some k) xs)
-    locked_right k is [] named = tt
-    locked_right k is (x ∷ xs) named = go (same k x) refl (locked_right k is xs (λ i d below. named (suc i) d (omega arith)))
+    locked_right : (k : S) → l.locked ≡ Some k → (xs : List S) → All (λ s. p.package_of s ≡ n) xs → All (Contains l.candidates) xs → AllByRecursion IsRight (locked_out same (Some k) xs)
+    locked_right k is [] named there = tt
+    locked_right k is (x ∷ xs) named there = go (same k x) refl (locked_right k is xs (λ i d below. named (suc i) d (omega arith)) (λ i d below. there (suc i) d (omega arith)))
       where
         go : (b : Bool) → same k x ≡ b → AllByRecursion IsRight (locked_out same (Some k) xs) → AllByRecursion IsRight (map (locked_by k) (cond (not b) (x ∷ filter (λ y. not (same k y)) xs) (filter (λ y. not (same k y)) xs)))
         go true e later = later
-        go false e later = ((named 0 x (omega arith), (is, e)), later)
+        go false e later = ((named 0 x (omega arith), (is, e, there 0 x (omega arith))), later)
 
     excluded_right : (xs : List (S × StringId)) → All (λ e. p.package_of e.0 ≡ n) xs → All (Contains l.excluded) xs → AllByRecursion IsRight (map excluded_by xs)
     excluded_right [] named there = tt
@@ -109,7 +109,7 @@ module _ {N S : Type 0} (same : S → S → Bool) (exact : (x y : S) → same x 
         where
           locked : (k : Option S) → l.locked ≡ k → AllByRecursion (IsRight n l) (locked_out same k l.candidates)
           locked None e = tt
-          locked (Some k) e = locked_right n l k e l.candidates named.candidates
+          locked (Some k) e = locked_right n l k e l.candidates named.candidates (All-contains_itself l.candidates)
 
   -- the candidates that don't match a version set are those outside it
   pub are_outside : (v : VersionSetId) → AreOutside same p v (map (offer_by p.package_of) (matching_in p.set_package p.candidates_of p.matches true v))

@@ -8,9 +8,9 @@ use Rattle.resolvo_answers.specs.declared.answering.Barred.{Barred}
 use Rattle.resolvo_answers.specs.declared.answering.Why.{Why}
 use Rattle.resolvo_answers.specs.declared.answering.Why.TheVariants.{Locked, Excluded}
 
--- the package's listing keeps the solvable out, for this: another one is locked, or it is excluded
+-- the package's listing keeps the solvable out, for this: it is a candidate and another one is locked, or it is excluded
 abbrev pub KeepsOut : {S : Type 0} → (S → S → Bool) → Listing S → S → Why S → Type 0
-KeepsOut same l s (Locked locked) = (l.locked ≡ Some locked) × (same locked s ≡ false)
+KeepsOut same l s (Locked locked) = (l.locked ≡ Some locked) × (same locked s ≡ false) × Contains l.candidates s
 KeepsOut same l s (Excluded reason) = Contains l.excluded (s, reason)
 
 -- the solvables of the list

@@ -1,18 +1,25 @@
 -- A clause more.
-use Rattle.std.proofs.Common.{◌≡◌, ℕ, ◌+◌, ◌<◌, ◌⊎◌, inl, inr, false, List, [], ◌∷◌, ◌++◌, length, map, Some, Vec, Global, HashSet, BuildHasherDefault, FoldHasher, refl, sym, ◌∙◌, ap, subst, arith}
+use Rattle.std.proofs.Common.{◌≡◌, ℕ, ◌+◌, ◌<◌, ◌⊎◌, inl, inr, true, false, List, [], ◌∷◌, ◌++◌, length, map, Some, Vec, Global, HashSet, BuildHasherDefault, FoldHasher, refl, sym, ◌∙◌, ap, subst, arith}
 use Rattle.std.specs.Prelude.{slice_get, IsSome}
 use Rattle.std.proofs.lemmas.List.{length-append}
 use Rattle.std.proofs.lemmas.Bool.{both_ways}
 use Rattle.std.proofs.lemmas.Option.{slice_get_within}
 use Rattle.resolvo_pool.specs.declared.id.ClauseId.{ClauseId}
+use Rattle.resolvo_store.specs.Signed.{Signed, has}
 use Rattle.resolvo_search.specs.declared.state.HeldClause.{HeldClause}
 use Rattle.resolvo_search.specs.declared.state.VariableKind.{VariableKind}
 use Rattle.resolvo_search.specs.declared.state.VariableKind.TheVariants as Kinds
 use Rattle.resolvo_search.specs.declared.advancing.Progress.{Progress}
-use Rattle.resolvo_search.specs.State.{AreApart}
+use Rattle.resolvo_search.specs.Known.{clause_at}
+use Rattle.resolvo_search.specs.State.{AreApart, lists, clauses_of}
+use Rattle.resolvo_search.specs.Analysis.{AreFromClauses}
 use Rattle.resolvo_search.specs.Propagation.{IsReady, AreCovered}
 use Rattle.resolvo_search.specs.Adding.{Comes}
 use Rattle.resolvo_search.specs.Advancing.{Improves}
+use Rattle.resolvo_search.proofs.Clauses.{length-lists}
+use Rattle.resolvo_search.proofs.StepLemmas.{lists-append}
+use Rattle.resolvo_rules.proofs.Growing.{clause_stays}
+use Rattle.resolvo_rules.proofs.Meanings.{clause_in_range}
 use Rattle.resolvo_coding.specs.declared.stated.Stated.{Stated}
 use Rattle.resolvo_coding.specs.declared.stated.Stated.TheVariants.{Root, Learnt}
 use Rattle.resolvo_coding.specs.declared.coding.Coding.{Coding}
@@ -23,12 +30,18 @@ use Rattle.resolvo_coding.specs.Statements.{rule_of, stated_at}
 use Rattle.resolvo_coding.specs.Coding.{IsCoding, States, Advances}
 use Rattle.resolvo_coding.proofs.Positions.{get_front, get_old, get_last, get_push, front_equal}
 
--- A clause and what it states came behind the others: neither is the root's, and a learnt one has causes and no literal beside
--- its opposite.
+-- a literal of one of the first clauses stands in it among more
+stands_before : (old more : List HeldClause) (m : ℕ) (l : Signed) → has (clause_at (lists old) m) l ≡ true → has (clause_at (lists (old ++ more)) m) l ≡ true
+stands_before old more m l h =
+    let within : m < length (lists old) = clause_in_range (lists old) m l h in
+    subst (λ (ls : List Signed). has ls l ≡ true) (sym (ap (λ (cs : List (List Signed)). clause_at cs m) (lists-append old more) ∙ clause_stays (lists old) (lists more) m within)) h
+
+-- A clause and what it states came behind the others: neither is the root's, and a learnt one has causes, no literal beside
+-- its opposite, and none but those of the others.
 pub one_more : {N S : Type 0} (old new : Coding N S) (x : Stated N S) (clause : HeldClause) → IsCoding old → IsReady new.search new.watching → AreCovered new.search new.watching
     → new.atoms ≡ old.atoms → new.search.variables ≡ old.search.variables → new.search.clauses ≡ old.search.clauses ++ clause ∷ [] → new.stated.items ≡ old.stated.items ++ x ∷ []
-    → (x ≡ Root → ⊥) → (x ≡ Learnt → 0 < length clause.causes.items) → (x ≡ Learnt → AreApart clause.literals.items) → IsCoding new
-one_more {N} {S} old new x clause coding ready covered atoms variables clauses stated unrooted caused apart = record {
+    → (x ≡ Root → ⊥) → (x ≡ Learnt → 0 < length clause.causes.items) → (x ≡ Learnt → AreApart clause.literals.items) → (x ≡ Learnt → AreFromClauses old.search clause.literals.items) → IsCoding new
+one_more {N} {S} old new x clause coding ready covered atoms variables clauses stated unrooted caused apart from = record {
   ready = ready;
   covered = covered;
   kinds = ap (λ (kinds : Vec VariableKind Global). kinds.items) variables ∙ coding.kinds ∙ sym (ap (λ (a : HashSet (ProofAtom N S) (BuildHasherDefault FoldHasher)). Kinds.Root ∷ map kind_of a.keys) atoms);
@@ -38,10 +51,19 @@ one_more {N} {S} old new x clause coding ready covered atoms variables clauses s
       let c : length old.stated.items ≡ length old.search.clauses = coding.each in
       omega arith;
   distinct = subst (λ (a : HashSet (ProofAtom N S) (BuildHasherDefault FoldHasher)). AreOnce a.keys) (sym atoms) coding.distinct;
-  learnt = λ n held h is. elim (old_or_this n held h is) [ inl (a, at) ↦ coding.learnt n held a at | inr (e, one) ↦ subst (λ (d : HeldClause). 0 < length d.causes.items) one (caused e) ];
-  apart = λ n held h is. elim (old_or_this n held h is) [ inl (a, at) ↦ coding.apart n held a at | inr (e, one) ↦ subst (λ (d : HeldClause). AreApart d.literals.items) one (apart e) ];
+  learnt = λ n held h is. elim (old_or_this n held h is) [ inl (a, at) ↦ coding.learnt n held a at | inr (e, one, place) ↦ subst (λ (d : HeldClause). 0 < length d.causes.items) one (caused e) ];
+  apart = λ n held h is. elim (old_or_this n held h is) [ inl (a, at) ↦ coding.apart n held a at | inr (e, one, place) ↦ subst (λ (d : HeldClause). AreApart d.literals.items) one (apart e) ];
+  drawn = λ n held h is l a. elim (old_or_this n held h is) [
+    | inl (b, at) ↦ let (m, before, there) = coding.drawn n held b at l a in (m, before, stays m l there)
+    | inr (e, one, place) ↦
+        let (m, there) = from e l (subst (λ (d : HeldClause). has d.literals.items l ≡ true) (sym one) a) in
+        let within : m < length (lists old.search.clauses) = clause_in_range (lists old.search.clauses) m l there in
+        let long : length (lists old.search.clauses) ≡ length old.search.clauses = length-lists old.search.clauses in
+        (m, omega arith, stays m l there)
+  ];
   first = subst (λ (xs : List (Stated N S)). stated_at xs 0 ≡ Some Root) (sym stated) (get_front old.stated.items (x ∷ []) 0 Root coding.first);
   rooted = λ n h. elim (get_push old.stated.items x Root n (said n Root h)) [ inl a ↦ coding.rooted n a | inr (e, same) ↦ absurd (unrooted (sym same)) ];
+  alone = λ l a. coding.alone l (subst (λ (ls : List Signed). has ls l ≡ true) first_stays a);
 }
   where
     said : (n : ℕ) (y : Stated N S) → stated_at new.stated.items n ≡ Some y → slice_get (old.stated.items ++ x ∷ []) n ≡ Some y
@@ -50,9 +72,21 @@ one_more {N} {S} old new x clause coding ready covered atoms variables clauses s
     holds : (n : ℕ) (held : HeldClause) → slice_get new.search.clauses n ≡ Some held → slice_get (old.search.clauses ++ clause ∷ []) n ≡ Some held
     holds n held is = subst (λ (cs : List HeldClause). slice_get cs n ≡ Some held) clauses is
 
+    first_stays : clause_at (clauses_of new.search) 0 ≡ clause_at (clauses_of old.search) 0
+    first_stays =
+        let within : 0 < length old.stated.items = slice_get_within old.stated.items 0 Root coding.first in
+        let each : length old.stated.items ≡ length old.search.clauses = coding.each in
+        let long : length (lists old.search.clauses) ≡ length old.search.clauses = length-lists old.search.clauses in
+        ap (λ (cs : List HeldClause). clause_at (lists cs) 0) clauses
+        ∙ ap (λ (ls : List (List Signed)). clause_at ls 0) (lists-append old.search.clauses (clause ∷ []))
+        ∙ clause_stays (lists old.search.clauses) (lists (clause ∷ [])) 0 (omega arith)
+
+    stays : (m : ℕ) (l : Signed) → has (clause_at (clauses_of old.search) m) l ≡ true → has (clause_at (clauses_of new.search) m) l ≡ true
+    stays m l h = subst (λ (cs : List HeldClause). has (clause_at (lists cs) m) l ≡ true) (sym clauses) (stands_before old.search.clauses (clause ∷ []) m l h)
+
     -- a learnt clause was there, or is the one that came
     old_or_this : (n : ℕ) (held : HeldClause) → stated_at new.stated.items n ≡ Some Learnt → slice_get new.search.clauses n ≡ Some held
-        → ((stated_at old.stated.items n ≡ Some Learnt) × (slice_get old.search.clauses n ≡ Some held)) ⊎ ((x ≡ Learnt) × (clause ≡ held))
+        → ((stated_at old.stated.items n ≡ Some Learnt) × (slice_get old.search.clauses n ≡ Some held)) ⊎ ((x ≡ Learnt) × (clause ≡ held) × (n ≡ length old.search.clauses))
     old_or_this n held h is = elim (get_push old.stated.items x Learnt n (said n Learnt h)) [
       | inl a ↦
           let within : n < length old.stated.items = slice_get_within old.stated.items n Learnt a in
@@ -62,13 +96,13 @@ one_more {N} {S} old new x clause coding ready covered atoms variables clauses s
           let here : slice_get (old.search.clauses ++ clause ∷ []) n ≡ Some clause = subst (λ k. slice_get (old.search.clauses ++ clause ∷ []) k ≡ Some clause) (sym (e ∙ coding.each)) (get_last old.search.clauses clause) in
           let there : slice_get (old.search.clauses ++ clause ∷ []) n ≡ Some held = holds n held is in
           let one : clause ≡ held = cc in
-          inr (sym same, one)
+          inr (sym same, one, e ∙ coding.each)
     ]
 
 pub states_is : {N S : Type 0} (old new : Coding N S) (x : Stated N S) (clause : HeldClause) (id : ClauseId) → IsCoding old → IsSome (rule_of x) → Comes clause id old.search old.watching new.search new.watching
     → clause.causes.items ≡ [] → new.atoms ≡ old.atoms → new.stated.items ≡ old.stated.items ++ x ∷ [] → States x clause.literals.items id old new
 states_is {N} {S} old new x clause id coding rule comes plain atoms stated = record {
-  coding = one_more old new x clause coding comes.ready comes.covered atoms comes.adds.variables comes.adds.added stated (unrooted x rule) (λ e. absurd (unlearnt x rule e)) (λ e. absurd (unlearnt x rule e));
+  coding = one_more old new x clause coding comes.ready comes.covered atoms comes.adds.variables comes.adds.added stated (unrooted x rule) (λ e. absurd (unlearnt x rule e)) (λ e. absurd (unlearnt x rule e)) (λ e. absurd (unlearnt x rule e));
   atoms = atoms;
   clause = clause;
   literals = refl;
@@ -89,7 +123,7 @@ states_is {N} {S} old new x clause id coding rule comes plain atoms stated = rec
 -- a learnt clause came
 pub learnt_is : {N S : Type 0} (old new : Coding N S) (id : ClauseId) → IsCoding old → (improves : Improves id old.search new.search new.watching) → new.atoms ≡ old.atoms → new.stated.items ≡ old.stated.items ++ Learnt ∷ [] → Advances old new (Progress.Learnt id)
 learnt_is {N} {S} old new id coding improves atoms stated = record {
-  coding = one_more old new Learnt improves.clause coding improves.ready improves.covered atoms improves.variables improves.added stated (λ e. absurd cc) (λ e. improves.caused) (λ e. improves.apart);
+  coding = one_more old new Learnt improves.clause coding improves.ready improves.covered atoms improves.variables improves.added stated (λ e. absurd cc) (λ e. improves.caused) (λ e. improves.apart) (λ e. improves.from);
   progress = improves;
   atoms = atoms;
   stated = stated;

@@ -40,6 +40,7 @@ tied_grows {N} {S} name t a c grows tied = record {
   solvables = λ v h. (let (s, f) = tied.solvables v h in (s, stands_grow a c v (Solvable s) grows f));
   digits = λ i v h. stands_grow a c v (Bit name i) grows (tied.digits i v h);
   room = tied.room;
+  few = tied.few;
   once = tied.once;
   told = λ place i v u at f below. (
       let (s, there) = tied.solvables v (get_contains t.variables place v at) in
@@ -54,6 +55,7 @@ tied_none {N} {S} name t c none helpers = record {
   solvables = λ v h. absurd (contains_none v (subst (λ (xs : List VariableId). Contains xs v) none h));
   digits = λ i v h. absurd (nothing i v (subst (λ (xs : List VariableId). slice_get xs i ≡ Some v) helpers h));
   room = (let a : length t.variables ≡ 0 = ap length none in omega arith);
+  few = (let a : length t.helpers ≡ 0 = ap length helpers in omega arith);
   once = once_none t.variables none;
   told = λ place i v s at f below. absurd (nothing place v (subst (λ (xs : List VariableId). slice_get xs place ≡ Some v) none at));
 }
@@ -318,6 +320,7 @@ module _ {N S : Type 0} (name : N) (s : S) (v : VariableId) (place : ℕ) (r r1 
         solvable = st.is.solvable;
         place = k;
         bit = st.is.bit;
+        few = st.is.few;
         registered = (tie.0, st.is.stands, in_place tie.0 (get_contains u.variables k tie.0 at));
         stated = st.stated;
         spells = subst (λ value. Spells (origin c.atoms.keys) (clause_at (clauses_of c.search) n) (digit_literals name st.is.solvable st.is.bit value)) st.is.value (tie_spells name k tie c n st);

@@ -1,13 +1,19 @@
 -- The search at its start, and a variable more.
-use Rattle.std.proofs.Common.{◌≡◌, ℕ, zero, suc, List, [], ◌∷◌, ◌++◌, length, map, Some, None, Vec, Global, refl, sym, ◌∙◌, ap, subst}
+use Rattle.std.proofs.Common.{◌≡◌, ℕ, zero, suc, inl, inr, true, false, List, [], ◌∷◌, ◌++◌, length, map, Some, None, Vec, Global, refl, sym, ◌∙◌, ap, subst}
 use Rattle.std.specs.Prelude.{slice_get}
+use Rattle.std.proofs.lemmas.Bool.{both_ways}
 use Rattle.resolvo_pool.specs.declared.id.VariableId.{VariableId}
+use Rattle.resolvo_store.specs.Clauses.{yes, root as root_variable}
+use Rattle.resolvo_store.specs.Signed.{Signed, has}
 use Rattle.resolvo_search.specs.declared.state.HeldClause.{HeldClause}
 use Rattle.resolvo_search.specs.declared.state.VariableKind.{VariableKind}
 use Rattle.resolvo_search.specs.declared.state.VariableKind.TheVariants as Kinds
 use Rattle.resolvo_search.specs.declared.watching.Watching.{Watching}
+use Rattle.resolvo_search.specs.Known.{clause_at}
+use Rattle.resolvo_search.specs.State.{lists}
 use Rattle.resolvo_search.specs.Propagation.{IsReady, AreCovered}
 use Rattle.resolvo_search.specs.Beginning.{Begun, IsRootClause, AddsVariable}
+use Rattle.resolvo_search.proofs.Literals.{has-cons}
 use Rattle.resolvo_search.proofs.Choosing.{ready_same, covered_same}
 use Rattle.resolvo_coding.specs.declared.atom.ProofAtom.{ProofAtom}
 use Rattle.resolvo_coding.specs.declared.stated.Stated.{Stated}
@@ -24,6 +30,12 @@ one_clause : (cs : List HeldClause) → IsRootClause cs → length cs ≡ 1
 one_clause [] h = absurd h
 one_clause (c ∷ []) h = refl
 one_clause (c ∷ d ∷ cs) h = absurd h
+
+-- the root's clause names no other variable
+root_only : (cs : List HeldClause) → IsRootClause cs → (l : Signed) → has (clause_at (lists cs) 0) l ≡ true → l.variable.0 ≡ 0
+root_only [] h l a = absurd h
+root_only (c ∷ []) (is, none) l a = elim (has-cons (yes root_variable) [] l (subst (λ (x : List Signed). has x l ≡ true) is a)) [ inl i ↦ ap (λ (y : Signed). y.variable.0) (sym i) | inr f ↦ absurd (both_ways false refl f) ]
+root_only (c ∷ d ∷ cs) h l a = absurd h
 
 -- of the root's clause alone nothing but itself is stated
 root_alone : {N S : Type 0} (stated : List (Stated N S)) (n : ℕ) (x : Stated N S) → stated ≡ Root ∷ [] → stated_at stated n ≡ Some x → (n ≡ 0) × (x ≡ Root)
@@ -46,8 +58,10 @@ begun_is {N} {S} c begun none alone = record {
     distinct = once_none c.atoms.keys none;
     learnt = λ n clause h is. (let (z, e) = root_alone c.stated.items n Learnt alone h in absurd cc);
     apart = λ n clause h is. (let (z, e) = root_alone c.stated.items n Learnt alone h in absurd cc);
+    drawn = λ n clause h is l a. (let (z, e) = root_alone c.stated.items n Learnt alone h in absurd cc);
     first = ap (λ (xs : List (Stated N S)). stated_at xs 0) alone;
     rooted = λ n h. (root_alone c.stated.items n Root alone h).0;
+    alone = root_only c.search.clauses begun.clause;
   };
   atoms = none;
   stated = alone;
@@ -72,8 +86,12 @@ gives_added {N} {S} a v old new coding fresh adds watching pushed stated = recor
     distinct = subst (λ (atoms : List (ProofAtom N S)). AreOnce atoms) (sym pushed) (once_push old.atoms.keys a coding.distinct fresh);
     learnt = λ n clause h is. coding.learnt n clause (same n Learnt h) (subst (λ (cs : List HeldClause). slice_get cs n ≡ Some clause) adds.clauses is);
     apart = λ n clause h is. coding.apart n clause (same n Learnt h) (subst (λ (cs : List HeldClause). slice_get cs n ≡ Some clause) adds.clauses is);
+    drawn = λ n clause h is l a. (
+        let (m, before, there) = coding.drawn n clause (same n Learnt h) (subst (λ (cs : List HeldClause). slice_get cs n ≡ Some clause) adds.clauses is) l a in
+        (m, before, subst (λ (cs : List HeldClause). has (clause_at (lists cs) m) l ≡ true) (sym adds.clauses) there));
     first = ap (λ (xs : Vec (Stated N S) Global). stated_at xs.items 0) stated ∙ coding.first;
     rooted = λ n h. coding.rooted n (same n Root h);
+    alone = λ l a. coding.alone l (subst (λ (cs : List HeldClause). has (clause_at (lists cs) 0) l ≡ true) adds.clauses a);
   };
   stands = (length old.atoms.keys, place, subst (λ (atoms : List (ProofAtom N S)). slice_get atoms (length old.atoms.keys) ≡ Some a) (sym pushed) (get_last old.atoms.keys a));
   same = λ k at. absurd (fresh k at);

@@ -62,6 +62,7 @@ tie_stated {N} {S} name place tie old new s bit id literals coding is solvable k
     here = record {
       solvable = s;
       bit = bit;
+      few = subst (λ k. k < 32) same_bit is.few;
       stands = stands_solvable old.atoms.keys tie.0 s solvable;
       tells = subst (λ k. StandsFor old.atoms.keys tie.1 (Bit name k)) same_bit is.tells;
       value = is.value ∙ ap (digit place) same_bit;
@@ -71,6 +72,7 @@ tie_stated {N} {S} name place tie old new s bit id literals coding is solvable k
     there = record {
       solvable = s;
       bit = bit;
+      few = here.few;
       stands = stands_grow old new tie.0 (Solvable s) states.grows here.stands;
       tells = stands_grow old new tie.1 (Bit name bit) states.grows here.tells;
       value = here.value;
@@ -92,6 +94,7 @@ pub tie_grows : {N S : Type 0} (name : N) (place : ℕ) (tie : Tie) (old new : C
 tie_grows name place tie old new grows t = record {
   solvable = t.solvable;
   bit = t.bit;
+  few = t.few;
   stands = stands_grow old new tie.0 (Solvable t.solvable) grows t.stands;
   tells = stands_grow old new tie.1 (Bit name t.bit) grows t.tells;
   value = t.value;

@@ -2,7 +2,7 @@
 use Rattle.std.proofs.Common.{◌≡◌, ℕ, zero, suc, ◌+◌, ◌*◌, ◌/◌, ◌%◌, ◌^◌, ◌<◌, ◌≤◌, ◌==◌, ◌&&◌, inl, inr, Bool, true, false, not, cond, min, List, [], ◌∷◌, ◌++◌, map, length, Option, Some, None, refl, sym, ◌∙◌, ap, subst, arith, eqb-true, eq-eqb}
 use Rattle.std.specs.Prelude.{slice_get, Contains, is_some}
 use Rattle.std.specs.Option.{option_to_list}
-use Rattle.std.proofs.Math.Nat.{pow-suc, min-eq_left, min-eq_right}
+use Rattle.std.proofs.Math.Nat.{pow-suc, pow-le-pow_right, min-eq_left, min-eq_right}
 use Rattle.std.proofs.lemmas.List.{length-append, length-map, append-nil}
 use Rattle.std.proofs.lemmas.Option.{slice_get_within}
 use Rattle.std.proofs.lemmas.Bool.{both_ways}
@@ -138,6 +138,10 @@ few_tracked {N} {S} name t c coding tied =
         let is : w ≡ v = λ k. record { 0 = same k } in
         tied.once i j v at (bt ∙ ap Some is)
 
+-- fewer than 2^31 places take fewer than 31 digits
+few_digits : (h : ℕ) → 2 ^ h < 2147483648 → h < 31
+few_digits h small = elim (below_or_not h 31) [ inl below ↦ below | inr past ↦ (let more : 2 ^ 31 ≤ 2 ^ h = pow-le-pow_right (let two : zero < 2 = omega arith in two) past in absurd (omega arith)) ]
+
 -- a tracker with one variable more, and the helper that it takes
 abbrev longer : Tracking VariableId → VariableId → Option VariableId → Tracking VariableId
 longer t x o = record { variables = t.variables ++ x ∷ []; helpers = t.helpers ++ option_to_list o }
@@ -175,11 +179,28 @@ module _ {N S : Type 0} (name : N) (x : VariableId) (s : S) (t : Tracking Variab
         | inr (e, same) ↦ subst (λ k. StandsFor b.atoms.keys v (Bit name k)) (sym e) (subst (λ (u : VariableId). StandsFor b.atoms.keys u (Bit name (length t.helpers))) (sym same) (f w refl))
       ]
 
-  ties_are : (is_some o ≡ true → length t.variables ≡ 2 ^ length t.helpers) → (i : ℕ) (tie : Tie) → slice_get (tie_all t.variables t.helpers x o) i ≡ Some tie → IsTie name b.atoms.keys (place_from (first_of o (length t.variables)) (length t.variables) i) tie
-  ties_are full i tie h =
+  -- the helpers stay few
+  few_more : IsCoding a → (is_some o ≡ true → length t.variables ≡ 2 ^ length t.helpers) → length (t.helpers ++ option_to_list o) < 32
+  few_more coding full = go o full
+    where
+      go : (q : Option VariableId) → (is_some q ≡ true → length t.variables ≡ 2 ^ length t.helpers) → length (t.helpers ++ option_to_list q) < 32
+      go None f =
+          let same : length (t.helpers ++ []) ≡ length t.helpers = ap length (append-nil t.helpers) in
+          let few : length t.helpers < 32 = tied.few in
+          omega arith
+      go (Some v) f =
+          let long : length (t.helpers ++ v ∷ []) ≡ length t.helpers + 1 = length-append t.helpers (v ∷ []) in
+          let small : length t.variables < 2147483648 = few_tracked name t a coding tied in
+          let few : length t.helpers < 31 = few_digits (length t.helpers) (subst (λ n. n < 2147483648) (f refl) small) in
+          omega arith
+
+  ties_are : IsCoding a → (is_some o ≡ true → length t.variables ≡ 2 ^ length t.helpers) → (i : ℕ) (tie : Tie) → slice_get (tie_all t.variables t.helpers x o) i ≡ Some tie → IsTie name b.atoms.keys (place_from (first_of o (length t.variables)) (length t.variables) i) tie
+  ties_are coding full i tie h =
       let q = all_at t.variables t.helpers x o i tie tied.room full h in
+      let within : q.bit < length (t.helpers ++ option_to_list o) = slice_get_within (t.helpers ++ option_to_list o) q.bit tie.1 q.tells in
+      let few : length (t.helpers ++ option_to_list o) < 32 = few_more coding full in
       let (u, f) = longer_solvables tie.0 (get_contains (t.variables ++ x ∷ []) _ tie.0 q.stands) in
-      record { solvable = u; bit = q.bit; stands = f; tells = longer_digits q.bit tie.1 q.tells; value = q.value }
+      record { solvable = u; bit = q.bit; few = omega arith; stands = f; tells = longer_digits q.bit tie.1 q.tells; value = q.value }
 
   -- a helper came where the helpers told no more places apart
   come_full : (q : Bool) → is_some o ≡ (not q && (length t.variables == 2 ^ length t.helpers)) → is_some o ≡ true → length t.variables ≡ 2 ^ length t.helpers
@@ -187,15 +208,15 @@ module _ {N S : Type 0} (name : N) (x : VariableId) (s : S) (t : Tracking Variab
   come_full false n some = eqb-true (length t.variables) (2 ^ length t.helpers) (sym n ∙ some)
 
   -- what comes with a variable are ties, of the places one after another
-  pub come_ties : (ts : List Tie) (first last : ℕ) → is_some o ≡ needs_helper same_variable t x → first ≡ first_of o last → last ≡ length t.variables → ts ≡ new_ties same_variable t x o
+  pub come_ties : IsCoding a → (ts : List Tie) (first last : ℕ) → is_some o ≡ needs_helper same_variable t x → first ≡ first_of o last → last ≡ length t.variables → ts ≡ new_ties same_variable t x o
       → (i : ℕ) (tie : Tie) → slice_get ts i ≡ Some tie → IsTie name b.atoms.keys (place_from first last i) tie
-  come_ties ts first last needed begins ends e i tie h =
+  come_ties coding ts first last needed begins ends e i tie h =
       subst (λ k. IsTie name b.atoms.keys (place_from k last i) tie) (sym begins) (subst (λ k. IsTie name b.atoms.keys (place_from (first_of o k) k i) tie) (sym ends)
       (go (among same_variable t x) needed (subst (λ (us : List Tie). slice_get us i ≡ Some tie) e h)))
     where
       go : (q : Bool) → is_some o ≡ (not q && (length t.variables == 2 ^ length t.helpers)) → slice_get (cond q [] (tie_all t.variables t.helpers x o)) i ≡ Some tie → IsTie name b.atoms.keys (place_from (first_of o (length t.variables)) (length t.variables) i) tie
       go true n f = absurd cc
-      go false n f = ties_are (come_full false n) i tie f
+      go false n f = ties_are coding (come_full false n) i tie f
 
   pub first_within : (first last : ℕ) → first ≡ first_of o last → first ≤ last
   first_within first last e = go o e
@@ -239,11 +260,12 @@ module _ {N S : Type 0} (name : N) (x : VariableId) (s : S) (t : Tracking Variab
     unseen : among same_variable t x ≡ false → (k : ℕ) → slice_get t.variables k ≡ Some x → ⊥
     unseen fresh k at = both_ways _ fresh (contained_any (same_variable x) x t.variables (get_contains t.variables k x at) (eq-eqb x.0 x.0 refl))
 
-    tied_more : among same_variable t x ≡ false → IsTied name (longer t x o) c
-    tied_more fresh = record {
+    tied_more : IsCoding a → among same_variable t x ≡ false → IsTied name (longer t x o) c
+    tied_more coding fresh = record {
       solvables = λ v h. (let (u, f) = longer_solvables v h in (u, stands_grow b c v (Solvable u) all.grows f));
       digits = λ i v h. stands_grow b c v (Bit name i) all.grows (longer_digits i v h);
       room = room_more t x o tied.room full;
+      few = few_more coding (come_full false full);
       once = once_push t.variables x tied.once (unseen fresh);
       told = λ place i v u at f below. (
           let (w, wt) = get_below (t.helpers ++ option_to_list o) i below in
@@ -257,12 +279,12 @@ module _ {N S : Type 0} (name : N) (x : VariableId) (s : S) (t : Tracking Variab
           ]);
     }
 
-    tracks_more : among same_variable t x ≡ false → Tracks name x t a (longer t x o) c
-    tracks_more fresh = record {
+    tracks_more : IsCoding a → among same_variable t x ≡ false → Tracks name x t a (longer t x o) c
+    tracks_more coding fresh = record {
       coding = all.coding;
       grows = grows_then a b c given.grows all.grows;
       trail = trail_then a b c given.trail all.trail;
-      tied = tied_more fresh;
+      tied = tied_more coding fresh;
       tracked = contains_right x t.variables (x ∷ []) (contains_only x);
       front = (x ∷ [], refl);
       only = λ w h. elim (contains_parts w t.variables (x ∷ []) h) [ inl i ↦ inl i | inr i ↦ inr (contains_one w x i) ];
@@ -304,4 +326,4 @@ module _ {N S : Type 0} (name : N) (x : VariableId) (s : S) (t : Tracking Variab
           no_digit None h = refl
           no_digit (Some v) h = absurd (both_ways true h refl)
       go false e n is are = subst (λ (w : Tracking VariableId). Tracks name x t a w c) (sym is) (tracks_more c
-          (subst (λ k. StatesAll name (tie_all t.variables t.helpers x o) (first_of o k) k b c) ends (subst (λ k. StatesAll name (tie_all t.variables t.helpers x o) k last b c) begins (subst (λ (us : List Tie). StatesAll name us first last b c) are all))) n e)
+          (subst (λ k. StatesAll name (tie_all t.variables t.helpers x o) (first_of o k) k b c) ends (subst (λ k. StatesAll name (tie_all t.variables t.helpers x o) k last b c) begins (subst (λ (us : List Tie). StatesAll name us first last b c) are all))) n coding e)

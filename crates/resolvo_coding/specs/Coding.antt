@@ -1,14 +1,15 @@
 -- The search, with what its variables stand for and what its clauses state, and how it goes on.
-use Rattle.std.specs.Prelude.{◌≡◌, ℕ, ◌<◌, List, [], ◌∷◌, ◌++◌, length, map, slice_get, Some}
+use Rattle.std.specs.Prelude.{◌≡◌, ℕ, ◌<◌, true, List, [], ◌∷◌, ◌++◌, length, map, slice_get, Some}
 use Rattle.resolvo_pool.specs.declared.id.ClauseId.{ClauseId}
 use Rattle.resolvo_pool.specs.declared.id.VariableId.{VariableId}
-use Rattle.resolvo_store.specs.Signed.{Signed}
+use Rattle.resolvo_store.specs.Signed.{Signed, has}
 use Rattle.resolvo_store.specs.AtMostOne.{IsFrontOf}
 use Rattle.resolvo_search.specs.declared.state.HeldClause.{HeldClause}
 use Rattle.resolvo_search.specs.declared.state.SearchState.{SearchState}
 use Rattle.resolvo_search.specs.declared.state.VariableKind.TheVariants as Kinds
 use Rattle.resolvo_search.specs.declared.advancing.Progress.{Progress}
-use Rattle.resolvo_search.specs.State.{IsState, AreApart}
+use Rattle.resolvo_search.specs.Known.{clause_at}
+use Rattle.resolvo_search.specs.State.{IsState, AreApart, clauses_of}
 use Rattle.resolvo_search.specs.Propagation.{IsReady, AreCovered}
 use Rattle.resolvo_search.specs.Beginning.{IsRootClause, root_entry}
 use Rattle.resolvo_search.specs.Advancing.{IsProgress}
@@ -21,7 +22,8 @@ use Rattle.resolvo_coding.specs.Keys.{AreOnce}
 use Rattle.resolvo_coding.specs.Statements.{stated_at}
 
 -- What holds between calls: the search is ready, each variable but the root's stands for an atom, no two for one, and each
--- clause states something. The root's clause comes first; what is learnt has causes, and no literal beside its opposite.
+-- clause states something. The root's clause comes first and names no other variable; what is learnt has causes, no literal
+-- beside its opposite, and none that stands in no earlier clause.
 pub record IsCoding {N S : Type 0} (c : Coding N S) : Type 0 where
   pub ready : IsReady c.search c.watching
   pub covered : AreCovered c.search c.watching
@@ -30,8 +32,10 @@ pub record IsCoding {N S : Type 0} (c : Coding N S) : Type 0 where
   pub distinct : AreOnce c.atoms.keys
   pub learnt : (n : ℕ) (clause : HeldClause) → stated_at c.stated.items n ≡ Some Learnt → slice_get c.search.clauses n ≡ Some clause → 0 < length clause.causes.items
   pub apart : (n : ℕ) (clause : HeldClause) → stated_at c.stated.items n ≡ Some Learnt → slice_get c.search.clauses n ≡ Some clause → AreApart clause.literals.items
+  pub drawn : (n : ℕ) (clause : HeldClause) → stated_at c.stated.items n ≡ Some Learnt → slice_get c.search.clauses n ≡ Some clause → (l : Signed) → has clause.literals.items l ≡ true → (m : ℕ) × (m < n) × (has (clause_at (clauses_of c.search) m) l ≡ true)
   pub first : stated_at c.stated.items 0 ≡ Some Root
   pub rooted : (n : ℕ) → stated_at c.stated.items n ≡ Some Root → n ≡ 0
+  pub alone : (l : Signed) → has (clause_at (clauses_of c.search) 0) l ≡ true → l.variable.0 ≡ 0
 
 -- Atoms, clauses and what these state came behind the others.
 pub record Grows {N S : Type 0} (old new : Coding N S) : Type 0 where

@@ -27,11 +27,12 @@ abbrev pub digit_literals : {N S : Type 0} → N → S → ℕ → Bool → List
 digit_literals {N} {S} name s bit value = minus (Atom.solvable s) ∷ (let l : Literal (Atom N S) = record { atom = Atom.digit name bit; positive = value } in l) ∷ []
 
 -- The tracker of a package: its variables stand for solvables, its helpers for the digits in order, as many as tell the
--- places apart, and a clause states each digit of each place.
+-- places apart and fewer than 32, and a clause states each digit of each place.
 pub record IsTied {N S : Type 0} (name : N) (t : Tracking VariableId) (c : Coding N S) : Type 0 where
   pub solvables : (v : VariableId) → Contains t.variables v → (s : S) × StandsFor c.atoms.keys v (Solvable s)
   pub digits : (i : ℕ) (v : VariableId) → slice_get t.helpers i ≡ Some v → StandsFor c.atoms.keys v (Bit name i)
   pub room : length t.variables ≤ 2 ^ length t.helpers
+  pub few : length t.helpers < 32
   pub once : AreOnce t.variables
   pub told : (place i : ℕ) (v : VariableId) (s : S) → slice_get t.variables place ≡ Some v → StandsFor c.atoms.keys v (Solvable s) → i < length t.helpers → rules_in c.stated.items (Rule.has_digit s i (digit place i))
 
@@ -69,11 +70,12 @@ pub record IsNothing {N : Type 0} (r : Registry N) : Type 0 where
   pub names : r.names.keys ≡ []
   pub trackers : r.trackers.items ≡ []
 
--- the clause of this number tells a digit of a registered solvable of the package
+-- the clause of this number tells a digit of a registered solvable of the package, one of 32
 pub record IsDigitClause {N S : Type 0} (r : Registry N) (c : Coding N S) (name : N) (n : ℕ) : Type 0 where
   pub solvable : S
   pub place : ℕ
   pub bit : ℕ
+  pub few : bit < 32
   pub registered : IsRegistered r c name solvable
   pub stated : stated_at c.stated.items n ≡ Some (Digit name solvable place bit)
   pub spells : Spells (origin c.atoms.keys) (clause_at (clauses_of c.search) n) (digit_literals name solvable bit (digit place bit))
@@ -119,10 +121,11 @@ first_of (Some v) count = 0
 abbrev pub place_from : ℕ → ℕ → ℕ → ℕ
 place_from first last i = min (first + i) last
 
--- the two variables stand for a solvable and for a digit of the package, and the value is that of the place's digit
+-- the two variables stand for a solvable and for a digit of the package, one of 32, and the value is that of the place's digit
 pub record IsTie {N S : Type 0} (name : N) (atoms : List (ProofAtom N S)) (place : ℕ) (tie : VariableId × VariableId × Bool) : Type 0 where
   pub solvable : S
   pub bit : ℕ
+  pub few : bit < 32
   pub stands : StandsFor atoms tie.0 (Solvable solvable)
   pub tells : StandsFor atoms tie.1 (Bit name bit)
   pub value : tie.2 ≡ digit place bit

@@ -52,6 +52,7 @@ digit_stays {N} {S} r t old new name n coding grows keeps d =
       solvable = d.solvable;
       place = d.place;
       bit = d.bit;
+      few = d.few;
       registered = (v, stands_grow old new v (Solvable d.solvable) grows stands, keeps name v tracked);
       stated = stated_grows old new grows n (Digit name d.solvable d.place d.bit) d.stated;
       spells = subst (λ (clause : List Signed). Spells (origin new.atoms.keys) clause (digit_literals name d.solvable d.bit (digit d.place d.bit))) (sym (clause_grows old new grows n (omega arith)))

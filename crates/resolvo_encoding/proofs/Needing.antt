@@ -124,12 +124,12 @@ module _ {N S : Type 0} (same : S → S → Bool) (exact : IsExact same) (p : Pa
       back : (parent : Option S) → IsParentVariable e.coding.atoms.keys parent v → (m : Literal (Atom N S)) → Contains (parent_literals parent) m → Means (origin e.coding.atoms.keys) (no v) m
       back None h m a = absurd (contains_none m a)
       back (Some s) h m a = subst (Means (origin e.coding.atoms.keys) (no v)) (sym (contains_one m (minus (Atom.solvable s)) a)) (means_atom e.coding.atoms.keys (no v) (Solvable s) h)
-  need_rule e holds (Says.Shared w) v r has_list (is, stands) q one =
+  need_rule e holds (Says.Shared w) v r has_list (is, stands, asked) q one =
       let rule : Rule.shared w ≡ q = some_one (Rule.shared w) q one in
       let clause = no v ∷ literals_in (candidates_in e.lists r) in
       subst (λ (y : Rule N S). IsRule same p root y × Spells (origin e.coding.atoms.keys) clause (literals_of same p y)) rule
       (subst (λ y. IsRule same p root (Rule.shared y) × Spells (origin e.coding.atoms.keys) clause (literals_of same p (Rule.shared y))) (sym is) (
-        tt,
+        subst (λ y. IsRule same p root (Rule.shared y)) is asked,
         spells_need e holds r has_list v (minus (Atom.gate r) ∷ [])
             (λ l i. (let means : Means (origin e.coding.atoms.keys) l (minus (Atom.gate r)) = subst (λ (x : Signed). Means (origin e.coding.atoms.keys) x (minus (Atom.gate r))) (sym i) gate in inr (means.0, contains_first (meaning (origin e.coding.atoms.keys) l) (minus (Atom.gate r)) [] means.1)))
             (λ m a. subst (Means (origin e.coding.atoms.keys) (no v)) (sym (contains_one m (minus (Atom.gate r)) a)) gate),
@@ -151,7 +151,7 @@ module _ {N S : Type 0} (same : S → S → Bool) (exact : IsExact same) (p : Pa
   -- what decisions are made for, for a clause of a need
   need_queued : (atoms : List (ProofAtom N S)) (x : Stated N S) (v : VariableId) (r : Requirement) (number : ClauseId) → IsNeed same p root atoms x v r → IsQueuedFor atoms (Some x) (record { parent = v; requirement = r; condition = None; clause = number })
   need_queued atoms (Says.Needs parent need case) v r number (none, is, stands, listed, free) = (none, sym is, refl, stands)
-  need_queued atoms (Says.Shared w) v r number (is, stands) = (sym is, refl, stands)
+  need_queued atoms (Says.Shared w) v r number (is, stands, asked) = (sym is, refl, stands)
   need_queued atoms Says.Root v r number h = absurd h
   need_queued atoms (Says.Gated s w) v r number h = absurd h
   need_queued atoms (Says.Limits parent w s) v r number h = absurd h
@@ -168,7 +168,7 @@ module _ {N S : Type 0} (same : S → S → Bool) (exact : IsExact same) (p : Pa
   asks_need atoms (Says.Needs parent need case) v r (none, is, stands, listed, free) q (inl (other, wanted, vs, e, f)) = f ∙ sym (ap (requirement_in r) (some_one (Rule.needs parent need case.items) (Rule.needs other wanted vs) e)) ∙ is
   asks_need atoms (Says.Needs parent need case) v r h q (inr e) = absurd cc
   asks_need atoms (Says.Shared w) v r h q (inl (other, wanted, vs, e, f)) = absurd cc
-  asks_need atoms (Says.Shared w) v r (is, stands) q (inr e) = sym (ap (requirement_in r) (some_one (Rule.shared w) (Rule.shared q) e)) ∙ is
+  asks_need atoms (Says.Shared w) v r (is, stands, asked) q (inr e) = sym (ap (requirement_in r) (some_one (Rule.shared w) (Rule.shared q) e)) ∙ is
   asks_need atoms Says.Root v r h q a = absurd h
   asks_need atoms (Says.Gated s w) v r h q a = absurd h
   asks_need atoms (Says.Limits parent w s) v r h q a = absurd h
@@ -363,20 +363,22 @@ module _ {N S : Type 0} (same : S → S → Bool) (exact : IsExact same) (p : Pa
       carries = kept_carries same exact p root lawful old new e states.coding states.grows states.trail rest (λ n low high. subst (λ k. Came same exact p root new k) (sym (place n low high)) right) none
           (digits_more x old.coding new.coding states.stated (not_digit x rule states_rule denial))
 
+  -- a solvable that has a need, without condition, asks for its requirement
+  pub needed_asks : (s : S) (need : ConditionalRequirement) → Contains (rules_for same p root (Some s)).requirements need → need.condition ≡ None → asks (rules_of (p.dependencies_of s)).requirements need.requirement ≡ true
+  needed_asks s need listed free =
+      contained_any (λ (n : ConditionalRequirement). not (has_condition n.condition) && same_requirement need.requirement n.requirement) need (rules_of (p.dependencies_of s)).requirements listed
+      (ap (λ c. not (has_condition c) && same_requirement need.requirement need.requirement) free ∙ same_requirement-self need.requirement)
+
   -- the clause that a solvable opens a gate came
   pub gated_keeps : (s : S) (v gate : VariableId) (need : ConditionalRequirement) (id : ClauseId) (old new : Encoding N S) → IsEncoding same p root old
       → Contains (rules_for same p root (Some s)).requirements need → need.condition ≡ None → StandsFor old.coding.atoms.keys v (Solvable s) → StandsFor old.coding.atoms.keys gate (Gate need.requirement)
       → States (Says.Gated s need.requirement) (no v ∷ yes gate ∷ []) id old.coding new.coding → SameButCoding old new
       → IsEncoding same p root new × E.rules_of new (Rule.gated s need.requirement)
   gated_keeps s v gate need id old new e listed free stands opens states rest =
-      clause_keeps (Says.Gated s need.requirement) (Rule.gated s need.requirement) (no v ∷ yes gate ∷ []) id old new e refl tt asks_it
+      clause_keeps (Says.Gated s need.requirement) (Rule.gated s need.requirement) (no v ∷ yes gate ∷ []) id old new e refl tt (needed_asks s need listed free)
       (pair_spells (origin old.coding.atoms.keys) (no v) (yes gate) (no v ∷ yes gate ∷ []) (minus (Atom.solvable s) ∷ []) (plus (Atom.gate need.requirement) ∷ []) (inl refl)
       (inr (minus (Atom.solvable s), refl, means_atom old.coding.atoms.keys (no v) (Solvable s) stands)) (inr (plus (Atom.gate need.requirement), refl, means_atom old.coding.atoms.keys (yes gate) (Gate need.requirement) opens)))
       states rest
-    where
-      asks_it : asks (rules_of (p.dependencies_of s)).requirements need.requirement ≡ true
-      asks_it = contained_any (λ (n : ConditionalRequirement). not (has_condition n.condition) && same_requirement need.requirement n.requirement) need (rules_of (p.dependencies_of s)).requirements listed
-          (ap (λ c. not (has_condition c) && same_requirement need.requirement need.requirement) free ∙ same_requirement-self need.requirement)
 
   -- a variable came, or nothing
   pub gives_keeps : (a : ProofAtom N S) (v : VariableId) (old new : Encoding N S) → IsEncoding same p root old → Gives a v old.coding new.coding → SameButCoding old new → IsEncoding same p root new

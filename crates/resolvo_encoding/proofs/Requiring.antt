@@ -318,14 +318,14 @@ module _ {N S : Type 0} (same : S → S → Bool) (exact : IsExact same) (p : Pa
           (u, subst (λ y. StandsFor old.coding.atoms.keys u (Solvable y)) one before, k)
 
   -- a clause that tells a digit comes right
-  digit_came : (old new : Encoding N S) (name : N) (n : ℕ) → (d : IsDigitClause new.registry new.coding name n) → name ≡ p.package_of d.solvable → Came same exact p root new n
-  digit_came old new name n d e = record {
+  digit_came : (old new : Encoding N S) (name : N) (n : ℕ) → (d : IsDigitClause new.registry new.coding name n) → name ≡ p.package_of d.solvable → is_in same p (listed (p.candidates_of (p.package_of d.solvable))) d.solvable ≡ true → Came same exact p root new n
+  digit_came old new name n d e candidate = record {
     stated = Says.Digit name d.solvable d.place d.bit;
     at = d.stated;
     rule = λ r is.
         let one : Rule.has_digit d.solvable d.bit (digit d.place d.bit) ≡ r = some_one (Rule.has_digit d.solvable d.bit (digit d.place d.bit)) r is in
         subst (λ (x : Rule N S). IsRule same p root x × Spells (origin new.coding.atoms.keys) (clause_at (clauses_of new.coding.search) n) (literals_of same p x)) one
-        (tt, subst (λ m. Spells (origin new.coding.atoms.keys) (clause_at (clauses_of new.coding.search) n) (digit_literals m d.solvable d.bit (digit d.place d.bit))) e d.spells);
+        ((candidate, d.few), subst (λ m. Spells (origin new.coding.atoms.keys) (clause_at (clauses_of new.coding.search) n) (digit_literals m d.solvable d.bit (digit d.place d.bit))) e d.spells);
     positive = λ l s a (other, m). absurd (elim (d.spells.only l a) [
       | inl z ↦ (let same_variable : l.variable.0 ≡ 0 = ap (λ (x : Signed). x.variable.0) z in omega arith)
       | inr (z, c) ↦ elim (contains_cases (meaning (origin new.coding.atoms.keys) l) (minus (Atom.solvable d.solvable)) (told ∷ []) c) [
@@ -352,11 +352,18 @@ module _ {N S : Type 0} (same : S → S → Bool) (exact : IsExact same) (p : Pa
           here : slot_of new.lists.candidates r ≡ Some given
           here = fix_at r given old.lists new.lists fixes
 
+          -- what is registered is so as one of its package's candidates
+          registered_new : (n : N) (s : S) → IsRegistered new.registry new.coding n s → (n ≡ p.package_of s) × (is_in same p (listed (p.candidates_of (p.package_of s))) s ≡ true)
+          registered_new n s a = elim (registered_split offered given.items old.registry new.registry old.coding new.coding e.tied all n s a) [
+            | inl b ↦ (let own = e.named n s b in (own, e.candidates s (subst (λ m. IsRegistered old.registry old.coding m s) own b)))
+            | inr (o, c, is, one) ↦ (is ∙ offer_named r offered o h c ∙ ap p.package_of one, subst (λ x. is_in same p (listed (p.candidates_of (p.package_of x))) x ≡ true) one (meets_listed r o.solvable (offer_meets r offered o h c)))
+          ]
+
           came : (n : ℕ) → length old.coding.search.clauses ≤ n → n < length new.coding.search.clauses → Came same exact p root new n
-          came n low high = let (name, d) = all.digits n low high in digit_came old new name n d (elim (registered_split offered given.items old.registry new.registry old.coding new.coding e.tied all name d.solvable d.registered) [
-            | inl a ↦ e.named name d.solvable a
-            | inr (o, c, is, one) ↦ is ∙ offer_named r offered o h c ∙ ap p.package_of one
-          ])
+          came n low high =
+              let (name, d) = all.digits n low high in
+              let (own, candidate) = registered_new name d.solvable d.registered in
+              digit_came old new name n d own candidate
 
           none : NoneAsks old new
           none n q low high at a =
@@ -401,10 +408,7 @@ module _ {N S : Type 0} (same : S → S → Bool) (exact : IsExact same) (p : Pa
             trail = all.trail;
             tied = all.tied;
             keeps = all.keeps;
-            registered = λ n s a. elim (registered_split offered given.items old.registry new.registry old.coding new.coding e.tied all n s a) [
-              | inl b ↦ inl b
-              | inr (o, c, is, one) ↦ inr (is ∙ offer_named r offered o h c ∙ ap p.package_of one, subst (λ x. is_in same p (listed (p.candidates_of (p.package_of x))) x ≡ true) one (meets_listed r o.solvable (offer_meets r offered o h c)))
-            ];
+            registered = λ n s a. inr (registered_new n s a);
             came = came;
             lists = λ q k. elim (slots q) [ inl is ↦ absurd (both_ways _ fresh (subst (λ y. has_candidates old.lists y ≡ true) is k)) | inr is ↦ is ];
             listed = listed_new;

@@ -1,14 +1,14 @@
 -- Rules become clauses that keep solvables out, one after another.
-use Rattle.std.proofs.Common.{◌≡◌, ◌<◌, ◌⊎◌, inl, inr, Bool, true, not, ◌||◌, List, [], ◌∷◌, ◌++◌, map, length, Option, Some, None, refl, sym, ◌∙◌, ap, subst, arith, ℕ}
+use Rattle.std.proofs.Common.{◌≡◌, ◌<◌, ◌⊎◌, inl, inr, Bool, true, not, ◌&&◌, ◌||◌, List, [], ◌∷◌, ◌++◌, map, length, Option, Some, None, refl, sym, ◌∙◌, ap, subst, arith, ℕ}
 use Rattle.std.specs.Prelude.{Contains}
 use Rattle.std.specs.List.{list_any}
 use Rattle.std.proofs.lemmas.List.{map-append}
-use Rattle.std.proofs.lemmas.Bool.{or_left, or_right}
+use Rattle.std.proofs.lemmas.Bool.{or_left, or_right, and_from}
 use Rattle.resolvo_pool.specs.declared.id.StringId.{StringId}
 use Rattle.resolvo_pool.specs.declared.id.VariableId.{VariableId}
 use Rattle.resolvo_pool.specs.declared.id.VersionSetId.{VersionSetId}
 use Rattle.resolvo_pool.specs.Provider.{listing_or_empty}
-use Rattle.resolvo_pool.specs.RuleKeeping.{Packages, Rules, rules_for, is_outside, is_barred, locks_out}
+use Rattle.resolvo_pool.specs.RuleKeeping.{Packages, Rules, rules_for, is_in, is_outside, locks_out}
 use Rattle.resolvo_store.specs.Signed.{Signed}
 use Rattle.resolvo_store.specs.Clauses.{yes, no}
 use Rattle.resolvo_search.specs.Steps.{AreInRange}
@@ -18,7 +18,7 @@ use Rattle.resolvo_answers.specs.declared.answering.Why.{Why}
 use Rattle.resolvo_answers.specs.declared.answering.Why.TheVariants.{Locked, Excluded}
 use Rattle.resolvo_answers.specs.Answering.{offered_solvables, AreOutside}
 use Rattle.resolvo_answers.specs.Barring.{KeepsOut, barred_solvables, AreBarred}
-use Rattle.resolvo_rules.specs.Encoding.{IsExact, Atom, Rule, plus, minus, IsRule, IsBarredIn, literals_of, parent_literals}
+use Rattle.resolvo_rules.specs.Encoding.{IsExact, Atom, Rule, plus, minus, is_kept_out, IsRule, IsBarredIn, literals_of, parent_literals}
 use Rattle.resolvo_rules.specs.Numbered.{Spells}
 use Rattle.resolvo_rules.proofs.Lists.{contains_none, contains_only, contains_left, contains_right, contains_parts, contains_one, contains_map, map_contains, contained_any}
 use Rattle.resolvo_rules.proofs.Members.{in_contained, contained_in}
@@ -147,12 +147,12 @@ module _ {N S : Type 0} (same : S → S → Bool) (exact : IsExact same) where
 
   -- ---- what is noted
 
-  -- what is kept out of a package is barred
-  pub kept_barred : (p : Packages N S) (n : N) (b : Barred S) → (p.package_of b.solvable ≡ n) × KeepsOut same (listing_or_empty (p.candidates_of n)) b.solvable b.why → is_barred same p b.solvable ≡ true
-  kept_barred p n b (named, kept) = subst (λ m. (locks_out same (listing_or_empty (p.candidates_of m)).locked b.solvable || list_any (λ e. same e.0 b.solvable) (listing_or_empty (p.candidates_of m)).excluded) ≡ true) (sym named) (go b.why kept)
+  -- what is kept out of a package is so by its listing
+  pub kept_by_listing : (p : Packages N S) (n : N) (b : Barred S) → (p.package_of b.solvable ≡ n) × KeepsOut same (listing_or_empty (p.candidates_of n)) b.solvable b.why → is_kept_out same p b.solvable ≡ true
+  kept_by_listing p n b (named, kept) = subst (λ m. ((is_in same p (listing_or_empty (p.candidates_of m)).candidates b.solvable && locks_out same (listing_or_empty (p.candidates_of m)).locked b.solvable) || list_any (λ e. same e.0 b.solvable) (listing_or_empty (p.candidates_of m)).excluded) ≡ true) (sym named) (go b.why kept)
     where
-      go : (why : Why S) → KeepsOut same (listing_or_empty (p.candidates_of n)) b.solvable why → (locks_out same (listing_or_empty (p.candidates_of n)).locked b.solvable || list_any (λ e. same e.0 b.solvable) (listing_or_empty (p.candidates_of n)).excluded) ≡ true
-      go (Locked l) (is, other) = or_left _ _ (ap (λ o. locks_out same o b.solvable) is ∙ ap not other)
+      go : (why : Why S) → KeepsOut same (listing_or_empty (p.candidates_of n)) b.solvable why → ((is_in same p (listing_or_empty (p.candidates_of n)).candidates b.solvable && locks_out same (listing_or_empty (p.candidates_of n)).locked b.solvable) || list_any (λ e. same e.0 b.solvable) (listing_or_empty (p.candidates_of n)).excluded) ≡ true
+      go (Locked l) (is, other, there) = or_left _ _ (and_from _ _ (contained_in same exact p (listing_or_empty (p.candidates_of n)).candidates b.solvable there) (ap (λ o. locks_out same o b.solvable) is ∙ ap not other))
       go (Excluded reason) h = or_right _ _ (contained_any (λ (e : S × StringId). same e.0 b.solvable) (b.solvable, reason) (listing_or_empty (p.candidates_of n)).excluded h (exact.own b.solvable))
 
   module _ (p : Packages N S) (root : Rules) where
@@ -160,7 +160,7 @@ module _ {N S : Type 0} (same : S → S → Bool) (exact : IsExact same) where
     pub bars_are_rules : (n : N) (list : List (Barred S)) → AreBarred same p n list → (r : Rule N S) → Contains (bar_rules list) r → IsRule same p root r
     bars_are_rules n list barred r h =
         let (b, there, is) = map_contains (λ (x : Barred S). Rule.bars x.solvable) r list h in
-        subst (IsRule same p root) (sym is) (or_left _ _ (kept_barred p n b (each_of _ list b barred.all there)))
+        subst (IsRule same p root) (sym is) (or_left _ _ (kept_by_listing p n b (each_of _ list b barred.all there)))
 
     pub bars_stated : (n : N) (list : List (Barred S)) (rules : Rule N S → Type 0) → AreBarred same p n list → ((r : Rule N S) → Contains (bar_rules list) r → rules r) → (s : S) → IsBarredIn same p n s → rules (Rule.bars s)
     bars_stated n list rules barred each s (listed, bars) =
@@ -171,10 +171,10 @@ module _ {N S : Type 0} (same : S → S → Bool) (exact : IsExact same) where
     offered_outside : (v : VersionSetId) (list : List (Offered N S)) (o : Offered N S) → AreOutside same p v list → Contains list o → is_outside same p v o.solvable ≡ true
     offered_outside v list o outside h = sym (outside.outside o.solvable) ∙ contained_in same exact p (offered_solvables list) o.solvable (contains_map (λ (x : Offered N S). x.solvable) o list h)
 
-    pub outs_are_rules : (v : VersionSetId) (list : List (Offered N S)) → AreOutside same p v list → (r : Rule N S) → Contains (out_rules v list) r → IsRule same p root r
-    outs_are_rules v list outside r h =
+    pub outs_are_rules : (v : VersionSetId) (list : List (Offered N S)) → AreOutside same p v list → (parent : Option S) → Contains (rules_for same p root parent).constraints v → (r : Rule N S) → Contains (out_rules v list) r → IsRule same p root r
+    outs_are_rules v list outside parent limited r h =
         let (o, there, is) = map_contains (λ (x : Offered N S). Rule.is_out v x.solvable) r list h in
-        subst (IsRule same p root) (sym is) (offered_outside v list o outside there)
+        subst (IsRule same p root) (sym is) (parent, limited, offered_outside v list o outside there)
 
     pub limits_are_rules : (parent : Option S) (v : VersionSetId) (list : List (Offered N S)) → AreOutside same p v list → Contains (rules_for same p root parent).constraints v → (r : Rule N S) → Contains (limit_rules parent v list) r → IsRule same p root r
     limits_are_rules parent v list outside limited r h =

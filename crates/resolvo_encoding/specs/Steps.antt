@@ -15,6 +15,7 @@ use Rattle.resolvo_answers.specs.Answering.{offered_solvables}
 use Rattle.resolvo_pool.specs.RuleKeeping.{Packages, Rules, rules_for}
 use Rattle.resolvo_pool.specs.declared.id.VersionSetId.{VersionSetId}
 use Rattle.resolvo_pool.specs.declared.requirement.ConditionalRequirement.{ConditionalRequirement}
+use Rattle.resolvo_rules.specs.Encoding.{Rule, IsRule}
 use Rattle.resolvo_coding.specs.declared.atom.ProofAtom.{ProofAtom}
 use Rattle.resolvo_coding.specs.declared.atom.ProofAtom.TheVariants.{Solvable, Gate}
 use Rattle.resolvo_coding.specs.declared.stated.Stated.TheVariants as Says
@@ -86,13 +87,13 @@ pub record StatesNeed {N S : Type 0} (stated : Stated N S) (v : VariableId) (r :
   pub parents : new.parents ≡ old.parents
   pub encoded : new.encoded ≡ old.encoded
 
--- The clause of a parent's need, which has no condition, or of the requirement's gate; the variable is the parent's or the
--- gate's.
+-- The clause of a parent's need, which has no condition, or of the gate of a requirement that some solvable asks for; the
+-- variable is the parent's or the gate's.
 abbrev pub IsNeed : {N S : Type 0} → (S → S → Bool) → Packages N S → Rules → List (ProofAtom N S) → Stated N S → VariableId → Requirement → Type 0
 IsNeed same p root atoms Says.Root v r = ⊥
 IsNeed same p root atoms (Says.Needs parent need case) v r = (case.items ≡ []) × (need.requirement ≡ r) × IsParentVariable atoms parent v × Contains (rules_for same p root parent).requirements need × (need.condition ≡ None)
 IsNeed same p root atoms (Says.Gated s w) v r = ⊥
-IsNeed same p root atoms (Says.Shared w) v r = (w ≡ r) × StandsFor atoms v (Gate w)
+IsNeed same p root atoms (Says.Shared w) v r = (w ≡ r) × StandsFor atoms v (Gate w) × IsRule same p root (Rule.shared w)
 IsNeed same p root atoms (Says.Limits parent w s) v r = ⊥
 IsNeed same p root atoms (Says.LimitsOutside parent w) v r = ⊥
 IsNeed same p root atoms (Says.IsOut w s) v r = ⊥

@@ -1,6 +1,6 @@
 //! What keeps solvables out becomes clauses: limits, locks, exclusions, and dependencies that are unknown. The encoder
 //! calls it for each parent, and for the packages that its needs and limits name.
-ghost use Rattle.std.specs.Prelude.{◌≡◌, ◌<◌, ◌∷◌, [], true, Some, OnOk, IfOk, IsSome, Contains};
+ghost use Rattle.std.specs.Prelude.{◌≡◌, ◌<◌, ◌∷◌, [], true, Option, Some, OnOk, IfOk, IsSome, Contains};
 ghost use Rattle.resolvo_pool.specs.RuleKeeping.{Packages, Rules, IsLawful, rules_for, is_outside};
 ghost use Rattle.resolvo_store.specs.Clauses.{no};
 ghost use Rattle.resolvo_search.specs.State.{count_of};
@@ -78,7 +78,7 @@ impl<N: SolverId + Drop, S: SolverId> Encoding<N, S> {
         Ok(())
     }
 
-    /// States which candidates are outside a version set, once.
+    /// States which candidates are outside a version set of some parent, once.
     fn leave_out(
         &mut self,
         alloc: Global,
@@ -86,7 +86,7 @@ impl<N: SolverId + Drop, S: SolverId> Encoding<N, S> {
         outside: &[Offered<N, S>],
     ) -> R<()>
         requires { IsBuilt self.old }
-        ensures encoded { OnOk result ((p : Packages N S) (root : Rules) → IsLawful p → IsEncoding S.eq p root self.old → AreOutside S.eq p version_set outside.now → IsEncoding S.eq p root self.new × ((s : S) → is_outside S.eq p version_set s ≡ true → rules_of self.new (Rule.is_out version_set s))) }
+        ensures encoded { OnOk result ((p : Packages N S) (root : Rules) → IsLawful p → IsEncoding S.eq p root self.old → AreOutside S.eq p version_set outside.now → (parent : Option S) → Contains (rules_for S.eq p root parent).constraints version_set → IsEncoding S.eq p root self.new × ((s : S) → is_outside S.eq p version_set s ≡ true → rules_of self.new (Rule.is_out version_set s))) }
         ensures lists { OnOk result (self.new.lists ≡ self.old.lists) }
         ensures kept { OnOk result (Extends self.old self.new) }
         ensures built { OnOk result (IsBuilt self.new) }

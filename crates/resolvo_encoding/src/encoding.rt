@@ -9,7 +9,7 @@ ghost use Rattle.resolvo_store.specs.Lists.{has_candidates, candidates_in};
 ghost use Rattle.resolvo_search.specs.State.{count_of};
 ghost use Rattle.resolvo_search.specs.Steps.{AreInRange};
 ghost use Rattle.resolvo_answers.specs.Answering.{AreOffered};
-ghost use Rattle.resolvo_rules.specs.Encoding.{Rule};
+ghost use Rattle.resolvo_rules.specs.Encoding.{Rule, IsRule};
 ghost use Rattle.resolvo_rules.specs.Ending.{IsNeedEncoded};
 ghost use Rattle.resolvo_coding.specs.declared.atom.ProofAtom.TheVariants.{Gate};
 ghost use Rattle.resolvo_coding.specs.Atoms.{StandsFor};
@@ -205,10 +205,10 @@ impl<N: SolverId + Drop, S: SolverId> Encoding<N, S> {
         })
     }
 
-    /// The variable of the requirement's gate, with its clause.
+    /// The variable of the gate of a requirement that some solvable asks for, with its clause.
     fn gate(&mut self, alloc: Global, requirement: Requirement) -> R<VariableId>
         requires { IsBuilt self.old }
-        ensures encoded { OnOk result ((p : Packages N S) (root : Rules) → IsLawful p → IsEncoding S.eq p root self.old → has_candidates self.old.lists requirement ≡ true → IsGuarded S.eq p (rules_of self.old) requirement → IsEncoding S.eq p root self.new × rules_of self.new (Rule.shared requirement)) }
+        ensures encoded { OnOk result ((p : Packages N S) (root : Rules) → IsLawful p → IsEncoding S.eq p root self.old → has_candidates self.old.lists requirement ≡ true → IsGuarded S.eq p (rules_of self.old) requirement → IsRule S.eq p root (Rule.shared requirement) → IsEncoding S.eq p root self.new × rules_of self.new (Rule.shared requirement)) }
         ensures stands { IfOk result (λ gate. StandsFor self.new.coding.atoms.keys gate (Gate requirement)) }
         ensures lists { OnOk result (self.new.lists ≡ self.old.lists) }
         ensures kept { OnOk result (Extends self.old self.new) }

@@ -8,3 +8,4 @@ pub mod Numbering
 pub mod Shortened
 pub mod PassMembers
 pub mod OnePlace
+pub mod Drawn

@@ -80,7 +80,7 @@ derived_at cs n c derived at some =
     (subst (λ k. AllBelow k c.causes.items) (length-lists front ∙ long) own.in_range, subst (Refutes (no root_variable ∷ c.literals.items)) (sym same) own.refuted)
 
 -- what denies choices of the trail is false on it
-kept_false : (s : SearchState) (literals : List Signed) → DenyKept s literals → (l : Signed) → has literals l ≡ true → has (made_true (history s)) (negation l) ≡ true
+pub kept_false : (s : SearchState) (literals : List Signed) → DenyKept s literals → (l : Signed) → has literals l ≡ true → has (made_true (history s)) (negation l) ≡ true
 kept_false s literals denies l h =
     let (e, older, on, is, kept) = denies l h in
     subst (λ x. has (made_true (history s)) x ≡ true) is (known_from_stands (history s) _ e.level (stands_from_entry (history s) e older on))
@@ -106,13 +106,13 @@ apart_spells of literals apart = record {
         absurd (apart (yes root_variable) (has_later (no root_variable) literals (yes root_variable) (subst (λ x. has literals x ≡ true) is h)) (has_here (no root_variable) literals (no root_variable) refl))
 
 -- literals that deny the root alone mean nothing
-none_meant : {N S : Type 0} (of : ℕ → Atom N S) (literals : List Signed) → DenyRoot literals → meanings of literals ≡ []
+pub none_meant : {N S : Type 0} (of : ℕ → Atom N S) (literals : List Signed) → DenyRoot literals → meanings of literals ≡ []
 none_meant of [] deny = refl
 none_meant of (l ∷ ls) deny =
     ap (λ (x : Signed). cond (x.variable.0 == 0) (meanings of ls) (meaning of x ∷ meanings of ls)) (deny l (has_here l ls l refl))
     ∙ none_meant of ls (λ m h. deny m (has_later l ls m h))
 
-map_none : {X Y : Type 0} (f : X → Y) (xs : List X) → map f xs ≡ [] → xs ≡ []
+pub map_none : {X Y : Type 0} (f : X → Y) (xs : List X) → map f xs ≡ [] → xs ≡ []
 map_none f [] h = refl
 map_none f (x ∷ xs) h = absurd cc
 
@@ -170,7 +170,7 @@ module _ {N S : Type 0} (same : S → S → Bool) (p : Packages N S) where
             subst (λ (x : ProofStep N S). Spells (origin c.atoms.keys) (clause_at (clauses_of c.search) n) (clause_of same p x)) (sym d.derived)
             (subst (λ (xs : List Signed). Spells (origin c.atoms.keys) xs (map literal_in d.literals.items)) (sym literals) own)
 
-    spells_step : (n : ℕ) → suc n < length (clauses_of c.search) → Spells (origin c.atoms.keys) (clause_at (clauses_of c.search) (suc n)) (step_at same p steps n)
+    pub spells_step : (n : ℕ) → suc n < length (clauses_of c.search) → Spells (origin c.atoms.keys) (clause_at (clauses_of c.search) (suc n)) (step_at same p steps n)
     spells_step n below =
         let long : length (clauses_of c.search) ≡ length c.search.clauses = length-lists c.search.clauses in
         let (step, at, is) = each n (omega arith) in

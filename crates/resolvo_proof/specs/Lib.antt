@@ -3,4 +3,5 @@ pub mod Written
 pub mod Proof
 pub mod Trimmed
 pub mod Members
+pub mod Drawn
 pub mod Places

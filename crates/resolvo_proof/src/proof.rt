@@ -1,10 +1,13 @@
 //! The proof of a search, as a list of steps that anybody can check.
-ghost use Rattle.std.specs.Prelude.{IfOk, IfSome, IsOkUnless, MatchOption};
+ghost use Rattle.std.specs.Prelude.{Bool, IfOk, IfSome, IsOkUnless, MatchOption};
 ghost use Rattle.resolvo_pool.specs.declared.want.Want.TheVariants.{Memory};
 ghost use Rattle.resolvo_search.specs.Analysis.{IsRefusal};
 ghost use Rattle.resolvo_coding.specs.Coding.{IsCoding};
 ghost use Rattle.resolvo_coding.specs.declared.registry.Registry.{Registry};
 ghost use Rattle.resolvo_coding.specs.Registered.{AreTied};
+ghost use Rattle.resolvo_pool.specs.RuleKeeping.{Packages};
+ghost use Rattle.resolvo_coding.specs.Spelled.{Spelled};
+ghost use Rattle.resolvo_proof.specs.Drawn.{AreDrawn, HaveOneSigns};
 ghost use Rattle.resolvo_proof.specs.Places.{HaveOnePlace, AreNamedBy};
 ghost use Rattle.resolvo_proof.specs.Written.{AreSteps, AreStepsThen};
 ghost use Rattle.resolvo_proof.specs.Proof.{Proves, DenyRoot, EndsEmpty, Convinces};
@@ -30,6 +33,8 @@ pub fn proof_of<N: SolverId, S: SolverId>(
     ensures empty { IfOk result (λ v. IfSome last.entry (λ r. DenyRoot r.now.literals.items → EndsEmpty v.items)) }
     ensures convinces { IfOk result (λ v. Convinces v.items) }
     ensures places { IfOk result (λ v. (r : Registry N) (package_of : S → N) → AreTied r coding.now → AreNamedBy r coding.now package_of → HaveOnePlace v.items) }
+    ensures drawn { IfOk result (λ v. IfSome last.entry (λ r. DenyRoot r.now.literals.items) → (same : S → S → Bool) (p : Packages N S) → Spelled same p coding.now → AreDrawn same p v.items) }
+    ensures signs { IfOk result (λ v. HaveOneSigns v.items) }
     ensures refusal { IsOkUnless result Memory }
 {
     let mut steps = steps_of(alloc, coding)?;

@@ -3,6 +3,7 @@
 ghost use Rattle.std.specs.Prelude.{◌≡◌, ◌≤◌, length, map, IfOk, OnOk, IsOkUnless};
 ghost use Rattle.resolvo_pool.specs.declared.want.Want.TheVariants.{Memory};
 ghost use Rattle.resolvo_proof.specs.Proof.{EndsEmpty};
+ghost use Rattle.resolvo_proof.specs.Drawn.{HaveOneSigns};
 ghost use Rattle.resolvo_proof.specs.Places.{HaveOnePlace};
 ghost use Rattle.resolvo_proof.specs.Trimmed.{number_of, Names, AreLeading, Flags, IsNumbered, Keeps, IsTrimmed, AreNamed, StaysProof};
 
@@ -21,6 +22,7 @@ pub fn trim<N: SolverId, S: SolverId>(
     ensures proof { IfOk result (λ v. StaysProof steps.items v.items) }
     ensures empty { IfOk result (λ v. EndsEmpty steps.items → EndsEmpty v.items) }
     ensures places { IfOk result (λ v. HaveOnePlace steps.items → HaveOnePlace v.items) }
+    ensures signs { IfOk result (λ v. HaveOneSigns steps.items → HaveOneSigns v.items) }
     ensures refusal { IsOkUnless result Memory }
 {
     let leading = leading(alloc, steps.as_slice())?;

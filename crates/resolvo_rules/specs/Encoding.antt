@@ -1,5 +1,5 @@
 -- The clauses of a problem's rules, over atoms, and the values of atoms over a set of solvables.
-use Rattle.std.specs.Prelude.{◌≡◌, ℕ, ◌==◌, Bool, true, false, not, ◌&&◌, ◌||◌, List, [], ◌∷◌, ◌++◌, map, filter, Option, None, Some, Contains}
+use Rattle.std.specs.Prelude.{◌≡◌, ℕ, ◌<◌, ◌==◌, Bool, true, false, not, ◌&&◌, ◌||◌, List, [], ◌∷◌, ◌++◌, map, filter, Option, None, Some, Contains}
 use Rattle.std.specs.List.{list_any, list_all}
 use Rattle.resolvo_pool.specs.declared.id.VersionSetId.{VersionSetId}
 use Rattle.resolvo_pool.specs.declared.id.ConditionId.{ConditionId}
@@ -10,7 +10,7 @@ use Rattle.resolvo_pool.specs.declared.requirement.Requirement.TheVariants.{Sing
 use Rattle.resolvo_pool.specs.OnePass.{Literal, clause_true}
 use Rattle.resolvo_pool.specs.Provider.{listed}
 use Rattle.resolvo_pool.specs.Text.{alternatives_of}
-use Rattle.resolvo_pool.specs.RuleKeeping.{Packages, Rules, rules_of, is_unknown, is_in, is_outside, is_met, is_barred, rules_for}
+use Rattle.resolvo_pool.specs.RuleKeeping.{Packages, Rules, rules_of, is_unknown, is_in, is_outside, is_met, listing_for, locks_out, is_barred, rules_for}
 use Rattle.resolvo_store.specs.Cases.{cases}
 
 -- the test tells any two values apart, and holds of each with itself
@@ -145,16 +145,21 @@ module _ {N S : Type 0} (same : S → S → Bool) (p : Packages N S) where
   abbrev pub IsBarredIn : N → S → Type 0
   IsBarredIn n s = (is_in same p (listed (p.candidates_of n)) s ≡ true) × (is_barred same p s ≡ true)
 
-  -- the rule is one of the provider's and the root's
+  -- the listing of the solvable's package keeps it out: it is a candidate and another one is locked, or it is excluded
+  abbrev pub is_kept_out : S → Bool
+  is_kept_out s = (is_in same p (listing_for same p s).candidates s && locks_out same (listing_for same p s).locked s) || list_any (λ e. same e.0 s) (listing_for same p s).excluded
+
+  -- The rule is one of the provider's and the root's: some solvable asks for a shared requirement, some parent has a version set
+  -- that a solvable is outside of, and a digit is one of 32 of a candidate's place.
   abbrev pub IsRule : Rules → Rule N S → Type 0
   IsRule root (Rule.needs parent need vs) = Contains (rules_for same p root parent).requirements need × Contains (cases_for need) vs
   IsRule root (Rule.gated s r) = asks (rules_of (p.dependencies_of s)).requirements r ≡ true
-  IsRule root (Rule.shared r) = Unit {0}
+  IsRule root (Rule.shared r) = (s : S) × (asks (rules_of (p.dependencies_of s)).requirements r ≡ true)
   IsRule root (Rule.limits parent v s) = Contains (rules_for same p root parent).constraints v × (is_outside same p v s ≡ true)
   IsRule root (Rule.limits_outside parent v) = Contains (rules_for same p root parent).constraints v
-  IsRule root (Rule.is_out v s) = is_outside same p v s ≡ true
-  IsRule root (Rule.bars s) = (is_barred same p s || is_unknown (p.dependencies_of s)) ≡ true
-  IsRule root (Rule.has_digit s bit b) = Unit {0}
+  IsRule root (Rule.is_out v s) = (parent : Option S) × Contains (rules_for same p root parent).constraints v × (is_outside same p v s ≡ true)
+  IsRule root (Rule.bars s) = (is_kept_out s || is_unknown (p.dependencies_of s)) ≡ true
+  IsRule root (Rule.has_digit s bit b) = (is_in same p (listed (p.candidates_of (p.package_of s))) s ≡ true) × (bit < 32)
   IsRule root (Rule.is_there n s) = is_in same p (listed (p.candidates_of n)) s ≡ true
 
 -- the places have the digits that the rules tell

@@ -16,7 +16,7 @@ state_ties-requires g c = record {
   coding = c.in_ok-digit.ensures.digit.coding;
   places = first_within c.args.name c.args.variable c.requires.solvable.0 c.args.tracker.now c.in_ok-digit.digit c.args.coding.now c.next_digit.new.coding c.requires.tied c.requires.solvable.1 c.in_ok-digit.ensures.digit _ _ c.first_place-first.ensures;
   ties =
-      come_ties c.args.name c.args.variable c.requires.solvable.0 c.args.tracker.now c.in_ok-digit.digit c.args.coding.now c.next_digit.new.coding c.requires.tied c.requires.solvable.1 c.in_ok-digit.ensures.digit c.as_slice.result.now _ _
+      come_ties c.args.name c.args.variable c.requires.solvable.0 c.args.tracker.now c.in_ok-digit.digit c.args.coding.now c.next_digit.new.coding c.requires.tied c.requires.solvable.1 c.in_ok-digit.ensures.digit c.requires.coding c.as_slice.result.now _ _
       c.in_ok-digit.ensures.needed c.first_place-first.ensures (ap length c.variables.ensures)
       (c.as_slice.ensures.value ∙ c.in_ok-add.ensures.ties ∙ ap (λ (xs : List (VariableId × VariableId × Bool)). xs ++ new_ties same_variable c.args.tracker.now c.args.variable c.in_ok-digit.digit) c.new-ties.ensures.items);
 }

@@ -10,6 +10,7 @@ use Rattle.resolvo_proof.proofs.Parts.{refusal_step}
 use Rattle.resolvo_proof.proofs.Proving.{steps_prove, refusal_proves, refusal_in_range, ends_empty}
 use Rattle.resolvo_proof.proofs.Convincing.{convinces}
 use Rattle.resolvo_proof.proofs.OnePlace.{steps_one_place, refusal_one_place}
+use Rattle.resolvo_proof.proofs.Drawn.{steps_drawn, steps_signs, refusal_drawn, refusal_signs}
 use Rattle.resolvo_proof.proofs.proof.proof_of.Goals as goal
 
 pub write_derived-requires-clause-in_range : goal.write_derived-requires-clause-in_range
@@ -64,3 +65,27 @@ returns-in_ok-push-in-Some-clause-places g c = λ t package_of tied named.
     refusal_one_place coding t c.requires.coding tied package_of named r.literals.items r.causes.items c.push.new.self.items
     (refusal_step coding r.literals.items c.as_slice-literals.result.now r.causes.items c.as_slice.result.now c.in_ok-steps.steps.items c.push.new.self.items c.in_ok-step-in-Some.step c.in_ok-push-in-Some.ensures.items c.in_ok-steps.ensures.steps
     c.as_slice-literals.ensures.value c.as_slice.ensures.value c.in_ok-step-in-Some.ensures.step)
+
+pub returns-in-None-clause-drawn : goal.returns-in-None-clause-drawn
+returns-in-None-clause-drawn g c = λ none same p spelled. steps_drawn c.args.coding.now c.requires.coding same p spelled c.in_ok-steps.steps.items c.in_ok-steps.ensures.steps
+
+pub returns-in-None-clause-signs : goal.returns-in-None-clause-signs
+returns-in-None-clause-signs g c = steps_signs c.args.coding.now c.requires.coding c.in_ok-steps.steps.items c.in_ok-steps.ensures.steps
+
+pub returns-in_ok-push-in-Some-clause-drawn : goal.returns-in_ok-push-in-Some-clause-drawn
+returns-in_ok-push-in-Some-clause-drawn g c = λ denies.
+    let coding = c.args.coding.now in
+    let r = c.in-Some.refusal.now in
+    let deny : DenyRoot r.literals.items = subst (λ (o : Option (Bor Refusal)). IfSome o (λ x. DenyRoot x.now.literals.items)) c.in-Some.is denies in
+    refusal_drawn coding c.requires.coding r.literals.items r.causes.items c.push.new.self.items
+    (refusal_step coding r.literals.items c.as_slice-literals.result.now r.causes.items c.as_slice.result.now c.in_ok-steps.steps.items c.push.new.self.items c.in_ok-step-in-Some.step c.in_ok-push-in-Some.ensures.items c.in_ok-steps.ensures.steps
+    c.as_slice-literals.ensures.value c.as_slice.ensures.value c.in_ok-step-in-Some.ensures.step) deny
+
+pub returns-in_ok-push-in-Some-clause-signs : goal.returns-in_ok-push-in-Some-clause-signs
+returns-in_ok-push-in-Some-clause-signs g c =
+    let coding = c.args.coding.now in
+    let r = c.in-Some.refusal.now in
+    let refusal : IsRefusal coding.search r.literals.items r.causes.items = subst (λ (o : Option (Bor Refusal)). IfSome o (λ x. IsRefusal coding.search x.now.literals.items x.now.causes.items)) c.in-Some.is c.requires.refusal in
+    refusal_signs coding c.requires.coding r.literals.items r.causes.items c.push.new.self.items
+    (refusal_step coding r.literals.items c.as_slice-literals.result.now r.causes.items c.as_slice.result.now c.in_ok-steps.steps.items c.push.new.self.items c.in_ok-step-in-Some.step c.in_ok-push-in-Some.ensures.items c.in_ok-steps.ensures.steps
+    c.as_slice-literals.ensures.value c.as_slice.ensures.value c.in_ok-step-in-Some.ensures.step) refusal

@@ -6,6 +6,7 @@ use Rattle.std.proofs.lemmas.List.{length_push}
 use Rattle.std.proofs.lemmas.Option.{slice_get-get_or}
 use Rattle.resolvo_proof.specs.declared.step.ProofStep.{ProofStep}
 use Rattle.resolvo_proof.specs.Trimmed.{AreLeading, Keeps, IsTrimmed, AreNamed}
+use Rattle.resolvo_proof.proofs.Drawn.{trimmed_signs}
 use Rattle.resolvo_proof.proofs.OnePlace.{trimmed_one_place}
 use Rattle.resolvo_proof.proofs.Shortened.{trimmed_proves, trimmed_empty}
 use Rattle.resolvo_proof.proofs.Numbering.{AreKept, kept_none, kept_next, kept_all, kept_named}
@@ -62,3 +63,6 @@ returns-clause-empty g c = trimmed_empty c.args.steps.items c.loop-step.kept.ite
 
 pub returns-clause-places : goal.returns-clause-places
 returns-clause-places g c = trimmed_one_place c.args.steps.items c.loop-step.kept.items (left g c).0
+
+pub returns-clause-signs : goal.returns-clause-signs
+returns-clause-signs g c = trimmed_signs c.args.steps.items c.loop-step.kept.items (left g c).0

@@ -20,14 +20,14 @@ state_need-requires-clause-in_range g c =
     (stands_in_range c.variable.new.self c.in_ok-gate.gate (Gate c.args.requirement) gives.coding gives.stands)
 
 pub returns-clause-encoded : goal.returns-clause-encoded
-returns-clause-encoded g c = λ p root lawful e has guarded.
+returns-clause-encoded g c = λ p root lawful e has guarded asked.
     let exact : IsExact g.S.PartialEq.eq = record { one = g.met.S.Exact.exact; own = g.met.S.Eq.laws.refl } in
     let middle : Encoding _ _ = record c.args.self.now { coding = c.variable.new.self } in
     let gives = c.in_ok-gate.ensures.given in
     let rest : SameButCoding c.args.self.now middle = record { registry = refl; lists = refl; queue = refl; gates = refl; noted = refl; parents = refl; encoded = refl } in
     let kept = gives_keeps g.S.PartialEq.eq exact p root lawful (Gate c.args.requirement) c.in_ok-gate.gate c.args.self.now middle e gives rest in
     let came = c.in_ok-state_need.ensures.stated in
-    let (stated, rules) = need_keeps g.S.PartialEq.eq exact p root lawful (Says.Shared c.args.requirement) c.in_ok-gate.gate c.args.requirement middle c.state_need.new.self kept has (guard_grows g.S.PartialEq.eq exact p root c.args.self.now middle c.args.requirement gives.grows guarded) (refl, gives.stands) came in
+    let (stated, rules) = need_keeps g.S.PartialEq.eq exact p root lawful (Says.Shared c.args.requirement) c.in_ok-gate.gate c.args.requirement middle c.state_need.new.self kept has (guard_grows g.S.PartialEq.eq exact p root c.args.self.now middle c.args.requirement gives.grows guarded) (refl, gives.stands, asked) came in
     let rule = rules (Rule.shared c.args.requirement) refl in
     let stands = stands_grow c.variable.new.self c.state_need.new.self.coding c.in_ok-gate.gate (Gate c.args.requirement) came.states.grows gives.stands in
     (gate_noted g.S.PartialEq.eq exact p root lawful c.state_need.new.self (record c.state_need.new.self { gates = c.insert.new.self }) c.args.requirement c.in_ok-gate.gate stated stands rule c.in_ok-insert.ensures.put refl, rule)

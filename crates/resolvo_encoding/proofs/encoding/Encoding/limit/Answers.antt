@@ -17,7 +17,7 @@ pub returns-clause-encoded : goal.returns-clause-encoded
 returns-clause-encoded g c = λ p root lawful holds outside limited.
     let rule = Rule.limits_outside c.args.parent c.args.version_set in
     let told = c.in_ok-limit_outside.ensures in
-    let (middle, outs) = c.in_ok-leave_out.ensures.encoded p root lawful holds outside in
+    let (middle, outs) = c.in_ok-leave_out.ensures.encoded p root lawful holds outside c.args.parent limited in
     let (last, stated) = told.encoding p root lawful middle (λ r h. subst (IsRule g.S.PartialEq.eq p root) (sym (contains_one r rule h)) limited) in
     (last, λ s h. inr (stated rule (contains_only rule), rules_grow c.leave_out.new.self.coding c.limit_outside.new.self.coding told.extends.grows (Rule.is_out c.args.version_set s) (outs s h)))
 

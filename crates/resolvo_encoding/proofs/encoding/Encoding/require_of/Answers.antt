@@ -8,7 +8,7 @@ use Rattle.resolvo_encoding.specs.Steps.{SameButCoding, Extends}
 use Rattle.resolvo_coding.proofs.Growth.{stands_grow, rules_grow, stands_in_range}
 use Rattle.resolvo_coding.proofs.Registering.{digits_same, digits_more}
 use Rattle.resolvo_encoding.proofs.Requiring.{extends_then, need_extends, guard_grows}
-use Rattle.resolvo_encoding.proofs.Needing.{need_keeps, gated_keeps, gives_keeps}
+use Rattle.resolvo_encoding.proofs.Needing.{need_keeps, gated_keeps, gives_keeps, needed_asks}
 use Rattle.resolvo_encoding.proofs.Building.{built_grows, built_rest, built_states}
 use Rattle.resolvo_encoding.proofs.encoding.Encoding.require_of.Goals as goal
 
@@ -61,7 +61,8 @@ returns-clause-encoded g c = λ p root lawful e has guarded needs.
     let gives = c.in_ok-variable.ensures.given in
     let rest : SameButCoding c.args.self.now middle = record { registry = refl; lists = refl; queue = refl; gates = refl; noted = refl; parents = refl; encoded = refl } in
     let kept = gives_keeps g.S.PartialEq.eq exact p root lawful (Solvable c.args.solvable) c.in_ok-variable.variable c.args.self.now middle e gives rest in
-    let (gated, shared) = c.in_ok-gate.ensures.encoded p root lawful kept has (guard_grows g.S.PartialEq.eq exact p root c.args.self.now middle c.args.need.requirement gives.grows guarded) in
+    let (gated, shared) = c.in_ok-gate.ensures.encoded p root lawful kept has (guard_grows g.S.PartialEq.eq exact p root c.args.self.now middle c.args.need.requirement gives.grows guarded)
+    (c.args.solvable, needed_asks g.S.PartialEq.eq exact p root lawful c.args.solvable c.args.need needs.listed needs.free) in
     let opened = c.in_ok-open_gate.ensures.opened in
     let stands = stands_grow c.variable.new.self c.gate.new.self.coding c.in_ok-variable.variable (Solvable c.args.solvable) c.in_ok-gate.ensures.kept.grows gives.stands in
     let (last, rule) = gated_keeps g.S.PartialEq.eq exact p root lawful c.args.solvable c.in_ok-variable.variable c.in_ok-gate.gate c.args.need opened.number c.gate.new.self c.open_gate.new.self gated needs.listed needs.free stands c.in_ok-gate.ensures.stands opened.states opened.rest in
