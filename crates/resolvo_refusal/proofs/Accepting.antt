@@ -1,12 +1,12 @@
--- The judge accepts the refused report whose steps tell a plain problem's proof, and its claim is true.
-use Rattle.std.proofs.Common.{◌≡◌, ◌⊎◌, inl, inr, ℕ, zero, suc, ◌+◌, ◌<◌, true, List, [], ◌∷◌, ◌++◌, map, take, length, Some, None, refl, sym, ap, subst, ◌∙◌}
+-- The judge accepts the refused report whose steps tell a proof without conditions, and its claim is true.
+use Rattle.std.proofs.Common.{◌≡◌, ◌⊎◌, inl, inr, ℕ, zero, suc, ◌+◌, ◌<◌, true, List, [], ◌∷◌, ◌++◌, map, take, length, Some, refl, sym, ap, subst, ◌∙◌}
 use Rattle.std.specs.Prelude.{◌==◌, Contains, slice_get}
 use Rattle.std.specs.List.{AllZip, flat_map}
 use Rattle.std.proofs.lemmas.Bool.{eq-eqb}
 use Rattle.std.proofs.lemmas.Option.{slice_get_within}
 use Rattle.std.proofs.lemmas.List.{append_assoc, append-nil}
 use Rattle.std.proofs.lemmas.List.Concat.{flat_map-append}
-use Rattle.resolvo_text.specs.Line.{Line, Needs}
+use Rattle.resolvo_text.specs.Line.{Line}
 use Rattle.resolvo_catalogue.specs.Grammar.{line_at}
 use Rattle.resolvo_catalogue.specs.Questions.{Said, AreAll}
 use Rattle.resolvo_catalogue.proofs.Placing.{at_from_contains, contains_from_at}
@@ -67,8 +67,12 @@ none_numbered f none first [] = refl
 none_numbered f none first (s ∷ steps) = ap (λ xs. xs ++ flat_map f (numbered (first + 1) steps)) (none first s) ∙ none_numbered f none (first + 1) steps
 
 -- the lines above a step
-abbrev lines_to : List ℕ → List ℕ → List Step → List ReportLine
+abbrev pub lines_to : List ℕ → List ℕ → List Step → List ReportLine
 lines_to in_catalogue in_request earlier = map (λ n. CatalogueLine n) in_catalogue ++ (map (λ n. RequestLine n) in_request ++ numbered 1 earlier)
+
+-- the lines of a refused report without a message
+pub lines_are : (in_catalogue in_request : List ℕ) (written : List Step) → report_lines (Refused in_catalogue in_request written []) ≡ RefusedHead ∷ lines_to in_catalogue in_request written
+lines_are in_catalogue in_request written = ap (λ ls. RefusedHead ∷ ls) (append-nil ((map (λ x. CatalogueLine x) in_catalogue ++ map (λ x. RequestLine x) in_request) ++ numbered 1 written) ∙ append_assoc (map (λ x. CatalogueLine x) in_catalogue) (map (λ x. RequestLine x) in_request) (numbered 1 written))
 
 three : {X : Type 0} (f : ReportLine → List X) (a b c : List ReportLine) → flat_map f (a ++ (b ++ c)) ≡ flat_map f a ++ (flat_map f b ++ flat_map f c)
 three f a b c = flat_map-append f a (b ++ c) ∙ ap (λ xs. flat_map f a ++ xs) (flat_map-append f b c)
@@ -112,15 +116,15 @@ module _ (catalogue : List Line) (said : Said) (provider : Provider) (steps : Li
       let (k, is, below, (t, there, rests_on)) = (all.all n).0 h in
       let (m, e) = at_from_contains written t there in
       let (s, at, tells) = zip_right (IsToldBy catalogue provider.ids said.lines) steps written each m t e in
-      let (alternatives, stated) = line_stated catalogue said provider steps refuted of s t n tells rests_on in
-      ap states_rule stated
+      let (l, stated, rule) = line_stated catalogue said provider steps refuted of s t n tells rests_on in
+      ap states_rule stated ∙ rule
 
   -- the line that a step rests on is named
   names : (of : Text) (numbers : List ℕ) (m : ℕ) (t : Step) (n : ℕ) → AreAll numbers (IsNamedBy of (length (lines_in catalogue said.lines of)) written) → slice_get written m ≡ Some t → line_in of t ≡ Some n → is_named numbers n ≡ true
   names of numbers m t n all e rests_on =
       let (s, at, tells) = zip_right (IsToldBy catalogue provider.ids said.lines) steps written each m t e in
-      let (alternatives, stated) = line_stated catalogue said provider steps refuted of s t n tells rests_on in
-      let (k, is, below) = number_within (lines_in catalogue said.lines of) n (Needs alternatives None) stated in
+      let (l, stated, rule) = line_stated catalogue said provider steps refuted of s t n tells rests_on in
+      let (k, is, below) = number_within (lines_in catalogue said.lines of) n l stated in
       listed_named numbers n ((all.all n).1 (k, is, below, (t, contains_from_at written t m e, rests_on)))
 
   line_passes : (n : ℕ) (l : ReportLine) → slice_get (lines_to in_catalogue in_request written) n ≡ Some l → passes catalogue said.lines (RefusedHead ∷ take n (lines_to in_catalogue in_request written)) l ≡ true
@@ -146,11 +150,8 @@ module _ (catalogue : List Line) (said : Said) (provider : Provider) (steps : Li
   all_pass zero l e = (let same : RefusedHead ≡ l = one_some e in ap (passes catalogue said.lines []) (sym same))
   all_pass (suc n) l e = line_passes n l e
 
-  lines_are : report_lines (Refused in_catalogue in_request written []) ≡ RefusedHead ∷ lines_to in_catalogue in_request written
-  lines_are = ap (λ ls. RefusedHead ∷ ls) (append-nil ((map (λ x. CatalogueLine x) in_catalogue ++ map (λ x. RequestLine x) in_request) ++ numbered 1 written) ∙ append_assoc (map (λ x. CatalogueLine x) in_catalogue) (map (λ x. RequestLine x) in_request) (numbered 1 written))
-
   pub accepted : IsAccepted catalogue said.lines (report_lines (Refused in_catalogue in_request written []))
-  accepted = subst (IsAccepted catalogue said.lines) (sym lines_are) (record {
+  accepted = subst (IsAccepted catalogue said.lines) (sym (lines_are in_catalogue in_request written)) (record {
     passed = all_pass;
     ends = ap ends_empty (steps_told in_catalogue in_request written) ∙ written_ends catalogue said provider steps refuted written each;
   })

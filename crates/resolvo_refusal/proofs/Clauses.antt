@@ -1,12 +1,12 @@
--- The clause of each step of a plain problem's proof, and that of the step in a report which tells it.
-use Rattle.std.proofs.Common.{◌≡◌, ◌==◌, inl, inr, ℕ, zero, suc, ◌/◌, Bool, true, List, [], ◌∷◌, ◌++◌, map, length, Option, Some, None, refl, sym, ap, subst, ◌∙◌, arith}
-use Rattle.std.specs.Prelude.{◌&&◌, ◌<◌, not, filter, unwrap_or, Contains, slice_get, nat_lt}
+-- The clause of each step of a proof without conditions, and that of the step in a report which tells it.
+use Rattle.std.proofs.Common.{◌≡◌, ◌==◌, inl, inr, ℕ, zero, suc, ◌/◌, Bool, true, false, List, [], ◌∷◌, ◌++◌, map, length, Option, Some, None, refl, sym, ap, subst, ◌∙◌, arith}
+use Rattle.std.specs.Prelude.{◌&&◌, ◌<◌, not, filter, unwrap_or, Contains, slice_get, slice_index_or, nat_lt}
 use Rattle.std.specs.Int.{bit_at}
 use Rattle.std.proofs.lemmas.Bool.{and_parts, eqb-true}
 use Rattle.std.proofs.lemmas.Bool.Decides.{Decides-ltb}
 use Rattle.std.proofs.lemmas.Option.{slice_get-get_or, slice_get_within, unwrap_or-slice_get}
 use Rattle.std.proofs.lemmas.Nat.Bits.{bit_at_lowest, bit_at-suc}
-use Rattle.resolvo_text.specs.Line.{Version, Spec, Line, Needs}
+use Rattle.resolvo_text.specs.Line.{Version, Spec, Line, Needs, Limits}
 use Rattle.resolvo_text.specs.Matching as lines
 use Rattle.resolvo_catalogue.specs.Listed.{listed}
 use Rattle.resolvo_catalogue.specs.Questions.{Said}
@@ -20,6 +20,7 @@ use Rattle.resolvo_pool.specs.declared.requirement.ConditionalRequirement.{Condi
 use Rattle.resolvo_pool.specs.OnePass as pass
 use Rattle.resolvo_pool.specs.Provider as pool
 use Rattle.resolvo_pool.specs.RuleKeeping.{rules_of, rules_for}
+use Rattle.resolvo_pool.specs.RuleKeeping as pool_rules
 use Rattle.resolvo_pool.specs.Text.{alternatives_of}
 use Rattle.resolvo_store.specs.AtMostOne.{digit}
 use Rattle.resolvo_rules.specs.Encoding.{Atom, Rule, IsExact, plus, minus, solvables, parent_literals, candidate_literals, same_requirement, asks, has_condition, literals_of}
@@ -30,22 +31,25 @@ use Rattle.resolvo_coding.specs.Atoms.{atom_of}
 use Rattle.resolvo_proof.specs.Members.{SameMembers}
 use Rattle.resolvo_proof.specs.Steps.{literal_in}
 use Rattle.resolvo_proof.specs.declared.step.ProofLiteral.{ProofLiteral}
-use Rattle.resolvo_provider.specs.Ids.{NameId, SolvableId, solvable_id, IsSpec, AreEach, IsNeed, IsSolvable}
-use Rattle.resolvo_provider.specs.Known.{name_text, name_of, set_at, members_of, alternatives_at}
+use Rattle.resolvo_provider.specs.Ids.{NameId, SolvableId, solvable_id, solvables_of, IsPackage, IsSpec, AreEach, IsNeed, IsSolvable}
+use Rattle.resolvo_provider.specs.Known.{name_text, name_of, set_at, spec_at, members_of, alternatives_at}
 use Rattle.resolvo_provider.specs.Told.{Told}
 use Rattle.resolvo_provider.specs.Provider.{Provider, packages_of, candidates_of, matches, told_at, no_lines, needs_of, dependencies_of}
 use Rattle.resolvo_provider.specs.Over.{IsOver, AreAsked}
 use Rattle.resolvo_provider.specs.Keeping.{TellsApart, root_of}
 use Rattle.resolvo_provider.specs.declared.provider.RequestIds.{RequestIds}
-use Rattle.resolvo_provider.proofs.Alike.{member_place, listed_is, is_package, admits, match_same, in_from}
+use Rattle.resolvo_provider.proofs.Alike.{member_place, listed_is, is_package, admits, match_same, in_from, outside_same}
+use Rattle.resolvo_provider.proofs.KeptAlike.{its_version}
+use Rattle.resolvo_provider.proofs.RulesKept.{con_from}
 use Rattle.resolvo_provider.proofs.Marking.{one_some}
 use Rattle.resolvo_provider.proofs.Places.{each_left}
 use Rattle.resolvo_report.specs.Value as told
 use Rattle.resolvo_judge.specs.StepClauses as judge
 use Rattle.resolvo_judge.proofs.Sets.{is_contained}
 use Rattle.resolvo_refusal.specs.Writing.{version_at, place_at}
-use Rattle.resolvo_refusal.specs.Refusal.{IsVersion, IsRequirement, IsKnownAtom, atom_at, literal_at, AreLiterals}
-use Rattle.resolvo_refusal.proofs.Renaming.{IsKnown, IsKnownClause, name, name_literal, name_clause, version_is, name_is, specs_are, members_known}
+use Rattle.resolvo_refusal.specs.Refusal.{IsVersion, IsRequirement, IsKnownAtom, atom_at, literal_at, AreLiterals, IsBarredBy}
+use Rattle.resolvo_refusal.proofs.Barring.{bar_clause}
+use Rattle.resolvo_refusal.proofs.Renaming.{IsKnown, IsKnownClause, name, name_literal, name_clause, version_is, name_is, spec_is, specs_are, members_known}
 
 -- the digit of a place is its bit
 digit_bit : (k i : ℕ) → digit k i ≡ (bit_at k i == 1)
@@ -60,6 +64,12 @@ each_contained R (z ∷ xs) (y ∷ ys) each x h = elim (contains_cases x z xs h)
   | inl e ↦ (y, subst (λ w. R w y) (sym e) each.0)
   | inr a ↦ each_contained R xs ys each.1 x a
 ]
+
+-- what limits a version is told of it
+pub told_limits : (told : List Told) (k : ℕ) (v : VersionSetId) → Contains (slice_index_or told k no_lines).constrains v → slice_get told k ≡ Some (slice_index_or told k no_lines)
+told_limits [] k v h = absurd (contains_none v h)
+told_limits (t ∷ told) zero v h = refl
+told_limits (t ∷ told) (suc k) v h = told_limits told k v h
 
 same_requirement_is : (r q : Requirement) → same_requirement r q ≡ true → r ≡ q
 same_requirement_is (Single v) (Single w) h = (let e : v.0 ≡ w.0 = eqb-true v.0 w.0 h in λ i. Single (record { 0 = e i }))
@@ -257,14 +267,95 @@ module _ (catalogue : List Line) (provider : Provider) (over : IsOver catalogue 
           spelled_more (minus (Atom.solvable s)) _ _ _ known refl (spelled_more _ _ [] [] (v.name, packaged) (λ i. record { atom = told.BitOf bit (text i); positive = sym (digit_bit place bit) i }) spelled_none),
         )
 
+    -- what limits a parent is known, and so is the parent
+    pub limited : (said : Said) (ids : RequestIds) → AreAsked provider.ids said ids → (parent : Option SolvableId) (v : VersionSetId) → Contains (rules_for same (packages_of provider) (root_of ids) parent).constraints v
+        → ((s : SolvableId) → parent ≡ Some s → IsVersion catalogue provider.ids s) × ((spec : Spec) × IsSpec provider.ids v spec)
+    limited said ids asked None v h = (let (spec, is) = each_contained (IsSpec provider.ids) ids.constraints.items _ asked.constraints v h in ((λ s e. absurd cc), (spec, is)))
+    limited said ids asked (Some s) v h =
+        let has : Contains (told_at provider s).constrains v = con_from (told_at provider s) (told_at provider s).unknown v h in
+        let there = told_limits provider.told s.raw v has in
+        let (numbers, all, tells) = over.told.each s.raw (told_at provider s) there in
+        let (spec, is) = each_contained (IsSpec provider.ids) (told_at provider s).constrains _ tells.constrains v has in
+        let below : s.raw < length provider.told = slice_get_within provider.told s.raw _ there in
+        let long : length provider.told ≡ length (listed catalogue) = over.told.as_many in
+        let none : Version = record { name = []; number = 0 } in
+        ((λ t e. (let at : s ≡ t = one_some e in subst (λ (x : SolvableId). IsVersion catalogue provider.ids x) at (_, slice_get-get_or (listed catalogue) s.raw none (omega (arith, below, long))))), (spec, is))
+
+    -- what is outside a version set is a listed version, outside its SPEC
+    pub is_out : (v : VersionSetId) (spec : Spec) (s : SolvableId) → IsSpec provider.ids v spec → pool_rules.is_outside same (packages_of provider) v s ≡ true
+        → IsVersion catalogue provider.ids s × (judge.is_outside (spec_at provider.ids v) (version_at catalogue s) ≡ true)
+    is_out v spec s is out =
+        let among = in_from provider (listed catalogue) over.versions over.once same apart (pool.listed (candidates_of provider (set_at provider.ids v).0)) s (and_parts _ _ out).0 in
+        let (w, e) = candidate_listed (set_at provider.ids v).0 s among in
+        let told : judge.is_outside spec w ≡ true = sym (outside_same provider (listed catalogue) over.versions over.once same apart v spec s w is e) ∙ out in
+        let named : spec ≡ spec_at provider.ids v = sym (spec_is catalogue provider over v spec is) in
+        let at : w ≡ version_at catalogue s = sym (version_is catalogue provider over s w e) in
+        ((w, e), subst (λ (x : Spec). judge.is_outside x (version_at catalogue s) ≡ true) named (subst (λ (x : Version). judge.is_outside spec x ≡ true) at told))
+
+    pub limit_spelled : (request : List Line) (parent : Option SolvableId) (v : VersionSetId) (line : ℕ) → ((s : SolvableId) → parent ≡ Some s → IsVersion catalogue provider.ids s) → (spec : Spec) × IsSpec provider.ids v spec
+        → judge.line_of catalogue request (place_at catalogue parent) line ≡ Some (Limits (spec_at provider.ids v))
+        → IsSpelled request (parent_literals parent ++ minus (Atom.outside v) ∷ []) (told.Limit (place_at catalogue parent) line)
+    limit_spelled request parent v line versions known limits = (
+      judge.place_fails (place_at catalogue parent) ++ judge.literal (told.OutsideOf (spec_at provider.ids v)) false ∷ [],
+      ap (judge.limit_clause (place_at catalogue parent)) limits,
+      spelled_append _ _ _ _ (fails_spelled parent versions) (spelled_more (minus (Atom.outside v)) _ [] [] known refl spelled_none),
+    )
+
+    pub limit_bars_spelled : (request : List Line) (parent : Option SolvableId) (v : VersionSetId) (s : SolvableId) (line : ℕ) → ((s : SolvableId) → parent ≡ Some s → IsVersion catalogue provider.ids s) → (spec : Spec) × IsSpec provider.ids v spec
+        → pool_rules.is_outside same (packages_of provider) v s ≡ true → judge.line_of catalogue request (place_at catalogue parent) line ≡ Some (Limits (spec_at provider.ids v))
+        → IsSpelled request (parent_literals parent ++ minus (Atom.solvable s) ∷ []) (told.LimitBars (place_at catalogue parent) line (version_at catalogue s))
+    limit_bars_spelled request parent v s line versions (spec, is) out limits =
+        let (version, outside) = is_out v spec s is out in
+        let lists : judge.is_listed catalogue (version_at catalogue s) ≡ true = is_listed s version in
+        let clause : judge.limit_bars_clause catalogue (place_at catalogue parent) (version_at catalogue s) (Some (Limits (spec_at provider.ids v))) ≡ Some (judge.place_fails (place_at catalogue parent) ++ judge.not_in (version_at catalogue s) ∷ []) = rw (lists, outside) refl in (
+          judge.place_fails (place_at catalogue parent) ++ judge.not_in (version_at catalogue s) ∷ [],
+          ap (judge.limit_bars_clause catalogue (place_at catalogue parent) (version_at catalogue s)) limits ∙ clause,
+          spelled_append _ _ _ _ (fails_spelled parent versions) (spelled_more (minus (Atom.solvable s)) _ [] [] version refl spelled_none),
+        )
+
+    pub outside_spelled : (request : List Line) (v : VersionSetId) (s : SolvableId) → (spec : Spec) × IsSpec provider.ids v spec → pool_rules.is_outside same (packages_of provider) v s ≡ true
+        → IsSpelled request (minus (Atom.solvable s) ∷ plus (Atom.outside v) ∷ []) (told.Outside (spec_at provider.ids v) (version_at catalogue s))
+    outside_spelled request v s (spec, is) out =
+        let (version, outside) = is_out v spec s is out in
+        let lists : judge.is_listed catalogue (version_at catalogue s) ≡ true = is_listed s version in (
+          judge.not_in (version_at catalogue s) ∷ judge.literal (told.OutsideOf (spec_at provider.ids v)) true ∷ [],
+          rw (lists, outside) refl,
+          spelled_more (minus (Atom.solvable s)) _ _ _ version refl (spelled_more (plus (Atom.outside v)) _ [] [] (spec, is) refl spelled_none),
+        )
+
+    -- a candidate of a package is a version of it
+    pub candidate_of : (n : NameId) (s : SolvableId) → pool_rules.is_in same (packages_of provider) (pool.listed (candidates_of provider n)) s ≡ true → IsVersion catalogue provider.ids s × IsPackage provider.ids n (version_at catalogue s).name
+    candidate_of n s h =
+        let among = in_from provider (listed catalogue) over.versions over.once same apart (pool.listed (candidates_of provider n)) s h in
+        let (v, e, packaged) = its_version provider catalogue over same apart n s (subst (λ (xs : List SolvableId). Contains xs s) (listed_is provider (solvables_of provider.ids n.raw)) among) in
+        ((v, e), subst (λ (w : Version). IsPackage provider.ids n w.name) (sym (version_is catalogue provider over s v e)) packaged)
+
+    pub any_spelled : (request : List Line) (n : NameId) (s : SolvableId) → pool_rules.is_in same (packages_of provider) (pool.listed (candidates_of provider n)) s ≡ true
+        → IsSpelled request (minus (Atom.solvable s) ∷ plus (Atom.any_of n) ∷ []) (told.Any (version_at catalogue s))
+    any_spelled request n s there =
+        let (version, packaged) = candidate_of n s there in
+        let text : (version_at catalogue s).name ≡ name_text provider.ids n = sym (name_is catalogue provider over n (version_at catalogue s).name packaged) in
+        let lists : judge.is_listed catalogue (version_at catalogue s) ≡ true = is_listed s version in (
+          judge.not_in (version_at catalogue s) ∷ judge.literal (told.AnyOf (version_at catalogue s).name) true ∷ [],
+          rw lists refl,
+          spelled_more (minus (Atom.solvable s)) _ _ _ version refl (spelled_more (plus (Atom.any_of n)) _ [] [] ((version_at catalogue s).name, packaged) (λ i. record { atom = told.AnyOf (text i); positive = true }) spelled_none),
+        )
+
+    pub bar_spelled : (request : List Line) (s : SolvableId) (t : told.Step) → IsVersion catalogue provider.ids s → IsBarredBy catalogue (version_at catalogue s) t → IsSpelled request (minus (Atom.solvable s) ∷ []) t
+    bar_spelled request s t version bars = (
+      judge.not_in (version_at catalogue s) ∷ [],
+      bar_clause catalogue request (version_at catalogue s) t (is_listed s version) bars,
+      spelled_more (minus (Atom.solvable s)) _ [] [] version refl spelled_none,
+    )
+
   -- ---- derived clauses
 
   known_atom : (a : ProofAtom NameId SolvableId) → IsKnownAtom catalogue provider.ids a → IsKnown catalogue provider over (atom_of a)
   known_atom (atom.Solvable s) h = h
-  known_atom (atom.AtLeastOne n) h = h
-  known_atom (atom.Gate r) h = h
-  known_atom (atom.Outside v) h = h
-  known_atom (atom.Bit n bit) h = h.0
+  known_atom (atom.AtLeastOne n) (name, is, fits) = (name, is)
+  known_atom (atom.Gate r) (ss, are, fit) = (ss, are)
+  known_atom (atom.Outside v) (s, is, fits) = (s, is)
+  known_atom (atom.Bit n bit) ((name, is, fits), below) = (name, is)
 
   named_atom : (a : ProofAtom NameId SolvableId) → name catalogue provider over (atom_of a) ≡ atom_at catalogue provider.ids a
   named_atom (atom.Solvable s) = refl

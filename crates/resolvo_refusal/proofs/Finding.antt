@@ -10,10 +10,25 @@ use Rattle.resolvo_catalogue.proofs.Pushed.{Grows, all_new}
 use Rattle.resolvo_catalogue.proofs.Placing.{at_from_contains, contains_from_at}
 use Rattle.resolvo_provider.proofs.RulesKept.{below_take}
 use Rattle.std.proofs.lemmas.Option.{slice_get-get_or, get_or_from_slice_get}
+use Rattle.std.proofs.lemmas.List.{take_more, take_all}
+use Rattle.resolvo_rules.proofs.Lists.{contains_one, contains_parts}
 
 pub some_as : {X : Type 0} {P Q : X → Type 0} (r : Option X) → ((x : X) → P x → Q x) → IfSome r P → IfSome r Q
 some_as (Some x) f h = f x h
 some_as None f h = h
+
+-- ---- elements so far
+
+-- what holds of the elements so far and of the next one
+pub all_more : (Q : ℕ → Type 0) (xs : List ℕ) (i : ℕ) → i < length xs → ((m : ℕ) → Contains (take i xs) m → Q m) → Q (get_or xs i 0) → (m : ℕ) → Contains (take (i + 1) xs) m → Q m
+all_more Q xs i lt before here m has = elim (contains_parts m (take i xs) (get_or xs i 0 ∷ []) (subst (λ (ys : List ℕ). Contains ys m) (take_more xs i 0 lt) has)) [
+  | inl old ↦ before m old
+  | inr new ↦ subst Q (sym (contains_one m (get_or xs i 0) new)) here
+]
+
+-- at the end it holds of all
+pub all_taken : (Q : ℕ → Type 0) (xs : List ℕ) (i : ℕ) → length xs ≤ i → ((m : ℕ) → Contains (take i xs) m → Q m) → (m : ℕ) → Contains xs m → Q m
+all_taken Q xs i end all m has = all m (subst (λ (ys : List ℕ). Contains ys m) (sym (take_all i xs end)) has)
 
 -- one more number
 pub up_to_more : (k : ℕ) (numbers : List ℕ) → AreAll numbers (λ n. (1 ≤ n) × (n ≤ k)) → AreAll (numbers ++ (k + 1) ∷ []) (λ n. (1 ≤ n) × (n ≤ k + 1))

@@ -1,4 +1,4 @@
--- The steps that tell a plain problem's proof are one of the judge: each may stand after those before it.
+-- The steps that tell a proof without conditions are one of the judge: each may stand after those before it.
 use Rattle.std.proofs.Common.{◌≡◌, ℕ, zero, suc, ◌<◌, Bool, true, false, List, [], ◌∷◌, ◌++◌, map, take, length, Option, Some, None, refl, sym, ap, subst, ◌∙◌, arith, cond, Vec, Global}
 use Rattle.std.specs.Prelude.{◌||◌, ◌==◌, not, unwrap_or, is_some, Contains, slice_get}
 use Rattle.std.specs.List.{AllZip}
@@ -6,12 +6,11 @@ use Rattle.std.specs.Option.{option_and_then}
 use Rattle.std.proofs.lemmas.Bool.{and_from, eq-eqb, lt-ltb, le-leb}
 use Rattle.std.proofs.lemmas.Option.{slice_get_within}
 use Rattle.std.proofs.lemmas.List.{length-take-le}
-use Rattle.resolvo_text.specs.Line.{Version, Spec, Line, Needs}
+use Rattle.resolvo_text.specs.Line.{Version, Line}
 use Rattle.resolvo_text.specs.Matching.{same_version}
 use Rattle.resolvo_catalogue.specs.Grammar.{line_at}
-use Rattle.resolvo_catalogue.specs.Questions.{Said}
+use Rattle.resolvo_catalogue.specs.Questions.{Said, is_rule}
 use Rattle.resolvo_catalogue.proofs.Placing.{at_from_contains}
-use Rattle.resolvo_pool.specs.declared.requirement.Requirement.{Requirement}
 use Rattle.resolvo_pool.specs.declared.id.VersionSetId.{VersionSetId}
 use Rattle.resolvo_pool.specs.Text.{alternatives_of}
 use Rattle.resolvo_rules.specs.Encoding.{parent_literals, case_literals, candidate_literals}
@@ -23,8 +22,9 @@ use Rattle.resolvo_proof.specs.declared.step.ProofStep.{ProofStep}
 use Rattle.resolvo_proof.specs.declared.step.ProofStep.TheVariants.{Rule, Derived}
 use Rattle.resolvo_proof.specs.declared.step.ProofRule.TheVariants.{Needs as NeedsRule, GateOf, Shared, Limit, Outside, Locked, Excluded, Digit, AtLeastOne}
 use Rattle.resolvo_provider.specs.Ids.{NameId, SolvableId}
-use Rattle.resolvo_provider.specs.Known.{members_of, alternatives_at}
+use Rattle.resolvo_provider.specs.Known.{members_of, spec_at, alternatives_at}
 use Rattle.resolvo_provider.specs.Provider.{Provider, packages_of}
+use Rattle.resolvo_provider.specs.Keeping.{root_of}
 use Rattle.resolvo_provider.proofs.Marking.{one_some}
 use Rattle.resolvo_provider.proofs.RulesKept.{below_take, taken}
 use Rattle.resolvo_report.specs.Value as told
@@ -34,11 +34,14 @@ use Rattle.resolvo_judge.specs.Proof.{rests_on_named, allows_place, cause_of, fo
 use Rattle.resolvo_judge.proofs.Sets.{same_is}
 use Rattle.resolvo_refusal.specs.declared.named.Text.{Text}
 use Rattle.resolvo_refusal.specs.declared.named.Text.TheVariants as text
-use Rattle.resolvo_refusal.specs.Named.{line_in}
+use Rattle.resolvo_refusal.specs.Named.{line_in, in_catalogue}
+use Rattle.resolvo_refusal.specs.Named as named
 use Rattle.resolvo_refusal.specs.Writing.{version_at, place_at}
 use Rattle.resolvo_refusal.specs.Refusal.{IsToldBy, AreLiterals, Refutes}
 use Rattle.resolvo_refusal.proofs.Renaming.{IsKnownClause, name_clause, version_is, pass_told}
-use Rattle.resolvo_refusal.proofs.Clauses.{Spells, IsSpelled, spelled_members, asked_for, gate_asked, need_spelled, gate_spelled, shared_spelled, digit_spelled, literals_spelled, derived_spelled}
+use Rattle.resolvo_refusal.proofs.Taken.{out_says}
+use Rattle.resolvo_refusal.proofs.Barring.{bar_stated, by_bar}
+use Rattle.resolvo_refusal.proofs.Clauses.{Spells, IsSpelled, spelled_members, asked_for, gate_asked, need_spelled, gate_spelled, shared_spelled, limited, limit_spelled, limit_bars_spelled, outside_spelled, any_spelled, bar_spelled, digit_spelled, literals_spelled, derived_spelled}
 
 -- ---- lists, place by place
 
@@ -81,37 +84,39 @@ lines_in catalogue request text.Catalogue = catalogue
 lines_in catalogue request text.Request = request
 
 -- a line of a version is one of the catalogue
-owned : (b : Bool) (o : Option Line) (l : Line) → cond b o None ≡ Some l → o ≡ Some l
+pub owned : (b : Bool) (o : Option Line) (l : Line) → cond b o None ≡ Some l → o ≡ Some l
 owned true o l e = e
 owned false o l e = absurd cc
 
--- a gate rests on a line as a need of its version does
-gate_line : (of : Text) (v : Version) (line n : ℕ) → line_in of (told.Gate v line) ≡ Some n → line_in of (told.Need (told.OfVersion v) line 1) ≡ Some n
-gate_line text.Catalogue v line n e = e
-gate_line text.Request v line n e = e
+-- a line of the catalogue, in the text that has it
+catalogue_stated : (catalogue request : List Line) (of : Text) (line n : ℕ) (l : Line) → line_at catalogue line ≡ Some l → in_catalogue of line ≡ Some n → line_at (lines_in catalogue request of) n ≡ Some l
+catalogue_stated catalogue request text.Catalogue line n l at e = (let same : line ≡ n = one_some e in subst (λ (k : ℕ). line_at catalogue k ≡ Some l) same at)
+catalogue_stated catalogue request text.Request line n l at e = absurd cc
+
+-- a line of a place, in the text that has it
+place_stated : (catalogue request : List Line) (of : Text) (place : told.Place) (line n : ℕ) (l : Line) → judge.line_of catalogue request place line ≡ Some l → named.line_of of place line ≡ Some n → line_at (lines_in catalogue request of) n ≡ Some l
+place_stated catalogue request text.Catalogue told.OfRequest line n l at e = absurd cc
+place_stated catalogue request text.Request told.OfRequest line n l at e = (let same : line ≡ n = one_some e in subst (λ (k : ℕ). line_at request k ≡ Some l) same at)
+place_stated catalogue request text.Catalogue (told.OfVersion v) line n l at e = (let same : line ≡ n = one_some e in subst (λ (k : ℕ). line_at catalogue k ≡ Some l) same (owned _ (line_at catalogue line) l at))
+place_stated catalogue request text.Request (told.OfVersion v) line n l at e = absurd cc
+
+-- a gate rests on a line of its version
+gate_stated : (catalogue request : List Line) (of : Text) (v : Version) (line n : ℕ) (l : Line) → judge.line_of catalogue request (told.OfVersion v) line ≡ Some l → in_catalogue of line ≡ Some n → line_at (lines_in catalogue request of) n ≡ Some l
+gate_stated catalogue request of v line n l at e = catalogue_stated catalogue request of line n l (owned _ (line_at catalogue line) l at) e
 
 module _ (catalogue : List Line) (said : Said) (provider : Provider) (steps : List (ProofStep NameId SolvableId)) (refuted : Refutes catalogue said provider steps) where
-  need_stated : (of : Text) (parent : Option SolvableId) (r : Requirement) (line case n : ℕ) → judge.line_of catalogue said.lines (place_at catalogue parent) line ≡ Some (Needs (alternatives_at provider.ids r) None)
-      → line_in of (told.Need (place_at catalogue parent) line case) ≡ Some n → line_at (lines_in catalogue said.lines of) n ≡ Some (Needs (alternatives_at provider.ids r) None)
-  need_stated text.Catalogue None r line case n needs e = absurd cc
-  need_stated text.Request None r line case n needs e = (let same : line ≡ n = one_some e in subst (λ (k : ℕ). line_at said.lines k ≡ Some (Needs (alternatives_at provider.ids r) None)) same needs)
-  need_stated text.Catalogue (Some s) r line case n needs e =
-      (let same : line ≡ n = one_some e in subst (λ (k : ℕ). line_at catalogue k ≡ Some (Needs (alternatives_at provider.ids r) None)) same (owned _ (line_at catalogue line) _ needs))
-  need_stated text.Request (Some s) r line case n needs e = absurd cc
-
-  -- the line that a written step rests on needs something
-  pub line_stated : (of : Text) (s : ProofStep NameId SolvableId) (t : told.Step) (n : ℕ) → IsToldBy catalogue provider.ids said.lines s t → line_in of t ≡ Some n → (alternatives : List Spec) × (line_at (lines_in catalogue said.lines of) n ≡ Some (Needs alternatives None))
-  line_stated of (Rule (NeedsRule parent r case)) t n (line, is, first) e =
-      (alternatives_at provider.ids r, need_stated of parent r line 1 n first.needs (subst (λ (x : told.Step). line_in of x ≡ Some n) is e))
-  line_stated of (Rule (GateOf s r)) t n (line, is, first) e =
-      (alternatives_at provider.ids r, need_stated of (Some s) r line 1 n first.needs (gate_line of (version_at catalogue s) line n (subst (λ (x : told.Step). line_in of x ≡ Some n) is e)))
+  -- the line that a written step rests on states a rule
+  pub line_stated : (of : Text) (s : ProofStep NameId SolvableId) (t : told.Step) (n : ℕ) → IsToldBy catalogue provider.ids said.lines s t → line_in of t ≡ Some n → (l : Line) × (line_at (lines_in catalogue said.lines of) n ≡ Some l) × (is_rule l ≡ true)
+  line_stated of (Rule (NeedsRule parent r case)) t n (line, is, first) e = (_, place_stated catalogue said.lines of (place_at catalogue parent) line n _ first.says (subst (λ (x : told.Step). line_in of x ≡ Some n) is e), refl)
+  line_stated of (Rule (GateOf s r)) t n (line, is, first) e = (_, gate_stated catalogue said.lines of (version_at catalogue s) line n _ first.says (subst (λ (x : told.Step). line_in of x ≡ Some n) is e), refl)
   line_stated of (Rule (Shared r)) t n is e = absurd (let g : line_in of (told.Shared (alternatives_at provider.ids r)) ≡ Some n = subst (λ (x : told.Step). line_in of x ≡ Some n) is e in cc)
-  line_stated of (Rule (Limit parent v barred)) t n h e = absurd h
-  line_stated of (Rule (Outside v s)) t n h e = absurd h
-  line_stated of (Rule (Locked locked s)) t n h e = absurd h
-  line_stated of (Rule (Excluded s reason)) t n h e = absurd h
+  line_stated of (Rule (Limit parent v None)) t n (line, is, first) e = (_, place_stated catalogue said.lines of (place_at catalogue parent) line n _ first.says (subst (λ (x : told.Step). line_in of x ≡ Some n) is e), refl)
+  line_stated of (Rule (Limit parent v (Some s))) t n (line, is, first) e = (_, place_stated catalogue said.lines of (place_at catalogue parent) line n _ first.says (subst (λ (x : told.Step). line_in of x ≡ Some n) is e), refl)
+  line_stated of (Rule (Outside v s)) t n is e = absurd (let g : line_in of (told.Outside (spec_at provider.ids v) (version_at catalogue s)) ≡ Some n = subst (λ (x : told.Step). line_in of x ≡ Some n) is e in cc)
+  line_stated of (Rule (Locked locked s)) t n bars e = (let (line, l, at, rule, in_text) = bar_stated catalogue (version_at catalogue s) t bars in (l, catalogue_stated catalogue said.lines of line n l at (sym (in_text of) ∙ e), rule))
+  line_stated of (Rule (Excluded s reason)) t n bars e = (let (line, l, at, rule, in_text) = bar_stated catalogue (version_at catalogue s) t bars in (l, catalogue_stated catalogue said.lines of line n l at (sym (in_text of) ∙ e), rule))
   line_stated of (Rule (Digit s place bit)) t n is e = absurd (let g : line_in of (told.Digit (version_at catalogue s) place bit) ≡ Some n = subst (λ (x : told.Step). line_in of x ≡ Some n) is e in cc)
-  line_stated of (Rule (AtLeastOne m s)) t n h e = absurd h
+  line_stated of (Rule (AtLeastOne m s)) t n is e = absurd (let g : line_in of (told.Any (version_at catalogue s)) ≡ Some n = subst (λ (x : told.Step). line_in of x ≡ Some n) is e in cc)
   line_stated of (Derived literals causes) t n (written, is, are) e = absurd (let g : line_in of (told.Derive written (map suc causes.items)) ≡ Some n = subst (λ (x : told.Step). line_in of x ≡ Some n) is e in cc)
 
   -- ---- clauses
@@ -128,21 +133,34 @@ module _ (catalogue : List Line) (said : Said) (provider : Provider) (steps : Li
       (subst (λ (vs : List VersionSetId). IsSpelled catalogue provider refuted.over refuted.same refuted.exact said.lines
       (parent_literals parent ++ (case_literals refuted.same (packages_of provider) vs ++ candidate_literals refuted.same (packages_of provider) (alternatives_of (members_of provider.ids) r))) (told.Need (place_at catalogue parent) line 1))
       (sym (refuted.known n _ at))
-      (need_spelled catalogue provider refuted.over refuted.same refuted.exact said.lines parent r line versions known first.needs))
+      (need_spelled catalogue provider refuted.over refuted.same refuted.exact said.lines parent r line versions known first.says))
   step_spelled n (Rule (GateOf s r)) t at (line, is, first) =
       let (condition, asks) = refuted.proof n _ at in
       let (version, known) = gate_asked catalogue provider refuted.over refuted.same refuted.exact s r asks in
-      subst (λ (x : told.Step). IsClauseOf (Rule (GateOf s r)) x) (sym is) (gate_spelled catalogue provider refuted.over refuted.same refuted.exact said.lines s r line version known first.needs)
+      subst (λ (x : told.Step). IsClauseOf (Rule (GateOf s r)) x) (sym is) (gate_spelled catalogue provider refuted.over refuted.same refuted.exact said.lines s r line version known first.says)
   step_spelled n (Rule (Shared r)) t at is =
-      subst (λ (x : told.Step). IsClauseOf (Rule (Shared r)) x) (sym is) (shared_spelled catalogue provider refuted.over refuted.same refuted.exact said.lines r (refuted.known n _ at))
-  step_spelled n (Rule (Limit parent v barred)) t at h = absurd h
-  step_spelled n (Rule (Outside v s)) t at h = absurd h
-  step_spelled n (Rule (Locked locked s)) t at h = absurd h
-  step_spelled n (Rule (Excluded s reason)) t at h = absurd h
+      let (ss, are, fit) = refuted.known n _ at in
+      subst (λ (x : told.Step). IsClauseOf (Rule (Shared r)) x) (sym is) (shared_spelled catalogue provider refuted.over refuted.same refuted.exact said.lines r (ss, are))
+  step_spelled n (Rule (Limit parent v None)) t at (line, is, first) =
+      let (condition, has) = refuted.proof n _ at in
+      let (versions, known) = limited catalogue provider refuted.over refuted.same refuted.exact said refuted.ids refuted.asked parent v has in
+      subst (λ (x : told.Step). IsClauseOf (Rule (Limit parent v None)) x) (sym is) (limit_spelled catalogue provider refuted.over refuted.same refuted.exact said.lines parent v line versions known first.says)
+  step_spelled n (Rule (Limit parent v (Some s))) t at (line, is, first) =
+      let (condition, (has, out)) = refuted.proof n _ at in
+      let (versions, known) = limited catalogue provider refuted.over refuted.same refuted.exact said refuted.ids refuted.asked parent v has in
+      subst (λ (x : told.Step). IsClauseOf (Rule (Limit parent v (Some s))) x) (sym is) (limit_bars_spelled catalogue provider refuted.over refuted.same refuted.exact said.lines parent v s line versions known out first.says)
+  step_spelled n (Rule (Outside v s)) t at is =
+      let (condition, out) = refuted.proof n _ at in
+      let (spec, known, fits) = refuted.known n _ at in
+      subst (λ (x : told.Step). IsClauseOf (Rule (Outside v s)) x) (sym is) (outside_spelled catalogue provider refuted.over refuted.same refuted.exact said.lines v s (spec, known) (out_says refuted.same (packages_of provider) (root_of refuted.ids) v s out))
+  step_spelled n (Rule (Locked locked s)) t at bars = bar_spelled catalogue provider refuted.over refuted.same refuted.exact said.lines s t (refuted.known n _ at) bars
+  step_spelled n (Rule (Excluded s reason)) t at bars = bar_spelled catalogue provider refuted.over refuted.same refuted.exact said.lines s t (refuted.known n _ at) bars
   step_spelled n (Rule (Digit s place bit)) t at is =
       let (version, below) = refuted.known n _ at in
       subst (λ (x : told.Step). IsClauseOf (Rule (Digit s place bit)) x) (sym is) (digit_spelled catalogue provider refuted.over refuted.same refuted.exact said.lines s place bit version below)
-  step_spelled n (Rule (AtLeastOne m s)) t at h = absurd h
+  step_spelled n (Rule (AtLeastOne m s)) t at is =
+      let (condition, there) = refuted.proof n _ at in
+      subst (λ (x : told.Step). IsClauseOf (Rule (AtLeastOne m s)) x) (sym is) (any_spelled catalogue provider refuted.over refuted.same refuted.exact said.lines m s there)
   step_spelled n (Derived literals causes) t at (written, is, are) =
       let known = refuted.known n _ at in
       subst (λ (x : told.Step). IsClauseOf (Derived literals causes) x) (sym is)
@@ -180,11 +198,12 @@ module _ (catalogue : List Line) (said : Said) (provider : Provider) (steps : Li
     no_other_place n m s place bit (Rule (NeedsRule parent r case)) u at there (line, is, first) = ap (allows_place (version_at catalogue s) place) is
     no_other_place n m s place bit (Rule (GateOf q r)) u at there (line, is, first) = ap (allows_place (version_at catalogue s) place) is
     no_other_place n m s place bit (Rule (Shared r)) u at there is = ap (allows_place (version_at catalogue s) place) is
-    no_other_place n m s place bit (Rule (Limit parent v barred)) u at there h = absurd h
-    no_other_place n m s place bit (Rule (Outside v q)) u at there h = absurd h
-    no_other_place n m s place bit (Rule (Locked locked q)) u at there h = absurd h
-    no_other_place n m s place bit (Rule (Excluded q reason)) u at there h = absurd h
-    no_other_place n m s place bit (Rule (AtLeastOne o q)) u at there h = absurd h
+    no_other_place n m s place bit (Rule (Limit parent v None)) u at there (line, is, first) = ap (allows_place (version_at catalogue s) place) is
+    no_other_place n m s place bit (Rule (Limit parent v (Some q))) u at there (line, is, first) = ap (allows_place (version_at catalogue s) place) is
+    no_other_place n m s place bit (Rule (Outside v q)) u at there is = ap (allows_place (version_at catalogue s) place) is
+    no_other_place n m s place bit (Rule (Locked locked q)) u at there bars = by_bar catalogue (version_at catalogue q) u (allows_place (version_at catalogue s) place) true (λ l. refl) (λ l. refl) (λ l. refl) bars
+    no_other_place n m s place bit (Rule (Excluded q reason)) u at there bars = by_bar catalogue (version_at catalogue q) u (allows_place (version_at catalogue s) place) true (λ l. refl) (λ l. refl) (λ l. refl) bars
+    no_other_place n m s place bit (Rule (AtLeastOne o q)) u at there is = ap (allows_place (version_at catalogue s) place) is
     no_other_place n m s place bit (Derived literals causes) u at there (w, is, are) = ap (allows_place (version_at catalogue s) place) is
     no_other_place n m s place bit (Rule (Digit q other digit)) u at there is = ap (allows_place (version_at catalogue s) place) is ∙ go (same_version (version_at catalogue q) (version_at catalogue s)) refl
       where
@@ -207,11 +226,12 @@ module _ (catalogue : List Line) (said : Said) (provider : Provider) (steps : Li
     step_follows n (Rule (NeedsRule parent r case)) t at there (line, is, first) = ap (follows catalogue said.lines (take n written)) is
     step_follows n (Rule (GateOf q r)) t at there (line, is, first) = ap (follows catalogue said.lines (take n written)) is
     step_follows n (Rule (Shared r)) t at there is = ap (follows catalogue said.lines (take n written)) is
-    step_follows n (Rule (Limit parent v barred)) t at there h = absurd h
-    step_follows n (Rule (Outside v q)) t at there h = absurd h
-    step_follows n (Rule (Locked locked q)) t at there h = absurd h
-    step_follows n (Rule (Excluded q reason)) t at there h = absurd h
-    step_follows n (Rule (AtLeastOne o q)) t at there h = absurd h
+    step_follows n (Rule (Limit parent v None)) t at there (line, is, first) = ap (follows catalogue said.lines (take n written)) is
+    step_follows n (Rule (Limit parent v (Some q))) t at there (line, is, first) = ap (follows catalogue said.lines (take n written)) is
+    step_follows n (Rule (Outside v q)) t at there is = ap (follows catalogue said.lines (take n written)) is
+    step_follows n (Rule (Locked locked q)) t at there bars = by_bar catalogue (version_at catalogue q) t (follows catalogue said.lines (take n written)) true (λ l. refl) (λ l. refl) (λ l. refl) bars
+    step_follows n (Rule (Excluded q reason)) t at there bars = by_bar catalogue (version_at catalogue q) t (follows catalogue said.lines (take n written)) true (λ l. refl) (λ l. refl) (λ l. refl) bars
+    step_follows n (Rule (AtLeastOne o q)) t at there is = ap (follows catalogue said.lines (take n written)) is
     step_follows n (Rule (Digit s place bit)) t at there is = ap (follows catalogue said.lines (take n written)) is ∙ contained_all (allows_place (version_at catalogue s) place) (take n written) (λ u h. (
         let (k, e) = at_from_contains (take n written) u h in
         let (x, a, tells) = zip_right (IsToldBy catalogue provider.ids said.lines) steps written each k u (taken written n k u e) in
@@ -237,10 +257,10 @@ module _ (catalogue : List Line) (said : Said) (provider : Provider) (steps : Li
 
     -- the step may stand after those before it, where the lines are named that it rests on
     pub stands : (c r : ℕ → Bool) (n : ℕ) (t : told.Step) → slice_get written n ≡ Some t → rests_on_named c r t ≡ true → may_stand catalogue said.lines c r (take n written) t ≡ true
-    stands c r n t there named =
+    stands c r n t there rested =
         let (s, at, tells) = zip_right (IsToldBy catalogue provider.ids said.lines) steps written each n t there in
         let (d, says, spells) = step_spelled n s t at tells in
-        and_from _ _ (ap is_some says) (and_from _ _ named (step_follows n s t at there tells))
+        and_from _ _ (ap is_some says) (and_from _ _ rested (step_follows n s t at there tells))
 
   -- ---- the end
 

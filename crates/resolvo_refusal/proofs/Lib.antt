@@ -1,8 +1,13 @@
 pub mod Naming
 pub mod Renaming
+pub mod Taken
+pub mod Barring
 pub mod Clauses
 pub mod Following
 pub mod Accepting
 pub mod Finding
 pub mod Sorting
+pub mod Spelled
 pub mod Telling
+pub mod Grammar
+pub mod Fitting

@@ -210,7 +210,8 @@ module _ (catalogue : List Line) (provider : Provider) (over : IsOver catalogue 
     all_named [] known = tt
     all_named (c ∷ cs) known = (named c (known c (contains_first c c cs refl)), all_named cs (λ d h. known d (contains_later d c cs h)))
 
-    named_once : (c : List (pass.Literal (Atom NameId SolvableId))) → IsKnownClause c → HaveOneSign c → HaveOneSign (name_clause c)
+    -- distinct known atoms keep their signs apart under their names
+    pub named_once : (c : List (pass.Literal (Atom NameId SolvableId))) → IsKnownClause c → HaveOneSign c → HaveOneSign (name_clause c)
     named_once c known signs l m h k e =
         let (x, a, f) = map_contains name_literal l c h in
         let (y, b, g) = map_contains name_literal m c k in

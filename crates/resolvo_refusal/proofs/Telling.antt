@@ -1,11 +1,11 @@
--- The lines by which the needs of a plain problem are told.
+-- The lines by which the rules of a proof without conditions are told.
 use Rattle.std.proofs.lemmas.Bool.Decides.{nat_tests}
 use Rattle.std.proofs.Common.{◌≡◌, ◌+◌, ◌<◌, ◌≤◌, inl, inr, ℕ, zero, suc, Bool, true, false, List, [], ◌∷◌, ◌++◌, map, length, Option, Some, None, refl, sym, ◌∙◌, ap, subst, arith, Vec, Global, not, ◌&&◌}
-use Rattle.std.specs.Prelude.{nat_lt, Contains, slice_get, slice_index_or, unwrap_or, option_to_list, if◌then◌else◌}
+use Rattle.std.specs.Prelude.{◌↔◌, ◌||◌, option_map, nat_lt, Contains, slice_get, slice_index_or, unwrap_or, option_to_list, if◌then◌else◌}
 use Rattle.std.specs.List.{AllZip, flat_map}
 use Rattle.std.proofs.lemmas.Option.{get_or_from_slice_get}
 use Rattle.std.proofs.lemmas.Bool.{and_parts, false≢true, eqb-true}
-use Rattle.resolvo_text.specs.Line.{Version, Spec, Cond, Line, Needs}
+use Rattle.resolvo_text.specs.Line.{Version, Spec, Cond, Line, Needs, Limits}
 use Rattle.resolvo_catalogue.specs.Grammar.{line_at, owner_of}
 use Rattle.resolvo_catalogue.specs.Listed.{listed}
 use Rattle.resolvo_catalogue.specs.Questions.{SaysOf, BelongsTo}
@@ -18,7 +18,7 @@ use Rattle.resolvo_pool.specs.declared.condition.Condition.TheVariants.{Binary, 
 use Rattle.resolvo_pool.specs.declared.condition.LogicalOperator.TheVariants.{And, Or}
 use Rattle.resolvo_pool.specs.declared.requirement.Requirement.{Requirement}
 use Rattle.resolvo_pool.specs.declared.requirement.ConditionalRequirement.{ConditionalRequirement}
-use Rattle.resolvo_pool.specs.RuleKeeping.{rules_of}
+use Rattle.resolvo_pool.specs.RuleKeeping.{rules_of, rules_for, is_barred, is_unknown}
 use Rattle.resolvo_store.specs.Cases.{cases_by, cases_within}
 use Rattle.resolvo_rules.specs.Encoding.{has_condition, same_requirement, cases_under}
 use Rattle.resolvo_rules.proofs.Lists.{contains_none, contains_one, contains_parts, contains_first, contains_later, map_contains, any_contained}
@@ -27,23 +27,29 @@ use Rattle.resolvo_proof.specs.declared.step.ProofStep.TheVariants.{Rule, Derive
 use Rattle.resolvo_proof.specs.declared.step.ProofRule.TheVariants.{Needs as NeedsRule, GateOf, Shared, Limit, Outside, Locked, Excluded, Digit, AtLeastOne}
 use Rattle.resolvo_catalogue.specs.Questions.{Said}
 use Rattle.resolvo_pool.specs.declared.requirement.Requirement.TheVariants.{Single, Union}
-use Rattle.resolvo_provider.specs.Ids.{Ids, NameId, SolvableId, AreEach, IsNeed, IsConditionOf}
-use Rattle.resolvo_provider.specs.Known.{alternatives_at, condition_at}
-use Rattle.resolvo_provider.specs.Told.{Told, need_in, lines_at}
-use Rattle.resolvo_provider.specs.Provider.{Provider, told_at, no_lines, dependencies_of}
+use Rattle.resolvo_provider.specs.Ids.{Ids, NameId, SolvableId, AreEach, IsNeed, IsSpec, IsConditionOf}
+use Rattle.resolvo_provider.specs.Known.{spec_at, alternatives_at, condition_at}
+use Rattle.resolvo_provider.specs.Told.{Told, need_in, limit_in, lines_at}
+use Rattle.resolvo_provider.specs.Provider.{Provider, packages_of, told_at, no_lines, dependencies_of}
 use Rattle.resolvo_provider.specs.Over.{IsOver}
-use Rattle.resolvo_provider.proofs.Elements.{flat_from, option_from, each_from_left, need_from}
-use Rattle.resolvo_provider.proofs.RulesKept.{req_from}
-use Rattle.resolvo_provider.proofs.Covering.{alternatives_stand}
+use Rattle.resolvo_provider.specs.Keeping.{root_of}
+use Rattle.resolvo_provider.proofs.Elements.{flat_from, option_from, each_from_left, need_from, limit_from}
+use Rattle.resolvo_provider.proofs.RulesKept.{req_from, con_from}
+use Rattle.resolvo_provider.proofs.Covering.{alternatives_stand, spec_stands}
 use Rattle.resolvo_provider.proofs.Places.{no_element}
 use Rattle.resolvo_report.specs.Value.{OfRequest, OfVersion, Step}
 use Rattle.resolvo_report.specs.Value as told
 use Rattle.resolvo_judge.specs.StepClauses.{is_owner}
-use Rattle.resolvo_refusal.specs.Writing.{version_at, number_of, IsWritten}
-use Rattle.resolvo_refusal.specs.Lines.{IsLeast, IsLineOf, NeedsPlainly}
-use Rattle.resolvo_refusal.specs.Telling.{version_no, IsPlainLine, Tells, AreSpelled}
-use Rattle.resolvo_refusal.specs.Refusal.{NeedsAt, IsFirstNeed, IsToldBy, Refutes}
+use Rattle.resolvo_refusal.specs.Writing.{version_at, place_at, number_of, IsWritten}
+use Rattle.resolvo_refusal.specs.Lines.{IsLeast, IsLineOf, SaysAt}
+use Rattle.resolvo_refusal.specs.Telling.{version_no, IsFirstLine, TellsBar, Tells}
+use Rattle.resolvo_refusal.specs.Refusal.{IsVersion, PlaceSays, IsFirst, IsBarredBy, IsToldBy, Refutes}
 use Rattle.resolvo_refusal.proofs.Finding.{length_bound}
+use Rattle.resolvo_refusal.proofs.Renaming.{version_is}
+use Rattle.resolvo_refusal.proofs.Clauses.{told_limits}
+use Rattle.resolvo_refusal.proofs.Taken.{bars_says}
+use Rattle.resolvo_refusal.proofs.Barring.{some_bars}
+use Rattle.resolvo_refusal.proofs.Spelled.{literals_fit}
 
 -- ---- cases
 
@@ -80,6 +86,13 @@ line_from ids needs ls each r has =
     let stands : alternatives_at ids r ≡ said.0 = alternatives_stand ids r said.0 alternatives in
     subst (λ (x : Line). Contains ls x) (need_from l said says ∙ (ap (λ (c : Option Cond). Needs said.0 c) (no_condition ids said.1 condition) ∙ ap (λ (ss : List Spec). Needs ss None) (sym stands))) here
 
+-- a limit of the lines, by its version set
+pub limit_in_lines : (ids : Ids) (vs : List VersionSetId) (ls : List Line) → AreEach (IsSpec ids) vs (flat_map limit_in ls) → (v : VersionSetId) → Contains vs v → Contains ls (Limits (spec_at ids v))
+limit_in_lines ids vs ls each v has =
+    let (spec, among, is) = each_from_left (IsSpec ids) vs (flat_map limit_in ls) each v has in
+    let (l, here, says) = flat_from limit_in ls spec among in
+    subst (λ (x : Line). Contains ls x) (limit_from l spec says ∙ ap (λ (x : Spec). Limits x) (sym (spec_stands ids v spec is))) here
+
 -- the line stands in the request
 pub request_line : (lines : List Line) (l : Line) → Contains lines l → (m : ℕ) × ((1 ≤ m) × (m ≤ length lines)) × (line_at lines m ≡ Some l)
 request_line lines l has = (let (k, there) = at_from_contains lines l has in let b : k < length lines = length_bound lines k l there in (suc k, (omega arith, omega (arith, b)), there))
@@ -97,22 +110,30 @@ version_line catalogue p over s r h =
     let (m, among, opt) = flat_from (λ (n : ℕ). option_to_list (line_at catalogue n)) numbers (Needs (alternatives_at p.ids r) None) (line_from p.ids (told_at p s).requirements (lines_at catalogue numbers) tells.requirements r has) in
     (m, (all.all m).0 among, option_from (line_at catalogue m) (Needs (alternatives_at p.ids r) None) opt)
 
+-- a limit's line belongs to the version
+pub version_limit : (catalogue : List Line) (p : Provider) → IsOver catalogue p → (s : SolvableId) (v : VersionSetId) → Contains (rules_of (dependencies_of p s)).constraints v → (m : ℕ) × SaysOf (listed catalogue) catalogue s.raw BelongsTo m × (line_at catalogue m ≡ Some (Limits (spec_at p.ids v)))
+version_limit catalogue p over s v h =
+    let has = con_from (told_at p s) (told_at p s).unknown v h in
+    let (numbers, all, tells) = over.told.each s.raw (told_at p s) (told_limits p.told s.raw v has) in
+    let (m, among, opt) = flat_from (λ (n : ℕ). option_to_list (line_at catalogue n)) numbers (Limits (spec_at p.ids v)) (limit_in_lines p.ids (told_at p s).constrains (lines_at catalogue numbers) tells.constrains v has) in
+    (m, (all.all m).0 among, option_from (line_at catalogue m) (Limits (spec_at p.ids v)) opt)
+
 -- ---- the first line
 
 pub least_is : {P : ℕ → Type 0} (found : Option ℕ) (line : ℕ) → line ≡ unwrap_or found 0 → IsLeast found P → (m : ℕ) → P m → P line × ((n : ℕ) → n < line → P n → ⊥)
 least_is None line is none m p = absurd (none m p)
 least_is {P = P} (Some n) line is least m p = subst (λ (k : ℕ). P k × ((j : ℕ) → j < k → P j → ⊥)) (sym is) least
 
-within_line : (lines : List Line) (n : ℕ) (l : Line) → line_at lines n ≡ Some l → (1 ≤ n) × (n ≤ length lines)
+pub within_line : (lines : List Line) (n : ℕ) (l : Line) → line_at lines n ≡ Some l → (1 ≤ n) × (n ≤ length lines)
 within_line lines zero l e = absurd cc
 within_line lines (suc k) l e = (let b : k < length lines = length_bound lines k l e in (omega arith, omega (arith, b)))
 
 -- by the first line of the request
-pub first_asked : (catalogue : List Line) (ids : Ids) (request : List Line) (alternatives : List Spec) (line : ℕ) → IsPlainLine catalogue request None alternatives line → Contains request (Needs alternatives None) → IsFirstNeed catalogue ids request OfRequest alternatives line
-first_asked catalogue ids request alternatives line (found, is, least) has =
-    let (m, bounds, there) = request_line request (Needs alternatives None) has in
-    let (here, none) = least_is {P = λ n. IsLineOf catalogue request None n × NeedsPlainly request alternatives n} found line is least m (bounds, there) in
-    record { needs = here.1; first = λ n below needs. none n below (within_line request n (Needs alternatives None) needs, needs) }
+pub first_asked : (catalogue : List Line) (ids : Ids) (request : List Line) (said : Line) (line : ℕ) → IsFirstLine catalogue request None said line → Contains request said → IsFirst catalogue ids request OfRequest said line
+first_asked catalogue ids request said line (found, is, least) has =
+    let (m, bounds, there) = request_line request said has in
+    let (here, none) = least_is {P = λ n. IsLineOf catalogue request None n × SaysAt request said n} found line is least m (bounds, there) in
+    record { says = here.1; first = λ n below says. none n below (within_line request n said says, says) }
 
 owner_is : (v : Version) (owner : Option Version) → is_owner v owner ≡ true → owner ≡ Some v
 owner_is v None e = absurd (false≢true e)
@@ -125,32 +146,41 @@ taken : (b : Bool) (o : Option Line) (l : Line) → (if b then o else None) ≡ 
 taken true o l e = (refl, e)
 taken false o l e = absurd cc
 
+-- a line that belongs to its owner
+abbrev pub IsOwned : Line → Type 0
+IsOwned said = (v : Version) (owner : Option Version) → BelongsTo v owner said ↔ (owner ≡ Some v)
+
 -- by the first line of the version
-pub first_told : (catalogue : List Line) (ids : Ids) (request : List Line) (alternatives : List Spec) (s : SolvableId) (line : ℕ) → IsPlainLine catalogue request (Some (version_no s)) alternatives line
-    → (m : ℕ) → SaysOf (listed catalogue) catalogue s.raw BelongsTo m → line_at catalogue m ≡ Some (Needs alternatives None) → IsFirstNeed catalogue ids request (OfVersion (version_at catalogue s)) alternatives line
-first_told catalogue ids request alternatives s line (found, is, least) m says there =
-    let (here, none) = least_is {P = λ n. IsLineOf catalogue request (Some (version_no s)) n × NeedsPlainly catalogue alternatives n} found line is least m (says, there) in
+pub first_told : (catalogue : List Line) (ids : Ids) (request : List Line) (said : Line) → IsOwned said → (s : SolvableId) (line : ℕ) → IsFirstLine catalogue request (Some (version_no s)) said line
+    → (m : ℕ) → SaysOf (listed catalogue) catalogue s.raw BelongsTo m → line_at catalogue m ≡ Some said → IsFirst catalogue ids request (OfVersion (version_at catalogue s)) said line
+first_told catalogue ids request said own s line (found, is, least) m belongs there =
+    let (here, none) = least_is {P = λ n. IsLineOf catalogue request (Some (version_no s)) n × SaysAt catalogue said n} found line is least m (belongs, there) in
     record {
-      needs = needed line here.0 here.1;
-      first = λ n below needs. none n below (back n needs);
+      says = placed line here.0 here.1;
+      first = λ n below says. none n below (back n says);
     }
   where
-    v : Version
-    v = says.0
+    listed_there : version_at catalogue s ≡ belongs.0
+    listed_there = get_or_from_slice_get (listed catalogue) s.raw belongs.0 (record { name = []; number = 0 }) belongs.1
 
-    listed_there : version_at catalogue s ≡ says.0
-    listed_there = get_or_from_slice_get (listed catalogue) s.raw says.0 (record { name = []; number = 0 }) says.1
+    owned : (n : ℕ) → SaysOf (listed catalogue) catalogue s.raw BelongsTo n → line_at catalogue n ≡ Some said → owner_of catalogue n ≡ Some (version_at catalogue s)
+    owned n (w, at, (l, stands, has)) e =
+        let same : l ≡ said = (let both : Some l ≡ Some said = sym stands ∙ e in cc) in
+        (own w (owner_of catalogue n)).0 (subst (λ (x : Line). BelongsTo w (owner_of catalogue n) x) same has) ∙ ap (λ (x : Version). Some x) (sym (get_or_from_slice_get (listed catalogue) s.raw w (record { name = []; number = 0 }) at))
 
-    owned : (n : ℕ) → SaysOf (listed catalogue) catalogue s.raw BelongsTo n → line_at catalogue n ≡ Some (Needs alternatives None) → owner_of catalogue n ≡ Some (version_at catalogue s)
-    owned n (w, at, (l, stands, belongs)) e =
-        let same : l ≡ Needs alternatives None = (let both : Some l ≡ Some (Needs alternatives None) = sym stands ∙ e in cc) in
-        subst (λ (x : Line). BelongsTo w (owner_of catalogue n) x) same belongs ∙ ap (λ (x : Version). Some x) (sym (get_or_from_slice_get (listed catalogue) s.raw w (record { name = []; number = 0 }) at))
+    placed : (n : ℕ) → SaysOf (listed catalogue) catalogue s.raw BelongsTo n → line_at catalogue n ≡ Some said → PlaceSays catalogue ids request (OfVersion (version_at catalogue s)) said n
+    placed n of e = subst (λ (b : Bool). (if b then line_at catalogue n else None) ≡ Some said) (sym (is_own (version_at catalogue s) (owner_of catalogue n) (owned n of e))) e
 
-    needed : (n : ℕ) → SaysOf (listed catalogue) catalogue s.raw BelongsTo n → line_at catalogue n ≡ Some (Needs alternatives None) → NeedsAt catalogue ids request (OfVersion (version_at catalogue s)) alternatives n
-    needed n of e = subst (λ (b : Bool). (if b then line_at catalogue n else None) ≡ Some (Needs alternatives None)) (sym (is_own (version_at catalogue s) (owner_of catalogue n) (owned n of e))) e
+    back : (n : ℕ) → PlaceSays catalogue ids request (OfVersion (version_at catalogue s)) said n → SaysOf (listed catalogue) catalogue s.raw BelongsTo n × (line_at catalogue n ≡ Some said)
+    back n e =
+        let (mine, is) = taken (is_owner (version_at catalogue s) (owner_of catalogue n)) (line_at catalogue n) said e in
+        ((belongs.0, belongs.1, (said, is, (own belongs.0 (owner_of catalogue n)).1 (owner_is (version_at catalogue s) (owner_of catalogue n) mine ∙ ap (λ (x : Version). Some x) listed_there))), is)
 
-    back : (n : ℕ) → NeedsAt catalogue ids request (OfVersion (version_at catalogue s)) alternatives n → SaysOf (listed catalogue) catalogue s.raw BelongsTo n × (line_at catalogue n ≡ Some (Needs alternatives None))
-    back n e = (let (own, is) = taken (is_owner (version_at catalogue s) (owner_of catalogue n)) (line_at catalogue n) (Needs alternatives None) e in ((says.0, says.1, (Needs alternatives None, is, owner_is (version_at catalogue s) (owner_of catalogue n) own ∙ ap (λ (x : Version). Some x) listed_there)), is))
+need_owned : (alternatives : List Spec) (condition : Option Cond) → IsOwned (Needs alternatives condition)
+need_owned alternatives condition v owner = (λ e. e, λ e. e)
+
+limit_owned : (s : Spec) → IsOwned (Limits s)
+limit_owned s v owner = (λ e. e, λ e. e)
 
 -- ---- steps
 
@@ -165,7 +195,8 @@ plain_of : (needs : List ConditionalRequirement) (p : Provider) (r : Requirement
 plain_of needs p r None case none among has = has
 plain_of needs p r (Some c) case none among has = absurd (cases_ask (condition_at p.ids) (suc c.0) c (subst (λ (vs : List VersionSetId). Contains (cases_within (condition_at p.ids) (suc c.0) c) vs) none among))
 
-zipped : {A B : Type 0} {P Q R : A → B → Type 0} (xs : List A) (ys : List B) → ((n : ℕ) (x : A) (y : B) → slice_get xs n ≡ Some x → P x y → Q x y → R x y) → AllZip P xs ys → AllZip Q xs ys → AllZip R xs ys
+-- what follows of two lists from what holds of them place by place
+pub zipped : {A B : Type 0} {P Q R : A → B → Type 0} (xs : List A) (ys : List B) → ((n : ℕ) (x : A) (y : B) → slice_get xs n ≡ Some x → P x y → Q x y → R x y) → AllZip P xs ys → AllZip Q xs ys → AllZip R xs ys
 zipped [] [] f p q = p
 zipped [] (y ∷ ys) f p q = p
 zipped (x ∷ xs) [] f p q = p
@@ -179,14 +210,30 @@ numbers_from most (k ∷ causes) fits below =
     let one : number_of k ≡ suc k = rw here (omega arith) in
     ap (λ (n : ℕ). n ∷ map number_of causes) one ∙ ap (λ (ns : List ℕ). suc k ∷ ns) (numbers_from most causes fits (λ j h. below j (contains_later j k causes h)))
 
-same_need : (need : ConditionalRequirement) (r : Requirement) → (not (has_condition need.condition) && same_requirement r need.requirement) ≡ true → need ≡ plain r
+-- a need that asks for the requirement without a condition
+pub same_need : (need : ConditionalRequirement) (r : Requirement) → (not (has_condition need.condition) && same_requirement r need.requirement) ≡ true → need ≡ plain r
 same_need need r e = (let (none, same) = and_parts (not (has_condition need.condition)) (same_requirement r need.requirement) e in by_parts need.condition need.requirement none same)
   where
     by_parts : (c : Option ConditionId) (q : Requirement) → not (has_condition c) ≡ true → same_requirement r q ≡ true → ◌≡◌ {A = ConditionalRequirement} (record { condition = c; requirement = q }) (plain r)
     by_parts (Some c) q none same = absurd (false≢true none)
     by_parts None q none same = ap plain (sym (requirements_same r q same))
 
-module _ (catalogue : List Line) (said : Said) (p : Provider) (steps : List (ProofStep NameId SolvableId)) (refutes : Refutes catalogue said p steps) (spelled : AreSpelled catalogue p.ids steps) (fits : length steps < 4294967296) where
+module _ (catalogue : List Line) (said : Said) (p : Provider) (steps : List (ProofStep NameId SolvableId)) (refutes : Refutes catalogue said p steps) (fits : length steps < 4294967296) where
+  -- a limit is told by the first line that states it
+  limit_told : (parent : Option SolvableId) (v : VersionSetId) (line : ℕ) → IsFirstLine catalogue said.lines (option_map version_no parent) (Limits (spec_at p.ids v)) line → Contains (rules_for refutes.same (packages_of p) (root_of refutes.ids) parent).constraints v
+      → IsFirst catalogue p.ids said.lines (place_at catalogue parent) (Limits (spec_at p.ids v)) line
+  limit_told None v line by has = first_asked catalogue p.ids said.lines (Limits (spec_at p.ids v)) line by (limit_in_lines p.ids refutes.ids.constraints.items said.lines refutes.asked.constraints v has)
+  limit_told (Some s) v line by has =
+      let (m, of, there) = version_limit catalogue p refutes.over s v has in
+      first_told catalogue p.ids said.lines (Limits (spec_at p.ids v)) (limit_owned (spec_at p.ids v)) s line by m of there
+
+  -- what bars a version is told by a line that does
+  bar_told : (s : SolvableId) (t : Step) → IsVersion catalogue p.ids s → TellsBar catalogue s t → (is_barred refutes.same (packages_of p) s || is_unknown (dependencies_of p s)) ≡ true → IsBarredBy catalogue (version_at catalogue s) t
+  bar_told s t (v, e) tells bars = elim (tells v e) [
+    | inl by ↦ subst (λ (w : Version). IsBarredBy catalogue w t) (sym (version_is catalogue p refutes.over s v e)) by
+    | inr none ↦ absurd (some_bars catalogue p refutes.over refutes.same refutes.exact s v e bars none.0 none.1)
+  ]
+
   -- a step that is written is told rightly
   step_told : (n : ℕ) (s : ProofStep NameId SolvableId) (t : Step) → slice_get steps n ≡ Some s → Tells catalogue said.lines p.ids s t → IsWritten catalogue p.ids s t → IsToldBy catalogue p.ids said.lines s t
   step_told n (Rule (NeedsRule None r case)) t at tells written =
@@ -194,31 +241,36 @@ module _ (catalogue : List Line) (said : Said) (p : Provider) (steps : List (Pro
       let (line, is, by) = tells none in
       let (condition, rule) = refutes.proof n _ at in
       let (has, among) = rule in
-      (line, is, first_asked catalogue p.ids said.lines (alternatives_at p.ids r) line by (line_from p.ids refutes.ids.requirements.items said.lines refutes.asked.requirements r (plain_of refutes.ids.requirements.items p r condition case none among has)))
+      (line, is, first_asked catalogue p.ids said.lines (Needs (alternatives_at p.ids r) None) line by (line_from p.ids refutes.ids.requirements.items said.lines refutes.asked.requirements r (plain_of refutes.ids.requirements.items p r condition case none among has)))
   step_told n (Rule (NeedsRule (Some s) r case)) t at tells written =
       let none : case.items ≡ [] = refutes.known n _ at in
       let (line, is, by) = tells none in
       let (condition, rule) = refutes.proof n _ at in
       let (has, among) = rule in
       let (m, of, there) = version_line catalogue p refutes.over s r (plain_of (rules_of (dependencies_of p s)).requirements p r condition case none among has) in
-      (line, is, first_told catalogue p.ids said.lines (alternatives_at p.ids r) s line by m of there)
+      (line, is, first_told catalogue p.ids said.lines (Needs (alternatives_at p.ids r) None) (need_owned (alternatives_at p.ids r) None) s line by m of there)
   step_told n (Rule (GateOf s r)) t at tells written =
       let (line, is, by) = tells in
       let (condition, asked) = refutes.proof n _ at in
       let (need, has, same) = any_contained (λ (need : ConditionalRequirement). not (has_condition need.condition) && same_requirement r need.requirement) (rules_of (dependencies_of p s)).requirements asked in
       let (m, of, there) = version_line catalogue p refutes.over s r (subst (λ (x : ConditionalRequirement). Contains (rules_of (dependencies_of p s)).requirements x) (same_need need r same) has) in
-      (line, is, first_told catalogue p.ids said.lines (alternatives_at p.ids r) s line by m of there)
+      (line, is, first_told catalogue p.ids said.lines (Needs (alternatives_at p.ids r) None) (need_owned (alternatives_at p.ids r) None) s line by m of there)
   step_told n (Rule (Shared r)) t at tells written = written
-  step_told n (Rule (Limit parent v barred)) t at tells written = absurd (refutes.known n _ at)
-  step_told n (Rule (Outside v s)) t at tells written = absurd (refutes.known n _ at)
-  step_told n (Rule (Locked locked s)) t at tells written = absurd (refutes.known n _ at)
-  step_told n (Rule (Excluded s reason)) t at tells written = absurd (refutes.known n _ at)
+  step_told n (Rule (Limit parent v None)) t at (line, is, by) written =
+      let (condition, has) = refutes.proof n _ at in
+      (line, is, limit_told parent v line by has)
+  step_told n (Rule (Limit parent v (Some s))) t at (line, is, by) written =
+      let (condition, (has, out)) = refutes.proof n _ at in
+      (line, is, limit_told parent v line by has)
+  step_told n (Rule (Outside v s)) t at tells written = written
+  step_told n (Rule (Locked locked s)) t at tells written = (let (condition, bars) = refutes.proof n _ at in bar_told s t (refutes.known n _ at) tells (bars_says refutes.same (packages_of p) (root_of refutes.ids) s bars))
+  step_told n (Rule (Excluded s reason)) t at tells written = (let (condition, bars) = refutes.proof n _ at in bar_told s t (refutes.known n _ at) tells (bars_says refutes.same (packages_of p) (root_of refutes.ids) s bars))
   step_told n (Rule (Digit s place bit)) t at tells written = written
-  step_told n (Rule (AtLeastOne name s)) t at tells written = absurd (refutes.known n _ at)
+  step_told n (Rule (AtLeastOne name s)) t at tells written = written
   step_told n (Derived literals causes) t at tells written =
       let (clause, is, same, rising) = tells in
       let below : n < length steps = length_bound steps n _ at in
-      (clause, is ∙ ap (λ (ns : List ℕ). told.Derive clause ns) (numbers_from n causes.items (omega (arith, below, fits)) (λ k h. let e : k < n = (refutes.proof n _ at).earlier k h in omega (arith, e))), same (spelled n literals causes at))
+      (clause, is ∙ ap (λ (ns : List ℕ). told.Derive clause ns) (numbers_from n causes.items (omega (arith, below, fits)) (λ k h. let e : k < n = (refutes.proof n _ at).earlier k h in omega (arith, e))), same (literals_fit catalogue p refutes.over literals.items (refutes.known n _ at)))
 
   -- each step is told rightly
   pub steps_told : (written : List Step) → AllZip (Tells catalogue said.lines p.ids) steps written → AllZip (IsWritten catalogue p.ids) steps written → AllZip (IsToldBy catalogue p.ids said.lines) steps written

@@ -1,10 +1,13 @@
--- What the refused report of a proof over the provider of a catalogue is, where the problem is plain.
-use Rattle.std.specs.Prelude.{◌≡◌, ◌↔◌, ℕ, suc, Bool, ◌<◌, ⊤, List, [], map, None, Some, Contains, slice_get}
+-- What the refused report of a proof over the provider of a catalogue is, where no requirement has a condition.
+use Rattle.std.specs.Prelude.{◌≡◌, ◌↔◌, ◌⊎◌, ℕ, suc, Bool, ◌<◌, ⊤, IsTrue, List, [], map, None, Some, Contains, slice_get}
 use Rattle.std.specs.List.{AllZip}
 use Rattle.std.proofs.Common.{Vec, Global}
-use Rattle.resolvo_text.specs.Line.{Version, Spec, Line, Needs}
+use Rattle.resolvo_text.specs.Line.{Version, Spec, Line, Needs, Limits}
+use Rattle.resolvo_text.specs.Spelling.{is_name}
+use Rattle.resolvo_text.specs.Spelling as form
 use Rattle.resolvo_catalogue.specs.Listed.{listed}
-use Rattle.resolvo_catalogue.specs.Questions.{Said}
+use Rattle.resolvo_catalogue.specs.Questions.{Said, LineIs, LocksAnother, Excludes, MarksUnknownOf, Bars}
+use Rattle.resolvo_pool.specs.declared.id.VersionSetId.{VersionSetId}
 use Rattle.resolvo_pool.specs.declared.requirement.Requirement.{Requirement}
 use Rattle.resolvo_rules.specs.Encoding.{Atom, IsExact}
 use Rattle.resolvo_coding.specs.declared.atom.ProofAtom.{ProofAtom}
@@ -26,6 +29,7 @@ use Rattle.resolvo_provider.specs.declared.provider.RequestIds.{RequestIds}
 use Rattle.resolvo_report.specs.Value.{Place, OfVersion, Literal, Step, Report, Refused}
 use Rattle.resolvo_report.specs.Value as told
 use Rattle.resolvo_report.specs.Text.{report_lines, IsAtom}
+use Rattle.resolvo_report.specs.Text as form_of
 use Rattle.resolvo_report.specs.Grammar.{IsReport}
 use Rattle.resolvo_judge.specs.StepClauses.{line_of}
 use Rattle.resolvo_judge.specs.Judgement.{IsClaimTrue}
@@ -44,28 +48,45 @@ module _ (catalogue : List Line) (ids : Ids) where
   abbrev pub IsName : NameId → Type 0
   IsName n = (name : List ℕ) × IsPackage ids n name
 
+  -- The id stands for a name, a SPEC or alternatives that a line can spell.
+  abbrev pub IsSpelledName : NameId → Type 0
+  IsSpelledName n = (name : List ℕ) × IsPackage ids n name × IsTrue (is_name name)
+
+  abbrev pub IsSpelledSet : VersionSetId → Type 0
+  IsSpelledSet v = (s : Spec) × IsSpec ids v s × form.IsSpec s
+
+  abbrev pub IsSpelledRequirement : Requirement → Type 0
+  IsSpelledRequirement r = (alternatives : List Spec) × AreAlternatives ids r alternatives × form_of.AreAlternatives alternatives
+
   -- what the atom is about is the catalogue's, and a digit is one of the first 32
   abbrev pub IsKnownAtom : ProofAtom NameId SolvableId → Type 0
   IsKnownAtom (atom.Solvable s) = IsVersion s
-  IsKnownAtom (atom.AtLeastOne n) = IsName n
-  IsKnownAtom (atom.Gate r) = IsRequirement r
-  IsKnownAtom (atom.Outside v) = (s : Spec) × IsSpec ids v s
-  IsKnownAtom (atom.Bit n bit) = IsName n × (bit < 32)
+  IsKnownAtom (atom.AtLeastOne n) = IsSpelledName n
+  IsKnownAtom (atom.Gate r) = IsSpelledRequirement r
+  IsKnownAtom (atom.Outside v) = IsSpelledSet v
+  IsKnownAtom (atom.Bit n bit) = IsSpelledName n × (bit < 32)
 
-  -- The step is one of a plain problem, and what it names that no rule of the problem tells is known.
+  -- The step needs nothing under a condition, and what it names that no rule of the problem tells is known.
   abbrev pub IsKnownStep : ProofStep NameId SolvableId → Type 0
   IsKnownStep (Rule (NeedsRule parent r case)) = case.items ≡ []
   IsKnownStep (Rule (GateOf s r)) = ⊤
-  IsKnownStep (Rule (Shared r)) = IsRequirement r
-  IsKnownStep (Rule (Limit parent v barred)) = ⊥
-  IsKnownStep (Rule (Outside v s)) = ⊥
-  IsKnownStep (Rule (Locked locked s)) = ⊥
-  IsKnownStep (Rule (Excluded s reason)) = ⊥
+  IsKnownStep (Rule (Shared r)) = IsSpelledRequirement r
+  IsKnownStep (Rule (Limit parent v barred)) = ⊤
+  IsKnownStep (Rule (Outside v s)) = IsSpelledSet v
+  IsKnownStep (Rule (Locked locked s)) = IsVersion s
+  IsKnownStep (Rule (Excluded s reason)) = IsVersion s
   IsKnownStep (Rule (Digit s place bit)) = IsVersion s × (bit < 32)
-  IsKnownStep (Rule (AtLeastOne n s)) = ⊥
+  IsKnownStep (Rule (AtLeastOne n s)) = ⊤
   IsKnownStep (Derived literals causes) = (l : ProofLiteral NameId SolvableId) → Contains literals.items l → IsKnownAtom l.atom
 
 -- ---- how steps are told
+
+-- The step bars the version: by a line that locks another version of its package, else by one that excludes it, else by
+-- one that says that its needs are unknown.
+abbrev pub IsBarredBy : List Line → Version → Step → Type 0
+IsBarredBy catalogue v step = (line : ℕ) × (((step ≡ told.Lock line v) × LineIs catalogue line (LocksAnother v))
+    ⊎ (((step ≡ told.Exclude line) × ((m : ℕ) → LineIs catalogue m (LocksAnother v) → ⊥) × LineIs catalogue line (Excludes v))
+    ⊎ ((step ≡ told.Unknown line) × ((m : ℕ) → Bars catalogue v m → ⊥) × LineIs catalogue line (MarksUnknownOf v))))
 
 module _ (catalogue : List Line) (ids : Ids) where
   -- the atom in the words of a report
@@ -87,32 +108,33 @@ module _ (catalogue : List Line) (ids : Ids) where
   abbrev pub AreLiterals : List (ProofLiteral NameId SolvableId) → List Literal → Type 0
   AreLiterals literals written = (l : Literal) → Contains written l ↔ ((k : ProofLiteral NameId SolvableId) × Contains literals k × (l ≡ literal_at k))
 
-  -- line n of the place needs these alternatives, without a condition
-  abbrev pub NeedsAt : List Line → Place → List Spec → ℕ → Type 0
-  NeedsAt request place alternatives n = line_of catalogue request place n ≡ Some (Needs alternatives None)
+  -- line n of the place says this
+  abbrev pub PlaceSays : List Line → Place → Line → ℕ → Type 0
+  PlaceSays request place said n = line_of catalogue request place n ≡ Some said
 
-  -- The line needs them, and none before it does.
-  pub record IsFirstNeed (request : List Line) (place : Place) (alternatives : List Spec) (n : ℕ) : Type 0 where
-    pub needs : NeedsAt request place alternatives n
-    pub first : (m : ℕ) → m < n → NeedsAt request place alternatives m → ⊥
+  -- The line says it, and none of the place before it does.
+  pub record IsFirst (request : List Line) (place : Place) (said : Line) (n : ℕ) : Type 0 where
+    pub says : PlaceSays request place said n
+    pub first : (m : ℕ) → m < n → PlaceSays request place said m → ⊥
 
-  -- The step tells the proof's step: a rule by the first line that states it, a derived clause by its literals and the
-  -- numbers of its causes.
+  -- The step tells the proof's step: a need or a limit by the first line that states it, what bars a version by a line
+  -- that does, a derived clause by its literals and the numbers of its causes.
   abbrev pub IsToldBy : List Line → ProofStep NameId SolvableId → Step → Type 0
-  IsToldBy request (Rule (NeedsRule parent r case)) step = (line : ℕ) × (step ≡ told.Need (place_at catalogue parent) line 1) × IsFirstNeed request (place_at catalogue parent) (alternatives_at ids r) line
-  IsToldBy request (Rule (GateOf s r)) step = (line : ℕ) × (step ≡ told.Gate (version_at catalogue s) line) × IsFirstNeed request (OfVersion (version_at catalogue s)) (alternatives_at ids r) line
+  IsToldBy request (Rule (NeedsRule parent r case)) step = (line : ℕ) × (step ≡ told.Need (place_at catalogue parent) line 1) × IsFirst request (place_at catalogue parent) (Needs (alternatives_at ids r) None) line
+  IsToldBy request (Rule (GateOf s r)) step = (line : ℕ) × (step ≡ told.Gate (version_at catalogue s) line) × IsFirst request (OfVersion (version_at catalogue s)) (Needs (alternatives_at ids r) None) line
   IsToldBy request (Rule (Shared r)) step = step ≡ told.Shared (alternatives_at ids r)
-  IsToldBy request (Rule (Limit parent v barred)) step = ⊥
-  IsToldBy request (Rule (Outside v s)) step = ⊥
-  IsToldBy request (Rule (Locked locked s)) step = ⊥
-  IsToldBy request (Rule (Excluded s reason)) step = ⊥
+  IsToldBy request (Rule (Limit parent v None)) step = (line : ℕ) × (step ≡ told.Limit (place_at catalogue parent) line) × IsFirst request (place_at catalogue parent) (Limits (spec_at ids v)) line
+  IsToldBy request (Rule (Limit parent v (Some s))) step = (line : ℕ) × (step ≡ told.LimitBars (place_at catalogue parent) line (version_at catalogue s)) × IsFirst request (place_at catalogue parent) (Limits (spec_at ids v)) line
+  IsToldBy request (Rule (Outside v s)) step = step ≡ told.Outside (spec_at ids v) (version_at catalogue s)
+  IsToldBy request (Rule (Locked locked s)) step = IsBarredBy catalogue (version_at catalogue s) step
+  IsToldBy request (Rule (Excluded s reason)) step = IsBarredBy catalogue (version_at catalogue s) step
   IsToldBy request (Rule (Digit s place bit)) step = step ≡ told.Digit (version_at catalogue s) place bit
-  IsToldBy request (Rule (AtLeastOne n s)) step = ⊥
+  IsToldBy request (Rule (AtLeastOne n s)) step = step ≡ told.Any (version_at catalogue s)
   IsToldBy request (Derived literals causes) step = (written : List Literal) × (step ≡ told.Derive written (map suc causes.items)) × AreLiterals literals.items written
 
 -- ---- reports
 
--- Over a provider of the catalogue, with what a request asks, the steps are a proof of a plain problem, and end with the
+-- Over a provider of the catalogue, with what a request asks, the steps are a proof without conditions, and end with the
 -- empty clause.
 pub record Refutes (catalogue : List Line) (said : Said) (provider : Provider) (steps : List (ProofStep NameId SolvableId)) : Type 0 where
   pub over : IsOver catalogue provider

@@ -27,6 +27,10 @@ place_at catalogue (Some s) = OfVersion (version_at catalogue s)
 abbrev pub number_of : ℕ → ℕ
 number_of place = if nat_lt place 4294967295 then place + 1 else 4294967295
 
+-- The step bars the version by a lock, an exclusion or its unknown needs.
+abbrev pub IsBar : Version → Step → Type 0
+IsBar v step = (line : ℕ) × ((step ≡ told.Lock line v) ⊎ ((step ≡ told.Exclude line) ⊎ (step ≡ told.Unknown line)))
+
 -- The step tells what the proof's step does, by the versions, SPECs and places of its ids, and a rule by some line.
 abbrev pub IsWritten : List Line → Ids → ProofStep NameId SolvableId → Step → Type 0
 IsWritten catalogue ids (Rule (Needs parent r case)) step = (line k : ℕ) × (step ≡ told.Need (place_at catalogue parent) line k)
@@ -35,13 +39,14 @@ IsWritten catalogue ids (Rule (Shared r)) step = step ≡ told.Shared (alternati
 IsWritten catalogue ids (Rule (Limit parent v None)) step = (line : ℕ) × (step ≡ told.Limit (place_at catalogue parent) line)
 IsWritten catalogue ids (Rule (Limit parent v (Some s))) step = (line : ℕ) × (step ≡ told.LimitBars (place_at catalogue parent) line (version_at catalogue s))
 IsWritten catalogue ids (Rule (Outside v s)) step = step ≡ told.Outside (spec_at ids v) (version_at catalogue s)
-IsWritten catalogue ids (Rule (Locked locked s)) step = (line : ℕ) × (step ≡ told.Lock line (version_at catalogue s))
-IsWritten catalogue ids (Rule (Excluded s reason)) step = (line : ℕ) × ((step ≡ told.Exclude line) ⊎ (step ≡ told.Unknown line))
+IsWritten catalogue ids (Rule (Locked locked s)) step = IsBar (version_at catalogue s) step
+IsWritten catalogue ids (Rule (Excluded s reason)) step = IsBar (version_at catalogue s) step
 IsWritten catalogue ids (Rule (Digit s place bit)) step = step ≡ told.Digit (version_at catalogue s) place bit
 IsWritten catalogue ids (Rule (AtLeastOne n s)) step = step ≡ told.Any (version_at catalogue s)
 IsWritten catalogue ids (Derived literals causes) step = (written : List Literal) × (step ≡ told.Derive written (map number_of causes.items))
 
--- The report is refused, has a step for each of the proof's, in order, names the lines of both texts that its steps rest on, and has no message.
+-- The report is refused, has a step for each of the proof's, in order, names the lines of both texts that its steps rest on,
+-- and has no message.
 pub record IsRefusedBy (catalogue request : List Line) (ids : Ids) (steps : List (ProofStep NameId SolvableId)) (r : Report) : Type 0 where
   pub in_catalogue : List ℕ
   pub in_request : List ℕ

@@ -1,14 +1,15 @@
 //! The first line of a text that states a rule. The lines of a place are looked through in order, those of the request
 //! or those of a version; where several state the rule, the first one is found.
 
-ghost use Rattle.std.specs.Prelude.{◌≡◌, ◌<◌, ◌≤◌, ℕ, List, IfOk, IfSome, IfNone, Option, Some, None, false, Contains};
+ghost use Rattle.std.specs.Prelude.{◌≡◌, ◌<◌, ◌≤◌, ℕ, List, IfOk, IfSome, IfNone, Option, Some, None, true, false, Contains, slice_get};
 ghost use Rattle.std.specs.Bool.{Decides};
 ghost use Rattle.std.specs.List.Sorted.{IsStrictlyIncreasing};
 ghost use Rattle.resolvo_text.specs.Line as says;
 ghost use Rattle.resolvo_text.specs.View.{spec_of, specs_of};
 ghost use Rattle.resolvo_catalogue.specs.Grammar.{line_at};
+ghost use Rattle.resolvo_catalogue.specs.Listed.{listed};
 ghost use Rattle.resolvo_catalogue.specs.Questions.{AreAll, States, is_rule};
-ghost use Rattle.resolvo_refusal.specs.Lines.{IsLeast, text_of, IsLineOf, NeedsPlainly};
+ghost use Rattle.resolvo_refusal.specs.Lines.{IsLeast, text_of, IsLineOf, SaysAt, locks, marks_unknown, IsUnknownLine, IsBarringLine};
 
 use resolvo_catalogue::{Catalogue, Request, Rule, Spec, VersionNo};
 use resolvo_pool::want::R;
@@ -28,9 +29,10 @@ pub(crate) struct NeedLine {
     pub case: u32,
 }
 
-/// A line by which a version is barred for a reason.
+/// A line by which a version is barred.
 #[derive(Clone, Copy, Debug)]
 pub(crate) enum BarringLine {
+    Lock(u32),
     Exclude(u32),
     Unknown(u32),
 }
@@ -64,7 +66,7 @@ impl<'a> Texts<'a> {
         place: Option<VersionNo>,
         alternatives: &[Spec],
     ) -> R<Option<u32>>
-        ensures { IfOk result (λ found. IsLeast found (λ n. IsLineOf self.entry.catalogue.now self.entry.request.now.lines place n × NeedsPlainly (text_of self.entry.catalogue.now self.entry.request.now.lines place) (specs_of alternatives.now) n)) }
+        ensures { IfOk result (λ found. IsLeast found (λ n. IsLineOf self.entry.catalogue.now self.entry.request.now.lines place n × SaysAt (text_of self.entry.catalogue.now self.entry.request.now.lines place) (says.Needs (specs_of alternatives.now) None) n)) }
     {
         let lines = self.lines_of(alloc, place)?;
         let found = self.first_plain_need(place, lines.as_slice(), alternatives);
@@ -79,7 +81,7 @@ impl<'a> Texts<'a> {
         alternatives: &[Spec],
     ) -> Option<u32>
         requires { IsStrictlyIncreasing lines.now }
-        ensures { IsLeast result (λ n. Contains lines.now n × NeedsPlainly (text_of self.entry.catalogue.now self.entry.request.now.lines place) (specs_of alternatives.now) n) }
+        ensures { IsLeast result (λ n. Contains lines.now n × SaysAt (text_of self.entry.catalogue.now self.entry.request.now.lines place) (says.Needs (specs_of alternatives.now) None) n) }
     {
         for line in lines {
             if self.needs_plainly(place, *line, alternatives) {
@@ -91,7 +93,7 @@ impl<'a> Texts<'a> {
 
     /// Whether line `line` of a place needs these alternatives without a condition.
     fn needs_plainly(self, place: Option<VersionNo>, line: u32, alternatives: &[Spec]) -> bool
-        ensures { Decides result (NeedsPlainly (text_of self.entry.catalogue.now self.entry.request.now.lines place) (specs_of alternatives.now) line) }
+        ensures { Decides result (SaysAt (text_of self.entry.catalogue.now self.entry.request.now.lines place) (says.Needs (specs_of alternatives.now) None) line) }
     {
         match self.rule(place, line) {
             Some(rule) => is_plain_need(rule, alternatives),
@@ -119,94 +121,96 @@ impl<'a> Texts<'a> {
     }
 
     /// The first line of a place that limits its set to this SPEC.
-    pub fn limit_line(
-        self,
-        alloc: Global,
-        place: Option<VersionNo>,
-        spec: &Spec,
-    ) -> R<Option<u32>> {
+    pub fn limit_line(self, alloc: Global, place: Option<VersionNo>, spec: &Spec) -> R<Option<u32>>
+        ensures { IfOk result (λ found. IsLeast found (λ n. IsLineOf self.entry.catalogue.now self.entry.request.now.lines place n × SaysAt (text_of self.entry.catalogue.now self.entry.request.now.lines place) (says.Limits (spec_of spec.now)) n)) }
+    {
         let lines = self.lines_of(alloc, place)?;
-        for line in lines.as_slice() {
-            if let Some(Rule::Limits { spec: stated, .. }) = self.rule(place, *line) {
-                if same_spec(stated, spec) {
-                    return Ok(Some(*line));
-                }
-            }
-        }
-        Ok(None)
+        let found = self.first_limit(place, lines.as_slice(), spec);
+        Ok(found)
     }
 
-    /// The line that excludes the version for this reason, or that says for this reason that its needs are unknown: the
-    /// first of them.
-    pub fn barring_line(
-        self,
-        excluding: &[Option<u32>],
-        version: VersionNo,
-        reason: &str,
-    ) -> Option<BarringLine> {
-        let exclude = self.exclude_line(excluding, version, reason);
-        let unknown = self.unknown_line(version, reason);
-        match (exclude, unknown) {
-            (Some(one), Some(other)) => {
-                if one < other {
-                    Some(BarringLine::Exclude(one))
-                } else {
-                    Some(BarringLine::Unknown(other))
-                }
-            }
-            (Some(line), None) => Some(BarringLine::Exclude(line)),
-            (None, Some(line)) => Some(BarringLine::Unknown(line)),
-            (None, None) => None,
-        }
-    }
-
-    /// The line that excludes the version for this reason.
-    fn exclude_line(
-        self,
-        excluding: &[Option<u32>],
-        version: VersionNo,
-        reason: &str,
-    ) -> Option<u32> {
-        let line = (*excluding.get(version.0 as usize)?)?;
-        match self.catalogue.rule(line)? {
-            Rule::Exclude { word, .. } => {
-                if word.as_str() == reason {
-                    Some(line)
-                } else {
-                    None
-                }
-            }
-            _ => None,
-        }
-    }
-
-    /// The line that says for this reason that the version's needs are unknown.
-    fn unknown_line(self, version: VersionNo, reason: &str) -> Option<u32> {
-        for line in self.catalogue.lines_of(version) {
-            if let Some(Rule::Unknown { word, .. }) = self.catalogue.rule(*line) {
-                if word.as_str() == reason {
-                    return Some(*line);
-                }
+    /// The first of these lines that limits its set to this SPEC. The lines rise.
+    fn first_limit(self, place: Option<VersionNo>, lines: &[u32], spec: &Spec) -> Option<u32>
+        requires { IsStrictlyIncreasing lines.now }
+        ensures { IsLeast result (λ n. Contains lines.now n × SaysAt (text_of self.entry.catalogue.now self.entry.request.now.lines place) (says.Limits (spec_of spec.now)) n) }
+    {
+        for line in lines {
+            if self.limits_to(place, *line, spec) {
+                return Some(*line);
             }
         }
         None
     }
-}
 
-/// For each version of a catalogue the line that excludes it, if one does.
-pub(crate) fn excluding_lines(alloc: Global, catalogue: &Catalogue) -> R<Vec<Option<u32>>> {
-    let mut excluding = Vec::new(alloc);
-    excluding.resize(catalogue.versions().len(), None)?;
-    for place in 0..catalogue.line_count() {
-        let line = place + 1;
-        if let Some(Rule::Exclude { version, .. }) = catalogue.rule(line) {
-            let number = version.0 as usize;
-            if number < excluding.len() {
-                excluding[number] = Some(line);
+    /// Whether line `line` of a place limits its set to this SPEC.
+    fn limits_to(self, place: Option<VersionNo>, line: u32, spec: &Spec) -> bool
+        ensures { Decides result (SaysAt (text_of self.entry.catalogue.now self.entry.request.now.lines place) (says.Limits (spec_of spec.now)) line) }
+    {
+        match self.rule(place, line) {
+            Some(rule) => is_limit(rule, spec),
+            None => false,
+        }
+    }
+
+    /// The line that bars the version: one that locks another version of its package, else one that excludes it, else
+    /// one that says that its needs are unknown.
+    pub fn barring_line(self, version: VersionNo) -> Option<BarringLine>
+        ensures { (v : says.Version) → slice_get (listed self.entry.catalogue.now) version.0 ≡ Some v → IsBarringLine self.entry.catalogue.now v result }
+    {
+        match self.catalogue.barred(version) {
+            Some(line) => {
+                if self.is_lock(line) {
+                    Some(BarringLine::Lock(line))
+                } else {
+                    Some(BarringLine::Exclude(line))
+                }
+            }
+            None => {
+                let line = self.unknown_line(version)?;
+                Some(BarringLine::Unknown(line))
             }
         }
     }
-    Ok(excluding)
+
+    /// Whether this line of the catalogue locks a version.
+    fn is_lock(self, line: u32) -> bool
+        ensures { (l : says.Line) → line_at self.entry.catalogue.now line ≡ Some l → result ≡ locks l }
+    {
+        match self.catalogue.rule(line) {
+            Some(rule) => locks(rule),
+            None => false,
+        }
+    }
+
+    /// The line that says that the version's needs are unknown.
+    fn unknown_line(self, version: VersionNo) -> Option<u32>
+        ensures { (v : says.Version) → slice_get (listed self.entry.catalogue.now) version.0 ≡ Some v → IsUnknownLine self.entry.catalogue.now v result }
+    {
+        self.first_unknown(self.catalogue.lines_of(version))
+    }
+
+    /// The first of these lines of the catalogue that says that something's needs are unknown.
+    fn first_unknown(self, lines: &[u32]) -> Option<u32>
+        ensures some { IfSome result (λ n. Contains lines.now n × ((l : says.Line) → line_at self.entry.catalogue.now n ≡ Some l → marks_unknown l ≡ true)) }
+        ensures none { IfNone result ((n : ℕ) → Contains lines.now n → (l : says.Line) → line_at self.entry.catalogue.now n ≡ Some l → marks_unknown l ≡ false) }
+    {
+        for line in lines {
+            if self.is_unknown(*line) {
+                return Some(*line);
+            }
+        }
+        None
+    }
+
+    /// Whether this line of the catalogue says that something's needs are unknown.
+    fn is_unknown(self, line: u32) -> bool
+        ensures { (l : says.Line) → line_at self.entry.catalogue.now line ≡ Some l → result ≡ marks_unknown l }
+    {
+        match self.catalogue.rule(line) {
+            Some(rule) => marks_unknown(rule),
+            None => false,
+        }
+    }
 }
 
 /// The numbers from 1 up to this one.
@@ -246,6 +250,36 @@ fn is_plain_need(rule: &Rule, alternatives: &[Spec]) -> bool
             condition: None,
             ..
         } => same_specs(stated.as_slice(), alternatives),
+        _ => false,
+    }
+}
+
+/// Whether the rule limits its set to this SPEC.
+fn is_limit(rule: &Rule, spec: &Spec) -> bool
+    ensures { (versions : List says.Version) (owner : Option says.Version) (line : says.Line) → States versions rule.now owner line → Decides result (line ≡ says.Limits (spec_of spec.now)) }
+{
+    match rule {
+        Rule::Limits { spec: stated, .. } => same_spec(stated, spec),
+        _ => false,
+    }
+}
+
+/// Whether the rule locks a version.
+fn locks(rule: &Rule) -> bool
+    ensures { (versions : List says.Version) (owner : Option says.Version) (line : says.Line) → States versions rule.now owner line → result ≡ locks line }
+{
+    match rule {
+        Rule::Lock { .. } => true,
+        _ => false,
+    }
+}
+
+/// Whether the rule says that a version's needs are unknown.
+fn marks_unknown(rule: &Rule) -> bool
+    ensures { (versions : List says.Version) (owner : Option says.Version) (line : says.Line) → States versions rule.now owner line → result ≡ marks_unknown line }
+{
+    match rule {
+        Rule::Unknown { .. } => true,
         _ => false,
     }
 }

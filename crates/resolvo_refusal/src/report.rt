@@ -4,10 +4,10 @@ ghost use Rattle.std.specs.Prelude.{IfOk};
 ghost use Rattle.std.specs.List.{AllZip};
 ghost use Rattle.resolvo_report.specs.View.{report_of, steps_of};
 ghost use Rattle.resolvo_refusal.specs.Writing.{IsWritten, IsRefusedBy};
-ghost use Rattle.resolvo_refusal.specs.Telling.{Tells, AreSpelled, IsToldRightly};
-ghost use Rattle.resolvo_refusal.specs.Refusal.{Refutes};
+ghost use Rattle.resolvo_refusal.specs.Telling.{Tells};
+ghost use Rattle.resolvo_refusal.specs.Refusal.{Refutes, IsRefusalOf};
 
-use crate::lines::{Texts, excluding_lines};
+use crate::lines::Texts;
 use crate::named::{Text, named_lines};
 use crate::steps::Writing;
 use resolvo_catalogue::{Catalogue, Request};
@@ -27,7 +27,7 @@ pub fn refused_report(
     provider: &CatalogueProvider,
     steps: &[ProofStep<NameId, SolvableId>],
 ) -> R<Report>
-    ensures told { IfOk result (λ r. Refutes catalogue.now request.now provider.now steps.now → AreSpelled catalogue.now provider.now.ids steps.now → IsToldRightly catalogue.now request.now.lines provider.now.ids steps.now (report_of r)) }
+    ensures refusal { IfOk result (λ r. Refutes catalogue.now request.now provider.now steps.now → IsRefusalOf catalogue.now request.now.lines provider.now.ids steps.now (report_of r)) }
     ensures refused { IfOk result (λ r. IsRefusedBy catalogue.now request.now.lines provider.now.ids steps.now (report_of r)) }
 {
     if steps.len() > 4_294_967_295 {
@@ -65,12 +65,10 @@ fn write_steps(
     ensures tells { IfOk result (λ v. AllZip (Tells texts.entry.catalogue.now texts.entry.request.now.lines provider.now.ids) steps.now (steps_of v.items)) }
     ensures written { IfOk result (λ v. AllZip (IsWritten texts.entry.catalogue.now provider.now.ids) steps.now (steps_of v.items)) }
 {
-    let excluding = excluding_lines(alloc, texts.catalogue)?;
     let writing = Writing {
         alloc,
         texts,
         provider,
-        excluding: excluding.as_slice(),
     };
     let mut written = Vec::new(alloc);
     for step in steps {

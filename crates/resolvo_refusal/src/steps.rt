@@ -1,20 +1,21 @@
 //! Steps of a proof, written as those of a report.
 
-ghost use Rattle.std.specs.Prelude.{◌≡◌, ◌⊎◌, ℕ, [], Some, IfOk, map};
+ghost use Rattle.std.specs.Prelude.{◌≡◌, ℕ, [], Some, None, IfOk, map};
 ghost use Rattle.std.specs.Option.{option_map};
+ghost use Rattle.resolvo_text.specs.Line as says;
 ghost use Rattle.resolvo_text.specs.View.{version_of};
 ghost use Rattle.resolvo_report.specs.Value as told;
 ghost use Rattle.resolvo_report.specs.View.{step_of, place_of};
 ghost use Rattle.resolvo_proof.specs.declared.step.ProofStep.TheVariants.{Rule as RuleStep};
 ghost use Rattle.resolvo_proof.specs.declared.step.ProofRule.TheVariants.{Limit};
-ghost use Rattle.resolvo_provider.specs.Known.{alternatives_at};
-ghost use Rattle.resolvo_refusal.specs.Writing.{version_at, place_at, number_of, IsWritten};
-ghost use Rattle.resolvo_refusal.specs.Telling.{version_no, IsPlainLine, Tells};
+ghost use Rattle.resolvo_provider.specs.Known.{spec_at, alternatives_at};
+ghost use Rattle.resolvo_refusal.specs.Writing.{version_at, place_at, number_of, IsBar, IsWritten};
+ghost use Rattle.resolvo_refusal.specs.Telling.{version_no, IsFirstLine, TellsBar, Tells};
 
 use crate::lines::{BarringLine, NeedLine, Texts};
 use crate::literals::{sorted_literals, version_of};
 use resolvo_catalogue::{Spec, Version, VersionNo};
-use resolvo_pool::id::{NameId, SolvableId, StringId, VersionSetId};
+use resolvo_pool::id::{NameId, SolvableId, VersionSetId};
 use resolvo_pool::requirement::Requirement;
 use resolvo_pool::want::R;
 use resolvo_proof::step::{ProofRule, ProofStep};
@@ -22,14 +23,13 @@ use resolvo_provider::provider::CatalogueProvider;
 use resolvo_report::{Place, Step};
 use std::alloc::Global;
 
-/// What steps are written with: the two texts, the provider of their ids, and for each version the line that excludes
-/// it. A rule that no line states is written with line 0, which no text has.
+/// What steps are written with: the two texts, and the provider of their ids. A rule that no line states is written with
+/// line 0, which no text has.
 #[derive(Clone, Copy)]
 pub(crate) struct Writing<'a> {
     pub alloc: Global,
     pub texts: Texts<'a>,
     pub provider: &'a CatalogueProvider,
-    pub excluding: &'a [Option<u32>],
 }
 
 impl Writing<'_> {
@@ -82,8 +82,8 @@ impl Writing<'_> {
                 spec: self.provider.spec_of(*version_set)?,
                 version: self.version(*solvable)?,
             }),
-            ProofRule::Locked { barred, .. } => self.lock(*barred),
-            ProofRule::Excluded { solvable, reason } => self.exclusion(*solvable, *reason),
+            ProofRule::Locked { barred, .. } => self.bar(*barred),
+            ProofRule::Excluded { solvable, .. } => self.bar(*solvable),
             ProofRule::Digit {
                 solvable,
                 place,
@@ -106,7 +106,7 @@ impl Writing<'_> {
         requirement: Requirement,
         case: &[VersionSetId],
     ) -> R<Step>
-        ensures tells { IfOk result (λ w. case.now ≡ [] → (line : ℕ) × (step_of w ≡ told.Need (place_at self.entry.texts.catalogue.now parent) line 1) × IsPlainLine self.entry.texts.catalogue.now self.entry.texts.request.now.lines (option_map version_no parent) (alternatives_at self.entry.provider.now.ids requirement) line) }
+        ensures tells { IfOk result (λ w. case.now ≡ [] → (line : ℕ) × (step_of w ≡ told.Need (place_at self.entry.texts.catalogue.now parent) line 1) × IsFirstLine self.entry.texts.catalogue.now self.entry.texts.request.now.lines (option_map version_no parent) (says.Needs (alternatives_at self.entry.provider.now.ids requirement) None) line) }
         ensures written { IfOk result (λ w. (line k : ℕ) × (step_of w ≡ told.Need (place_at self.entry.texts.catalogue.now parent) line k)) }
     {
         if case.is_empty() {
@@ -131,7 +131,7 @@ impl Writing<'_> {
 
     /// The step of a need without a condition, by the first line that states it.
     fn plain_need(self, parent: Option<SolvableId>, requirement: Requirement) -> R<Step>
-        ensures { IfOk result (λ w. (line : ℕ) × (step_of w ≡ told.Need (place_at self.entry.texts.catalogue.now parent) line 1) × IsPlainLine self.entry.texts.catalogue.now self.entry.texts.request.now.lines (option_map version_no parent) (alternatives_at self.entry.provider.now.ids requirement) line) }
+        ensures { IfOk result (λ w. (line : ℕ) × (step_of w ≡ told.Need (place_at self.entry.texts.catalogue.now parent) line 1) × IsFirstLine self.entry.texts.catalogue.now self.entry.texts.request.now.lines (option_map version_no parent) (says.Needs (alternatives_at self.entry.provider.now.ids requirement) None) line) }
     {
         let line = self.plain_line(parent, requirement)?;
         Ok(Step::Need {
@@ -143,7 +143,7 @@ impl Writing<'_> {
 
     /// The first line of a parent that needs the requirement without a condition.
     fn plain_line(self, parent: Option<SolvableId>, requirement: Requirement) -> R<u32>
-        ensures { IfOk result (λ line. IsPlainLine self.entry.texts.catalogue.now self.entry.texts.request.now.lines (option_map version_no parent) (alternatives_at self.entry.provider.now.ids requirement) line) }
+        ensures { IfOk result (λ line. IsFirstLine self.entry.texts.catalogue.now self.entry.texts.request.now.lines (option_map version_no parent) (says.Needs (alternatives_at self.entry.provider.now.ids requirement) None) line) }
     {
         let alternatives = self.provider.alternatives_of(requirement)?;
         let place = self.place_number(parent);
@@ -155,7 +155,7 @@ impl Writing<'_> {
 
     /// The step of a gate, by the first line that states the need without condition.
     fn gate(self, parent: SolvableId, requirement: Requirement) -> R<Step>
-        ensures { IfOk result (λ w. (line : ℕ) × (step_of w ≡ told.Gate (version_at self.entry.texts.catalogue.now parent) line) × IsPlainLine self.entry.texts.catalogue.now self.entry.texts.request.now.lines (Some (version_no parent)) (alternatives_at self.entry.provider.now.ids requirement) line) }
+        ensures { IfOk result (λ w. (line : ℕ) × (step_of w ≡ told.Gate (version_at self.entry.texts.catalogue.now parent) line) × IsFirstLine self.entry.texts.catalogue.now self.entry.texts.request.now.lines (Some (version_no parent)) (says.Needs (alternatives_at self.entry.provider.now.ids requirement) None) line) }
     {
         let line = self.plain_line(Some(parent), requirement)?;
         Ok(Step::Gate {
@@ -171,12 +171,10 @@ impl Writing<'_> {
         version_set: VersionSetId,
         barred: Option<SolvableId>,
     ) -> R<Step>
-        ensures { IfOk result (λ w. IsWritten self.entry.texts.catalogue.now self.entry.provider.now.ids (RuleStep (Limit parent version_set barred)) (step_of w)) }
+        ensures tells { IfOk result (λ w. Tells self.entry.texts.catalogue.now self.entry.texts.request.now.lines self.entry.provider.now.ids (RuleStep (Limit parent version_set barred)) (step_of w)) }
+        ensures written { IfOk result (λ w. IsWritten self.entry.texts.catalogue.now self.entry.provider.now.ids (RuleStep (Limit parent version_set barred)) (step_of w)) }
     {
-        let spec = self.provider.spec_of(version_set)?;
-        let place = self.place_number(parent);
-        let found = self.texts.limit_line(self.alloc, place, &spec)?;
-        let line = found.unwrap_or(0);
+        let line = self.limit_line(parent, version_set)?;
         let place = self.place(parent)?;
         match barred {
             None => Ok(Step::Limit { place, line }),
@@ -188,27 +186,28 @@ impl Writing<'_> {
         }
     }
 
-    /// The step of a lock: the line that bars the version, where it is one that locks another version.
-    fn lock(self, barred: SolvableId) -> R<Step>
-        ensures { IfOk result (λ w. (line : ℕ) × (step_of w ≡ told.Lock line (version_at self.entry.texts.catalogue.now barred))) }
+    /// The first line of a parent that limits its set to the version set's SPEC.
+    fn limit_line(self, parent: Option<SolvableId>, version_set: VersionSetId) -> R<u32>
+        ensures { IfOk result (λ line. IsFirstLine self.entry.texts.catalogue.now self.entry.texts.request.now.lines (option_map version_no parent) (says.Limits (spec_at self.entry.provider.now.ids version_set)) line) }
     {
-        let number = self.provider.version_of(barred);
-        let line = self.texts.catalogue.barred(number).unwrap_or(0);
-        Ok(Step::Lock {
-            line,
-            version: self.version(barred)?,
-        })
+        let spec = self.provider.spec_of(version_set)?;
+        let place = self.place_number(parent);
+        let found = self.texts.limit_line(self.alloc, place, &spec)?;
+        Ok(found.unwrap_or(0))
     }
 
-    /// The step of an exclusion, by the first line that states it.
-    fn exclusion(self, solvable: SolvableId, reason: StringId) -> R<Step>
-        ensures { IfOk result (λ w. (line : ℕ) × ((step_of w ≡ told.Exclude line) ⊎ (step_of w ≡ told.Unknown line))) }
+    /// The step that bars a version: by a line that locks another version of its package, else by one that excludes it,
+    /// else by one that says that its needs are unknown.
+    fn bar(self, solvable: SolvableId) -> R<Step>
+        ensures tells { IfOk result (λ w. TellsBar self.entry.texts.catalogue.now solvable (step_of w)) }
+        ensures written { IfOk result (λ w. IsBar (version_at self.entry.texts.catalogue.now solvable) (step_of w)) }
     {
+        let version = self.version(solvable)?;
         let number = self.provider.version_of(solvable);
-        let reason = self.provider.word_of(reason);
-        match self.texts.barring_line(self.excluding, number, reason) {
-            Some(BarringLine::Unknown(line)) => Ok(Step::Unknown { line }),
+        match self.texts.barring_line(number) {
+            Some(BarringLine::Lock(line)) => Ok(Step::Lock { line, version }),
             Some(BarringLine::Exclude(line)) => Ok(Step::Exclude { line }),
+            Some(BarringLine::Unknown(line)) => Ok(Step::Unknown { line }),
             None => Ok(Step::Exclude { line: 0 }),
         }
     }

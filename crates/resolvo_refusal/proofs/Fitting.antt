@@ -1,0 +1,168 @@
+-- Each step that tells one of a proof without conditions has a text, and so has the report.
+use Rattle.std.proofs.Common.{inl, inr, ◌≡◌, ◌<◌, ℕ, suc, List, [], ◌∷◌, ◌++◌, map, length, Option, Some, None, refl, sym, subst, ◌∙◌, arith, Vec, Global}
+use Rattle.std.specs.Prelude.{IsTrue, Contains, slice_get}
+use Rattle.std.specs.List.{AllZip}
+use Rattle.std.proofs.lemmas.Option.{slice_get_within}
+use Rattle.resolvo_text.specs.Line.{Spec, Line}
+use Rattle.resolvo_text.specs.Spelling.{IsNumber}
+use Rattle.resolvo_text.specs.Spelling as form
+use Rattle.resolvo_catalogue.specs.Grammar.{line_at}
+use Rattle.resolvo_catalogue.specs.Questions.{Said, AreAll}
+use Rattle.resolvo_rules.proofs.Lists.{contains_map, map_contains}
+use Rattle.resolvo_proof.specs.Steps.{literal_in}
+use Rattle.resolvo_proof.specs.declared.step.ProofLiteral.{ProofLiteral}
+use Rattle.resolvo_proof.specs.declared.step.ProofStep.{ProofStep}
+use Rattle.resolvo_proof.specs.declared.step.ProofStep.TheVariants.{Rule, Derived}
+use Rattle.resolvo_proof.specs.declared.step.ProofRule.TheVariants.{Needs as NeedsRule, GateOf, Shared, Limit, Outside, Locked, Excluded, Digit, AtLeastOne}
+use Rattle.resolvo_provider.specs.Ids.{NameId, SolvableId}
+use Rattle.resolvo_provider.specs.Provider.{Provider, packages_of}
+use Rattle.resolvo_provider.specs.Keeping.{root_of}
+use Rattle.resolvo_provider.proofs.Covering.{alternatives_stand, spec_stands}
+use Rattle.resolvo_report.specs.Value.{Place, OfRequest, OfVersion, Literal, Step, Report, Refused}
+use Rattle.resolvo_report.specs.Value as told
+use Rattle.resolvo_report.specs.Text.{literal_text, are_rising, IsLineNumber, IsPlace, IsAtom, IsStep}
+use Rattle.resolvo_report.specs.Text as form_of
+use Rattle.resolvo_report.specs.Grammar.{IsReport}
+use Rattle.resolvo_judge.specs.StepClauses as judge
+use Rattle.resolvo_refusal.specs.declared.named.Text.{Text}
+use Rattle.resolvo_refusal.specs.declared.named.Text.TheVariants as text
+use Rattle.resolvo_refusal.specs.Named.{IsNamedBy}
+use Rattle.resolvo_refusal.specs.Writing.{version_at, place_at, IsWritten}
+use Rattle.resolvo_refusal.specs.Telling.{Tells}
+use Rattle.resolvo_refusal.specs.Refusal.{IsVersion, IsKnownAtom, AreLiterals, IsBarredBy, IsToldBy, Refutes, IsRefusalOf}
+use Rattle.resolvo_refusal.proofs.Renaming.{named_once}
+use Rattle.resolvo_refusal.proofs.Clauses.{Spells, spelled_members, asked_for, gate_asked, limited, is_out, candidate_of, literals_spelled}
+use Rattle.resolvo_refusal.proofs.Taken.{out_says}
+use Rattle.resolvo_refusal.proofs.Following.{owned}
+use Rattle.resolvo_refusal.proofs.Accepting.{refusal_of}
+use Rattle.resolvo_refusal.proofs.Telling.{within_line, zipped, steps_told}
+use Rattle.resolvo_refusal.proofs.Spelled.{version_fits, atom_fits}
+use Rattle.resolvo_refusal.proofs.Grammar.{of_every, rising_sorted, atoms_once, in_grammar}
+
+-- the literals of two equal steps are the same
+one_clause : {v w : List Literal} {ms ns : List ℕ} → told.Derive v ms ≡ told.Derive w ns → v ≡ w
+one_clause e = cc
+
+-- the numbers of steps have a text
+numbers_fit : (most : ℕ) (causes : List ℕ) → 0 < length causes → most < 4294967295 → ((k : ℕ) → Contains causes k → k < most) → form_of.AreNumbers (map suc causes)
+numbers_fit most [] some fits below = absurd (omega (arith, some))
+numbers_fit most (k ∷ causes) some fits below = (
+  omega arith,
+  of_every (λ (n : ℕ). IsNumber n) (map suc (k ∷ causes)) (λ n h. (
+      let (j, has, is) = map_contains suc n (k ∷ causes) h in
+      let b : j < most = below j has in
+      omega (arith, b, fits, is)
+      )),
+)
+
+some_last : {X : Type 0} (xs : List X) (x : X) → 0 < length (xs ++ x ∷ [])
+some_last [] x = omega arith
+some_last (y ∷ xs) x = omega arith
+
+module _ (catalogue : List Line) (said : Said) (provider : Provider) (steps : List (ProofStep NameId SolvableId)) (refuted : Refutes catalogue said provider steps)
+    (few : length steps < 4294967296) (long : length catalogue < 4294967296) (asked : length said.lines < 4294967296) where
+  -- a line of a place has a number of a line
+  line_fits : (place : Place) (n : ℕ) (l : Line) → judge.line_of catalogue said.lines place n ≡ Some l → IsLineNumber n
+  line_fits OfRequest n l e = (let (first, last) = within_line said.lines n l e in (first, omega (arith, last, asked)))
+  line_fits (OfVersion v) n l e = (let (first, last) = within_line catalogue n l (owned _ (line_at catalogue n) l e) in (first, omega (arith, last, long)))
+
+  parent_fits : (parent : Option SolvableId) → ((s : SolvableId) → parent ≡ Some s → IsVersion catalogue provider.ids s) → IsPlace (place_at catalogue parent)
+  parent_fits None known = tt
+  parent_fits (Some s) known = version_fits catalogue provider refuted.over s (known s refl)
+
+  -- the literals of a derived clause: each atom once
+  clause_fits : (n : ℕ) (literals : Vec (ProofLiteral NameId SolvableId) Global) (causes : Vec ℕ Global) (written : List Literal) → slice_get steps n ≡ Some (Derived literals causes)
+      → AreLiterals catalogue provider.ids literals.items written → IsTrue (are_rising (map literal_text written)) → form_of.AreLiterals written
+  clause_fits n literals causes written at are rising = record {
+    each = of_every (λ l. IsAtom l.atom) written fits;
+    rising = rising;
+    once = atoms_once written fits signs (rising_sorted (map literal_text written) rising);
+  }
+    where
+      known : (l : ProofLiteral NameId SolvableId) → Contains literals.items l → IsKnownAtom catalogue provider.ids l.atom
+      known = refuted.known n _ at
+
+      fits : (l : Literal) → Contains written l → IsAtom l.atom
+      fits l h = (let (k, has, is) = (are l).0 h in subst (λ (x : Literal). IsAtom x.atom) (sym is) (atom_fits catalogue provider refuted.over k.atom (known k has)))
+
+      spelled : Spells catalogue provider refuted.over (map literal_in literals.items) (map judge.literal_of written)
+      spelled = literals_spelled catalogue provider refuted.over literals.items written known are
+
+      signs : (l m : Literal) → Contains written l → Contains written m → l.atom ≡ m.atom → l.positive ≡ m.positive
+      signs l m h k e =
+          let same = spelled_members catalogue provider refuted.over _ _ spelled in
+          named_once catalogue provider refuted.over refuted.same_atom refuted.exact_atom (map literal_in literals.items) spelled.known (refuted.one_sign n literals causes at) (judge.literal_of l) (judge.literal_of m)
+          (same.each (judge.literal_of l) (contains_map judge.literal_of l written h)) (same.each (judge.literal_of m) (contains_map judge.literal_of m written k)) e
+
+  catalogue_fits : (n : ℕ) (l : Line) → line_at catalogue n ≡ Some l → IsLineNumber n
+  catalogue_fits n l e = (let (first, last) = within_line catalogue n l e in (first, omega (arith, last, long)))
+
+  -- so has one that bars a version
+  bar_fits : (s : SolvableId) (t : Step) → IsVersion catalogue provider.ids s → IsBarredBy catalogue (version_at catalogue s) t → IsStep t
+  bar_fits s t version (line, inl (is, (l, at, locks))) = subst (λ (x : Step). IsStep x) (sym is) (catalogue_fits line l at, version_fits catalogue provider refuted.over s version)
+  bar_fits s t version (line, inr (inl (is, none, (l, at, out)))) = subst (λ (x : Step). IsStep x) (sym is) (catalogue_fits line l at)
+  bar_fits s t version (line, inr (inr (is, none, (l, at, unknown)))) = subst (λ (x : Step). IsStep x) (sym is) (catalogue_fits line l at)
+
+  -- the step has a text
+  pub step_fits : (n : ℕ) (s : ProofStep NameId SolvableId) (t : Step) → slice_get steps n ≡ Some s → Tells catalogue said.lines provider.ids s t → IsToldBy catalogue provider.ids said.lines s t → IsStep t
+  step_fits n (Rule (NeedsRule parent r case)) t at tells (line, is, first) =
+      let (condition, (needs, cases)) = refuted.proof n _ at in
+      let (versions, known) = asked_for catalogue provider refuted.over refuted.same refuted.exact said refuted.ids refuted.asked parent (record { condition = condition; requirement = r }) needs in
+      subst (λ (x : Step). IsStep x) (sym is) (parent_fits parent versions, line_fits (place_at catalogue parent) line _ first.says, omega arith)
+  step_fits n (Rule (GateOf s r)) t at tells (line, is, first) =
+      let (condition, asks) = refuted.proof n _ at in
+      let (version, known) = gate_asked catalogue provider refuted.over refuted.same refuted.exact s r asks in
+      subst (λ (x : Step). IsStep x) (sym is) (version_fits catalogue provider refuted.over s version, line_fits (OfVersion (version_at catalogue s)) line _ first.says)
+  step_fits n (Rule (Shared r)) t at tells is =
+      let (ss, are, fit) = refuted.known n _ at in
+      subst (λ (x : Step). IsStep x) (sym is) (subst (λ ts. form_of.AreAlternatives ts) (sym (alternatives_stand provider.ids r ss are)) fit)
+  step_fits n (Rule (Limit parent v None)) t at tells (line, is, first) =
+      let (condition, has) = refuted.proof n _ at in
+      let (versions, known) = limited catalogue provider refuted.over refuted.same refuted.exact said refuted.ids refuted.asked parent v has in
+      subst (λ (x : Step). IsStep x) (sym is) (parent_fits parent versions, line_fits (place_at catalogue parent) line _ first.says)
+  step_fits n (Rule (Limit parent v (Some s))) t at tells (line, is, first) =
+      let (condition, (has, out)) = refuted.proof n _ at in
+      let (versions, (spec, named)) = limited catalogue provider refuted.over refuted.same refuted.exact said refuted.ids refuted.asked parent v has in
+      let (version, outside) = is_out catalogue provider refuted.over refuted.same refuted.exact v spec s named out in
+      subst (λ (x : Step). IsStep x) (sym is) (parent_fits parent versions, line_fits (place_at catalogue parent) line _ first.says, version_fits catalogue provider refuted.over s version)
+  step_fits n (Rule (Outside v s)) t at tells is =
+      let (condition, out) = refuted.proof n _ at in
+      let (spec, named, fits) = refuted.known n _ at in
+      let (version, outside) = is_out catalogue provider refuted.over refuted.same refuted.exact v spec s named (out_says refuted.same (packages_of provider) (root_of refuted.ids) v s out) in
+      subst (λ (x : Step). IsStep x) (sym is) (subst (λ (x : Spec). form.IsSpec x) (sym (spec_stands provider.ids v spec named)) fits, version_fits catalogue provider refuted.over s version)
+  step_fits n (Rule (Locked locked s)) t at tells bars = bar_fits s t (refuted.known n _ at) bars
+  step_fits n (Rule (Excluded s reason)) t at tells bars = bar_fits s t (refuted.known n _ at) bars
+  step_fits n (Rule (Digit s place bit)) t at tells is =
+      let (version, below) = refuted.known n _ at in
+      subst (λ (x : Step). IsStep x) (sym is) (version_fits catalogue provider refuted.over s version, tells, below)
+  step_fits n (Rule (AtLeastOne m s)) t at tells is =
+      let (condition, there) = refuted.proof n _ at in
+      let (version, packaged) = candidate_of catalogue provider refuted.over refuted.same refuted.exact m s there in
+      subst (λ (x : Step). IsStep x) (sym is) (version_fits catalogue provider refuted.over s version)
+  step_fits n (Derived literals causes) t at (v, of, same, rising) (written, is, are) =
+      let refutes = refuted.proof n _ at in
+      let one : v ≡ written = one_clause (sym of ∙ is) in
+      let within : n < length steps = slice_get_within steps n _ at in
+      subst (λ (x : Step). IsStep x) (sym is) (
+        clause_fits n literals causes written at are (subst (λ (ls : List Literal). IsTrue (are_rising (map literal_text ls))) one rising),
+        numbers_fit n causes.items refutes.some (omega (arith, few, within)) refutes.earlier,
+      )
+
+  -- named lines have numbers of lines
+  named_fit : (of : Text) (count : ℕ) (numbers : List ℕ) (written : List Step) → count < 4294967296 → AreAll numbers (IsNamedBy of count written) → (n : ℕ) → Contains numbers n → IsLineNumber n
+  named_fit of count numbers written fits all n h = (let (k, is, below, rests) = (all.all n).0 h in (omega (arith, is), omega (arith, is, below, fits)))
+
+  -- the steps that tell the proof's are those of a report
+  is_report : (in_catalogue in_request : List ℕ) (written : List Step) → AllZip (Tells catalogue said.lines provider.ids) steps written → AllZip (IsToldBy catalogue provider.ids said.lines) steps written
+      → AreAll in_catalogue (IsNamedBy text.Catalogue (length catalogue) written) → AreAll in_request (IsNamedBy text.Request (length said.lines) written) → IsReport (Refused in_catalogue in_request written [])
+  is_report in_catalogue in_request written tells are of_catalogue of_request = in_grammar in_catalogue in_request steps written of_catalogue.rising of_request.rising
+      (named_fit text.Catalogue (length catalogue) in_catalogue written long of_catalogue) (named_fit text.Request (length said.lines) in_request written asked of_request)
+      (zipped steps written step_fits tells are) (let end = refuted.empty in subst (λ (xs : List (ProofStep NameId SolvableId)). 0 < length xs) (sym end.ends) (some_last end.earlier (Derived end.literals end.causes))) few
+
+  -- A report whose steps are written so, and which names the lines that they rest on, is a refusal of the proof.
+  pub refusal : (in_catalogue in_request : List ℕ) (written : List Step) (r : Report) → r ≡ Refused in_catalogue in_request written [] → AllZip (Tells catalogue said.lines provider.ids) steps written → AllZip (IsWritten catalogue provider.ids) steps written
+      → AreAll in_catalogue (IsNamedBy text.Catalogue (length catalogue) written) → AreAll in_request (IsNamedBy text.Request (length said.lines) written) → IsRefusalOf catalogue said.lines provider.ids steps r
+  refusal in_catalogue in_request written r is tells wrote of_catalogue of_request =
+      let each = steps_told catalogue said provider steps refuted few written tells wrote in
+      refusal_of catalogue said provider steps refuted r (record { in_catalogue = in_catalogue; in_request = in_request; written = written; is = is; each = wrote; named = of_catalogue; asked = of_request }) each
+      (subst (λ (x : Report). IsReport x) (sym is) (is_report in_catalogue in_request written tells each of_catalogue of_request))
