@@ -1,2 +1,11 @@
 pub mod ServedLines
 pub mod Unconditional
+pub mod FirstMatches
+pub mod FirstTried
+pub mod FirstNeeds
+pub mod FirstFlat
+pub mod FirstChosen
+pub mod FirstExample
+pub mod Atoms
+pub mod Knowing
+pub mod Upheld

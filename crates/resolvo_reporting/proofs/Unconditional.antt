@@ -47,7 +47,7 @@ free_condition ids need said is none = go need.condition (subst (λ (c : Option 
 
 -- ---- lists with an answer for what isn't there
 
-or_all : {X : Type 0} (P : X → Type 0) (xs : List X) (d : X) → ((k : ℕ) (x : X) → slice_get xs k ≡ Some x → P x) → P d → (i : ℕ) → P (slice_index_or xs i d)
+pub or_all : {X : Type 0} (P : X → Type 0) (xs : List X) (d : X) → ((k : ℕ) (x : X) → slice_get xs k ≡ Some x → P x) → P d → (i : ℕ) → P (slice_index_or xs i d)
 or_all P [] d h own i = own
 or_all P (x ∷ xs) d h own zero = h 0 x refl
 or_all P (x ∷ xs) d h own (suc i) = or_all P xs d (λ k y e. h (suc k) y e) own i

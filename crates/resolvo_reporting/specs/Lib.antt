@@ -1,1 +1,4 @@
 pub mod Served
+pub mod First
+pub mod Solved
+pub mod Reported

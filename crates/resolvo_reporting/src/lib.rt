@@ -1,4 +1,5 @@
 //! From a catalogue and a request to the report of the solver's answer.
 #![tactic(auto)]
 
+pub mod reporting;
 pub mod serving;
