@@ -1,0 +1,104 @@
+#!/usr/bin/env python3
+"""Compares `resolve solve` with a plain slow solver, which tries all sets, over generated texts without conditions and wishes.
+
+Usage: checks/solving.py [PAIRS] [PATH OF THE PROGRAM]
+Defaults: 1000 pairs, crates/resolve/out/resolve (which `rt run` leaves).
+It installs exactly where some set keeps all rules; the plain judge says yes to each report; where the first choices keep all
+rules and no line has alternatives, they are the entries; of flat texts the entries are the newest versions that fit.
+"""
+import os
+import random
+import subprocess
+import sys
+import tempfile
+
+from judging import Prover, some_texts
+from plain_judge import judge, matches, obeys
+
+HERE = os.path.dirname(os.path.abspath(__file__))
+
+
+def plain_texts(rng):
+    """Texts whose needs lose their conditions, and which wish nothing."""
+    catalogue, request = some_texts(rng)
+    catalogue, request = (
+        "".join(line.split(" if ")[0] + "\n" for line in text.splitlines() if not line.startswith("wish")) for text in (catalogue, request)
+    )
+    if rng.random() < 0.3:
+        catalogue = "".join(line + "\n" for line in catalogue.splitlines() if line.startswith("version"))
+    return catalogue, request
+
+
+def first_match(catalogue, listed, spec):
+    """The favoured match, or the newest."""
+    found = [v for v in listed if matches(spec, v)]
+    favoured = [line["version"] for line in catalogue if line["kind"] == "favour"]
+    return next((v for v in found if v in favoured), max(found, key=lambda v: v[1], default=None))
+
+
+def first_choices(catalogue, request, listed):
+    """The least set that holds the first match of each line that asks in it; None where a line has alternatives."""
+    chosen = []
+    while True:
+        for line in [line for line in request if line["kind"] == "needs"] + [line for line in catalogue if line["kind"] == "needs" and line["owner"] in chosen]:
+            if len(line["alternatives"]) > 1:
+                return None
+            v = first_match(catalogue, listed, line["alternatives"][0])
+            if v and v not in chosen:
+                chosen.append(v)
+                break
+        else:
+            return chosen
+
+
+def newest(catalogue, request, listed):
+    """Of flat texts the newest version of each needed package that fits each need of it; None of other texts."""
+    if any(line["kind"] != "version" for line in catalogue) or any(line["kind"] != "needs" or len(line["alternatives"]) > 1 for line in request):
+        return None
+    needs = [line["alternatives"][0] for line in request]
+    fits = lambda v: all(matches(s, v) for s in needs if s[0] == v[0])
+    return [max((v for v in listed if v[0] == package and fits(v)), key=lambda v: v[1], default=None) for package in {s[0] for s in needs}]
+
+
+def entries(report):
+    return [(line.split("=")[0], int(line.split("=")[1].split()[0])) for line in report.splitlines()[1:]]
+
+
+def check(catalogue_text, request_text, status, report):
+    prover = Prover(catalogue_text.encode(), request_text.encode())
+    catalogue, request, listed = prover.catalogue, prover.request, prover.listed
+    some = next(iter(prover.sets()), None)
+    assert status == (1 if some is None else 0), f"status {status}, and a set is {some}"
+    refused = judge(catalogue_text.encode(), request_text.encode(), report.encode())
+    assert refused == 0, f"the plain judge says no at line {refused}"
+    if status == 0:
+        first = first_choices(catalogue, request, listed)
+        single = first is not None and len({v[0] for v in first}) == len(first)
+        if single and all(obeys(line, first) for line in catalogue + request):
+            assert sorted(first) == sorted(entries(report)), f"first choices are {first}"
+        flat = newest(catalogue, request, listed)
+        if flat is not None:
+            assert sorted(flat) == sorted(entries(report)), f"the newest are {flat}"
+
+
+def main():
+    pairs = int(sys.argv[1]) if len(sys.argv) > 1 else 1000
+    program = sys.argv[2] if len(sys.argv) > 2 else os.path.join(HERE, "../crates/resolve/out/resolve")
+    rng, counts = random.Random(9), {0: 0, 1: 0}
+    with tempfile.TemporaryDirectory() as folder:
+        paths = [os.path.join(folder, part) for part in ("catalogue", "request")]
+        for k in range(pairs):
+            texts = plain_texts(rng)
+            for path, text in zip(paths, texts):
+                open(path, "w").write(text)
+            run = subprocess.run([program, "solve", *paths], capture_output=True, text=True)
+            try:
+                check(*texts, run.returncode, run.stdout)
+            except AssertionError as fault:
+                sys.exit(f"pair {k}: {fault}\n--- catalogue\n{texts[0]}--- request\n{texts[1]}--- printed\n{run.stdout}")
+            counts[run.returncode] += 1
+    print(f"{pairs} pairs: {counts[0]} installed, {counts[1]} refused, each as the plain solver says, and judged yes")
+
+
+if __name__ == "__main__":
+    main()
