@@ -1,11 +1,5 @@
 pub mod Elements
 pub mod Splitting
 pub mod Pieces
-pub mod Agreeing
-pub mod Needing
-pub mod Choosing
-pub mod FlatClaims
-pub mod Searches
-pub mod ServedLines
 pub mod Reports
 pub mod CheckLemmas

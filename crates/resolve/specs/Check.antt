@@ -1,7 +1,6 @@
 -- What a check may write for the texts of a catalogue, a request and a report, and what it does to its devices.
 use Rattle.std.specs.Prelude.{◌≡◌, ℕ, ◌⊎◌, List, ◌++◌, Option, Result, Err, IfOk, IfErr, codes}
 use Rattle.std.specs.Fmt.{decimal}
-use Rattle.std.specs.String.{string_bytes}
 use Rattle.std.specs.Io.KnownBytes.{Appends}
 use Rattle.resolvo_text.specs.Device.{IfKnown, TakesFront}
 use Rattle.resolvo_text.specs.Line.{Line}
@@ -77,7 +76,7 @@ StopsCheck e catalogue request report writer = StopsBeforeCheck e catalogue requ
 
 -- A faulty line is told; every other fault is the check's, by its own name.
 abbrev pub TellsFaulty : ReadFault → List ℕ → Result Told RunFault → Type 0
-TellsFaulty (read.Fault n) which told = IfOk told (λ answer. (answer.checked ≡ Faulty) × (string_bytes answer.text ≡ fault_text which n)) × IfErr told (λ e. e ≡ Memory)
+TellsFaulty (read.Fault n) which told = IfOk told (λ answer. (answer.checked ≡ Faulty) × (answer.text.items ≡ fault_text which n)) × IfErr told (λ e. e ≡ Memory)
 TellsFaulty read.Reader which told = told ≡ Err Reader
 TellsFaulty read.TooLong which told = told ≡ Err TooLong
 TellsFaulty read.Memory which told = told ≡ Err Memory

@@ -1,10 +1,6 @@
 pub mod Endings
-pub mod Flat
 pub mod Answer
 pub mod Texts
-pub mod Entries
 pub mod Input
 pub mod Running
-pub mod Searching
-pub mod Choice
 pub mod Check

@@ -1,12 +1,13 @@
 -- What a run does to its devices: a text is written, or a front of one, or nothing, and why.
 use Rattle.std.specs.Prelude.{◌≡◌, ℕ, List, Option, Result, Err, IfOk, IfErr}
-use Rattle.std.specs.String.{string_bytes}
 use Rattle.std.specs.Io.KnownBytes.{Appends}
 use Rattle.resolvo_text.specs.Device.{IfKnown, TakesFront}
 use Rattle.resolvo_text.specs.Line.{Line}
 use Rattle.resolvo_text.specs.Texts.{IsGrammatical, IsTextFault}
 use Rattle.resolvo_text.specs.declared.lines.ReadFault.{ReadFault}
 use Rattle.resolvo_text.specs.declared.lines.ReadFault.TheVariants as read
+use Rattle.resolvo_pool.specs.declared.want.Want.{Want}
+use Rattle.resolvo_pool.specs.declared.want.Want.TheVariants as want
 use Rattle.resolvo_catalogue.specs.Grammar.{IsCatalogueLine, IsRequestLine}
 use Rattle.resolve.specs.declared.outcome.Outcome.{Outcome}
 use Rattle.resolve.specs.declared.outcome.Outcome.TheVariants.{Faulty}
@@ -47,12 +48,30 @@ AnswersTexts catalogue request outcome output = IfKnown catalogue (λ c. IfKnown
 abbrev pub Writes : Device → Device → Device → Outcome → Type 0
 Writes catalogue request writer outcome = (output : List ℕ) × AnswersTexts catalogue.before request.before outcome output × Appends writer.before writer.after output
 
+-- Both texts were read to their ends, and have no faulty line.
+pub record AreRead (catalogue request : Device) : Type 0 where
+  pub catalogue_lines : List Line
+  pub request_lines : List Line
+  pub catalogue_read : IfKnown catalogue.before (λ text. IsGrammatical IsCatalogueLine text catalogue_lines)
+  pub request_read : IfKnown request.before (λ text. IsGrammatical (IsRequestLine catalogue_lines) text request_lines)
+
+-- What a search over texts that were read may lack.
+abbrev pub IsLack : RunFault → Type 0
+IsLack Memory = Unit {0}
+IsLack Ids = Unit {0}
+IsLack _ = ⊥
+
+-- the fault by the name of what was lacking
+abbrev pub fault_of : Want → RunFault
+fault_of want.Memory = Memory
+fault_of want.Ids = Ids
+
 -- Why nothing is written: neither text's fault nor its line is told here.
 abbrev pub StopsBefore : RunFault → Device → Device → Type 0
 StopsBefore Reader catalogue request = StopsReading read.Reader catalogue request
 StopsBefore TooLong catalogue request = StopsReading read.TooLong catalogue request
 StopsBefore Memory catalogue request = Unit {0}
-StopsBefore Ids catalogue request = ⊥
+StopsBefore Ids catalogue request = AreRead catalogue request
 StopsBefore Writer catalogue request = ⊥
 
 -- Why a run ends without its whole text, and what went out: nothing, or after a failed write a front of an answer.
@@ -64,7 +83,7 @@ StopsRun e catalogue request writer = StopsBefore e catalogue request × (writer
 
 -- A faulty line is told; every other fault is the run's, by its own name.
 abbrev pub TellsFault : ReadFault → List ℕ → Result Written RunFault → Type 0
-TellsFault (read.Fault n) which told = IfOk told (λ answer. (answer.outcome ≡ Faulty) × (string_bytes answer.text ≡ fault_text which n)) × IfErr told (λ e. e ≡ Memory)
+TellsFault (read.Fault n) which told = IfOk told (λ answer. (answer.outcome ≡ Faulty) × (answer.text.items ≡ fault_text which n)) × IfErr told (λ e. e ≡ Memory)
 TellsFault read.Reader which told = told ≡ Err Reader
 TellsFault read.TooLong which told = told ≡ Err TooLong
 TellsFault read.Memory which told = told ≡ Err Memory

@@ -1,7 +1,6 @@
 //! From the bytes of a catalogue, a request and a report to whether the report holds. `main` and the tests call `check`.
 
 ghost use Rattle.std.specs.Prelude.{◌≡◌, IfOk, IfErr};
-ghost use Rattle.std.specs.String.{string_bytes};
 ghost use Rattle.resolvo_text.specs.Device.{DeviceFailed, WriterFailed};
 ghost use Rattle.resolve.specs.Running.{reader_of, writer_of};
 ghost use Rattle.resolve.specs.Check.{TellsVerdict, TellsFaulty, ChecksTexts, StopsBeforeCheck, StopsCheck, WritesCheck};
@@ -16,23 +15,26 @@ use std::alloc::Global;
 #[derive(Drop)]
 struct Told {
     checked: Checked,
-    text: String,
+    text: Vec<u8>,
 }
 
 /// The line that tells a verdict.
 fn verdict_told(alloc: Global, verdict: Verdict) -> Result<Told, RunFault>
-    ensures ok { IfOk result (λ told. TellsVerdict verdict told.checked (string_bytes told.text)) }
+    ensures ok { IfOk result (λ told. TellsVerdict verdict told.checked told.text.items) }
     ensures err { IfErr result (λ e. e ≡ RunFault.Memory) }
 {
     match verdict {
         Verdict::Yes => Ok(Told {
             checked: Checked::Yes,
-            text: String::from_str(alloc, "yes\n")?,
+            text: Vec::from_slice(alloc, b"yes\n")?,
         }),
-        Verdict::No(line) => Ok(Told {
-            checked: Checked::No,
-            text: format!(in alloc; "no line {line}\n")?,
-        }),
+        Verdict::No(line) => {
+            let text = format!(in alloc; "no line {line}\n")?;
+            Ok(Told {
+                checked: Checked::No,
+                text: Vec::from_slice(alloc, text.as_bytes())?,
+            })
+        }
     }
 }
 
@@ -56,7 +58,7 @@ fn answer<C: Source, R: Source, P: Source>(
     request: &mut R,
     report: &mut P,
 ) -> Result<Told, RunFault>
-    ensures ok { IfOk result (λ told. ChecksTexts (C.left catalogue.old) (R.left request.old) (P.left report.old) told.checked (string_bytes told.text)) }
+    ensures ok { IfOk result (λ told. ChecksTexts (C.left catalogue.old) (R.left request.old) (P.left report.old) told.checked told.text.items) }
     ensures err { IfErr result (λ e. StopsBeforeCheck e (reader_of (C.left catalogue.old) (C.left catalogue.new) (DeviceFailed (C.failures catalogue.old) (C.failures catalogue.new) (C.interruptions catalogue.new))) (reader_of (R.left request.old) (R.left request.new) (DeviceFailed (R.failures request.old) (R.failures request.new) (R.interruptions request.new))) (reader_of (P.left report.old) (P.left report.new) (DeviceFailed (P.failures report.old) (P.failures report.new) (P.interruptions report.new)))) }
 {
     let catalogue = match Catalogue::read(alloc, catalogue) {
@@ -88,7 +90,7 @@ pub fn check<C: Source, R: Source, P: Source, W: Sink>(
     ensures stopped { IfErr result (λ e. StopsCheck e (reader_of (C.left catalogue.old) (C.left catalogue.new) (DeviceFailed (C.failures catalogue.old) (C.failures catalogue.new) (C.interruptions catalogue.new))) (reader_of (R.left request.old) (R.left request.new) (DeviceFailed (R.failures request.old) (R.failures request.new) (R.interruptions request.new))) (reader_of (P.left report.old) (P.left report.new) (DeviceFailed (P.failures report.old) (P.failures report.new) (P.interruptions report.new))) (writer_of (W.contents writer.old) (W.contents writer.new) (WriterFailed (W.failures writer.old) (W.failures writer.new) (W.interruptions writer.new) (W.empty_writes writer.old) (W.empty_writes writer.new)))) }
 {
     match answer(alloc, catalogue, request, report) {
-        Ok(told) => match write_all(writer, told.text.as_bytes()) {
+        Ok(told) => match write_all(writer, told.text.as_slice()) {
             Ok(()) => Ok(told.checked),
             Err(_) => Err(RunFault::Writer),
         },

@@ -8,8 +8,6 @@ mod input;
 mod outcome;
 mod report;
 mod run;
-mod search;
-mod serving;
 #[cfg(test)]
 mod tests;
 

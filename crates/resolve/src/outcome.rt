@@ -1,6 +1,7 @@
 //! How a run or a check ends: what was written, or why nothing whole was.
 
 use resolvo_catalogue::WriteFault;
+use resolvo_pool::want::Want;
 use std::alloc::{AllocError, AllocFailed};
 
 /// What was written.
@@ -70,5 +71,19 @@ impl From<WriteFault> for RunFault {
 
     fn from(_error: WriteFault) -> Self {
         RunFault::Writer
+    }
+}
+
+impl From<Want> for RunFault {
+    ghost use Rattle.std.specs.Prelude.{◌≡◌};
+    ghost use Rattle.resolve.specs.Running.{fault_of};
+
+    ghost from_gives = { λ w e. e ≡ fault_of w };
+
+    fn from(lacked: Want) -> Self {
+        match lacked {
+            Want::Memory => RunFault::Memory,
+            Want::Ids => RunFault::Ids,
+        }
     }
 }

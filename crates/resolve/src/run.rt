@@ -1,30 +1,31 @@
 //! From the bytes of a catalogue and a request to the bytes of a report. `main` and the tests call `run`.
 
 ghost use Rattle.std.specs.Prelude.{◌≡◌, List, codes, IfOk, IfErr, MatchResult, ⊤};
-ghost use Rattle.std.specs.String.{string_bytes};
 ghost use Rattle.resolvo_text.specs.Device.{DeviceFailed, WriterFailed};
-ghost use Rattle.resolvo_text.specs.Line as says;
+ghost use Rattle.resolvo_catalogue.specs.Grammar.{AreRequestLines};
+ghost use Rattle.resolvo_report.specs.View.{report_of};
 ghost use Rattle.resolve.specs.Texts.{fault_text};
-ghost use Rattle.resolve.specs.Answer.{IsAnswerOfLines};
-ghost use Rattle.resolve.specs.Running.{reader_of, writer_of, AnswersTexts, StopsBefore, StopsRun, Writes, TellsFault};
+ghost use Rattle.resolve.specs.Answer.{IsAnswerOfLines, outcome_of};
+ghost use Rattle.resolve.specs.Running.{reader_of, writer_of, AnswersTexts, IsLack, StopsBefore, StopsRun, Writes, TellsFault};
 
 use crate::outcome::{Outcome, RunFault};
-use crate::report::{fault_text, install_text, refused_text};
-use crate::search::{Found, search};
-use crate::serving::{first_unserved_listing, first_unserved_need};
+use crate::report::{fault_text, report_text};
 use resolvo_catalogue::{Catalogue, ReadFault, Request, Sink, Source, write_all};
+use resolvo_report::Report;
+use resolvo_reporting::reporting::report_for;
+use resolvo_reporting::serving::{first_unserved_listing, first_unserved_need};
 use std::alloc::Global;
 
 /// What is written: how the run ends, and the text.
 #[derive(Drop)]
 pub struct Written {
     pub outcome: Outcome,
-    pub text: String,
+    pub text: Vec<u8>,
 }
 
 /// The first faulty line of a text.
 fn faulty(alloc: Global, which: &str, line: u32) -> Result<Written, RunFault>
-    ensures ok { IfOk result (λ answer. (answer.outcome ≡ Outcome.Faulty) × (string_bytes answer.text ≡ fault_text which.now line)) }
+    ensures ok { IfOk result (λ answer. (answer.outcome ≡ Outcome.Faulty) × (answer.text.items ≡ fault_text which.now line)) }
     ensures err { IfErr result (λ e. e ≡ RunFault.Memory) }
 {
     Ok(Written {
@@ -46,10 +47,20 @@ pub fn not_read(alloc: Global, which: &str, fault: ReadFault) -> Result<Written,
     }
 }
 
+/// How a run ends that writes this report.
+fn outcome_of(report: &Report) -> Outcome
+    ensures { result ≡ outcome_of (report_of report.now) }
+{
+    match report {
+        Report::Install { .. } => Outcome::Installed,
+        Report::Refused { .. } => Outcome::Refused,
+    }
+}
+
 /// The report of grammatical texts, or the first line that isn't served.
 fn report(alloc: Global, catalogue: &Catalogue, request: &Request) -> Result<Written, RunFault>
-    ensures ok { IfOk result (λ answer. IsAnswerOfLines catalogue.now request.now.lines answer.outcome (string_bytes answer.text)) }
-    ensures err { IfErr result (λ e. e ≡ RunFault.Memory) }
+    ensures ok { IfOk result (λ answer. AreRequestLines catalogue.now request.now.lines → IsAnswerOfLines catalogue.now request.now.lines answer.outcome answer.text.items) }
+    ensures err { IfErr result IsLack }
 {
     if let Some(line) = first_unserved_listing(catalogue) {
         return faulty(alloc, "catalogue", line);
@@ -57,16 +68,11 @@ fn report(alloc: Global, catalogue: &Catalogue, request: &Request) -> Result<Wri
     if let Some(line) = first_unserved_need(request) {
         return faulty(alloc, "request", line);
     }
-    match search(alloc, catalogue, request)? {
-        Found::Installed(entries) => Ok(Written {
-            outcome: Outcome::Installed,
-            text: install_text(alloc, &entries)?,
-        }),
-        Found::Refused(lines) => Ok(Written {
-            outcome: Outcome::Refused,
-            text: refused_text(alloc, &lines)?,
-        }),
-    }
+    let report = report_for(alloc, catalogue, request)?;
+    Ok(Written {
+        outcome: outcome_of(&report),
+        text: report_text(alloc, &report)?,
+    })
 }
 
 /// What is written for two texts. The catalogue is read to its end first; where it is refused the request isn't read.
@@ -75,7 +81,7 @@ fn answer<C: Source, R: Source>(
     catalogue: &mut C,
     request: &mut R,
 ) -> Result<Written, RunFault>
-    ensures ok { IfOk result (λ answer. AnswersTexts (C.left catalogue.old) (R.left request.old) answer.outcome (string_bytes answer.text)) }
+    ensures ok { IfOk result (λ answer. AnswersTexts (C.left catalogue.old) (R.left request.old) answer.outcome answer.text.items) }
     ensures err { IfErr result (λ e. StopsBefore e (reader_of (C.left catalogue.old) (C.left catalogue.new) (DeviceFailed (C.failures catalogue.old) (C.failures catalogue.new) (C.interruptions catalogue.new))) (reader_of (R.left request.old) (R.left request.new) (DeviceFailed (R.failures request.old) (R.failures request.new) (R.interruptions request.new)))) }
 {
     let catalogue = match Catalogue::read(alloc, catalogue) {
@@ -101,7 +107,7 @@ pub fn run<C: Source, R: Source, W: Sink>(
     ensures stopped { IfErr result (λ e. StopsRun e (reader_of (C.left catalogue.old) (C.left catalogue.new) (DeviceFailed (C.failures catalogue.old) (C.failures catalogue.new) (C.interruptions catalogue.new))) (reader_of (R.left request.old) (R.left request.new) (DeviceFailed (R.failures request.old) (R.failures request.new) (R.interruptions request.new))) (writer_of (W.contents writer.old) (W.contents writer.new) (WriterFailed (W.failures writer.old) (W.failures writer.new) (W.interruptions writer.new) (W.empty_writes writer.old) (W.empty_writes writer.new)))) }
 {
     match answer(alloc, catalogue, request) {
-        Ok(answer) => match write_all(writer, answer.text.as_bytes()) {
+        Ok(answer) => match write_all(writer, answer.text.as_slice()) {
             Ok(()) => Ok(answer.outcome),
             Err(_) => Err(RunFault::Writer),
         },

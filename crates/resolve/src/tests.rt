@@ -3,9 +3,11 @@
 ghost use Rattle.std.specs.Prelude.{◌<◌};
 
 mod devices;
+mod faults;
+mod installs;
 mod judging;
 mod plain;
-mod rows;
+mod refusals;
 
 use crate::check::check;
 use crate::endings::{check_ending, run_ending};

@@ -1,6 +1,6 @@
-//! A plain slow program that computes the answer of flat texts from its definition, compared with `run`.
+//! A plain slow program that computes the answer of flat texts from its definition, compared with `run`; each report is judged.
 
-use super::printed;
+use super::{printed, told};
 use std::alloc::{AllocError, Global};
 use std::test::Fail;
 
@@ -93,32 +93,21 @@ fn common(one: &Wanted, other: &Wanted) -> bool {
         && matches(other, listed.0, listed.1))
 }
 
-/// The lines that are named where no set serves all: the first without a match, or else the first pair of one package
-/// without a common match, the later line least, then the earlier one.
-fn refused(alloc: Global, needs: &[Wanted]) -> Result<Option<String>, AllocError> {
-    for (index, wanted) in needs.iter().enumerate() {
-        if !common(wanted, wanted) {
-            let line = index + 1;
-            return Ok(Some(format!(in alloc; "refused\nrequest line {line}\n")?));
-        }
-    }
-    for (below, later) in needs.iter().enumerate() {
-        for (above, earlier) in needs.iter().enumerate().take(below) {
-            if earlier.name == later.name && !common(earlier, later) {
-                let (one, other) = (above + 1, below + 1);
-                return Ok(Some(format!(in alloc;
-                    "refused\nrequest line {one}\nrequest line {other}\n"
-                )?));
+/// Some need has no match, or two of one package have no common one: the spans that SPECs tell have a common number
+/// where any two have.
+fn clash(needs: &[Wanted]) -> bool {
+    for one in needs {
+        for other in needs {
+            if one.name == other.name && !common(one, other) {
+                return true;
             }
         }
     }
-    Ok(None)
+    false
 }
 
-fn answer(alloc: Global, needs: &[Wanted]) -> Result<String, AllocError> {
-    if let Some(text) = refused(alloc, needs)? {
-        return Ok(text);
-    }
+/// What is written where no needs clash.
+fn installed(alloc: Global, needs: &[Wanted]) -> Result<String, AllocError> {
     let mut text = String::from_str(alloc, "install\n")?;
     for (index, wanted) in needs.iter().enumerate() {
         let given = needs
@@ -158,9 +147,15 @@ fn all_requests_of_three_needs(rt: HostRuntime) -> Result<(), Fail> {
             for third in WANTED {
                 let needs = [first, second, third];
                 let request = request_text(rt.alloc(), &needs)?;
-                let (text, _status) = printed(rt.alloc(), &catalogue, &request, 4096)?;
-                let wanted = answer(rt.alloc(), &needs)?;
-                assert_eq!(rt; text.as_str(), wanted.as_str(), "{request}");
+                let (text, status) = printed(rt.alloc(), &catalogue, &request, 4096)?;
+                if clash(&needs) {
+                    assert_eq!(rt; status, 1, "{request}");
+                } else {
+                    let wanted = installed(rt.alloc(), &needs)?;
+                    assert_eq!(rt; text.as_str(), wanted.as_str(), "{request}");
+                }
+                let (verdict, _status) = told(rt.alloc(), &catalogue, &request, &text, 4096)?;
+                assert_eq!(rt; verdict.as_str(), "yes\n", "{request}");
             }
         }
     }

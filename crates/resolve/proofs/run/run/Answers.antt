@@ -1,5 +1,4 @@
 use Rattle.std.proofs.Common.{refl, subst, List, ℕ}
-use Rattle.std.specs.String.{string_bytes}
 use Rattle.std.specs.Io.KnownBytes.{Appends}
 use Rattle.resolvo_text.specs.Device.{TakesFront}
 use Rattle.resolve.proofs.Reports.{nothing_written}
@@ -7,9 +6,9 @@ use Rattle.resolve.proofs.run.run.Goals as goal
 
 pub returns-in-Ok-write_all-clause-written : goal.returns-in-Ok-write_all-clause-written
 returns-in-Ok-write_all-clause-written g c = (
-  string_bytes c.in-Ok.answer.text,
+  c.in-Ok.answer.text.items,
   c.in-Ok.ensures.ok,
-  subst (λ (xs : List ℕ). Appends (g.W.Sink.contents c.args.writer.now) (g.W.Sink.contents c.write_all.new.sink) xs) c.as_bytes.ensures.value c.in-Ok-write_all.ensures.whole,
+  subst (λ (xs : List ℕ). Appends (g.W.Sink.contents c.args.writer.now) (g.W.Sink.contents c.write_all.new.sink) xs) c.as_slice.ensures.value c.in-Ok-write_all.ensures.whole,
 )
 
 pub returns-in-Ok-clause-stopped : goal.returns-in-Ok-clause-stopped
@@ -17,9 +16,9 @@ returns-in-Ok-clause-stopped g c = (
   c.in-Err-write_all.ensures.fault,
   (
     c.in-Ok.answer.outcome,
-    string_bytes c.in-Ok.answer.text,
+    c.in-Ok.answer.text.items,
     c.in-Ok.ensures.ok,
-    subst (λ (xs : List ℕ). TakesFront (g.W.Sink.contents c.args.writer.now) (g.W.Sink.contents c.write_all.new.sink) xs) c.as_bytes.ensures.value c.in-Err-write_all.ensures.front,
+    subst (λ (xs : List ℕ). TakesFront (g.W.Sink.contents c.args.writer.now) (g.W.Sink.contents c.write_all.new.sink) xs) c.as_slice.ensures.value c.in-Err-write_all.ensures.front,
   ),
 )
 
