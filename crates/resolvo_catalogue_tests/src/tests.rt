@@ -2,12 +2,13 @@
 
 ghost use Rattle.std.specs.Prelude.{◌<◌};
 
-use crate::damages::{OF_ASKED, OF_MARKET};
+use crate::damages::{Damage, OF_ASKED, OF_MARKET};
 use resolvo_catalogue::{
     Catalogue, MemorySource, ReadFault, Request, Rule, Span, Spec, VersionNo,
     catalogue_has_no_fault, request_has_no_fault, text_is_one_catalogue, text_is_one_request,
 };
 use std::alloc::{AllocError, Global};
+use std::process::Abort;
 use std::test::Fail;
 
 /// A catalogue with a line of each kind.
@@ -96,13 +97,6 @@ const REQUESTS: [(&str, Option<u32>); 16] = [
     ("limits a b", Some(1)),
 ];
 
-fn fault_of<T>(read: Result<T, ReadFault>) -> Option<ReadFault>
-where
-    T: Drop,
-{
-    read.err()
-}
-
 fn catalogue_of(alloc: Global, text: &str, per_call: usize) -> Result<Catalogue, ReadFault>
     requires { 0 < per_call }
 {
@@ -121,30 +115,52 @@ fn request_of(
     Request::read(alloc, &mut source, catalogue)
 }
 
+/// The fault with which a catalogue is refused.
+fn catalogue_fault(alloc: Global, text: &[u8], per_call: usize) -> Option<ReadFault>
+    requires { 0 < per_call }
+{
+    Catalogue::read(alloc, &mut MemorySource::new(text, per_call)).err()
+}
+
+/// The fault with which a request is refused.
+fn request_fault(
+    alloc: Global,
+    text: &[u8],
+    per_call: usize,
+    catalogue: &Catalogue,
+) -> Option<ReadFault>
+    requires { 0 < per_call }
+{
+    Request::read(alloc, &mut MemorySource::new(text, per_call), catalogue).err()
+}
+
 #[test]
-fn catalogues(rt: HostRuntime) -> Result<(), Fail> {
-    for per_call in [1usize, 2, 3, 4096] {
-        assert!(rt; per_call > 0);
-        for (text, line) in CATALOGUES {
-            let fault = fault_of(catalogue_of(rt.alloc(), text, per_call));
+fn catalogues(rt: HostRuntime) {
+    for per_call in &[1usize, 2, 3, 4096] {
+        assert!(rt; *per_call > 0);
+        for (text, line) in &CATALOGUES {
+            let fault = catalogue_fault(rt.alloc(), text.as_bytes(), *per_call);
             assert_eq!(rt; fault, line.map(ReadFault::Fault), "{text}");
         }
     }
     catalogue_has_no_fault();
     text_is_one_catalogue();
-    Ok(())
+}
+
+/// Each request has its least faulty line.
+fn are_told(rt: &impl Abort, alloc: Global, market: &Catalogue) {
+    for per_call in &[1usize, 2, 3, 4096] {
+        assert!(rt; *per_call > 0);
+        for (text, line) in &REQUESTS {
+            let fault = request_fault(alloc, text.as_bytes(), *per_call, market);
+            assert_eq!(rt; fault, line.map(ReadFault::Fault), "{text}");
+        }
+    }
 }
 
 #[test]
 fn requests(rt: HostRuntime) -> Result<(), Fail> {
-    let market = catalogue_of(rt.alloc(), MARKET, 4096)?;
-    for per_call in [1usize, 2, 3, 4096] {
-        assert!(rt; per_call > 0);
-        for (text, line) in REQUESTS {
-            let fault = fault_of(request_of(rt.alloc(), text, per_call, &market));
-            assert_eq!(rt; fault, line.map(ReadFault::Fault), "{text}");
-        }
-    }
+    are_told(&rt, rt.alloc(), &catalogue_of(rt.alloc(), MARKET, 4096)?);
     request_has_no_fault();
     text_is_one_request();
     Ok(())
@@ -167,40 +183,62 @@ fn damaged(
     Ok(bytes)
 }
 
+/// The fault of the market when it is damaged so.
+fn damaged_market_fault(
+    alloc: Global,
+    (at, out, put, _line): &Damage,
+) -> Result<Option<ReadFault>, AllocError> {
+    let text = damaged(alloc, MARKET.as_bytes(), *at, *out, put)?;
+    Ok(catalogue_fault(alloc, &text, 4096))
+}
+
 #[test]
 fn damaged_catalogues(rt: HostRuntime) -> Result<(), Fail> {
-    for (at, out, put, line) in &OF_MARKET {
-        let text = damaged(rt.alloc(), MARKET.as_bytes(), *at, *out, put)?;
-        let read = Catalogue::read(rt.alloc(), &mut MemorySource::new(&text, 4096));
-        assert_eq!(rt;
-            fault_of(read),
-            line.map(ReadFault::Fault),
-            "{at} {out} {put}"
-        );
+    for damage in &OF_MARKET {
+        let (at, out, put, line) = damage;
+        let fault = damaged_market_fault(rt.alloc(), damage)?;
+        assert_eq!(rt; fault, line.map(ReadFault::Fault), "{at} {out} {put}");
+    }
+    Ok(())
+}
+
+/// The fault of the request when it is damaged so.
+fn damaged_asked_fault(
+    alloc: Global,
+    market: &Catalogue,
+    (at, out, put, _line): &Damage,
+) -> Result<Option<ReadFault>, AllocError> {
+    let text = damaged(alloc, ASKED.as_bytes(), *at, *out, put)?;
+    Ok(request_fault(alloc, &text, 4096, market))
+}
+
+/// Each damage of the request has its least faulty line.
+fn damages_are_told(rt: &impl Abort, alloc: Global, market: &Catalogue) -> Result<(), AllocError> {
+    for damage in &OF_ASKED {
+        let (at, out, put, line) = damage;
+        let fault = damaged_asked_fault(alloc, market, damage)?;
+        assert_eq!(rt; fault, line.map(ReadFault::Fault), "{at} {out} {put}");
     }
     Ok(())
 }
 
 #[test]
 fn damaged_requests(rt: HostRuntime) -> Result<(), Fail> {
-    let market = catalogue_of(rt.alloc(), MARKET, 4096)?;
-    for (at, out, put, line) in &OF_ASKED {
-        let text = damaged(rt.alloc(), ASKED.as_bytes(), *at, *out, put)?;
-        let read = Request::read(rt.alloc(), &mut MemorySource::new(&text, 4096), &market);
-        assert_eq!(rt;
-            fault_of(read),
-            line.map(ReadFault::Fault),
-            "{at} {out} {put}"
-        );
-    }
+    damages_are_told(&rt, rt.alloc(), &catalogue_of(rt.alloc(), MARKET, 4096)?)?;
     Ok(())
+}
+
+/// The fault of a catalogue whose reader fails after so many calls.
+fn fault_after(alloc: Global, calls: u64) -> Option<ReadFault> {
+    let text = b"version a 1\nneeds b\nlock b 1\nversion b 1\n".as_slice();
+    let mut source = MemorySource::new(text, 10).failing_after(calls);
+    Catalogue::read(alloc, &mut source).err()
 }
 
 /// A read that fails in mid-text is answered, unless a whole line that came before is faulty.
 #[test]
-fn failing_reads(rt: HostRuntime) -> Result<(), Fail> {
-    let text = b"version a 1\nneeds b\nlock b 1\nversion b 1\n".as_slice();
-    for (calls, fault) in [
+fn failing_reads(rt: HostRuntime) {
+    for (calls, fault) in &[
         (0u64, ReadFault::Reader),
         (1, ReadFault::Reader),
         (2, ReadFault::Reader),
@@ -208,82 +246,101 @@ fn failing_reads(rt: HostRuntime) -> Result<(), Fail> {
         (4, ReadFault::Fault(3)),
         (9, ReadFault::Fault(3)),
     ] {
-        let mut source = MemorySource::new(text, 10).failing_after(calls);
-        let read = Catalogue::read(rt.alloc(), &mut source);
-        assert_eq!(rt; fault_of(read), Some(fault), "{calls}");
+        assert_eq!(rt; fault_after(rt.alloc(), *calls), Some(*fault), "{calls}");
     }
-    let market = catalogue_of(rt.alloc(), MARKET, 4096)?;
-    for calls in 0..11u64 {
-        let mut source = MemorySource::new(ASKED.as_bytes(), 5).failing_after(calls);
-        let read = Request::read(rt.alloc(), &mut source, &market);
-        assert_eq!(rt; fault_of(read), Some(ReadFault::Reader), "{calls}");
-    }
+}
+
+/// The fault of the request whose reader fails after so many calls.
+fn asked_fault_after(alloc: Global, market: &Catalogue, calls: u64) -> Option<ReadFault> {
+    let mut source = MemorySource::new(ASKED.as_bytes(), 5).failing_after(calls);
+    Request::read(alloc, &mut source, market).err()
+}
+
+/// The fault of the request whose reader is interrupted too often in a row.
+fn asked_fault_interrupted(alloc: Global, market: &Catalogue) -> Option<ReadFault> {
     let mut source = MemorySource::new(ASKED.as_bytes(), 5).interrupted(1001);
-    let read = Request::read(rt.alloc(), &mut source, &market);
-    assert_eq!(rt; fault_of(read), Some(ReadFault::Reader));
-    Ok(())
+    Request::read(alloc, &mut source, market).err()
+}
+
+/// Whether the request is refused for its reader, wherever that fails.
+fn each_read_fails(alloc: Global, market: &Catalogue) -> bool {
+    (0..11u64).all(|calls| asked_fault_after(alloc, market, calls) == Some(ReadFault::Reader))
+        && asked_fault_interrupted(alloc, market) == Some(ReadFault::Reader)
 }
 
 #[test]
-fn versions(rt: HostRuntime) -> Result<(), Fail> {
-    let market = catalogue_of(rt.alloc(), MARKET, 7)?;
-    market.lines_are_in_place();
+fn failing_reads_of_a_request(rt: HostRuntime) -> Result<(), Fail> {
+    assert!(rt; each_read_fails(rt.alloc(), &catalogue_of(rt.alloc(), MARKET, 4096)?));
+    Ok(())
+}
+
+fn lists_versions(rt: &impl Abort, market: &Catalogue) {
     assert_eq!(rt; market.versions().len(), 4);
     assert_eq!(rt; market.line_count(), 12);
     assert_eq!(rt; market.favours(), [(7, VersionNo(0))].as_slice());
-    for (name, number, found) in [
+    for (name, number, found) in &[
         ("b", 1u32, Some(VersionNo(2))),
         ("b", 3, None),
         ("c", 1, None),
     ] {
-        assert_eq!(rt; market.find(name, number), found, "{name} {number}");
+        assert_eq!(rt; market.find(name, *number), *found, "{name} {number}");
     }
-    Ok(())
 }
 
-#[test]
-fn versions_of_packages(rt: HostRuntime) -> Result<(), Fail> {
-    let market = catalogue_of(rt.alloc(), MARKET, 7)?;
-    for (name, versions) in [
+fn lists_versions_of_packages(rt: &impl Abort, market: &Catalogue) {
+    for (name, versions) in &[
         ("b", [VersionNo(2), VersionNo(3)].as_slice()),
         ("c", [].as_slice()),
     ] {
-        assert_eq!(rt; market.versions_of(name), versions, "{name}");
+        assert_eq!(rt; market.versions_of(name), *versions, "{name}");
     }
-    Ok(())
 }
 
-#[test]
-fn lines_of_versions(rt: HostRuntime) -> Result<(), Fail> {
-    let market = catalogue_of(rt.alloc(), MARKET, 7)?;
-    for (number, lines, barred) in [
+fn lists_lines_of_versions(rt: &impl Abort, market: &Catalogue) {
+    for (number, lines, barred) in &[
         (0u32, [4u32].as_slice(), None),
         (1, [6].as_slice(), None),
         (2, [11].as_slice(), Some(10)),
         (3, [].as_slice(), Some(9)),
         (4, [].as_slice(), None),
     ] {
-        let version = VersionNo(number);
-        assert_eq!(rt; market.lines_of(version), lines, "{number}");
-        assert_eq!(rt; market.barred(version), barred, "{number}");
+        let version = VersionNo(*number);
+        assert_eq!(rt; market.lines_of(version), *lines, "{number}");
+        assert_eq!(rt; market.barred(version), *barred, "{number}");
     }
+}
+
+fn finds_matches(rt: &impl Abort, market: &Catalogue, spec: &Spec) {
+    for (number, is_match) in &[(2u32, true), (3, false), (0, false)] {
+        assert_eq!(rt;
+            market.match_of(spec, VersionNo(*number)),
+            *is_match,
+            "{number}"
+        );
+    }
+}
+
+#[test]
+fn versions(rt: HostRuntime) -> Result<(), Fail> {
+    let market = catalogue_of(rt.alloc(), MARKET, 7)?;
+    market.lines_are_in_place();
+    lists_versions(&rt, &market);
+    lists_versions_of_packages(&rt, &market);
+    lists_lines_of_versions(&rt, &market);
     Ok(())
+}
+
+fn below_two(alloc: Global) -> Result<Spec, AllocError> {
+    Ok(Spec {
+        name: String::from_str(alloc, "b")?,
+        span: Span::Range(0, 2),
+    })
 }
 
 #[test]
 fn matches_of_a_spec(rt: HostRuntime) -> Result<(), Fail> {
-    let market = catalogue_of(rt.alloc(), MARKET, 7)?;
-    let spec = Spec {
-        name: String::from_str(rt.alloc(), "b")?,
-        span: Span::Range(0, 2),
-    };
-    for (number, is_match) in [(2u32, true), (3, false), (0, false)] {
-        assert_eq!(rt;
-            market.match_of(&spec, VersionNo(number)),
-            is_match,
-            "{number}"
-        );
-    }
+    let spec = below_two(rt.alloc())?;
+    finds_matches(&rt, &catalogue_of(rt.alloc(), MARKET, 7)?, &spec);
     Ok(())
 }
 
@@ -299,10 +356,8 @@ fn shown(rule: Option<&Rule>) -> (&'static str, Option<VersionNo>) {
     }
 }
 
-#[test]
-fn rules(rt: HostRuntime) -> Result<(), Fail> {
-    let market = catalogue_of(rt.alloc(), MARKET, 4096)?;
-    for (line, kind, version) in [
+fn tells_rules(rt: &impl Abort, market: &Catalogue) {
+    for (line, kind, version) in &[
         (0u32, "none", None),
         (1, "none", None),
         (3, "none", None),
@@ -315,27 +370,39 @@ fn rules(rt: HostRuntime) -> Result<(), Fail> {
         (11, "unknown", Some(VersionNo(2))),
         (13, "none", None),
     ] {
-        assert_eq!(rt; shown(market.rule(line)), (kind, version), "{line}");
+        assert_eq!(rt; shown(market.rule(*line)), (*kind, *version), "{line}");
     }
-    let request = request_of(rt.alloc(), ASKED, 4096, &market)?;
+}
+
+fn tells_rules_of_request(rt: &impl Abort, request: &Request) {
     assert_eq!(rt; request.line_count(), 6);
-    for (line, kind) in [(1u32, "needs"), (2, "none"), (3, "none"), (4, "limits")] {
-        assert_eq!(rt; shown(request.rule(line)), (kind, None), "{line}");
+    for (line, kind) in &[(1u32, "needs"), (2, "none"), (3, "none"), (4, "limits")] {
+        assert_eq!(rt; shown(request.rule(*line)), (*kind, None), "{line}");
     }
     let wishes = [(3, VersionNo(3)), (6, VersionNo(0))];
     assert_eq!(rt; request.wishes(), wishes.as_slice());
+}
+
+#[test]
+fn rules(rt: HostRuntime) -> Result<(), Fail> {
+    let market = catalogue_of(rt.alloc(), MARKET, 4096)?;
+    tells_rules(&rt, &market);
+    tells_rules_of_request(&rt, &request_of(rt.alloc(), ASKED, 4096, &market)?);
     Ok(())
+}
+
+fn owns_the_need(rt: &impl Abort, catalogue: &Catalogue) {
+    let owner = Some(VersionNo(1));
+    assert_eq!(rt; shown(catalogue.rule(4)), ("needs", owner));
+    assert_eq!(rt; catalogue.lines_of(VersionNo(1)), [4].as_slice());
+    assert_eq!(rt; catalogue.lines_of(VersionNo(0)), [].as_slice());
 }
 
 /// The nearest `version` line above owns a line, whatever stands between.
 #[test]
 fn owners(rt: HostRuntime) -> Result<(), Fail> {
     let text = "version a 1\nversion b 1\nlock a 1\nneeds a";
-    let catalogue = catalogue_of(rt.alloc(), text, 4096)?;
-    let owner = Some(VersionNo(1));
-    assert_eq!(rt; shown(catalogue.rule(4)), ("needs", owner));
-    assert_eq!(rt; catalogue.lines_of(VersionNo(1)), [4].as_slice());
-    assert_eq!(rt; catalogue.lines_of(VersionNo(0)), [].as_slice());
+    owns_the_need(&rt, &catalogue_of(rt.alloc(), text, 4096)?);
     Ok(())
 }
 
@@ -344,11 +411,9 @@ fn owners(rt: HostRuntime) -> Result<(), Fail> {
 const RULES: &str =
     "version p 1\nneeds c if q\nversion q 1\nversion c 1\nlimits p 1..2\nversion p 2\nlock p 2\nexclude q 1 old\nunknown gone";
 
-#[test]
-fn keeping(rt: HostRuntime) -> Result<(), Fail> {
-    let catalogue = catalogue_of(rt.alloc(), RULES, 4096)?;
+fn keeps_lines(rt: &impl Abort, catalogue: &Catalogue) {
     let [p, q, c, p2] = [VersionNo(0), VersionNo(1), VersionNo(2), VersionNo(3)];
-    for (line, set, kept) in [
+    for (line, set, kept) in &[
         (2u32, [p, q].as_slice(), false),
         (2, [p].as_slice(), true),
         (2, [p, q, c].as_slice(), true),
@@ -365,15 +430,13 @@ fn keeping(rt: HostRuntime) -> Result<(), Fail> {
         (1, [].as_slice(), true),
         (99, [p, q, c, p2].as_slice(), true),
     ] {
-        assert_eq!(rt; catalogue.keeps(line, set), kept, "{line}");
+        assert_eq!(rt; catalogue.keeps(*line, set), *kept, "{line}");
     }
-    let request = request_of(
-        rt.alloc(),
-        "needs c if q\nlimits p 1\nwish c 1",
-        4096,
-        &catalogue,
-    )?;
-    for (line, set, kept) in [
+}
+
+fn keeps_lines_of_request(rt: &impl Abort, catalogue: &Catalogue, request: &Request) {
+    let [p, q, c, p2] = [VersionNo(0), VersionNo(1), VersionNo(2), VersionNo(3)];
+    for (line, set, kept) in &[
         (1u32, [q].as_slice(), false),
         (1, [q, c].as_slice(), true),
         (1, [].as_slice(), true),
@@ -381,19 +444,48 @@ fn keeping(rt: HostRuntime) -> Result<(), Fail> {
         (2, [p, c].as_slice(), true),
         (3, [].as_slice(), true),
     ] {
-        assert_eq!(rt; request.keeps(&catalogue, line, set), kept, "{line}");
+        assert_eq!(rt; request.keeps(catalogue, *line, set), *kept, "{line}");
     }
+}
+
+#[test]
+fn keeping(rt: HostRuntime) -> Result<(), Fail> {
+    let catalogue = catalogue_of(rt.alloc(), RULES, 4096)?;
+    let text = "needs c if q\nlimits p 1\nwish c 1";
+    keeps_lines(&rt, &catalogue);
+    keeps_lines_of_request(
+        &rt,
+        &catalogue,
+        &request_of(rt.alloc(), text, 4096, &catalogue)?,
+    );
     Ok(())
+}
+
+/// A request with a need under a condition, one without, and a limit.
+fn request_if(alloc: Global, condition: &str) -> Result<Request, Fail> {
+    let text = format!(in alloc; "needs x if {condition}\nneeds x\nlimits x")?;
+    let nothing = catalogue_of(alloc, "", 1)?;
+    Ok(request_of(alloc, &text, 4096, &nothing)?)
+}
+
+/// How many cases a line of a request has, and the size of the first.
+fn sizes(alloc: Global, request: &Request, line: u32) -> Result<(usize, Option<usize>), Fail> {
+    let all = request.cases(alloc, line)?;
+    Ok((all.len(), all.first().map(|case| case.len())))
+}
+
+/// The sizes of the first line's cases are these, and how many cases the other two have.
+fn has_sizes(alloc: Global, condition: &str, first: usize, count: usize) -> Result<bool, Fail> {
+    let request = request_if(alloc, condition)?;
+    let own = sizes(alloc, &request, 1)? == (count, Some(first));
+    let others = (sizes(alloc, &request, 2)?.0, sizes(alloc, &request, 3)?.0);
+    Ok(own && others == (1, 0))
 }
 
 /// Conditions, and the sizes of their cases in order.
 #[test]
 fn cases(rt: HostRuntime) -> Result<(), Fail> {
-    let three = "( a or b or c )";
-    let many = format!(in rt.alloc();
-        "{three} and {three} and {three} and {three} and ( a or b or c or d )"
-    )?;
-    for (condition, first, count) in [
+    for (condition, first, count) in &[
         ("a or b and c", 1usize, 2usize),
         ("( a or b ) and ( c or d )", 2, 4),
         (
@@ -401,22 +493,26 @@ fn cases(rt: HostRuntime) -> Result<(), Fail> {
             16,
             1,
         ),
-        (many.as_str(), 5, 324),
+        (
+            "( a or b or c ) and ( a or b or c ) and ( a or b or c ) and ( a or b or c ) and ( a or b or c or d )",
+            5,
+            324,
+        ),
     ] {
-        let text = format!(in rt.alloc(); "needs x if {condition}\nneeds x\nlimits x")?;
-        let request = request_of(rt.alloc(), &text, 4096, &catalogue_of(rt.alloc(), "", 1)?)?;
-        let all = request.cases(rt.alloc(), 1)?;
-        assert_eq!(rt; all.len(), count, "{condition}");
-        assert_eq!(rt;
-            all.first().map(|case| case.len()),
-            Some(first),
-            "{condition}"
-        );
-        assert_eq!(rt; request.cases(rt.alloc(), 2)?.len(), 1);
-        assert_eq!(rt; request.cases(rt.alloc(), 3)?.len(), 0);
+        let holds = has_sizes(rt.alloc(), condition, *first, *count)?;
+        assert!(rt; holds, "{condition}");
     }
+    Ok(())
+}
+
+/// How many cases two lines of the catalogue have.
+fn counts(alloc: Global, market: &Catalogue) -> Result<(usize, usize), Fail> {
+    Ok((market.cases(alloc, 4)?.len(), market.cases(alloc, 9)?.len()))
+}
+
+#[test]
+fn cases_of_a_catalogue(rt: HostRuntime) -> Result<(), Fail> {
     let market = catalogue_of(rt.alloc(), MARKET, 4096)?;
-    assert_eq!(rt; market.cases(rt.alloc(), 4)?.len(), 2);
-    assert_eq!(rt; market.cases(rt.alloc(), 9)?.len(), 0);
+    assert_eq!(rt; counts(rt.alloc(), &market)?, (2, 0));
     Ok(())
 }

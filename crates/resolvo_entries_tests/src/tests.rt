@@ -1,9 +1,10 @@
 //! What no clause says: that there is a report where there is memory, and its text for some rows.
 
-use resolvo_catalogue::{Catalogue, MemorySource, Request};
+use resolvo_catalogue::{Catalogue, MemorySource, ReadFault, Request};
 use resolvo_entries::install_report;
 use resolvo_judge::{Verdict, judge};
 use resolvo_pool::id::SolvableId;
+use resolvo_report::Report;
 use resolvo_text::MemorySink;
 use std::alloc::{AllocError, Global};
 use std::test::Fail;
@@ -52,23 +53,61 @@ fn solvables(alloc: Global, numbers: &[u32]) -> Result<Vec<SolvableId>, AllocErr
     Ok(solvables)
 }
 
-/// Whether the report has the row's text, and what the judge says of it.
-fn told(alloc: Global, row: &Row) -> Result<(bool, Verdict), Fail> {
-    let mut source = MemorySource::new(row.catalogue.as_bytes(), 4096);
-    let catalogue = Catalogue::read(alloc, &mut source)?;
-    let mut source = MemorySource::new(row.request.as_bytes(), 4096);
-    let request = Request::read(alloc, &mut source, &catalogue)?;
-    let chosen = solvables(alloc, row.chosen)?;
-    let report = install_report(alloc, &catalogue, &request, &chosen)?;
-    let mut sink = MemorySink::new(alloc, row.report.len(), 4096)?;
-    report.write(alloc, &mut sink)?;
-    let verdict = judge(
+fn catalogue_of(alloc: Global, text: &str) -> Result<Catalogue, ReadFault> {
+    Catalogue::read(alloc, &mut MemorySource::new(text.as_bytes(), 4096))
+}
+
+fn request_of(alloc: Global, text: &str, catalogue: &Catalogue) -> Result<Request, ReadFault> {
+    Request::read(
         alloc,
-        &catalogue,
-        &request,
-        &mut MemorySource::new(sink.bytes(), 4096),
-    )?;
+        &mut MemorySource::new(text.as_bytes(), 4096),
+        catalogue,
+    )
+}
+
+/// The report of a row.
+fn report_of(
+    alloc: Global,
+    catalogue: &Catalogue,
+    request: &Request,
+    row: &Row,
+) -> Result<Report, Fail> {
+    let chosen = solvables(alloc, row.chosen)?;
+    Ok(install_report(alloc, catalogue, request, &chosen)?)
+}
+
+/// A report as it is written.
+fn written(alloc: Global, report: &Report, room: usize) -> Result<MemorySink, Fail> {
+    let mut sink = MemorySink::new(alloc, room, 4096)?;
+    report.write(alloc, &mut sink)?;
+    Ok(sink)
+}
+
+/// Whether the report has the row's text, and what the judge says of it.
+fn told_over(
+    alloc: Global,
+    catalogue: &Catalogue,
+    request: &Request,
+    row: &Row,
+) -> Result<(bool, Verdict), Fail> {
+    let report = report_of(alloc, catalogue, request, row)?;
+    let sink = written(alloc, &report, row.report.len())?;
+    let mut source = MemorySource::new(sink.bytes(), 4096);
+    let verdict = judge(alloc, catalogue, request, &mut source)?;
     Ok((sink.bytes() == row.report.as_bytes(), verdict))
+}
+
+fn told_of(alloc: Global, catalogue: &Catalogue, row: &Row) -> Result<(bool, Verdict), Fail> {
+    told_over(
+        alloc,
+        catalogue,
+        &request_of(alloc, row.request, catalogue)?,
+        row,
+    )
+}
+
+fn told(alloc: Global, row: &Row) -> Result<(bool, Verdict), Fail> {
+    told_of(alloc, &catalogue_of(alloc, row.catalogue)?, row)
 }
 
 #[test]

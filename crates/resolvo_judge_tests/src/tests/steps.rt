@@ -1,12 +1,14 @@
 //! An accepted and a refused use of each kind of step.
 
-use resolvo_catalogue::{Catalogue, MemorySource, ReadFault, Request, Span, Spec, Version};
+use super::{catalogue_of, request_of};
+use resolvo_catalogue::{Catalogue, MemorySource, Span, Spec, Version};
 use resolvo_judge::{
     Checked, Scope, Verdict, accepted_install_is_true, accepted_refusal_is_true, check_steps,
     count_causes, judge, proof_bars, proof_refutes, steps_are_true,
 };
 use resolvo_report::{Atom, Literal, Place, Step};
 use std::alloc::{AllocError, Global};
+use std::process::Abort;
 use std::test::Fail;
 
 const MARKET: &str =
@@ -71,16 +73,27 @@ fn checked(
     scope: &Scope,
     steps: &[Step],
 ) -> Result<Option<Checked>, Fail> {
-    let catalogue = Catalogue::read(alloc, &mut MemorySource::new(catalogue.as_bytes(), 4096))?;
-    let mut source = MemorySource::new(request.as_bytes(), 4096);
-    let request = Request::read(alloc, &mut source, &catalogue)?;
-    let Some(_count) = count_causes(steps) else {
-        return Ok(None);
-    };
-    if steps.len() > 1000 {
+    checked_over(
+        alloc,
+        &catalogue_of(alloc, catalogue)?,
+        request,
+        scope,
+        steps,
+    )
+}
+
+fn checked_over(
+    alloc: Global,
+    catalogue: &Catalogue,
+    request: &str,
+    scope: &Scope,
+    steps: &[Step],
+) -> Result<Option<Checked>, Fail> {
+    if steps.len() > 1000 || count_causes(steps).is_none() {
         return Ok(None);
     }
-    Ok(Some(check_steps(alloc, &catalogue, &request, scope, steps)?))
+    let request = request_of(alloc, request, catalogue)?;
+    Ok(Some(check_steps(alloc, catalogue, &request, scope, steps)?))
 }
 
 /// The place of the first wrong step, from 1; 0 where there is none.
@@ -92,15 +105,20 @@ fn wrong(checked: Option<Checked>) -> Option<usize> {
 }
 
 /// Whether the step stands alone over the market and the request.
-fn stands(rt: &HostRuntime, step: Step) -> Result<bool, Fail> {
-    let steps = vec![in rt.alloc(); step]?;
-    let found = checked(rt.alloc(), MARKET, ASKED, &Scope::All, &steps)?;
+fn stands(alloc: Global, step: Step) -> Result<bool, Fail> {
+    let steps = vec![in alloc; step]?;
+    let found = checked(alloc, MARKET, ASKED, &Scope::All, &steps)?;
     Ok(wrong(found) == Some(0))
+}
+
+fn need_stands(alloc: Global, owner: u32, line: u32, case: u32) -> Result<bool, Fail> {
+    let place = place(alloc, owner)?;
+    stands(alloc, Step::Need { place, line, case })
 }
 
 #[test]
 fn needs(rt: HostRuntime) -> Result<(), Fail> {
-    for (owner, line, case, fine) in [
+    for (owner, line, case, fine) in &[
         (0u32, 1u32, 1u32, true),
         (0, 1, 2, false),
         (0, 1, 0, false),
@@ -115,26 +133,48 @@ fn needs(rt: HostRuntime) -> Result<(), Fail> {
         (1, 4, 1, false),
         (3, 3, 1, false),
     ] {
-        let place = place(rt.alloc(), owner)?;
-        let step = Step::Need { place, line, case };
-        assert_eq!(rt; stands(&rt, step)?, fine, "{owner} {line} {case}");
+        let found = need_stands(rt.alloc(), *owner, *line, *case)?;
+        assert_eq!(rt; found, *fine, "{owner} {line} {case}");
     }
-    for (number, line, fine) in [
+    Ok(())
+}
+
+fn gate_stands(alloc: Global, number: u32, line: u32) -> Result<bool, Fail> {
+    let version = version(alloc, "a", number)?;
+    stands(alloc, Step::Gate { version, line })
+}
+
+#[test]
+fn gates(rt: HostRuntime) -> Result<(), Fail> {
+    for (number, line, fine) in &[
         (1u32, 3u32, true),
         (1, 2, false),
         (2, 3, false),
         (1, 4, false),
     ] {
-        let version = version(rt.alloc(), "a", number)?;
-        let step = Step::Gate { version, line };
-        assert_eq!(rt; stands(&rt, step)?, fine, "{number} {line}");
+        let found = gate_stands(rt.alloc(), *number, *line)?;
+        assert_eq!(rt; found, *fine, "{number} {line}");
     }
     Ok(())
 }
 
+/// Whether the limit of a place may bar a version.
+fn bars(alloc: Global, owner: u32, line: u32, name: &str, number: u32) -> Result<bool, Fail> {
+    let place = place(alloc, owner)?;
+    let version = version(alloc, name, number)?;
+    stands(
+        alloc,
+        Step::LimitBars {
+            place,
+            line,
+            version,
+        },
+    )
+}
+
 #[test]
-fn limits(rt: HostRuntime) -> Result<(), Fail> {
-    for (owner, line, name, number, fine) in [
+fn barred_by_limits(rt: HostRuntime) -> Result<(), Fail> {
+    for (owner, line, name, number, fine) in &[
         (0u32, 2u32, "b", 1u32, true),
         (0, 2, "b", 2, false),
         (0, 2, "c", 2, false),
@@ -144,102 +184,169 @@ fn limits(rt: HostRuntime) -> Result<(), Fail> {
         (1, 4, "c", 3, false),
         (2, 4, "c", 2, false),
     ] {
-        let step = Step::LimitBars {
-            place: place(rt.alloc(), owner)?,
-            line,
-            version: version(rt.alloc(), name, number)?,
-        };
-        assert_eq!(rt; stands(&rt, step)?, fine, "{owner} {line} {name} {number}");
+        let found = bars(rt.alloc(), *owner, *line, name, *number)?;
+        assert_eq!(rt; found, *fine, "{owner} {line} {name} {number}");
     }
-    for (owner, line, fine) in [
+    Ok(())
+}
+
+fn limit_stands(alloc: Global, owner: u32, line: u32) -> Result<bool, Fail> {
+    let place = place(alloc, owner)?;
+    stands(alloc, Step::Limit { place, line })
+}
+
+#[test]
+fn limits(rt: HostRuntime) -> Result<(), Fail> {
+    for (owner, line, fine) in &[
         (0u32, 2u32, true),
         (0, 1, false),
         (1, 4, true),
         (1, 3, false),
         (2, 4, false),
     ] {
-        let place = place(rt.alloc(), owner)?;
-        let step = Step::Limit { place, line };
-        assert_eq!(rt; stands(&rt, step)?, fine, "{owner} {line}");
+        let found = limit_stands(rt.alloc(), *owner, *line)?;
+        assert_eq!(rt; found, *fine, "{owner} {line}");
     }
     Ok(())
 }
 
+fn lock_stands(alloc: Global, line: u32, name: &str, number: u32) -> Result<bool, Fail> {
+    let version = version(alloc, name, number)?;
+    stands(alloc, Step::Lock { line, version })
+}
+
 #[test]
-fn barred(rt: HostRuntime) -> Result<(), Fail> {
-    for (line, name, number, fine) in [
+fn locks(rt: HostRuntime) -> Result<(), Fail> {
+    for (line, name, number, fine) in &[
         (12u32, "c", 2u32, true),
         (12, "c", 1, false),
         (12, "c", 3, false),
         (12, "b", 2, false),
         (9, "c", 2, false),
     ] {
-        let version = version(rt.alloc(), name, number)?;
-        let step = Step::Lock { line, version };
-        assert_eq!(rt; stands(&rt, step)?, fine, "{line} {name} {number}");
+        let found = lock_stands(rt.alloc(), *line, name, *number)?;
+        assert_eq!(rt; found, *fine, "{line} {name} {number}");
     }
-    for (line, excluded, unknown) in [
+    Ok(())
+}
+
+/// Whether a line may exclude, and whether it may tell unknown needs.
+fn excludes_or_unknown(alloc: Global, line: u32) -> Result<(bool, bool), Fail> {
+    let excludes = stands(alloc, Step::Exclude { line })?;
+    Ok((excludes, stands(alloc, Step::Unknown { line })?))
+}
+
+#[test]
+fn excluded_or_unknown(rt: HostRuntime) -> Result<(), Fail> {
+    for (line, excluded, unknown) in &[
         (9u32, true, false),
         (6, false, true),
         (12, false, false),
         (0, false, false),
         (99, false, false),
     ] {
-        assert_eq!(rt; stands(&rt, Step::Exclude { line })?, excluded, "{line}");
-        assert_eq!(rt; stands(&rt, Step::Unknown { line })?, unknown, "{line}");
+        let found = excludes_or_unknown(rt.alloc(), *line)?;
+        assert_eq!(rt; found, (*excluded, *unknown), "{line}");
     }
     Ok(())
 }
 
+/// Whether a version may be told to be outside `c 0..2`.
+fn outside_stands(alloc: Global, name: &str, number: u32) -> Result<bool, Fail> {
+    let spec = spec(alloc, "c", Span::Range(0, 2))?;
+    let version = version(alloc, name, number)?;
+    stands(alloc, Step::Outside { spec, version })
+}
+
+fn any_stands(alloc: Global, name: &str, number: u32) -> Result<bool, Fail> {
+    let version = version(alloc, name, number)?;
+    stands(alloc, Step::Any { version })
+}
+
 #[test]
-fn helpers(rt: HostRuntime) -> Result<(), Fail> {
-    for (name, number, outside, any) in [
+fn outside_and_any(rt: HostRuntime) -> Result<(), Fail> {
+    for (name, number, outside, any) in &[
         ("c", 2u32, true, true),
         ("c", 1, false, true),
         ("c", 3, false, false),
         ("b", 2, false, true),
     ] {
-        let step = Step::Outside {
-            spec: spec(rt.alloc(), "c", Span::Range(0, 2))?,
-            version: version(rt.alloc(), name, number)?,
-        };
-        assert_eq!(rt; stands(&rt, step)?, outside, "{name} {number}");
-        let version = version(rt.alloc(), name, number)?;
-        assert_eq!(rt; stands(&rt, Step::Any { version })?, any, "{name} {number}");
-    }
-    let alternatives = vec![in rt.alloc(); spec(rt.alloc(), "z", Span::Any)?]?;
-    assert!(rt; stands(&rt, Step::Shared { alternatives })?);
-    for (number, bit, fine) in [(1u32, 31u32, true), (1, 32, false), (3, 0, false)] {
-        let step = Step::Digit {
-            version: version(rt.alloc(), "a", number)?,
-            place: 4294967295,
-            bit,
-        };
-        assert_eq!(rt; stands(&rt, step)?, fine, "{number} {bit}");
+        let found = outside_stands(rt.alloc(), name, *number)?;
+        assert_eq!(rt; found, *outside, "{name} {number}");
+        let found = any_stands(rt.alloc(), name, *number)?;
+        assert_eq!(rt; found, *any, "{name} {number}");
     }
     Ok(())
+}
+
+fn shared_stands(alloc: Global) -> Result<bool, Fail> {
+    let alternatives = vec![in alloc; spec(alloc, "z", Span::Any)?]?;
+    stands(alloc, Step::Shared { alternatives })
+}
+
+/// Whether a digit of the last place may be told of a version.
+fn digit_stands(alloc: Global, number: u32, bit: u32) -> Result<bool, Fail> {
+    let version = version(alloc, "a", number)?;
+    stands(
+        alloc,
+        Step::Digit {
+            version,
+            place: 4294967295,
+            bit,
+        },
+    )
+}
+
+#[test]
+fn shared_and_digits(rt: HostRuntime) -> Result<(), Fail> {
+    assert!(rt; shared_stands(rt.alloc())?);
+    for (number, bit, fine) in &[(1u32, 31u32, true), (1, 32, false), (3, 0, false)] {
+        let found = digit_stands(rt.alloc(), *number, *bit)?;
+        assert_eq!(rt; found, *fine, "{number} {bit}");
+    }
+    Ok(())
+}
+
+fn digit(alloc: Global, number: u32, place: u32) -> Result<Step, AllocError> {
+    Ok(Step::Digit {
+        version: version(alloc, "a", number)?,
+        place,
+        bit: 0,
+    })
+}
+
+/// The first wrong one of two digits, of which the first is that of `a=1` at place 0.
+fn wrong_digit(alloc: Global, number: u32, place: u32) -> Result<Option<usize>, Fail> {
+    let steps = vec![in alloc; digit(alloc, 1, 0)?, digit(alloc, number, place)?]?;
+    Ok(wrong(checked(alloc, MARKET, ASKED, &Scope::All, &steps)?))
 }
 
 /// A version has one place, and two versions may have the same.
 #[test]
 fn places(rt: HostRuntime) -> Result<(), Fail> {
-    for (number, place, first_wrong) in [(1u32, 1u32, 2usize), (1, 0, 0), (2, 1, 0), (2, 0, 0)] {
-        let steps = vec![in rt.alloc();
-            Step::Digit {
-                version: version(rt.alloc(), "a", 1)?,
-                place: 0,
-                bit: 0
-            },
-            Step::Digit {
-                version: version(rt.alloc(), "a", number)?,
-                place,
-                bit: 0
-            },
-        ]?;
-        let found = checked(rt.alloc(), MARKET, ASKED, &Scope::All, &steps)?;
-        assert_eq!(rt; wrong(found), Some(first_wrong), "{number} {place}");
+    for (number, place, first_wrong) in &[(1u32, 1u32, 2usize), (1, 0, 0), (2, 1, 0), (2, 0, 0)] {
+        let found = wrong_digit(rt.alloc(), *number, *place)?;
+        assert_eq!(rt; found, Some(*first_wrong), "{number} {place}");
     }
     Ok(())
+}
+
+/// What is found of an excluded version's clause and a derived step: the first wrong one, and how many clauses were
+/// named and read.
+fn after_exclude(
+    alloc: Global,
+    literals: &[(&str, u32, bool)],
+    causes: &[u32],
+) -> Result<Option<(usize, u64, u64)>, Fail> {
+    let derived = derive(alloc, literals, causes)?;
+    let steps = vec![in alloc; Step::Exclude { line: 9 }, derived]?;
+    match checked(alloc, MARKET, ASKED, &Scope::All, &steps)? {
+        Some(found) => {
+            let counts = (found.readings.named(), found.readings.read());
+            Ok(Some((wrong(Some(found)).unwrap_or(9), counts.0, counts.1)))
+        }
+        None => Ok(None),
+    }
 }
 
 /// One pass reads each named clause once, in order, to the last.
@@ -247,32 +354,41 @@ fn places(rt: HostRuntime) -> Result<(), Fail> {
 fn derived(rt: HostRuntime) -> Result<(), Fail> {
     let not_b = [("b", 1u32, false)];
     let both = [("b", 1u32, true), ("b", 1, false)];
-    let unlisted = [("b", 1u32, false), ("b", 7, true)];
     let more = [("any", 0u32, false), ("b", 1, false)];
-    for (literals, causes, first_wrong, read) in [
-        (not_b.as_slice(), [1u32].as_slice(), 0usize, 1u64),
-        (not_b.as_slice(), [1, 1].as_slice(), 0, 2),
-        (both.as_slice(), [1].as_slice(), 0, 1),
-        (more.as_slice(), [1].as_slice(), 0, 1),
-        (unlisted.as_slice(), [1].as_slice(), 2, 0),
-        (not_b.as_slice(), [2].as_slice(), 2, 0),
-        (not_b.as_slice(), [3].as_slice(), 2, 0),
-        (not_b.as_slice(), [0].as_slice(), 2, 0),
-        ([].as_slice(), [1].as_slice(), 2, 0),
-        ([("b", 2, false)].as_slice(), [1].as_slice(), 2, 0),
+    for (literals, causes, read) in &[
+        (not_b.as_slice(), [1u32].as_slice(), 1u64),
+        (not_b.as_slice(), [1, 1].as_slice(), 2),
+        (both.as_slice(), [1].as_slice(), 1),
+        (more.as_slice(), [1].as_slice(), 1),
     ] {
-        let steps = vec![in rt.alloc();
-            Step::Exclude { line: 9 },
-            derive(rt.alloc(), literals, causes)?,
-        ]?;
-        let found = checked(rt.alloc(), MARKET, ASKED, &Scope::All, &steps)?;
-        assert_eq!(rt; wrong(found), Some(first_wrong));
-        if let Some(found) = found {
-            if first_wrong == 0 {
-                assert_eq!(rt; found.readings.read(), read);
-                assert_eq!(rt; found.readings.named(), read);
-            }
-        }
+        let found = after_exclude(rt.alloc(), literals, causes)?;
+        assert_eq!(rt; found, Some((0, *read, *read)));
+    }
+    Ok(())
+}
+
+/// The first wrong one of an excluded version's clause and a derived step.
+fn wrong_derived(
+    alloc: Global,
+    literals: &[(&str, u32, bool)],
+    causes: &[u32],
+) -> Result<Option<usize>, Fail> {
+    Ok(after_exclude(alloc, literals, causes)?.map(|found| found.0))
+}
+
+#[test]
+fn not_derived(rt: HostRuntime) -> Result<(), Fail> {
+    let not_b = [("b", 1u32, false)];
+    let unlisted = [("b", 1u32, false), ("b", 7, true)];
+    for (literals, causes) in &[
+        (unlisted.as_slice(), [1u32].as_slice()),
+        (not_b.as_slice(), [2].as_slice()),
+        (not_b.as_slice(), [3].as_slice()),
+        (not_b.as_slice(), [0].as_slice()),
+        ([].as_slice(), [1].as_slice()),
+        ([("b", 2, false)].as_slice(), [1].as_slice()),
+    ] {
+        assert_eq!(rt; wrong_derived(rt.alloc(), literals, causes)?, Some(2));
     }
     Ok(())
 }
@@ -280,9 +396,8 @@ fn derived(rt: HostRuntime) -> Result<(), Fail> {
 const CHAIN: &str =
     "version p 1\nneeds c\nlimits c 9\nversion c 1\nversion c 2\nversion c 3\nversion c 4\n";
 
-/// A need by a gate and a limit by a helper, of which only the order of the causes decides.
-fn chain(alloc: Global, causes: &[u32]) -> Result<Vec<Step>, AllocError> {
-    let mut steps = Vec::new(alloc);
+/// A need by a gate, where the needed package is shared.
+fn gate_chain(alloc: Global, steps: &mut Vec<Step>) -> Result<(), AllocError> {
     steps.push(Step::Need {
         place: Place::Request,
         line: 1,
@@ -295,39 +410,67 @@ fn chain(alloc: Global, causes: &[u32]) -> Result<Vec<Step>, AllocError> {
     steps.push(Step::Shared {
         alternatives: vec![in alloc; spec(alloc, "c", Span::Any)?]?,
     })?;
+    Ok(())
+}
+
+/// That a version is outside the limit's SPEC.
+fn outside_nine(alloc: Global, number: u32) -> Result<Step, AllocError> {
+    let spec = spec(alloc, "c", Span::One(9))?;
+    let version = version(alloc, "c", number)?;
+    Ok(Step::Outside { spec, version })
+}
+
+/// A limit by a helper.
+fn limit_chain(alloc: Global, steps: &mut Vec<Step>) -> Result<(), AllocError> {
     steps.push(Step::Limit {
         place: Place::Version(version(alloc, "p", 1)?),
         line: 3,
     })?;
     for number in 1..5u32 {
-        steps.push(Step::Outside {
-            spec: spec(alloc, "c", Span::One(9))?,
-            version: version(alloc, "c", number)?,
-        })?;
+        steps.push(outside_nine(alloc, number)?)?;
     }
+    Ok(())
+}
+
+/// A need by a gate and a limit by a helper, of which only the order of the causes decides.
+fn chain(alloc: Global, causes: &[u32]) -> Result<Vec<Step>, AllocError> {
+    let mut steps = Vec::new(alloc);
+    gate_chain(alloc, &mut steps)?;
+    limit_chain(alloc, &mut steps)?;
     steps.push(derive(alloc, &[], causes)?)?;
     Ok(steps)
 }
 
+fn named(alloc: Global, catalogue: &[bool]) -> Result<Scope, AllocError> {
+    Ok(Scope::Named {
+        catalogue: Vec::from_slice(alloc, catalogue)?,
+        request: vec![in alloc; false, true]?,
+    })
+}
+
+/// The first wrong step of a chain, where these lines of the catalogue are named.
+fn wrong_in_chain(alloc: Global, causes: &[u32], lines: &[bool]) -> Result<Option<usize>, Fail> {
+    let steps = chain(alloc, causes)?;
+    let scope = named(alloc, lines)?;
+    Ok(wrong(checked(alloc, CHAIN, "needs p\n", &scope, &steps)?))
+}
+
 #[test]
 fn chains(rt: HostRuntime) -> Result<(), Fail> {
-    let all = Scope::Named {
-        catalogue: vec![in rt.alloc(); false, false, true, true]?,
-        request: vec![in rt.alloc(); false, true]?,
-    };
-    let less = Scope::Named {
-        catalogue: vec![in rt.alloc(); false, false, true]?,
-        request: vec![in rt.alloc(); false, true]?,
-    };
-    for (causes, scope, first_wrong) in [
-        ([1u32, 2, 4, 5, 6, 7, 8, 3].as_slice(), &all, 0usize),
-        ([1, 2, 3, 4, 5, 6, 7, 8].as_slice(), &all, 9),
-        ([2, 1, 4, 5, 6, 7, 8, 3].as_slice(), &all, 9),
-        ([1, 2, 4, 5, 6, 7, 8, 3].as_slice(), &less, 4),
+    let all = [false, false, true, true];
+    let less = [false, false, true];
+    for (causes, lines, first_wrong) in &[
+        (
+            [1u32, 2, 4, 5, 6, 7, 8, 3].as_slice(),
+            all.as_slice(),
+            0usize,
+        ),
+        ([1, 2, 3, 4, 5, 6, 7, 8].as_slice(), all.as_slice(), 9),
+        ([2, 1, 4, 5, 6, 7, 8, 3].as_slice(), all.as_slice(), 9),
+        ([1, 2, 4, 5, 6, 7, 8, 3].as_slice(), less.as_slice(), 4),
     ] {
-        let steps = chain(rt.alloc(), causes)?;
-        let found = checked(rt.alloc(), CHAIN, "needs p\n", scope, &steps)?;
-        assert_eq!(rt; wrong(found), Some(first_wrong));
+        let found = wrong_in_chain(rt.alloc(), causes, lines)?;
+        assert_eq!(rt; found, Some(*first_wrong));
     }
     steps_are_true();
     proof_refutes();
@@ -337,32 +480,28 @@ fn chains(rt: HostRuntime) -> Result<(), Fail> {
     Ok(())
 }
 
-fn market(alloc: Global) -> Result<Catalogue, ReadFault> {
-    Catalogue::read(alloc, &mut MemorySource::new(MARKET.as_bytes(), 4096))
+/// The verdict on a report over the market and the request.
+fn verdict(alloc: Global, catalogue: &Catalogue, report: &str) -> Result<Verdict, Fail> {
+    let request = request_of(alloc, ASKED, catalogue)?;
+    let mut source = MemorySource::new(report.as_bytes(), 4096);
+    Ok(judge(alloc, catalogue, &request, &mut source)?)
 }
 
-fn asked(alloc: Global, catalogue: &Catalogue) -> Result<Request, ReadFault> {
-    Request::read(
-        alloc,
-        &mut MemorySource::new(ASKED.as_bytes(), 4096),
-        catalogue,
-    )
+fn refuses_named(rt: &impl Abort, alloc: Global, catalogue: &Catalogue) -> Result<(), Fail> {
+    for (report, line) in &[
+        ("refused\ncatalogue line 1\n", 2u32),
+        ("refused\ncatalogue line 9\n", 3),
+        ("refused\nrequest line 3\n", 2),
+        ("refused\nrequest line 1\n", 3),
+    ] {
+        let found = verdict(alloc, catalogue, report)?;
+        assert_eq!(rt; found, Verdict::No(*line), "{report}");
+    }
+    Ok(())
 }
 
 /// Named lines state rules.
 #[test]
 fn named_lines(rt: HostRuntime) -> Result<(), Fail> {
-    let catalogue = market(rt.alloc())?;
-    let request = asked(rt.alloc(), &catalogue)?;
-    for (report, line) in [
-        ("refused\ncatalogue line 1\n", 2),
-        ("refused\ncatalogue line 9\n", 3),
-        ("refused\nrequest line 3\n", 2),
-        ("refused\nrequest line 1\n", 3),
-    ] {
-        let mut source = MemorySource::new(report.as_bytes(), 4096);
-        let found = judge(rt.alloc(), &catalogue, &request, &mut source)?;
-        assert_eq!(rt; found, Verdict::No(line), "{report}");
-    }
-    Ok(())
+    refuses_named(&rt, rt.alloc(), &catalogue_of(rt.alloc(), MARKET)?)
 }

@@ -1,27 +1,18 @@
 //! The cache over the provider in memory, of which each helper asks one thing.
 
-use super::sourcing::Tens;
+use super::sourcing::{Tens, small_provider};
 use resolvo_pool::cache::{CacheFault, SolverCache};
 use resolvo_pool::id::{NameId, SolvableId, StringId, VersionSetId, VersionSetUnionId};
 use resolvo_pool::provider::Dependencies;
 use resolvo_pool::requirement::Requirement;
 use resolvo_pool::want::R;
 use std::alloc::Global;
-use std::cell::Cell;
+use std::process::Abort;
 use std::test::Fail;
 
 /// A cache over a provider that cancels at this test, or never.
-fn tens(alloc: Global, cancels_at: u32) -> R<SolverCache<Tens>> {
-    let mut members = Vec::new(alloc);
-    members.push(VersionSetId(21))?;
-    members.push(VersionSetId(1))?;
-    let provider = Tens {
-        members,
-        favored: Some(SolvableId::from_raw(1)),
-        cancels_at: Cell::new(cancels_at),
-        tests: Cell::new(0),
-        asked: Cell::new(0),
-    };
+fn cache(alloc: Global, cancels_at: u32) -> R<SolverCache<Tens>> {
+    let provider = small_provider(alloc, Some(SolvableId::from_raw(1)), cancels_at)?;
     Ok(SolverCache::new(alloc, provider))
 }
 
@@ -72,59 +63,74 @@ fn cancelled(cache: &mut SolverCache<Tens>, set: u32) -> Option<u32> {
     }
 }
 
+fn gives_lists(rt: &impl Abort, cache: &mut SolverCache<Tens>) {
+    assert!(rt; matching(cache, 1, &[1, 2]));
+    assert!(rt; others(cache, 1, &[0]));
+    assert!(rt; sorted(cache, Requirement::from(VersionSetId(1)), &[1, 2]));
+    let asked = cache.provider().asked.get();
+    assert!(rt; others(cache, 1, &[0]));
+    assert!(rt; sorted(cache, Requirement::from(VersionSetId(1)), &[1, 2]));
+    assert_eq!(rt; cache.provider().asked.get(), asked);
+}
+
 #[test]
 fn lists_of_a_version_set(rt: HostRuntime) -> Result<(), Fail> {
-    let mut cache = tens(rt.alloc(), 0)?;
-    assert!(rt; matching(&mut cache, 1, &[1, 2]));
-    assert!(rt; others(&mut cache, 1, &[0]));
-    assert!(rt; sorted(&mut cache, Requirement::from(VersionSetId(1)), &[1, 2]));
-    let asked = cache.provider().asked.get();
-    assert!(rt; others(&mut cache, 1, &[0]));
-    assert!(rt; sorted(&mut cache, Requirement::from(VersionSetId(1)), &[1, 2]));
-    assert_eq!(rt; cache.provider().asked.get(), asked);
+    gives_lists(&rt, &mut cache(rt.alloc(), 0)?);
     Ok(())
+}
+
+fn gives_union(rt: &impl Abort, cache: &mut SolverCache<Tens>) {
+    let union = Requirement::from(VersionSetUnionId(0));
+    assert!(rt; sorted(cache, union, &[22, 21, 1, 2]));
+    assert!(rt; sorted(cache, union, &[22, 21, 1, 2]));
+    assert!(rt; candidates(cache, 7, &[]));
 }
 
 #[test]
 fn lists_of_a_union(rt: HostRuntime) -> Result<(), Fail> {
-    let mut cache = tens(rt.alloc(), 0)?;
-    let union = Requirement::from(VersionSetUnionId(0));
-    assert!(rt; sorted(&mut cache, union, &[22, 21, 1, 2]));
-    assert!(rt; sorted(&mut cache, union, &[22, 21, 1, 2]));
-    assert!(rt; candidates(&mut cache, 7, &[]));
+    gives_union(&rt, &mut cache(rt.alloc(), 0)?);
     Ok(())
+}
+
+fn has_dependencies(rt: &impl Abort, cache: &mut SolverCache<Tens>) {
+    assert!(rt; !cache.are_dependencies_available_for(SolvableId::from_raw(12)));
+    assert!(rt; candidates(cache, 1, &[10, 11, 12]));
+    assert!(rt; cache.are_dependencies_available_for(SolvableId::from_raw(12)));
+    assert!(rt; !cache.are_dependencies_available_for(SolvableId::from_raw(13)));
 }
 
 #[test]
 fn dependencies_at_hand(rt: HostRuntime) -> Result<(), Fail> {
-    let mut cache = tens(rt.alloc(), 0)?;
-    assert!(rt; !cache.are_dependencies_available_for(SolvableId::from_raw(12)));
-    assert!(rt; candidates(&mut cache, 1, &[10, 11, 12]));
-    assert!(rt; cache.are_dependencies_available_for(SolvableId::from_raw(12)));
-    assert!(rt; !cache.are_dependencies_available_for(SolvableId::from_raw(13)));
+    has_dependencies(&rt, &mut cache(rt.alloc(), 0)?);
     Ok(())
+}
+
+fn asks_once(rt: &impl Abort, cache: &mut SolverCache<Tens>) {
+    assert_eq!(rt; reason(cache, 12), Some(StringId(0)));
+    assert_eq!(rt; reason(cache, 12), Some(StringId(0)));
+    assert_eq!(rt; reason(cache, 11), None);
+    assert_eq!(rt; cache.provider().asked.get(), 2);
+    assert!(rt; cache.are_dependencies_available_for(SolvableId::from_raw(11)));
 }
 
 #[test]
 fn dependencies_asked_once(rt: HostRuntime) -> Result<(), Fail> {
-    let mut cache = tens(rt.alloc(), 0)?;
-    assert_eq!(rt; reason(&mut cache, 12), Some(StringId(0)));
-    assert_eq!(rt; reason(&mut cache, 12), Some(StringId(0)));
-    assert_eq!(rt; reason(&mut cache, 11), None);
-    assert_eq!(rt; cache.provider().asked.get(), 2);
-    assert!(rt; cache.are_dependencies_available_for(SolvableId::from_raw(11)));
+    asks_once(&rt, &mut cache(rt.alloc(), 0)?);
     Ok(())
+}
+
+fn keeps_what_came(rt: &impl Abort, cache: &mut SolverCache<Tens>) {
+    assert!(rt; matching(cache, 1, &[1, 2]));
+    assert!(rt; matching(cache, 11, &[11, 12]));
+    assert_eq!(rt; cancelled(cache, 21), Some(3));
+    let asked = cache.provider().asked.get();
+    assert!(rt; matching(cache, 1, &[1, 2]));
+    assert_eq!(rt; cache.provider().asked.get(), asked);
+    assert!(rt; matching(cache, 21, &[21, 22]));
 }
 
 #[test]
 fn third_question_cancelled(rt: HostRuntime) -> Result<(), Fail> {
-    let mut cache = tens(rt.alloc(), 3)?;
-    assert!(rt; matching(&mut cache, 1, &[1, 2]));
-    assert!(rt; matching(&mut cache, 11, &[11, 12]));
-    assert_eq!(rt; cancelled(&mut cache, 21), Some(3));
-    let asked = cache.provider().asked.get();
-    assert!(rt; matching(&mut cache, 1, &[1, 2]));
-    assert_eq!(rt; cache.provider().asked.get(), asked);
-    assert!(rt; matching(&mut cache, 21, &[21, 22]));
+    keeps_what_came(&rt, &mut cache(rt.alloc(), 3)?);
     Ok(())
 }

@@ -11,27 +11,50 @@ use resolvo_pool::indexed_set::IndexedSet;
 use resolvo_pool::mapping::Mapping;
 use resolvo_pool::requirement::{Requirement, RequirementMap};
 use resolvo_pool::solver_id::{SolvableIdOrRoot, SolverId, WithRootSet};
-use resolvo_pool::want::Want;
+use resolvo_pool::want::{R, Want};
 use std::alloc::Global;
+use std::process::Abort;
 use std::test::Fail;
 
-fn serve<S: SolverId>(alloc: Global, a: S, b: S) -> Result<bool, Fail> {
+/// Whether a set of ids holds what was put in, once.
+fn serves_sets<S: SolverId>(alloc: Global, a: S, b: S) -> R<bool> {
     let mut set = S::Set::new(alloc);
-    let inserted = set.insert(a)? && !set.insert(a)? && set.contains(a) && !set.contains(b);
+    Ok(set.insert(a)? && !set.insert(a)? && set.contains(a) && !set.contains(b))
+}
+
+/// Whether scores are kept, and scaled.
+fn serves_scores<S: SolverId>(alloc: Global, a: S, b: S) -> R<bool> {
     let mut scores = S::Scores::new(alloc);
     scores.set(a, 1_000_001)?;
     scores.scale(950_000);
-    let scored = scores.get(a) == 950_000 && scores.get(b) == 0;
+    Ok(scores.get(a) == 950_000 && scores.get(b) == 0)
+}
+
+/// Whether a map of optional numbers holds what was put in.
+fn serves_numbers<S: SolverId>(alloc: Global, a: S, b: S) -> R<bool> {
     let mut numbers = S::OptionalIds::new(alloc);
     numbers.set(b, OptionalNumber(Some(7)))?;
-    let numbered = numbers.get(b).0 == Some(7) && numbers.get(a).0 == None;
+    Ok(numbers.get(b).0 == Some(7) && numbers.get(a).0 == None)
+}
+
+/// Whether a set holds the root and an id beside it.
+fn serves_root<S: SolverId>(alloc: Global, a: S, b: S) -> R<bool> {
     let mut rooted = WithRootSet::<S>::new(alloc);
     let root = rooted.insert(SolvableIdOrRoot::root())?;
     let other = rooted.insert(SolvableIdOrRoot::from(a))?;
     let both = rooted.contains(SolvableIdOrRoot::Root)
         && !rooted.insert(SolvableIdOrRoot::from(a))?;
     let outside = rooted.contains(SolvableIdOrRoot::from(b));
-    Ok(inserted && scored && numbered && root && other && both && !outside)
+    Ok(root && other && both && !outside)
+}
+
+fn serve<S: SolverId>(alloc: Global, a: S, b: S) -> R<bool> {
+    Ok(
+        serves_sets(alloc, a, b)?
+            && serves_scores(alloc, a, b)?
+            && serves_numbers(alloc, a, b)?
+            && serves_root(alloc, a, b)?,
+    )
 }
 
 #[test]
@@ -70,9 +93,7 @@ fn ids_end(rt: HostRuntime) {
     }
 }
 
-#[test]
-fn mapping_by_chunks(rt: HostRuntime) -> Result<(), Fail> {
-    let mut values: Mapping<VersionSetId, u32> = Mapping::new(rt.alloc())?;
+fn fill_two_chunks(rt: &impl Abort, values: &mut Mapping<VersionSetId, u32>) -> R<()> {
     assert_eq!(rt; (values.len(), values.slots()), (0, 128));
     assert!(rt; values.is_empty());
     assert_eq!(rt; values.insert(VersionSetId(0), 10)?, None);
@@ -81,18 +102,51 @@ fn mapping_by_chunks(rt: HostRuntime) -> Result<(), Fail> {
     assert_eq!(rt; (values.len(), values.slots()), (2, 256));
     assert_eq!(rt; values.get(VersionSetId(128)).copied(), Some(20));
     assert_eq!(rt; values.insert(VersionSetId(u32::MAX), 1), Err(Want::Ids));
+    Ok(())
+}
+
+/// Adds one to the first value, and puts a third in.
+fn change(values: &mut Mapping<VersionSetId, u32>) -> R<()> {
     if let Some(value) = values.get_mut(VersionSetId(0)) {
-        *value += 1;
+        *value = value.wrapping_add(1);
     }
-    *values.get_or_insert_with(VersionSetId(5), || 30)? += 1;
-    let mut seen = Vec::new(rt.alloc());
+    let third = values.get_or_insert_with(VersionSetId(5), || 30)?;
+    *third = third.wrapping_add(1);
+    Ok(())
+}
+
+/// The ids and values in order.
+fn seen(alloc: Global, values: &Mapping<VersionSetId, u32>) -> R<Vec<(u32, u32)>> {
+    let mut seen = Vec::new(alloc);
     for (id, value) in values.iter() {
         seen.push((id.0, *value))?;
     }
-    assert_eq!(rt; seen.as_slice(), [(0, 11), (5, 31), (128, 20)].as_slice());
+    Ok(seen)
+}
+
+fn take_out(rt: &impl Abort, values: &mut Mapping<VersionSetId, u32>) {
     assert_eq!(rt; values.unset(VersionSetId(5)), Some(31));
     assert_eq!(rt; values.len(), 2);
     assert!(rt; values.capacity() >= values.slots());
+}
+
+fn change_all(rt: &impl Abort, alloc: Global, values: &mut Mapping<VersionSetId, u32>) -> R<()> {
+    fill_two_chunks(rt, values)?;
+    change(values)?;
+    let seen = seen(alloc, values)?;
+    assert_eq!(rt; seen.as_slice(), [(0, 11), (5, 31), (128, 20)].as_slice());
+    take_out(rt, values);
+    Ok(())
+}
+
+#[test]
+fn mapping_by_chunks(rt: HostRuntime) -> Result<(), Fail> {
+    change_all(&rt, rt.alloc(), &mut Mapping::new(rt.alloc())?)?;
+    Ok(())
+}
+
+#[test]
+fn mapping_with_room(rt: HostRuntime) -> Result<(), Fail> {
     let large: Mapping<VersionSetId, u32> = Mapping::with_capacity(rt.alloc(), 129)?;
     assert_eq!(rt; large.slots(), 256);
     assert_eq!(rt;
@@ -102,16 +156,18 @@ fn mapping_by_chunks(rt: HostRuntime) -> Result<(), Fail> {
     Ok(())
 }
 
-#[test]
-fn arena_in_order(rt: HostRuntime) -> Result<(), Fail> {
-    let mut values: Arena<ClauseId, u32> = Arena::with_capacity(rt.alloc(), 2)?;
+fn holds_in_order(rt: &impl Abort, alloc: Global, values: &mut Arena<ClauseId, u32>) -> R<()> {
     assert_eq!(rt; values.alloc(5)?, ClauseId(0));
     assert_eq!(rt; values.alloc(6)?, ClauseId(1));
-    let mut seen = Vec::new(rt.alloc());
+    let mut seen = Vec::new(alloc);
     for (id, value) in values.iter() {
         seen.push((id.0, *value))?;
     }
     assert_eq!(rt; seen.as_slice(), [(0, 5), (1, 6)].as_slice());
+    Ok(())
+}
+
+fn changes(rt: &impl Abort, values: &mut Arena<ClauseId, u32>) {
     for (id, value) in values.iter_mut() {
         *value = id.0;
     }
@@ -120,25 +176,55 @@ fn arena_in_order(rt: HostRuntime) -> Result<(), Fail> {
     assert_eq!(rt; values[ClauseId(1)], 9);
     values.clear();
     assert_eq!(rt; values.len(), 0);
-    Ok(())
 }
 
 #[test]
-fn sets_and_maps(rt: HostRuntime) -> Result<(), Fail> {
-    let mut set: IndexedSet<ClauseId> = IndexedSet::new(rt.alloc());
+fn arena_in_order(rt: HostRuntime) -> Result<(), Fail> {
+    let mut values: Arena<ClauseId, u32> = Arena::with_capacity(rt.alloc(), 2)?;
+    holds_in_order(&rt, rt.alloc(), &mut values)?;
+    changes(&rt, &mut values);
+    Ok(())
+}
+
+fn holds_seven(rt: &impl Abort, set: &mut IndexedSet<ClauseId>) -> R<()> {
     assert!(rt; set.insert(ClauseId(7))?);
     assert!(rt; !set.insert(ClauseId(7))?);
     assert!(rt; set.contains(ClauseId(7)));
     assert!(rt; !set.contains(ClauseId(700)));
-    let mut copies: FrozenCopyMap<u32, u32> = FrozenCopyMap::new(rt.alloc());
+    Ok(())
+}
+
+#[test]
+fn sets_of_ids(rt: HostRuntime) -> Result<(), Fail> {
+    holds_seven(&rt, &mut IndexedSet::new(rt.alloc()))?;
+    Ok(())
+}
+
+fn gives_copies(rt: &impl Abort, copies: &mut FrozenCopyMap<u32, u32>) -> R<()> {
     copies.insert_copy(3, 4)?;
     assert_eq!(rt; (copies.get_copy(&3), copies.get_copy(&4)), (Some(4), None));
+    Ok(())
+}
+
+#[test]
+fn copies_by_key(rt: HostRuntime) -> Result<(), Fail> {
+    gives_copies(&rt, &mut FrozenCopyMap::new(rt.alloc()))?;
+    Ok(())
+}
+
+/// Puts a value in for the requirement where there is none, and adds five to the one that is there.
+fn put(values: &mut RequirementMap<u32>, requirement: Requirement) -> R<()> {
+    let value = values.get_or_insert_with(requirement, || 2)?;
+    *value = value.wrapping_add(5);
+    Ok(())
+}
+
+fn tells_kinds_apart(rt: &impl Abort, values: &mut RequirementMap<u32>) -> R<()> {
     let single = Requirement::from(VersionSetId(2));
     let union = Requirement::from(VersionSetUnionId(2));
-    let mut values: RequirementMap<u32> = RequirementMap::new(rt.alloc())?;
     values.insert(single, 1)?;
     assert_eq!(rt; values.get(union).copied(), None);
-    *values.get_or_insert_with(union, || 2)? += 5;
+    put(values, union)?;
     if let Some(value) = values.get_mut(single) {
         *value = 6;
     }
@@ -148,5 +234,11 @@ fn sets_and_maps(rt: HostRuntime) -> Result<(), Fail> {
     );
     assert!(rt; values.get(single).is_some());
     assert_eq!(rt; values[single], 6);
+    Ok(())
+}
+
+#[test]
+fn values_of_requirements(rt: HostRuntime) -> Result<(), Fail> {
+    tells_kinds_apart(&rt, &mut RequirementMap::new(rt.alloc())?)?;
     Ok(())
 }

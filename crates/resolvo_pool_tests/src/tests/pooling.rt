@@ -4,6 +4,7 @@ use resolvo_pool::condition::{Condition, LogicalOperator};
 use resolvo_pool::id::{DenseIndex, NameId, VersionSetId};
 use resolvo_pool::pool::{Pool, VersionSet};
 use resolvo_pool::want::R;
+use std::alloc::Global;
 
 /// Versions up to a number.
 #[derive(Clone, Copy, Debug, Drop, PartialEq, Eq, Hash)]
@@ -13,11 +14,15 @@ impl VersionSet for UpTo {
     type V = u32;
 }
 
+/// Whether the pool resolves the id to the name.
+fn is_named(pool: &Pool<UpTo>, id: NameId, name: &str) -> bool {
+    pool.has_package_name(id) && pool.resolve_package_name(id).as_str() == name
+}
+
 /// The index of a name, if the pool resolves it to itself.
 fn name(pool: &mut Pool<UpTo>, name: &str) -> R<Option<usize>> {
     let id = pool.intern_package_name(name)?;
-    let same = pool.has_package_name(id) && pool.resolve_package_name(id).as_str() == name;
-    Ok(same.then_some(id.to_index()))
+    Ok(is_named(pool, id, name).then_some(id.to_index()))
 }
 
 /// The index of a string, if the pool resolves it to itself.
@@ -68,32 +73,70 @@ fn joined_condition(pool: &mut Pool<UpTo>) -> R<Option<usize>> {
     Ok(Some(both.to_index()))
 }
 
+/// Whether what is interned under a letter and a number of a package has this index, in each list.
+fn has_index(pool: &mut Pool<UpTo>, letter: &str, set: u32, want: usize) -> R<bool> {
+    Ok(
+        name(pool, letter)? == Some(want)
+            && string(pool, letter)? == Some(want)
+            && version_set(pool, set)? == Some(want)
+            && condition(pool, set)? == Some(want),
+    )
+}
+
+/// Whether equal ones have one index, and others the next.
+fn have_indexes(pool: &mut Pool<UpTo>) -> R<bool> {
+    for (letter, set, want) in [("x", 7, 0), ("y", 8, 1), ("x", 7, 0)] {
+        if !has_index(pool, letter, set, want)? {
+            return Ok(false);
+        }
+    }
+    Ok(true)
+}
+
+fn have_one_id(alloc: Global) -> R<bool> {
+    have_indexes(&mut Pool::new(alloc))
+}
+
 #[test]
 fn equal_ones_have_one_id(rt: HostRuntime) {
-    let mut pool = Pool::<UpTo>::new(rt.alloc());
-    for (letter, set, want) in [("x", 7, 0), ("y", 8, 1), ("x", 7, 0)] {
-        assert_eq!(rt; name(&mut pool, letter), Ok(Some(want)));
-        assert_eq!(rt; string(&mut pool, letter), Ok(Some(want)));
-        assert_eq!(rt; version_set(&mut pool, set), Ok(Some(want)));
-        assert_eq!(rt; condition(&mut pool, set), Ok(Some(want)));
-    }
+    assert_eq!(rt; have_one_id(rt.alloc()), Ok(true));
+}
+
+/// Whether a solvable and a union get the index.
+fn are_new(pool: &mut Pool<UpTo>, want: usize) -> R<bool> {
+    Ok(solvable(pool, 9)? == Some(want) && union(pool)? == Some(want))
+}
+
+/// Whether others have the next index, and the solvables can be gone through.
+fn are_others(pool: &mut Pool<UpTo>) -> R<bool> {
+    Ok(
+        are_new(pool, 0)?
+            && are_new(pool, 1)?
+            && joined_condition(pool)? == Some(1)
+            && pool.iter_solvables().next().is_some(),
+    )
+}
+
+fn have_new_ids(alloc: Global) -> R<bool> {
+    are_others(&mut Pool::new(alloc))
 }
 
 #[test]
 fn others_have_new_ids(rt: HostRuntime) {
-    let mut pool = Pool::<UpTo>::new(rt.alloc());
-    for want in [0, 1] {
-        assert_eq!(rt; solvable(&mut pool, 9), Ok(Some(want)));
-        assert_eq!(rt; union(&mut pool), Ok(Some(want)));
-    }
-    assert_eq!(rt; joined_condition(&mut pool), Ok(Some(1)));
-    assert!(rt; pool.iter_solvables().next().is_some());
+    assert_eq!(rt; have_new_ids(rt.alloc()), Ok(true));
+}
+
+/// Whether a name is found where it was interned, and no other.
+fn looks_up(pool: &mut Pool<UpTo, u32>) -> R<bool> {
+    pool.intern_package_name(7)?;
+    Ok(pool.lookup_package_name(&7).is_some() && pool.lookup_package_name(&8).is_none())
+}
+
+fn are_looked_up(alloc: Global) -> R<bool> {
+    looks_up(&mut Pool::new(alloc))
 }
 
 #[test]
 fn looked_up_names(rt: HostRuntime) {
-    let mut pool = Pool::<UpTo, u32>::new(rt.alloc());
-    assert!(rt; pool.intern_package_name(7).is_ok());
-    assert!(rt; pool.lookup_package_name(&7).is_some());
-    assert!(rt; pool.lookup_package_name(&8).is_none());
+    assert_eq!(rt; are_looked_up(rt.alloc()), Ok(true));
 }

@@ -18,11 +18,25 @@ use std::fmt;
 /// Three packages with the versions 0 to 2 each. It notes how often it was asked, and cancels once.
 #[derive(Drop)]
 pub struct Tens {
-    pub members: Vec<VersionSetId>,
-    pub favored: Option<SolvableId>,
-    pub cancels_at: Cell<u32>,
-    pub tests: Cell<u32>,
+    members: Vec<VersionSetId>,
+    favored: Option<SolvableId>,
+    cancels_at: Cell<u32>,
+    tests: Cell<u32>,
     pub asked: Cell<u32>,
+}
+
+/// The provider, with a union of two version sets, which cancels at this test, or never.
+pub fn small_provider(alloc: Global, favored: Option<SolvableId>, cancels_at: u32) -> R<Tens> {
+    let mut members = Vec::new(alloc);
+    members.push(VersionSetId(21))?;
+    members.push(VersionSetId(1))?;
+    Ok(Tens {
+        members,
+        favored,
+        cancels_at: Cell::new(cancels_at),
+        tests: Cell::new(0),
+        asked: Cell::new(0),
+    })
 }
 
 impl Tens {

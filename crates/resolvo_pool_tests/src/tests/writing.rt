@@ -1,53 +1,58 @@
 //! How requirements and solvables are written, and copies of candidates.
 
-use super::sourcing::Tens;
+use super::sourcing::{Tens, small_provider};
 use resolvo_pool::id::{SolvableId, StringId, VersionSetId, VersionSetUnionId};
 use resolvo_pool::provider::{Candidates, HintDependenciesAvailable};
 use resolvo_pool::requirement::Requirement;
 use resolvo_pool::solver_id::SolvableIdOrRoot;
 use resolvo_pool::want::R;
 use std::alloc::Global;
-use std::cell::Cell;
+use std::process::Abort;
 use std::test::Fail;
 
-fn tens(alloc: Global) -> R<Tens> {
-    let mut members = Vec::new(alloc);
-    members.push(VersionSetId(21))?;
-    members.push(VersionSetId(1))?;
-    Ok(Tens {
-        members,
-        favored: None,
-        cancels_at: Cell::new(0),
-        tests: Cell::new(0),
-        asked: Cell::new(0),
-    })
+/// The text of a requirement.
+fn requirement_text(alloc: Global, provider: &Tens, requirement: Requirement) -> R<String> {
+    let shown = requirement.display(provider);
+    Ok(format!(in alloc; "{shown}")?)
+}
+
+/// The text of a solvable, or of the root.
+fn solvable_text(alloc: Global, provider: &Tens, id: SolvableIdOrRoot<SolvableId>) -> R<String> {
+    let shown = id.display(provider);
+    Ok(format!(in alloc; "{shown}")?)
+}
+
+fn writes_requirements(rt: &impl Abort, alloc: Global, provider: &Tens) -> R<()> {
+    for (requirement, want) in &[
+        (Requirement::Union(VersionSetUnionId(0)), "2 21 | 0 1"),
+        (Requirement::Single(VersionSetId(15)), "1 15"),
+    ] {
+        let text = requirement_text(alloc, provider, *requirement)?;
+        assert_eq!(rt; text.as_str(), *want);
+    }
+    Ok(())
 }
 
 #[test]
 fn requirements(rt: HostRuntime) -> Result<(), Fail> {
-    let alloc = rt.alloc();
-    let provider = tens(alloc)?;
-    for (requirement, want) in [
-        (Requirement::Union(VersionSetUnionId(0)), "2 21 | 0 1"),
-        (Requirement::Single(VersionSetId(15)), "1 15"),
+    writes_requirements(&rt, rt.alloc(), &small_provider(rt.alloc(), None, 0)?)?;
+    Ok(())
+}
+
+fn writes_solvables(rt: &impl Abort, alloc: Global, provider: &Tens) -> R<()> {
+    for (id, want) in &[
+        (SolvableIdOrRoot::Root, "root"),
+        (SolvableIdOrRoot::Solvable(SolvableId::from_raw(12)), "12"),
     ] {
-        let shown = requirement.display(&provider);
-        assert_eq!(rt; format!(in alloc; "{shown}")?.as_str(), want);
+        let text = solvable_text(alloc, provider, *id)?;
+        assert_eq!(rt; text.as_str(), *want);
     }
     Ok(())
 }
 
 #[test]
 fn solvables(rt: HostRuntime) -> Result<(), Fail> {
-    let alloc = rt.alloc();
-    let provider = tens(alloc)?;
-    for (id, want) in [
-        (SolvableIdOrRoot::Root, "root"),
-        (SolvableIdOrRoot::Solvable(SolvableId::from_raw(12)), "12"),
-    ] {
-        let shown = id.display(&provider);
-        assert_eq!(rt; format!(in alloc; "{shown}")?.as_str(), want);
-    }
+    writes_solvables(&rt, rt.alloc(), &small_provider(rt.alloc(), None, 0)?)?;
     Ok(())
 }
 
@@ -64,12 +69,15 @@ fn listing(alloc: Global) -> R<Candidates> {
     Ok(listing)
 }
 
-#[test]
-fn copied_candidates(rt: HostRuntime) -> Result<(), Fail> {
-    let listing = listing(rt.alloc())?;
-    let copy = listing.clone(rt.alloc())?;
+fn are_equal(rt: &impl Abort, copy: &Candidates, listing: &Candidates) {
     assert_eq!(rt; copy.candidates.as_slice(), listing.candidates.as_slice());
     assert_eq!(rt; copy.excluded.as_slice(), listing.excluded.as_slice());
     assert_eq!(rt; (copy.favored, copy.locked), (None, listing.locked));
+}
+
+#[test]
+fn copied_candidates(rt: HostRuntime) -> Result<(), Fail> {
+    let listing = listing(rt.alloc())?;
+    are_equal(&rt, &listing.clone(rt.alloc())?, &listing);
     Ok(())
 }

@@ -1,18 +1,27 @@
 //! Clauses as literals, and their values.
 
 use resolvo_pool::id::{DenseIndex, NameId, VariableId, VersionSetId};
+use resolvo_pool::want::R;
 use resolvo_store::clause::Clause;
 use resolvo_store::decision_map::DecisionMap;
 use resolvo_store::lists::FixedLists;
 use resolvo_store::literal::Literal;
 use resolvo_store::watched_literals::WatchedLiterals;
+use std::alloc::Global;
+use std::process::Abort;
 use std::test::Fail;
+
+/// The literals of a lock's clause.
+fn literals_of_a_lock(alloc: Global) -> R<Vec<Literal>> {
+    let clause: Clause<NameId> = Clause::Lock(VariableId(3), VariableId(4));
+    clause.literals(alloc, &FixedLists::new(alloc)?)
+}
 
 #[test]
 fn lock_bars_the_other(rt: HostRuntime) -> Result<(), Fail> {
-    let lists: FixedLists<NameId> = FixedLists::new(rt.alloc())?;
     let clause: Clause<NameId> = Clause::Lock(VariableId(3), VariableId(4));
-    let literals = clause.literals(rt.alloc(), &lists)?;
+    assert!(rt; clause.is_binary());
+    let literals = literals_of_a_lock(rt.alloc())?;
     assert_eq!(rt;
         literals.as_slice(),
         [
@@ -21,30 +30,52 @@ fn lock_bars_the_other(rt: HostRuntime) -> Result<(), Fail> {
         ]
         .as_slice()
     );
-    assert!(rt; clause.is_binary());
+    Ok(())
+}
+
+/// The values of a limit's clause as its variables get theirs, the second one twice.
+fn values_in_turn(
+    lists: &FixedLists<NameId>,
+    values: &mut DecisionMap,
+) -> R<(Option<bool>, Option<bool>, Option<bool>, Option<bool>)> {
+    let (clause, _) = WatchedLiterals::constrains::<NameId>(
+        VariableId(5),
+        VariableId(6),
+        VersionSetId(0),
+    );
+    let none = clause.literals_eval(lists, values);
+    values.set(VariableId(5), true, 1)?;
+    let one = clause.literals_eval(lists, values);
+    values.set(VariableId(6), true, 1)?;
+    let both = clause.literals_eval(lists, values);
+    values.set(VariableId(6), false, 1)?;
+    Ok((none, one, both, clause.literals_eval(lists, values)))
+}
+
+/// The value of a clause changes with that of its second variable, which is then forgotten.
+fn changes_value(rt: &impl Abort, lists: &FixedLists<NameId>, values: &mut DecisionMap) -> R<()> {
+    let found = values_in_turn(lists, values)?;
+    assert_eq!(rt; found, (None, None, Some(false), Some(true)));
+    values.reset(VariableId(6));
+    assert_eq!(rt; values.value(VariableId(6)), None);
     Ok(())
 }
 
 #[test]
 fn value_of_a_clause(rt: HostRuntime) -> Result<(), Fail> {
-    let lists: FixedLists<NameId> = FixedLists::new(rt.alloc())?;
-    let (clause, watched) = WatchedLiterals::constrains::<NameId>(
+    let lists = FixedLists::new(rt.alloc())?;
+    changes_value(&rt, &lists, &mut DecisionMap::new(rt.alloc()))?;
+    Ok(())
+}
+
+#[test]
+fn bars_another(rt: HostRuntime) {
+    let (_, watched) = WatchedLiterals::constrains::<NameId>(
         VariableId(5),
         VariableId(6),
         VersionSetId(0),
     );
     assert!(rt; watched.is_some());
-    let mut values = DecisionMap::new(rt.alloc());
-    assert_eq!(rt; clause.literals_eval(&lists, &values), None);
-    values.set(VariableId(5), true, 1)?;
-    assert_eq!(rt; clause.literals_eval(&lists, &values), None);
-    values.set(VariableId(6), true, 1)?;
-    assert_eq!(rt; clause.literals_eval(&lists, &values), Some(false));
-    values.set(VariableId(6), false, 1)?;
-    assert_eq!(rt; clause.literals_eval(&lists, &values), Some(true));
-    values.reset(VariableId(6));
-    assert_eq!(rt; values.value(VariableId(6)), None);
-    Ok(())
 }
 
 #[test]

@@ -9,6 +9,7 @@ use resolvo_store::decision_map::DecisionMap;
 use resolvo_store::lists::{Candidate, FixedLists};
 use resolvo_store::literal::Literal;
 use std::alloc::Global;
+use std::process::Abort;
 use std::test::Fail;
 
 /// Gives a version set the candidates of a package.
@@ -67,67 +68,128 @@ fn raise(scores: &mut Vec<u64>, package: u32, score: u64) -> R<()> {
     <Vec<u64> as ScoreMap<NameId>>::set(scores, NameId::from_raw(package), score)
 }
 
-#[test]
-fn picks(rt: HostRuntime) -> Result<(), Fail> {
-    let (lists, queue) = three_needs(rt.alloc())?;
-    let mut values = DecisionMap::new(rt.alloc());
-    let mut scores = no_scores(rt.alloc());
-    assert_eq!(rt; next(&queue, &lists, &values, &scores), None);
+/// Values of which the root's alone is set.
+fn root_alone(alloc: Global) -> R<DecisionMap> {
+    let mut values = DecisionMap::new(alloc);
     values.set(VariableId::root(), true, 1)?;
-    assert_eq!(rt; next(&queue, &lists, &values, &scores), Some((1, 3)));
-    raise(&mut scores, 2, 1_000_000)?;
-    assert_eq!(rt; next(&queue, &lists, &values, &scores), Some((7, 1)));
-    for variable in [6, 1, 7] {
-        values.set(VariableId(variable), true, 2)?;
+    Ok(values)
+}
+
+/// A candidate with the number of undecided ones of its clause.
+type Pick = Option<(u32, usize)>;
+
+/// What is picked at first, with a raised score, with three more values, and with a last one.
+fn picks_in_turn(
+    (lists, queue): &(FixedLists<NameId>, DecideQueue),
+    values: &mut DecisionMap,
+    scores: &mut Vec<u64>,
+) -> R<(Pick, Pick, Pick, Pick)> {
+    let first = next(queue, lists, values, scores);
+    raise(scores, 2, 1_000_000)?;
+    let raised = next(queue, lists, values, scores);
+    for variable in &[6u32, 1, 7] {
+        values.set(VariableId(*variable), true, 2)?;
     }
-    assert_eq!(rt; next(&queue, &lists, &values, &scores), Some((4, 2)));
+    let third = next(queue, lists, values, scores);
     values.set(VariableId(4), true, 3)?;
-    assert_eq!(rt; next(&queue, &lists, &values, &scores), None);
+    Ok((first, raised, third, next(queue, lists, values, scores)))
+}
+
+fn picks_none(rt: &impl Abort, alloc: Global, (lists, queue): &(FixedLists<NameId>, DecideQueue)) {
+    let values = DecisionMap::new(alloc);
+    assert_eq!(rt; next(queue, lists, &values, &no_scores(alloc)), None);
+}
+
+fn picks_all(rt: &impl Abort, alloc: Global, needs: &(FixedLists<NameId>, DecideQueue)) -> R<()> {
+    picks_none(rt, alloc, needs);
+    let mut values = root_alone(alloc)?;
+    let picks = picks_in_turn(needs, &mut values, &mut no_scores(alloc))?;
+    assert_eq!(rt; picks, (Some((1, 3)), Some((7, 1)), Some((4, 2)), None));
     Ok(())
 }
 
-#[test]
-fn roots_needs_come_first(rt: HostRuntime) -> Result<(), Fail> {
-    let (lists, queue) = three_needs(rt.alloc())?;
-    let mut values = DecisionMap::new(rt.alloc());
-    let mut scores = no_scores(rt.alloc());
-    values.set(VariableId::root(), true, 1)?;
+fn picks_of_the_root(
+    rt: &impl Abort,
+    (lists, queue): &(FixedLists<NameId>, DecideQueue),
+    values: &mut DecisionMap,
+    scores: &mut Vec<u64>,
+) -> R<()> {
     values.set(VariableId(6), true, 1)?;
-    raise(&mut scores, 1, 5)?;
-    assert_eq!(rt; next(&queue, &lists, &values, &scores), Some((1, 3)));
+    raise(scores, 1, 5)?;
+    assert_eq!(rt; next(queue, lists, values, scores), Some((1, 3)));
     Ok(())
 }
 
-#[test]
-fn broken_clause(rt: HostRuntime) -> Result<(), Fail> {
-    let (lists, queue) = three_needs(rt.alloc())?;
-    let mut values = DecisionMap::new(rt.alloc());
-    values.set(VariableId::root(), true, 1)?;
-    for variable in [1, 2, 3] {
-        assert_eq!(rt; queue.falsified::<NameId>(&lists, &values), None);
-        values.set(VariableId(variable), false, 1)?;
+fn picks_the_root_first(
+    rt: &impl Abort,
+    alloc: Global,
+    needs: &(FixedLists<NameId>, DecideQueue),
+) -> R<()> {
+    let mut values = root_alone(alloc)?;
+    picks_of_the_root(rt, needs, &mut values, &mut no_scores(alloc))
+}
+
+fn breaks_the_first(
+    rt: &impl Abort,
+    (lists, queue): &(FixedLists<NameId>, DecideQueue),
+    values: &mut DecisionMap,
+) -> R<()> {
+    for variable in &[1u32, 2, 3] {
+        assert_eq!(rt; queue.falsified::<NameId>(lists, values), None);
+        values.set(VariableId(*variable), false, 1)?;
     }
-    assert_eq!(rt;
-        queue.falsified::<NameId>(&lists, &values),
-        Some(ClauseId(1))
-    );
+    assert_eq!(rt; queue.falsified::<NameId>(lists, values), Some(ClauseId(1)));
     Ok(())
 }
 
-#[test]
-fn scores_fade(rt: HostRuntime) -> Result<(), Fail> {
-    let (lists, queue) = three_needs(rt.alloc())?;
-    let mut values = DecisionMap::new(rt.alloc());
-    let mut scores = no_scores(rt.alloc());
-    values.set(VariableId::root(), true, 1)?;
-    raise(&mut scores, 0, 1_000_000)?;
-    for score in [950_000, 902_500, 857_375, 814_506] {
-        <Vec<u64> as ScoreMap<NameId>>::scale(&mut scores, 950_000);
-        let seen = match queue.next_decision::<NameId>(&lists, &values, &scores) {
-            Some(decision) => decision.package_activity,
-            None => 0,
-        };
-        assert_eq!(rt; seen, score);
+fn finds_the_broken(
+    rt: &impl Abort,
+    alloc: Global,
+    needs: &(FixedLists<NameId>, DecideQueue),
+) -> R<()> {
+    breaks_the_first(rt, needs, &mut root_alone(alloc)?)
+}
+
+/// The score of the package that is next.
+fn next_score(
+    (lists, queue): &(FixedLists<NameId>, DecideQueue),
+    values: &DecisionMap,
+    scores: &Vec<u64>,
+) -> Option<u64> {
+    match queue.next_decision::<NameId>(lists, values, scores) {
+        Some(decision) => Some(decision.package_activity),
+        None => None,
     }
+}
+
+fn fades(
+    rt: &impl Abort,
+    needs: &(FixedLists<NameId>, DecideQueue),
+    values: &DecisionMap,
+    scores: &mut Vec<u64>,
+) -> R<()> {
+    raise(scores, 0, 1_000_000)?;
+    for score in &[950_000u64, 902_500, 857_375, 814_506] {
+        <Vec<u64> as ScoreMap<NameId>>::scale(scores, 950_000);
+        assert_eq!(rt; next_score(needs, values, scores), Some(*score));
+    }
+    Ok(())
+}
+
+fn fades_away(rt: &impl Abort, alloc: Global, needs: &(FixedLists<NameId>, DecideQueue)) -> R<()> {
+    let values = root_alone(alloc)?;
+    fades(rt, needs, &values, &mut no_scores(alloc))
+}
+
+fn decides(rt: &impl Abort, alloc: Global, needs: &(FixedLists<NameId>, DecideQueue)) -> R<()> {
+    picks_all(rt, alloc, needs)?;
+    picks_the_root_first(rt, alloc, needs)?;
+    finds_the_broken(rt, alloc, needs)?;
+    fades_away(rt, alloc, needs)
+}
+
+#[test]
+fn decisions(rt: HostRuntime) -> Result<(), Fail> {
+    decides(&rt, rt.alloc(), &three_needs(rt.alloc())?)?;
     Ok(())
 }

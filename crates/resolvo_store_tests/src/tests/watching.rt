@@ -36,39 +36,57 @@ fn begin(
     Ok(())
 }
 
-/// The numbers of the clauses that a walk over the literal of variable 1 meets, and of those that one
-/// over another literal meets then.
-fn walks(alloc: Global, target: u16) -> R<(Vec<ClauseId>, Vec<ClauseId>)> {
-    let mut map = WatchMap::new(alloc);
-    let mut clauses = Vec::new(alloc);
+/// Adds three clauses that watch the literal of variable 1, each with another one.
+fn begin_three(map: &mut WatchMap, clauses: &mut Vec<Option<WatchedLiterals>>) -> R<()>
+    requires { IsWatched clauses.old.items (watchers map.old) }
+    ensures { OnOk result (IsWatched clauses.new.items (watchers map.new)) }
+{
     begin(
-        &mut map,
-        &mut clauses,
+        map,
+        clauses,
         WatchedLiterals {
             first: yes(1),
             second: yes(2),
         },
     )?;
     begin(
-        &mut map,
-        &mut clauses,
+        map,
+        clauses,
         WatchedLiterals {
             first: yes(3),
             second: yes(1),
         },
     )?;
     begin(
-        &mut map,
-        &mut clauses,
+        map,
+        clauses,
         WatchedLiterals {
             first: yes(1),
             second: yes(4),
         },
-    )?;
+    )
+}
+
+/// The numbers of the clauses that a walk over the literal of variable 1 meets, and of those that one
+/// over another literal meets then.
+fn walk_both(
+    alloc: Global,
+    map: &mut WatchMap,
+    clauses: &mut Vec<Option<WatchedLiterals>>,
+    target: u16,
+) -> R<(Vec<ClauseId>, Vec<ClauseId>)>
+    requires { IsWatched clauses.old.items (watchers map.old) }
+{
+    begin_three(map, clauses)?;
     let moves = [None, Some(yes(target)), Some(yes(2))];
-    let met = map.walk(alloc, &mut clauses, yes(1), &moves)?;
-    let then = map.walk(alloc, &mut clauses, yes(target), &[])?;
+    let met = map.walk(alloc, clauses, yes(1), &moves)?;
+    let then = map.walk(alloc, clauses, yes(target), &[])?;
     Ok((met, then))
+}
+
+fn walks(alloc: Global, target: u16) -> R<(Vec<ClauseId>, Vec<ClauseId>)> {
+    let mut clauses = Vec::new(alloc);
+    walk_both(alloc, &mut WatchMap::new(alloc), &mut clauses, target)
 }
 
 #[test]
