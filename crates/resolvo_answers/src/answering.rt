@@ -5,11 +5,12 @@ ghost use Rattle.resolvo_pool.specs.Cached.{IsCancelledBy};
 ghost use Rattle.resolvo_pool.specs.RuleKeeping.{Packages, IsLawful};
 ghost use Rattle.resolvo_pool.specs.declared.requirement.Requirement.{Requirement};
 ghost use Rattle.resolvo_pool.specs.Text.{alternatives_of};
+ghost use Rattle.resolvo_store.specs.Cases.{cases, cases_of};
 ghost use Rattle.resolvo_answers.specs.Answering.{AreOffered, AreOutside, offered_solvables};
 ghost use Rattle.resolvo_answers.specs.Barring.{AreBarred};
 
 use resolvo_pool::cache::CacheFault;
-use resolvo_pool::id::{StringId, VersionSetId};
+use resolvo_pool::id::{ConditionId, StringId, VersionSetId};
 use resolvo_pool::provider::Dependencies;
 use resolvo_pool::requirement::Requirement;
 use resolvo_pool::solver_id::SolverId;
@@ -87,6 +88,14 @@ pub trait Answering {
     /// The packages of a requirement's version sets.
     fn named(&self, requirement: Requirement) -> R<Vec<Self::NameId>>
         ensures { IfOk result (λ v. v.items ≡ map (packages self.now).set_package (alternatives_of (packages self.now).members_of requirement)) };
+
+    /// The package of a version set.
+    fn set_package(&self, version_set: VersionSetId) -> Self::NameId
+        ensures { result ≡ (packages self.now).set_package version_set };
+
+    /// The cases of a condition, in order. It holds exactly if all version sets of some case are met.
+    fn cases(&self, condition: ConditionId) -> R<Vec<Vec<VersionSetId>>>
+        ensures { IfOk result (λ v. cases_of v.items ≡ cases (packages self.now).condition_of condition) };
 
     /// What locks and exclusions keep out of a package.
     fn barred(

@@ -6,11 +6,12 @@ ghost use Rattle.resolvo_answers.specs.Barring.{excluded_by, locked_out, kept_ou
 
 use crate::answering::{Answering, Barred, Offered, Why};
 use resolvo_pool::cache::{CacheFault, SolverCache};
-use resolvo_pool::id::{StringId, VersionSetId};
+use resolvo_pool::id::{ConditionId, StringId, VersionSetId};
 use resolvo_pool::provider::{Candidates, Dependencies, DependencyProvider, KnownDependencies};
 use resolvo_pool::requirement::Requirement;
 use resolvo_pool::solver_id::SolverId;
 use resolvo_pool::want::R;
+use resolvo_store::conditions::convert_conditions_to_dnf;
 use std::alloc::Global;
 use std::marker::Model;
 
@@ -126,6 +127,14 @@ impl<D: DependencyProvider> Answering for Answers<D> {
                 self.names_of(self.cache.provider().version_sets_in_union(union))
             }
         }
+    }
+
+    fn set_package(&self, version_set: VersionSetId) -> D::NameId {
+        self.cache.provider().version_set_name(version_set)
+    }
+
+    fn cases(&self, condition: ConditionId) -> R<Vec<Vec<VersionSetId>>> {
+        convert_conditions_to_dnf(self.alloc, condition, self.cache.provider())
     }
 
     fn barred(

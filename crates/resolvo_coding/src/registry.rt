@@ -2,13 +2,14 @@
 //! Each package has a tracker of its solvables' variables, whose places are told by binary digits, each
 //! digit a variable of its own. A clause says of each registered solvable, with its place, and of each
 //! digit of its package which value the digit has where the solvable is true.
-ghost use Rattle.std.specs.Prelude.{◌≡◌, ℕ, ◌≤◌, ◌+◌, Bool, Some, min, length, slice_get, is_some, IfOk, OnOk};
+ghost use Rattle.std.specs.Prelude.{◌≡◌, ℕ, ◌≤◌, ◌+◌, Bool, Some, min, length, slice_get, is_some, IfOk, OnOk, Contains};
 ghost use Rattle.resolvo_pool.specs.declared.id.VariableId.{VariableId};
 ghost use Rattle.resolvo_store.specs.AtMostOne.{needs_helper};
 ghost use Rattle.resolvo_coding.specs.declared.atom.ProofAtom.TheVariants.{Solvable, Bit};
 ghost use Rattle.resolvo_coding.specs.Atoms.{StandsFor};
 ghost use Rattle.resolvo_coding.specs.Coding.{IsCoding};
-ghost use Rattle.resolvo_coding.specs.Registered.{same_variable, IsNothing, AreTied, Registers, PlacesName, IsTied, Tracks, GivesDigit, IsTie, first_of, place_from, StatesOne, StatesAll};
+ghost use Rattle.resolvo_coding.specs.Keys.{AreOnce};
+ghost use Rattle.resolvo_coding.specs.Registered.{same_variable, IsNothing, AreTied, IsTracked, Registers, PlacesName, IsTied, Tracks, GivesDigit, IsTie, first_of, place_from, StatesOne, StatesAll};
 
 use crate::atom::ProofAtom;
 use crate::coding::Coding;
@@ -62,6 +63,19 @@ impl<N: SolverId> Registry<N> {
         let place = self.place_of(alloc, name)?;
         track(alloc, &mut self.trackers[place], coding, name, variable)?;
         Ok(variable)
+    }
+
+    /// The variables of the registered solvables of a package.
+    pub fn variables(&self, name: N) -> &[VariableId]
+        requires each { length self.now.names.keys ≡ length self.now.trackers.items }
+        requires once { AreOnce self.now.names.keys }
+        ensures tracked { (v : VariableId) → Contains result.now v → IsTracked self.now name v }
+        ensures all { (v : VariableId) → IsTracked self.now name v → Contains result.now v }
+    {
+        match place_in(&self.names, &name) {
+            Some(place) => self.trackers[place].variables(),
+            None => &[],
+        }
     }
 
     /// The place of a package, which comes behind the others where it has none.

@@ -1,22 +1,25 @@
 -- What the calls rest on stays, step by step.
-use Rattle.std.proofs.Common.{◌≡◌, ℕ, ◌+◌, ◌<◌, ◌≤◌, ◌⊎◌, inl, inr, Bool, true, false, List, ◌∷◌, length, Option, Some, None, Vec, Global, sym, ◌∙◌, ap, subst, arith}
+use Rattle.std.proofs.Common.{◌≡◌, ℕ, ◌+◌, ◌<◌, ◌≤◌, inl, inr, Bool, false, [], ◌∷◌, ◌++◌, length, Option, Some, None, refl, sym, ◌∙◌, ap, subst, arith}
 use Rattle.std.specs.Prelude.{Contains}
 use Rattle.resolvo_store.specs.Lists.{items_or_none}
+use Rattle.std.proofs.lemmas.Bool.{both_ways}
+use Rattle.resolvo_pool.specs.declared.id.DenseId.{DenseId}
+use Rattle.resolvo_pool.specs.declared.id.DisjunctionTag.{DisjunctionTag}
 use Rattle.resolvo_pool.specs.declared.id.VariableId.{VariableId}
 use Rattle.resolvo_pool.specs.declared.requirement.Requirement.{Requirement}
 use Rattle.resolvo_pool.specs.ByRequirement.{slot_of, PutsAt}
-use Rattle.resolvo_store.specs.Signed.{Signed, has}
+use Rattle.resolvo_store.specs.Signed.{Signed}
 use Rattle.resolvo_store.specs.Clauses.{yes, no, candidate_literals as literals_in}
-use Rattle.resolvo_store.specs.Lists.{named_by, candidates_in, has_candidates, FixesCandidates}
+use Rattle.resolvo_store.specs.Lists.{named_by, candidates_in, condition_in, FixesDisjunction}
+use Rattle.resolvo_store.specs.declared.lists.Disjunction.{Disjunction}
+use Rattle.resolvo_store.specs.declared.lists.FixedLists.{FixedLists}
 use Rattle.resolvo_store.specs.Pick.{pick_by}
-use Rattle.resolvo_store.specs.declared.lists.Candidate.{Candidate}
 use Rattle.resolvo_store.specs.declared.decide_queue.NextDecision.{NextDecision}
 use Rattle.resolvo_search.specs.Entries.{made_true}
 use Rattle.resolvo_search.specs.Known.{IsUndecided}
 use Rattle.resolvo_search.specs.State.{history, count_of}
 use Rattle.resolvo_search.specs.Steps.{AreInRange}
-use Rattle.resolvo_search.proofs.Literals.{has-cons}
-use Rattle.resolvo_answers.specs.declared.answering.Offered.{Offered}
+use Rattle.resolvo_search.proofs.Literals.{has-cons, has-append}
 use Rattle.resolvo_coding.specs.declared.atom.ProofAtom.TheVariants.{Solvable, Gate}
 use Rattle.resolvo_coding.specs.declared.registry.Registry.{Registry}
 use Rattle.resolvo_coding.specs.declared.stated.Stated.{Stated}
@@ -28,12 +31,13 @@ use Rattle.resolvo_coding.proofs.Growth.{stands_grow, stands_in_range}
 use Rattle.resolvo_coding.proofs.Positions.{front_long}
 use Rattle.resolvo_coding.proofs.Registering.{KeepsDigits, digits_more, ties_grow, nothing_tied}
 use Rattle.resolvo_rules.proofs.Lists.{contains_none}
-use Rattle.resolvo_encoding.specs.Steps.{RegistersAll, Fixes, StatesNeed, SameButCoding, IsBuilt, IsBegunEncoding, AddsParent}
+use Rattle.resolvo_encoding.specs.Steps.{StatesNeed, SameButCoding, IsBuilt, IsBegunEncoding, AddsParent}
+use Rattle.resolvo_encoding.specs.Casing.{Defers, Fires}
 use Rattle.resolvo_encoding.specs.Turning.{AreValues}
 use Rattle.resolvo_encoding.specs.declared.encoding.Encoding.{Encoding}
 use Rattle.resolvo_encoding.proofs.Deciding.{picked, offers, for_listed, open_undecided}
 use Rattle.resolvo_encoding.proofs.Needing.{literal_in}
-use Rattle.resolvo_encoding.proofs.Requiring.{put_at, put_other, fix_at, fix_other, some_one}
+use Rattle.resolvo_encoding.proofs.Requiring.{put_at, put_other, some_one}
 
 -- where only clauses, variables and the queue change
 pub built_grows : {N S : Type 0} (old new : Encoding N S) → IsBuilt old → IsCoding new.coding → Grows old.coding new.coding → new.registry ≡ old.registry → new.lists ≡ old.lists → new.gates ≡ old.gates
@@ -49,35 +53,18 @@ built_grows {N} {S} old new b coding grows registry lists gates parents encoded 
 pub built_rest : {N S : Type 0} (old new : Encoding N S) → IsBuilt old → IsCoding new.coding → Grows old.coding new.coding → KeepsDigits old.coding new.coding → SameButCoding old new → IsBuilt new
 built_rest old new b coding grows digits rest = built_grows old new b coding grows rest.registry rest.lists rest.gates rest.parents rest.encoded digits
 
-pub built_states : {N S : Type 0} (x : Stated N S) (v : VariableId) (r : Requirement) (old new : Encoding N S) → IsBuilt old → ((name : N) (s : S) (place bit : ℕ) → x ≡ Digit name s place bit → ⊥) → StatesNeed x v r old new → IsBuilt new
-built_states x v r old new b other s = built_grows old new b s.states.coding s.states.grows s.registry s.lists s.gates s.parents s.encoded (digits_more x old.coding new.coding s.states.stated other)
+pub built_states : {N S : Type 0} (x : Stated N S) (v : VariableId) (condition : Option (DenseId DisjunctionTag ℕ)) (r : Requirement) (old new : Encoding N S) → IsBuilt old → ((name : N) (s : S) (place bit : ℕ) → x ≡ Digit name s place bit → ⊥) → StatesNeed x v condition r old new → IsBuilt new
+built_states x v condition r old new b other s = built_grows old new b s.states.coding s.states.grows s.registry s.lists s.gates s.parents s.encoded (digits_more x old.coding new.coding s.states.stated other)
 
--- where what is offered became candidates
-pub built_fixes : {N S : Type 0} (r : Requirement) (offered : List (Offered N S)) (old new : Encoding N S) → IsBuilt old → Fixes r offered old new → IsBuilt new
-built_fixes {N} {S} r offered old new b f = go f.fixed
-  where
-    go : ((has_candidates old.lists r ≡ true) × (new ≡ old)) ⊎ ((has_candidates old.lists r ≡ false) × (given : Vec (Candidate N) Global) × RegistersAll offered given.items old.registry old.coding new.registry new.coding × FixesCandidates r given old.lists new.lists) → IsBuilt new
-    go (inl (has, is)) = subst (λ (x : Encoding N S). IsBuilt x) (sym is) b
-    go (inr (fresh, given, all, fixes)) = record {
-      coding = all.coding;
-      tied = all.tied;
-      candidates = candidates_new;
-      gates = λ q v at. stands_grow old.coding new.coding v (Gate q) all.grows (b.gates q v (sym (ap (λ gs. slot_of gs q) f.gates) ∙ at));
-      within = subst (λ n. n ≤ length new.parents.keys) (sym f.encoded) (subst (λ ps. old.encoded ≤ length ps.keys) (sym f.parents) b.within);
-    }
-      where
-        here : slot_of new.lists.candidates r ≡ Some given
-        here = fix_at r given old.lists new.lists fixes
-
-        candidates_new : (q : Requirement) (c : Candidate N) → Contains (candidates_in new.lists q) c → (c.literal.positive ≡ true) × ((s : S) × StandsFor new.coding.atoms.keys c.literal.variable (Solvable s))
-        candidates_new q c a = elim (fix_other r q given old.lists new.lists fixes) [
-          | inl is ↦
-              let (o, there, fits) = all.all c (subst (λ x. Contains (items_or_none x) c) (ap (slot_of new.lists.candidates) is ∙ here) a) in
-              (fits.positive, (o.solvable, fits.stands))
-          | inr is ↦
-              let (positive, (s, stands)) = b.candidates q c (subst (λ x. Contains (items_or_none x) c) is a) in
-              (positive, (s, stands_grow old.coding new.coding c.literal.variable (Solvable s) all.grows stands))
-        ]
+-- where a disjunction came
+pub built_disjunction : {N S : Type 0} (number : ℕ) (given : Disjunction) (old : Encoding N S) (ls : FixedLists N) → IsBuilt old → FixesDisjunction number given old.lists ls → IsBuilt (record old { lists = ls })
+built_disjunction number given old ls b f = record {
+  coding = b.coding;
+  tied = b.tied;
+  candidates = λ r c a. b.candidates r c (subst (λ x. Contains (items_or_none x) c) (ap (λ cs. slot_of cs r) f.candidates) a);
+  gates = b.gates;
+  within = b.within;
+}
 
 -- where a gate was noted
 pub built_gate : {N S : Type 0} (old new : Encoding N S) (r : Requirement) (v : VariableId) → IsBuilt old → StandsFor old.coding.atoms.keys v (Gate r) → PutsAt old.gates new.gates r v → new ≡ record old { gates = new.gates } → IsBuilt new
@@ -107,6 +94,13 @@ built_parents {N} {S} old new b added = subst (λ (x : Encoding N S). IsBuilt x)
 pub built_next : {N S : Type 0} (e : Encoding N S) → IsBuilt e → e.encoded < length e.parents.keys → IsBuilt (record e { encoded = e.encoded + 1 })
 built_next e b below = record { coding = b.coding; tied = b.tied; candidates = b.candidates; gates = b.gates; within = omega arith }
 
+-- where cases came that wait, or one fired
+pub built_defers : {N S : Type 0} (old new : Encoding N S) → IsBuilt old → Defers old new → IsBuilt new
+built_defers {N} {S} old new b d = subst (λ (x : Encoding N S). IsBuilt x) (sym d.rest) (record { coding = b.coding; tied = b.tied; candidates = b.candidates; gates = b.gates; within = b.within })
+
+pub built_fires : {N S : Type 0} (index : ℕ) (old new : Encoding N S) → IsBuilt old → Fires index old new → IsBuilt new
+built_fires {N} {S} index old new b f = subst (λ (x : Encoding N S). IsBuilt x) (sym f.rest) (record { coding = b.coding; tied = b.tied; candidates = b.candidates; gates = b.gates; within = b.within })
+
 -- at first
 pub built_begun : {N S : Type 0} (e : Encoding N S) → IsBegunEncoding e → IsBuilt e
 built_begun {N} {S} e begun = record {
@@ -120,14 +114,22 @@ built_begun {N} {S} e begun = record {
 -- ---- what calls ask for
 
 -- the literals of a need's clause have variables
-pub built_in_range : {N S : Type 0} (e : Encoding N S) (v : VariableId) (r : Requirement) → IsBuilt e → v.0 < count_of e.coding.search → AreInRange (count_of e.coding.search) (no v ∷ literals_in (candidates_in e.lists r))
-built_in_range e v r b below l h = elim (has-cons (no v) (literals_in (candidates_in e.lists r)) l h) [
+pub built_in_range : {N S : Type 0} (e : Encoding N S) (v : VariableId) (condition : Option (DenseId DisjunctionTag ℕ)) (r : Requirement) → IsBuilt e → v.0 < count_of e.coding.search → AreInRange (count_of e.coding.search) (condition_in e.lists condition)
+    → AreInRange (count_of e.coding.search) (no v ∷ (condition_in e.lists condition ++ literals_in (candidates_in e.lists r)))
+built_in_range e v condition r b below conditioned l h = elim (has-cons (no v) (condition_in e.lists condition ++ literals_in (candidates_in e.lists r)) l h) [
   | inl is ↦ subst (λ (y : Signed). y.variable.0 < count_of e.coding.search) is below
-  | inr a ↦
-      let (c, there, one) = literal_in (candidates_in e.lists r) l a in
-      let (positive, (s, stands)) = b.candidates r c there in
-      subst (λ (y : Signed). y.variable.0 < count_of e.coding.search) one (stands_in_range e.coding c.literal.variable (Solvable s) b.coding stands)
+  | inr a ↦ elim (has-append (condition_in e.lists condition) (literals_in (candidates_in e.lists r)) l a) [
+    | inl c ↦ conditioned l c
+    | inr c ↦
+        let (x, there, one) = literal_in (candidates_in e.lists r) l c in
+        let (positive, (s, stands)) = b.candidates r x there in
+        subst (λ (y : Signed). y.variable.0 < count_of e.coding.search) one (stands_in_range e.coding x.literal.variable (Solvable s) b.coding stands)
+  ]
 ]
+
+-- nothing is out of range
+pub none_in_range : (count : ℕ) → AreInRange count []
+none_in_range count l h = absurd (both_ways false refl h)
 
 -- the next decision is for an undecided variable of the search
 pub built_choice : {N S : Type 0} (e : Encoding N S) (values : ℕ → Option Bool) (score : N → ℕ) (d : NextDecision) → IsBuilt e → AreValues values (made_true (history e.coding.search)) → pick_by (named_by e.lists) values score e.queue ≡ Some d

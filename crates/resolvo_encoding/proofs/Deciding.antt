@@ -4,11 +4,15 @@ use Rattle.std.specs.Prelude.{Contains}
 use Rattle.std.specs.List.{list_any}
 use Rattle.std.proofs.Math.Bool.{beq}
 use Rattle.std.proofs.lemmas.Bool.{both_ways, cases_Bool, and_parts}
+use Rattle.resolvo_pool.specs.declared.id.DenseId.{DenseId}
+use Rattle.resolvo_pool.specs.declared.id.DisjunctionTag.{DisjunctionTag}
+use Rattle.resolvo_pool.specs.declared.id.VersionSetId.{VersionSetId}
+use Rattle.resolvo_pool.specs.OnePass.{Literal, negate}
 use Rattle.resolvo_pool.specs.declared.requirement.Requirement.{Requirement}
 use Rattle.resolvo_pool.specs.RuleKeeping.{Packages, Rules, meets}
-use Rattle.resolvo_store.specs.Signed.{Signed, negation, has, value_under, is_true, is_open}
+use Rattle.resolvo_store.specs.Signed.{Signed, negation, has, value_under, is_true, is_false, is_open}
 use Rattle.resolvo_store.specs.Clauses.{yes, no}
-use Rattle.resolvo_store.specs.Lists.{Named, named_by, candidates_in}
+use Rattle.resolvo_store.specs.Lists.{Named, named_by, candidates_in, condition_in}
 use Rattle.resolvo_store.specs.Pick.{beats, later, is_eligible_by, decision_for, offer_of, offer_by, pick_after_by, pick_by}
 use Rattle.resolvo_store.specs.declared.lists.Candidate.{Candidate}
 use Rattle.resolvo_store.specs.declared.decide_queue.NeedClause.{NeedClause}
@@ -24,7 +28,7 @@ use Rattle.resolvo_search.specs.Entries.{made_true, IsTrail}
 use Rattle.resolvo_search.proofs.Values.{true_is}
 use Rattle.resolvo_search.specs.State.{history, count_of, clauses_of}
 use Rattle.resolvo_rules.specs.Encoding.{IsExact, Atom, Rule, plus, minus, case_literals}
-use Rattle.resolvo_rules.specs.Ending.{IsTrueParent, HasClause, IsAsked, IsCalledFor}
+use Rattle.resolvo_rules.specs.Ending.{AreFalse, IsTrueParent, HasClause, IsAsked, IsCalledFor}
 use Rattle.resolvo_rules.specs.First.{IsFirstPick}
 use Rattle.resolvo_rules.specs.Numbered.{meaning, Means, known_of, AreCalledFor}
 use Rattle.resolvo_rules.proofs.FirstLemmas.{first_called_for}
@@ -38,9 +42,10 @@ use Rattle.resolvo_coding.specs.Atoms.{atom_of, origin, StandsFor}
 use Rattle.resolvo_coding.specs.Statements.{stated_at}
 use Rattle.resolvo_coding.proofs.Rules.{rule_stated}
 use Rattle.resolvo_coding.proofs.Origins.{means_atom, solvable_means, solvable_stands}
-use Rattle.resolvo_encoding.specs.Encoded.{IsParentVariable, AreCandidates, HasOrder, IsQueuedFor, IsEncoding}
+use Rattle.resolvo_encoding.specs.Encoded.{IsParentVariable, IsCondition, AreCandidates, HasOrder, IsQueuedFor, IsEncoding}
 use Rattle.resolvo_encoding.specs.Encoded as E
 use Rattle.resolvo_encoding.specs.Turning.{AreValues}
+use Rattle.resolvo_encoding.proofs.Conditions.{all_has}
 use Rattle.resolvo_encoding.proofs.Picking.{candidate_of, found_first, listed_at, some_same}
 use Rattle.resolvo_encoding.specs.declared.encoding.Encoding.{Encoding}
 
@@ -195,6 +200,23 @@ module _ (values : ℕ → Option Bool) (known : List Signed) (agree : AreValues
       go None e i = absurd (both_ways false refl i)
       go (Some b) e i = agree.made l (e ∙ ap Some (beq_true b l.positive i))
 
+  pub false_known : (l : Signed) → is_false (value_under values l) ≡ true → has known (negation l) ≡ true
+  false_known l h = go (values l.variable.0) refl h
+    where
+      go : (o : Option Bool) → values l.variable.0 ≡ o → is_false (option_map (λ v. beq v l.positive) o) ≡ true → has known (negation l) ≡ true
+      go None e i = absurd (both_ways false refl i)
+      go (Some b) e i = elim (one_or_other b l.positive) [
+        | inl s ↦ absurd (both_ways _ (ap (λ (x : Bool). is_false (Some (beq x l.positive))) s ∙ ap (λ (x : Bool). is_false (Some x)) (beq_self l.positive)) i)
+        | inr s ↦ agree.made (negation l) (e ∙ ap Some s)
+      ]
+
+  pub known_false : (l : Signed) → has known (negation l) ≡ true → is_false (value_under values l) ≡ true
+  known_false l h = ap (λ (o : Option Bool). is_false (option_map (λ v. beq v l.positive) o)) (agree.valued (negation l) h) ∙ differs l.positive
+    where
+      differs : (b : Bool) → is_false (Some (beq (not b) b)) ≡ true
+      differs true = refl
+      differs false = refl
+
   pub known_parent : (v : VariableId) → has known (yes v) ≡ true → is_true (values v.0) ≡ true
   known_parent v h = ap is_true (agree.valued (yes v) h)
 
@@ -261,33 +283,41 @@ module _ {N S : Type 0} (same : S → S → Bool) (p : Packages N S) (root : Rul
   parent_true None v h t = tt
   parent_true (Some s) v h t = atom_known v (Solvable s) h t
 
-  -- a clause of the queue whose parent is true asks for its requirement
-  queue_asks : (q : NeedClause) (x : Option (Stated N S)) → stated_at e.coding.stated.items q.clause.0 ≡ x → IsQueuedFor e.coding.atoms.keys x q → has (made_true (history e.coding.search)) (yes q.parent) ≡ true
+  -- where a condition's literals are false, so are those of its case
+  case_false : (condition : Option (DenseId DisjunctionTag ℕ)) (case : List VersionSetId) → IsCondition same p e.lists e.coding.atoms.keys condition case → ((l : Signed) → has (condition_in e.lists condition) l ≡ true → has (made_true (history e.coding.search)) (negation l) ≡ true)
+      → AreFalse (known_of (origin e.coding.atoms.keys) (history e.coding.search)) (case_literals same p case)
+  case_false condition case h fell m a =
+      let (l, stands, means) = h.spells.each m a in
+      subst (λ (x : Literal (Atom N S)). Contains (known_of (origin e.coding.atoms.keys) (history e.coding.search)) (negate x)) (sym means.1) (meaning_stands (origin e.coding.atoms.keys) (made_true (history e.coding.search)) (negation l) (fell l stands) means.0)
+
+  -- a clause of the queue whose parent is true, and whose condition's literals are false, asks for its requirement
+  queue_asks : (q : NeedClause) (x : Option (Stated N S)) → stated_at e.coding.stated.items q.clause.0 ≡ x → IsQueuedFor same p e.lists e.coding.atoms.keys x q → has (made_true (history e.coding.search)) (yes q.parent) ≡ true
+      → ((l : Signed) → has (condition_in e.lists q.condition) l ≡ true → has (made_true (history e.coding.search)) (negation l) ≡ true)
       → IsAsked same p (E.rules_of e) (known_of (origin e.coding.atoms.keys) (history e.coding.search)) q.requirement
-  queue_asks q (Some (Says.Needs parent need case)) at (none, is, free, stands) t = inl (record {
+  queue_asks q (Some (Says.Needs parent need case)) at (is, conditioned, stands) t fell = inl (record {
     parent = parent;
     need = need;
     case = case.items;
     stands = (q.clause.0, rule_stated e.coding.stated.items q.clause.0 (Says.Needs parent need case) at);
     chosen = parent_true parent q.parent stands t;
-    holds = λ l a. absurd (contains_none l (subst (λ vs. Contains (case_literals same p vs) l) none a));
+    holds = case_false q.condition case.items conditioned fell;
     asks = is;
   })
-  queue_asks q (Some (Says.Shared r)) at (is, free, stands) t = inr (record {
+  queue_asks q (Some (Says.Shared r)) at (is, free, stands) t fell = inr (record {
     stands = subst (λ y. E.rules_of e (Rule.shared y)) (sym is) (q.clause.0, rule_stated e.coding.stated.items q.clause.0 (Says.Shared r) at);
     opened = subst (λ y. Contains (known_of (origin e.coding.atoms.keys) (history e.coding.search)) (plus (Atom.gate y))) (sym is) (atom_known q.parent (Gate r) stands t);
   })
-  queue_asks q None at h t = absurd h
-  queue_asks q (Some Says.Root) at h t = absurd h
-  queue_asks q (Some (Says.Gated s r)) at h t = absurd h
-  queue_asks q (Some (Says.Limits parent v s)) at h t = absurd h
-  queue_asks q (Some (Says.LimitsOutside parent v)) at h t = absurd h
-  queue_asks q (Some (Says.IsOut v s)) at h t = absurd h
-  queue_asks q (Some (Says.Locked locked s)) at h t = absurd h
-  queue_asks q (Some (Says.Excluded s why)) at h t = absurd h
-  queue_asks q (Some (Says.Digit n s place bit)) at h t = absurd h
-  queue_asks q (Some (Says.IsThere n s)) at h t = absurd h
-  queue_asks q (Some Says.Learnt) at h t = absurd h
+  queue_asks q None at h t fell = absurd h
+  queue_asks q (Some Says.Root) at h t fell = absurd h
+  queue_asks q (Some (Says.Gated s r)) at h t fell = absurd h
+  queue_asks q (Some (Says.Limits parent v s)) at h t fell = absurd h
+  queue_asks q (Some (Says.LimitsOutside parent v)) at h t fell = absurd h
+  queue_asks q (Some (Says.IsOut v s)) at h t fell = absurd h
+  queue_asks q (Some (Says.Locked locked s)) at h t fell = absurd h
+  queue_asks q (Some (Says.Excluded s why)) at h t fell = absurd h
+  queue_asks q (Some (Says.Digit n s place bit)) at h t fell = absurd h
+  queue_asks q (Some (Says.IsThere n s)) at h t fell = absurd h
+  queue_asks q (Some Says.Learnt) at h t fell = absurd h
 
   -- what is asked for has a clause
   pub has_clause : (r : Requirement) → IsAsked same p (E.rules_of e) (known_of (origin e.coding.atoms.keys) (history e.coding.search)) r → HasClause same p (E.rules_of e) r
@@ -312,7 +342,9 @@ module _ {N S : Type 0} (same : S → S → Bool) (p : Packages N S) (root : Rul
       let c = offer.candidate in
       let (s, fits, meets_it) = holds.listed q.requirement c (for_listed (named_by e.lists) values score (candidates_in e.lists q.requirement) d offer) in
       let parent : has (made_true (history e.coding.search)) (yes q.parent) ≡ true = parent_known values (made_true (history e.coding.search)) agree q.parent (and_parts (is_true (values q.parent.0)) _ eligible).0 in
-      let asked = queue_asks q (stated_at e.coding.stated.items q.clause.0) refl (holds.queued q stands) parent in
+      let fell : (l : Signed) → has (condition_in e.lists q.condition) l ≡ true → has (made_true (history e.coding.search)) (negation l) ≡ true =
+      λ l a. false_known values (made_true (history e.coding.search)) agree l (all_has (λ (x : Signed). is_false (value_under values x)) (condition_in e.lists q.condition) l (and_parts (is_true (values q.parent.0)) _ eligible).1 a) in
+      let asked = queue_asks q (stated_at e.coding.stated.items q.clause.0) refl (holds.queued q stands) parent fell in
       let literal : c.literal ≡ yes d.candidate = λ i. record { variable = offer.is i; positive = fits.positive i } in
       let means : Means (origin e.coding.atoms.keys) (yes d.candidate) (plus (Atom.solvable s)) = subst (λ (x : Signed). Means (origin e.coding.atoms.keys) x (plus (Atom.solvable s))) literal (solvable_means e.coding.atoms.keys c.literal s fits.positive fits.stands) in
       let (front, back, sooner, whole) = listed_at e.coding.atoms.keys offer.before offer.after c s

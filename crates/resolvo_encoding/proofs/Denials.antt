@@ -58,7 +58,7 @@ module _ {N S : Type 0} where
       none (Rule.is_out v s) d = refl
       none (Rule.bars s) d = refl
       none (Rule.has_digit s bit b) d = absurd d
-      none (Rule.is_there n s) d = absurd d
+      none (Rule.is_there n s) d = refl
 
   -- what states it tells no digit
   pub not_digit : (x : Stated N S) (r : Rule N S) → rule_of x ≡ Some r → IsRestraint r → (m : N) (t : S) (at bit : ℕ) → x ≡ Says.Digit m t at bit → ⊥

@@ -1,6 +1,8 @@
 pub mod Picking
 pub mod Carrying
+pub mod Conditions
 pub mod Requiring
+pub mod Enrolling
 pub mod Denials
 pub mod Needing
 pub mod Telling
@@ -10,3 +12,5 @@ pub mod Building
 pub mod Digits
 pub mod Turning
 pub mod Staying
+pub mod Helps
+pub mod Firing

@@ -1,8 +1,10 @@
 -- What a clause of a need, of a gate, or of one that opens it, leaves standing of the packages' encoding.
-use Rattle.std.proofs.Common.{◌≡◌, ℕ, zero, suc, ◌+◌, ◌<◌, ◌≤◌, ◌⊎◌, inl, inr, Bool, true, false, not, ◌&&◌, List, [], ◌∷◌, ◌++◌, length, reverse, is_some, Option, Some, None, refl, sym, ◌∙◌, ap, subst, arith, length-append}
+use Rattle.std.proofs.Common.{◌≡◌, ℕ, zero, suc, ◌+◌, ◌<◌, ◌≤◌, ◌⊎◌, inl, inr, Bool, true, false, not, ◌&&◌, List, [], ◌∷◌, ◌++◌, length, reverse, is_some, Option, Some, None, Vec, Global, refl, sym, ◌∙◌, ap, subst, arith, length-append}
 use Rattle.std.specs.Prelude.{Contains, slice_get}
 use Rattle.std.proofs.lemmas.Bool.{both_ways}
 use Rattle.resolvo_pool.specs.declared.id.ClauseId.{ClauseId}
+use Rattle.resolvo_pool.specs.declared.id.DenseId.{DenseId}
+use Rattle.resolvo_pool.specs.declared.id.DisjunctionTag.{DisjunctionTag}
 use Rattle.resolvo_pool.specs.declared.id.VariableId.{VariableId}
 use Rattle.resolvo_pool.specs.declared.id.VersionSetId.{VersionSetId}
 use Rattle.resolvo_pool.specs.declared.requirement.ConditionalRequirement.{ConditionalRequirement}
@@ -10,10 +12,12 @@ use Rattle.resolvo_pool.specs.declared.requirement.Requirement.{Requirement}
 use Rattle.resolvo_pool.specs.ByRequirement.{slot_of, PutsAt}
 use Rattle.resolvo_pool.specs.OnePass.{Literal}
 use Rattle.resolvo_pool.specs.Text.{alternatives_of}
-use Rattle.resolvo_pool.specs.RuleKeeping.{Packages, Rules, IsLawful, rules_of, rules_for}
+use Rattle.resolvo_pool.specs.RuleKeeping.{Packages, Rules, IsLawful, is_outside, rules_of, rules_for}
 use Rattle.resolvo_store.specs.Signed.{Signed, has}
 use Rattle.resolvo_store.specs.Clauses.{yes, no, root as root_variable, candidate_literals as literals_in}
-use Rattle.resolvo_store.specs.Lists.{has_candidates, candidates_in, items_or_none}
+use Rattle.resolvo_store.specs.AtMostOne.{IsFrontOf}
+use Rattle.resolvo_store.specs.declared.lists.FixedLists.{FixedLists}
+use Rattle.resolvo_store.specs.Lists.{has_candidates, candidates_in, condition_in, items_or_none}
 use Rattle.resolvo_store.specs.declared.decide_queue.NeedClause.{NeedClause}
 use Rattle.resolvo_store.specs.declared.lists.Candidate.{Candidate}
 use Rattle.resolvo_search.specs.declared.state.HeldClause.{HeldClause}
@@ -22,13 +26,13 @@ use Rattle.resolvo_search.specs.State.{lists, clauses_of, history}
 use Rattle.resolvo_store.specs.declared.decision.Entry.{Entry}
 use Rattle.resolvo_search.specs.Entries.{StandsOn}
 use Rattle.resolvo_search.specs.Beginning.{IsRootClause, root_entry}
-use Rattle.resolvo_search.proofs.Literals.{has-cons, has_here, has_later}
+use Rattle.resolvo_search.proofs.Literals.{has-cons, has-append, has_here, has_later}
 use Rattle.resolvo_search.proofs.Clauses.{literals_at}
-use Rattle.resolvo_rules.specs.Encoding.{IsExact, Atom, Rule, plus, minus, IsRule, literals_of, parent_literals, candidate_literals, cases_under, asks, has_condition, same_requirement}
+use Rattle.resolvo_rules.specs.Encoding.{IsExact, Atom, Rule, plus, minus, IsRule, literals_of, parent_literals, case_literals, candidate_literals, cases_under, cases_for, asks, has_condition, same_requirement}
 use Rattle.resolvo_rules.specs.Ending.{HasClause}
 use Rattle.resolvo_rules.specs.Numbered.{meaning, Means, Spells}
 use Rattle.resolvo_rules.proofs.Lists.{contains_none, contains_cases, contains_first, contains_later, contains_left, contains_right, contains_one, contains_only, contains_parts, contained_any}
-use Rattle.resolvo_rules.proofs.Members.{candidate_stands, stands_candidate, same_requirement-self}
+use Rattle.resolvo_rules.proofs.Members.{in_case, candidate_stands, stands_candidate, same_requirement-self}
 use Rattle.resolvo_coding.specs.declared.atom.ProofAtom.{ProofAtom}
 use Rattle.resolvo_coding.specs.declared.atom.ProofAtom.TheVariants.{Solvable, Gate}
 use Rattle.resolvo_coding.specs.declared.stated.Stated.{Stated}
@@ -42,14 +46,17 @@ use Rattle.resolvo_encoding.specs.Encoded.{IsParentVariable, IsCandidate, IsQueu
 use Rattle.resolvo_encoding.specs.Encoded as E
 use Rattle.resolvo_encoding.specs.Telling.{IsRestraint}
 use Rattle.resolvo_encoding.proofs.Denials.{makes_none, asks_none, not_digit, pair_spells}
-use Rattle.resolvo_encoding.specs.Steps.{StatesNeed, IsNeed, SameButCoding, IsBegunEncoding}
+use Rattle.resolvo_encoding.specs.Steps.{StatesNeed, IsNeed, Needs, NeedsDirectly, SameButCoding, Extends, IsBegunEncoding}
+use Rattle.resolvo_encoding.specs.declared.encoding.Deferred.{Deferred}
 use Rattle.resolvo_encoding.specs.declared.encoding.Encoding.{Encoding}
-use Rattle.resolvo_coding.proofs.Positions.{get_last}
+use Rattle.resolvo_encoding.specs.declared.encoding.Noted.{Noted}
+use Rattle.resolvo_coding.proofs.Positions.{get_last, get_contains}
 use Rattle.resolvo_coding.proofs.Origins.{means_solvable, solvable_means, means_atom, solvable_stands}
 use Rattle.resolvo_coding.proofs.Rules.{rule_stated}
-use Rattle.resolvo_coding.proofs.Growth.{rule_split, rules_split}
+use Rattle.resolvo_coding.proofs.Growth.{grows_same, rule_split, rules_split}
 use Rattle.resolvo_coding.proofs.Registering.{digits_same, digits_more, ties_grow, nothing_tied}
-use Rattle.resolvo_encoding.proofs.Requiring.{Came, Carries, carried, candidate_grows, queued_keeps, within_keeps, encoded_keeps, gates_keep, put_at, put_other, NoneAsks, kept_carries, guard_grows, noted_grows, some_one}
+use Rattle.resolvo_encoding.proofs.Conditions.{queued_grows, spells_join}
+use Rattle.resolvo_encoding.proofs.Requiring.{Came, Carries, carried, candidate_grows, registered_stays, cases_keep, cased_stays, helped_keeps, registered_before, front_lists, queued_keeps, within_keeps, encoded_keeps, gates_keep, put_at, put_other, NoneAsks, kept_carries, guard_grows, noted_grows, some_one}
 
 -- the requirement that a rule's clause asks for a match of
 abbrev requirement_in : {N S : Type 0} → Requirement → Rule N S → Requirement
@@ -71,114 +78,160 @@ literal_in (c ∷ cs) l h = elim (has-cons c.literal (literals_in cs) l h) [
   | inr a ↦ let (d, b, e) = literal_in cs l a in (d, contains_later d c cs b, e)
 ]
 
-in_literals : {N : Type 0} (cs : List (Candidate N)) (c : Candidate N) → Contains cs c → has (literals_in cs) c.literal ≡ true
+pub in_literals : {N : Type 0} (cs : List (Candidate N)) (c : Candidate N) → Contains cs c → has (literals_in cs) c.literal ≡ true
 in_literals [] c h = absurd (contains_none c h)
 in_literals (d ∷ cs) c h = elim (contains_cases c d cs h) [
   | inl e ↦ has_here d.literal (literals_in cs) c.literal (ap (λ (x : Candidate _). x.literal) (sym e))
   | inr a ↦ has_later d.literal (literals_in cs) c.literal (in_literals cs c a)
 ]
 
+-- an atom is of one solvable
+one_solvable : {N S : Type 0} (t u : S) → (let a : Atom N S = Atom.solvable t in a) ≡ Atom.solvable u → t ≡ u
+one_solvable t u e = cc
+
 module _ {N S : Type 0} (same : S → S → Bool) (exact : IsExact same) (p : Packages N S) (root : Rules) (lawful : IsLawful p) where
-  -- The clause that a variable is false, or a candidate chosen, has the literals of the rule that the head's denial or a
-  -- match of the requirement is there.
-  pub spells_need : (e : Encoding N S) → IsEncoding same p root e → (r : Requirement) → has_candidates e.lists r ≡ true → (v : VariableId) (heads : List (Literal (Atom N S)))
-      → ((l : Signed) → l ≡ no v → (l ≡ no root_variable) ⊎ ((0 < l.variable.0) × Contains heads (meaning (origin e.coding.atoms.keys) l)))
-      → ((m : Literal (Atom N S)) → Contains heads m → Means (origin e.coding.atoms.keys) (no v) m)
-      → Spells (origin e.coding.atoms.keys) (no v ∷ literals_in (candidates_in e.lists r)) (heads ++ candidate_literals same p (alternatives_of p.members_of r))
-  spells_need e holds r has_list v heads head back = record {
-    only = λ l h. elim (has-cons (no v) (literals_in (candidates_in e.lists r)) l h) [
-      | inl i ↦ elim (head l (sym i)) [ inl z ↦ inl z | inr (z, c) ↦ inr (z, contains_left (meaning (origin e.coding.atoms.keys) l) heads (candidate_literals same p (alternatives_of p.members_of r)) c) ]
-      | inr a ↦
-          let (c, stands, is) = literal_in (candidates_in e.lists r) l a in
-          let (s, fits, m) = holds.listed r c stands in
-          let means : Means (origin e.coding.atoms.keys) l (plus (Atom.solvable s)) = subst (λ (x : Signed). Means (origin e.coding.atoms.keys) x (plus (Atom.solvable s))) is (solvable_means e.coding.atoms.keys c.literal s fits.positive fits.stands) in
-          inr (means.0, contains_right (meaning (origin e.coding.atoms.keys) l) heads (candidate_literals same p (alternatives_of p.members_of r)) (subst (Contains (candidate_literals same p (alternatives_of p.members_of r))) means.1 (candidate_stands same exact p (alternatives_of p.members_of r) s m)))
-    ];
-    each = λ m h. elim (contains_parts m heads (candidate_literals same p (alternatives_of p.members_of r)) h) [
-      | inl a ↦ (no v, has_here (no v) (literals_in (candidates_in e.lists r)) (no v) refl, back m a)
-      | inr a ↦
-          let (s, is, match) = stands_candidate same exact p (alternatives_of p.members_of r) m a in
-          let (c, stands, fits) = holds.offered r s has_list match in
-          (c.literal, has_later (no v) (literals_in (candidates_in e.lists r)) c.literal (in_literals (candidates_in e.lists r) c stands), subst (Means (origin e.coding.atoms.keys) c.literal) (sym is) (solvable_means e.coding.atoms.keys c.literal s fits.positive fits.stands))
-    ];
+  -- the candidates' literals are that a match of the requirement is chosen
+  candidates_spell : (e : Encoding N S) → IsEncoding same p root e → (r : Requirement) → has_candidates e.lists r ≡ true → Spells (origin e.coding.atoms.keys) (literals_in (candidates_in e.lists r)) (candidate_literals same p (alternatives_of p.members_of r))
+  candidates_spell e holds r has_list = record {
+    only = λ l a.
+        let (c, stands, is) = literal_in (candidates_in e.lists r) l a in
+        let (s, fits, m) = holds.listed r c stands in
+        let means : Means (origin e.coding.atoms.keys) l (plus (Atom.solvable s)) = subst (λ (x : Signed). Means (origin e.coding.atoms.keys) x (plus (Atom.solvable s))) is (solvable_means e.coding.atoms.keys c.literal s fits.positive fits.stands) in
+        inr (means.0, subst (Contains (candidate_literals same p (alternatives_of p.members_of r))) means.1 (candidate_stands same exact p (alternatives_of p.members_of r) s m));
+    each = λ m a.
+        let (s, is, match) = stands_candidate same exact p (alternatives_of p.members_of r) m a in
+        let (c, stands, fits) = holds.offered r s has_list match in
+        (c.literal, in_literals (candidates_in e.lists r) c stands, subst (Means (origin e.coding.atoms.keys) c.literal) (sym is) (solvable_means e.coding.atoms.keys c.literal s fits.positive fits.stands));
   }
 
-  -- what a clause of a need states is a rule, with its literals
-  need_rule : (e : Encoding N S) → IsEncoding same p root e → (x : Stated N S) (v : VariableId) (r : Requirement) → has_candidates e.lists r ≡ true → IsNeed same p root e.coding.atoms.keys x v r → (q : Rule N S) → rule_of x ≡ Some q
-      → IsRule same p root q × Spells (origin e.coding.atoms.keys) (no v ∷ literals_in (candidates_in e.lists r)) (literals_of same p q)
-  need_rule e holds (Says.Needs parent need case) v r has_list (none, is, stands, listed, free) q one =
-      let rule : Rule.needs parent need case.items ≡ q = some_one (Rule.needs parent need case.items) q one in
-      let clause = no v ∷ literals_in (candidates_in e.lists r) in
-      subst (λ (y : Rule N S). IsRule same p root y × Spells (origin e.coding.atoms.keys) clause (literals_of same p y)) rule
-      (subst (λ vs. IsRule same p root (Rule.needs parent need vs) × Spells (origin e.coding.atoms.keys) clause (literals_of same p (Rule.needs parent need vs))) (sym none) (
-        (listed, subst (λ c. Contains (cases_under p.condition_of c) []) (sym free) (contains_only [])),
-        subst (λ y. Spells (origin e.coding.atoms.keys) clause (parent_literals parent ++ candidate_literals same p (alternatives_of p.members_of y))) (sym is) (spells_need e holds r has_list v (parent_literals parent) (head parent stands) (back parent stands)),
-      ))
+  -- the denial of a parent's variable is what its clauses begin with
+  parent_spells : (atoms : List (ProofAtom N S)) (parent : Option S) (v : VariableId) → IsParentVariable atoms parent v → Spells (origin atoms) (no v ∷ []) (parent_literals parent)
+  parent_spells atoms parent v is = record {
+    only = λ l h. elim (has-cons (no v) [] l h) [ inl i ↦ head parent is l (sym i) | inr a ↦ absurd (both_ways false refl a) ];
+    each = λ m h. (no v, has_here (no v) [] (no v) refl, back parent is m h);
+  }
     where
-      head : (parent : Option S) → IsParentVariable e.coding.atoms.keys parent v → (l : Signed) → l ≡ no v → (l ≡ no root_variable) ⊎ ((0 < l.variable.0) × Contains (parent_literals parent) (meaning (origin e.coding.atoms.keys) l))
+      head : (parent : Option S) → IsParentVariable atoms parent v → (l : Signed) → l ≡ no v → (l ≡ no root_variable) ⊎ ((0 < l.variable.0) × Contains (parent_literals parent) (meaning (origin atoms) l))
       head None h l i = inl (i ∙ ap no h)
       head (Some s) h l i =
-          let means : Means (origin e.coding.atoms.keys) l (minus (Atom.solvable s)) = subst (λ (x : Signed). Means (origin e.coding.atoms.keys) x (minus (Atom.solvable s))) (sym i) (means_atom e.coding.atoms.keys (no v) (Solvable s) h) in
-          inr (means.0, contains_first (meaning (origin e.coding.atoms.keys) l) (minus (Atom.solvable s)) [] means.1)
+          let means : Means (origin atoms) l (minus (Atom.solvable s)) = subst (λ (x : Signed). Means (origin atoms) x (minus (Atom.solvable s))) (sym i) (means_atom atoms (no v) (Solvable s) h) in
+          inr (means.0, contains_first (meaning (origin atoms) l) (minus (Atom.solvable s)) [] means.1)
 
-      back : (parent : Option S) → IsParentVariable e.coding.atoms.keys parent v → (m : Literal (Atom N S)) → Contains (parent_literals parent) m → Means (origin e.coding.atoms.keys) (no v) m
+      back : (parent : Option S) → IsParentVariable atoms parent v → (m : Literal (Atom N S)) → Contains (parent_literals parent) m → Means (origin atoms) (no v) m
       back None h m a = absurd (contains_none m a)
-      back (Some s) h m a = subst (Means (origin e.coding.atoms.keys) (no v)) (sym (contains_one m (minus (Atom.solvable s)) a)) (means_atom e.coding.atoms.keys (no v) (Solvable s) h)
-  need_rule e holds (Says.Shared w) v r has_list (is, stands, asked) q one =
-      let rule : Rule.shared w ≡ q = some_one (Rule.shared w) q one in
-      let clause = no v ∷ literals_in (candidates_in e.lists r) in
-      subst (λ (y : Rule N S). IsRule same p root y × Spells (origin e.coding.atoms.keys) clause (literals_of same p y)) rule
-      (subst (λ y. IsRule same p root (Rule.shared y) × Spells (origin e.coding.atoms.keys) clause (literals_of same p (Rule.shared y))) (sym is) (
-        subst (λ y. IsRule same p root (Rule.shared y)) is asked,
-        spells_need e holds r has_list v (minus (Atom.gate r) ∷ [])
-            (λ l i. (let means : Means (origin e.coding.atoms.keys) l (minus (Atom.gate r)) = subst (λ (x : Signed). Means (origin e.coding.atoms.keys) x (minus (Atom.gate r))) (sym i) gate in inr (means.0, contains_first (meaning (origin e.coding.atoms.keys) l) (minus (Atom.gate r)) [] means.1)))
-            (λ m a. subst (Means (origin e.coding.atoms.keys) (no v)) (sym (contains_one m (minus (Atom.gate r)) a)) gate),
-      ))
+      back (Some s) h m a = subst (Means (origin atoms) (no v)) (sym (contains_one m (minus (Atom.solvable s)) a)) (means_atom atoms (no v) (Solvable s) h)
+
+  -- so it is with a gate's
+  gate_spells : (atoms : List (ProofAtom N S)) (r : Requirement) (v : VariableId) → StandsFor atoms v (Gate r) → Spells (origin atoms) (no v ∷ []) (minus (Atom.gate r) ∷ [])
+  gate_spells atoms r v stands = record {
+    only = λ l h. elim (has-cons (no v) [] l h) [
+      | inl i ↦ (let means : Means (origin atoms) l (minus (Atom.gate r)) = subst (λ (x : Signed). Means (origin atoms) x (minus (Atom.gate r))) i gate in inr (means.0, contains_first (meaning (origin atoms) l) (minus (Atom.gate r)) [] means.1))
+      | inr a ↦ absurd (both_ways false refl a)
+    ];
+    each = λ m h. (no v, has_here (no v) [] (no v) refl, subst (Means (origin atoms) (no v)) (sym (contains_one m (minus (Atom.gate r)) h)) gate);
+  }
     where
-      gate : Means (origin e.coding.atoms.keys) (no v) (minus (Atom.gate r))
-      gate = means_atom e.coding.atoms.keys (no v) (Gate r) (subst (λ y. StandsFor e.coding.atoms.keys v (Gate y)) is stands)
-  need_rule e holds Says.Root v r has_list h q one = absurd h
-  need_rule e holds (Says.Gated s w) v r has_list h q one = absurd h
-  need_rule e holds (Says.Limits parent w s) v r has_list h q one = absurd h
-  need_rule e holds (Says.LimitsOutside parent w) v r has_list h q one = absurd h
-  need_rule e holds (Says.IsOut w s) v r has_list h q one = absurd h
-  need_rule e holds (Says.Locked locked s) v r has_list h q one = absurd h
-  need_rule e holds (Says.Excluded s why) v r has_list h q one = absurd h
-  need_rule e holds (Says.Digit n s place bit) v r has_list h q one = absurd h
-  need_rule e holds (Says.IsThere n s) v r has_list h q one = absurd h
-  need_rule e holds Says.Learnt v r has_list h q one = absurd h
+      gate : Means (origin atoms) (no v) (minus (Atom.gate r))
+      gate = means_atom atoms (no v) (Gate r) stands
+
+  -- the literals of a need's clause
+  abbrev need_literals : Encoding N S → VariableId → Option (DenseId DisjunctionTag ℕ) → Requirement → List Signed
+  need_literals e v condition r = no v ∷ (condition_in e.lists condition ++ literals_in (candidates_in e.lists r))
+
+  -- what a clause of a need states is a rule, with its literals
+  need_rule : (e : Encoding N S) → IsEncoding same p root e → (x : Stated N S) (v : VariableId) (condition : Option (DenseId DisjunctionTag ℕ)) (r : Requirement) → has_candidates e.lists r ≡ true → IsNeed same p root e.lists e.coding.atoms.keys x v condition r → (q : Rule N S) → rule_of x ≡ Some q
+      → IsRule same p root q × Spells (origin e.coding.atoms.keys) (need_literals e v condition r) (literals_of same p q)
+  need_rule e holds (Says.Needs parent need case) v condition r has_list (is, stands, conditioned, listed, cased) q one =
+      let rule : Rule.needs parent need case.items ≡ q = some_one (Rule.needs parent need case.items) q one in
+      subst (λ (y : Rule N S). IsRule same p root y × Spells (origin e.coding.atoms.keys) (need_literals e v condition r) (literals_of same p y)) rule (
+        (listed, cased),
+        subst (λ y. Spells (origin e.coding.atoms.keys) (need_literals e v condition r) (parent_literals parent ++ (case_literals same p case.items ++ candidate_literals same p (alternatives_of p.members_of y)))) (sym is)
+            (spells_join (origin e.coding.atoms.keys) (no v ∷ []) (condition_in e.lists condition ++ literals_in (candidates_in e.lists r)) (parent_literals parent) (case_literals same p case.items ++ candidate_literals same p (alternatives_of p.members_of r))
+            (parent_spells e.coding.atoms.keys parent v stands)
+            (spells_join (origin e.coding.atoms.keys) (condition_in e.lists condition) (literals_in (candidates_in e.lists r)) (case_literals same p case.items) (candidate_literals same p (alternatives_of p.members_of r)) conditioned.spells (candidates_spell e holds r has_list))),
+      )
+  need_rule e holds (Says.Shared w) v condition r has_list (is, free, stands, asked) q one =
+      let rule : Rule.shared w ≡ q = some_one (Rule.shared w) q one in
+      subst (λ (y : Rule N S). IsRule same p root y × Spells (origin e.coding.atoms.keys) (need_literals e v condition r) (literals_of same p y)) rule
+      (subst (λ y. IsRule same p root (Rule.shared y) × Spells (origin e.coding.atoms.keys) (need_literals e v condition r) (literals_of same p (Rule.shared y))) (sym is) (
+        subst (λ y. IsRule same p root (Rule.shared y)) is asked,
+        subst (λ c. Spells (origin e.coding.atoms.keys) (need_literals e v c r) (literals_of same p (Rule.shared r))) (sym free)
+            (spells_join (origin e.coding.atoms.keys) (no v ∷ []) (literals_in (candidates_in e.lists r)) (minus (Atom.gate r) ∷ []) (candidate_literals same p (alternatives_of p.members_of r))
+            (gate_spells e.coding.atoms.keys r v (subst (λ y. StandsFor e.coding.atoms.keys v (Gate y)) is stands)) (candidates_spell e holds r has_list)),
+      ))
+  need_rule e holds Says.Root v condition r has_list h q one = absurd h
+  need_rule e holds (Says.Gated s w) v condition r has_list h q one = absurd h
+  need_rule e holds (Says.Limits parent w s) v condition r has_list h q one = absurd h
+  need_rule e holds (Says.LimitsOutside parent w) v condition r has_list h q one = absurd h
+  need_rule e holds (Says.IsOut w s) v condition r has_list h q one = absurd h
+  need_rule e holds (Says.Locked locked s) v condition r has_list h q one = absurd h
+  need_rule e holds (Says.Excluded s why) v condition r has_list h q one = absurd h
+  need_rule e holds (Says.Digit n s place bit) v condition r has_list h q one = absurd h
+  need_rule e holds (Says.IsThere n s) v condition r has_list h q one = absurd h
+  need_rule e holds Says.Learnt v condition r has_list h q one = absurd h
 
   -- what decisions are made for, for a clause of a need
-  need_queued : (atoms : List (ProofAtom N S)) (x : Stated N S) (v : VariableId) (r : Requirement) (number : ClauseId) → IsNeed same p root atoms x v r → IsQueuedFor atoms (Some x) (record { parent = v; requirement = r; condition = None; clause = number })
-  need_queued atoms (Says.Needs parent need case) v r number (none, is, stands, listed, free) = (none, sym is, refl, stands)
-  need_queued atoms (Says.Shared w) v r number (is, stands, asked) = (sym is, refl, stands)
-  need_queued atoms Says.Root v r number h = absurd h
-  need_queued atoms (Says.Gated s w) v r number h = absurd h
-  need_queued atoms (Says.Limits parent w s) v r number h = absurd h
-  need_queued atoms (Says.LimitsOutside parent w) v r number h = absurd h
-  need_queued atoms (Says.IsOut w s) v r number h = absurd h
-  need_queued atoms (Says.Locked locked s) v r number h = absurd h
-  need_queued atoms (Says.Excluded s why) v r number h = absurd h
-  need_queued atoms (Says.Digit n s place bit) v r number h = absurd h
-  need_queued atoms (Says.IsThere n s) v r number h = absurd h
-  need_queued atoms Says.Learnt v r number h = absurd h
+  need_queued : (ls : FixedLists N) (atoms : List (ProofAtom N S)) (x : Stated N S) (v : VariableId) (condition : Option (DenseId DisjunctionTag ℕ)) (r : Requirement) (number : ClauseId) → IsNeed same p root ls atoms x v condition r → IsQueuedFor same p ls atoms (Some x) (record { parent = v; requirement = r; condition = condition; clause = number })
+  need_queued ls atoms (Says.Needs parent need case) v condition r number (is, stands, conditioned, listed, cased) = (sym is, conditioned, stands)
+  need_queued ls atoms (Says.Shared w) v condition r number (is, free, stands, asked) = (sym is, free, stands)
+  need_queued ls atoms Says.Root v condition r number h = absurd h
+  need_queued ls atoms (Says.Gated s w) v condition r number h = absurd h
+  need_queued ls atoms (Says.Limits parent w s) v condition r number h = absurd h
+  need_queued ls atoms (Says.LimitsOutside parent w) v condition r number h = absurd h
+  need_queued ls atoms (Says.IsOut w s) v condition r number h = absurd h
+  need_queued ls atoms (Says.Locked locked s) v condition r number h = absurd h
+  need_queued ls atoms (Says.Excluded s why) v condition r number h = absurd h
+  need_queued ls atoms (Says.Digit n s place bit) v condition r number h = absurd h
+  need_queued ls atoms (Says.IsThere n s) v condition r number h = absurd h
+  need_queued ls atoms Says.Learnt v condition r number h = absurd h
+
+  -- a condition's literal that a solvable is chosen is of one outside a version set of the case
+  need_condition : (ls : FixedLists N) (atoms : List (ProofAtom N S)) (x : Stated N S) (v : VariableId) (condition : Option (DenseId DisjunctionTag ℕ)) (r : Requirement) → IsNeed same p root ls atoms x v condition r
+      → (l : Signed) (s : S) → has (condition_in ls condition) l ≡ true → Means (origin atoms) l (plus (Atom.solvable s))
+      → (parent : Option S) × (need : ConditionalRequirement) × (case : List VersionSetId) × (w : VersionSetId) × (rule_of x ≡ Some (Rule.needs parent need case)) × Contains case w × (is_outside same p w s ≡ true)
+  need_condition ls atoms (Says.Needs parent need case) v condition r (is, stands, conditioned, listed, cased) l s h m = elim (conditioned.spells.only l h) [
+    | inl z ↦ absurd (both_ways false refl (ap (λ (y : Signed). y.positive) (sym z) ∙ (means_solvable atoms l s m).0))
+    | inr (other, c) ↦ (let (w, there, which) = in_case same exact p case.items (meaning (origin atoms) l) c in (
+      parent,
+      need,
+      case.items,
+      w,
+      refl,
+      there,
+      elim which [
+        | inl is_any ↦ absurd (both_ways false refl (ap (λ (y : Literal (Atom N S)). y.positive) (sym is_any) ∙ (means_solvable atoms l s m).0))
+        | inr (t, one, out) ↦ subst (λ y. is_outside same p w y ≡ true) (one_solvable t s (ap (λ (y : Literal (Atom N S)). y.atom) (sym one ∙ sym m.1))) out
+      ],
+    ))
+  ]
+  need_condition ls atoms (Says.Shared w) v condition r (is, free, stands, asked) l s h m = absurd (both_ways false refl (subst (λ c. has (condition_in ls c) l ≡ true) free h))
+  need_condition ls atoms Says.Root v condition r need l s h m = absurd need
+  need_condition ls atoms (Says.Gated t w) v condition r need l s h m = absurd need
+  need_condition ls atoms (Says.Limits parent w t) v condition r need l s h m = absurd need
+  need_condition ls atoms (Says.LimitsOutside parent w) v condition r need l s h m = absurd need
+  need_condition ls atoms (Says.IsOut w t) v condition r need l s h m = absurd need
+  need_condition ls atoms (Says.Locked locked t) v condition r need l s h m = absurd need
+  need_condition ls atoms (Says.Excluded t why) v condition r need l s h m = absurd need
+  need_condition ls atoms (Says.Digit n t place bit) v condition r need l s h m = absurd need
+  need_condition ls atoms (Says.IsThere n t) v condition r need l s h m = absurd need
+  need_condition ls atoms Says.Learnt v condition r need l s h m = absurd need
 
   -- the requirement of a need's rule
-  asks_need : (atoms : List (ProofAtom N S)) (x : Stated N S) (v : VariableId) (r : Requirement) → IsNeed same p root atoms x v r → (q : Requirement) → HasClause same p (λ rule. rule_of x ≡ Some rule) q → q ≡ r
-  asks_need atoms (Says.Needs parent need case) v r (none, is, stands, listed, free) q (inl (other, wanted, vs, e, f)) = f ∙ sym (ap (requirement_in r) (some_one (Rule.needs parent need case.items) (Rule.needs other wanted vs) e)) ∙ is
-  asks_need atoms (Says.Needs parent need case) v r h q (inr e) = absurd cc
-  asks_need atoms (Says.Shared w) v r h q (inl (other, wanted, vs, e, f)) = absurd cc
-  asks_need atoms (Says.Shared w) v r (is, stands, asked) q (inr e) = sym (ap (requirement_in r) (some_one (Rule.shared w) (Rule.shared q) e)) ∙ is
-  asks_need atoms Says.Root v r h q a = absurd h
-  asks_need atoms (Says.Gated s w) v r h q a = absurd h
-  asks_need atoms (Says.Limits parent w s) v r h q a = absurd h
-  asks_need atoms (Says.LimitsOutside parent w) v r h q a = absurd h
-  asks_need atoms (Says.IsOut w s) v r h q a = absurd h
-  asks_need atoms (Says.Locked locked s) v r h q a = absurd h
-  asks_need atoms (Says.Excluded s why) v r h q a = absurd h
-  asks_need atoms (Says.Digit n s place bit) v r h q a = absurd h
-  asks_need atoms (Says.IsThere n s) v r h q a = absurd h
-  asks_need atoms Says.Learnt v r h q a = absurd h
+  asks_need : (ls : FixedLists N) (atoms : List (ProofAtom N S)) (x : Stated N S) (v : VariableId) (condition : Option (DenseId DisjunctionTag ℕ)) (r : Requirement) → IsNeed same p root ls atoms x v condition r → (q : Requirement) → HasClause same p (λ rule. rule_of x ≡ Some rule) q → q ≡ r
+  asks_need ls atoms (Says.Needs parent need case) v condition r (is, stands, conditioned, listed, cased) q (inl (other, wanted, vs, e, f)) = f ∙ sym (ap (requirement_in r) (some_one (Rule.needs parent need case.items) (Rule.needs other wanted vs) e)) ∙ is
+  asks_need ls atoms (Says.Needs parent need case) v condition r h q (inr e) = absurd cc
+  asks_need ls atoms (Says.Shared w) v condition r h q (inl (other, wanted, vs, e, f)) = absurd cc
+  asks_need ls atoms (Says.Shared w) v condition r (is, free, stands, asked) q (inr e) = sym (ap (requirement_in r) (some_one (Rule.shared w) (Rule.shared q) e)) ∙ is
+  asks_need ls atoms Says.Root v condition r h q a = absurd h
+  asks_need ls atoms (Says.Gated s w) v condition r h q a = absurd h
+  asks_need ls atoms (Says.Limits parent w s) v condition r h q a = absurd h
+  asks_need ls atoms (Says.LimitsOutside parent w) v condition r h q a = absurd h
+  asks_need ls atoms (Says.IsOut w s) v condition r h q a = absurd h
+  asks_need ls atoms (Says.Locked locked s) v condition r h q a = absurd h
+  asks_need ls atoms (Says.Excluded s why) v condition r h q a = absurd h
+  asks_need ls atoms (Says.Digit n s place bit) v condition r h q a = absurd h
+  asks_need ls atoms (Says.IsThere n s) v condition r h q a = absurd h
+  asks_need ls atoms Says.Learnt v condition r h q a = absurd h
 
   -- the place, the literals and what is stated of a clause that came
   module _ (x : Stated N S) (literals : List Signed) (id : ClauseId) (old new : Coding N S) (before : IsCoding old) (states : States x literals id old new) where
@@ -197,13 +250,18 @@ module _ {N S : Type 0} (same : S → S → Bool) (exact : IsExact same) (p : Pa
         subst (λ n. slice_get new.stated.items n ≡ Some x) before.each
         (subst (λ (xs : List (Stated N S)). slice_get xs (length old.stated.items) ≡ Some x) (sym states.stated) (get_last old.stated.items x))
 
+  -- what the clause of a case rests on: its packages are noted, and what is outside its version sets is registered
+  abbrev pub IsReady : Encoding N S → Stated N S → Type 0
+  IsReady e x = (parent : Option S) (need : ConditionalRequirement) (case : List VersionSetId) (w : VersionSetId) → rule_of x ≡ Some (Rule.needs parent need case) → Contains case w
+      → Contains e.noted.helped.keys (p.set_package w) × ((s : S) → is_outside same p w s ≡ true → Registered same p root e s)
+
   -- A clause of a need, or of a gate, came.
-  pub need_keeps : (x : Stated N S) (v : VariableId) (r : Requirement) (old new : Encoding N S) → IsEncoding same p root old → has_candidates old.lists r ≡ true → IsGuarded same p (E.rules_of old) r → IsNeed same p root old.coding.atoms.keys x v r → StatesNeed x v r old new
-      → IsEncoding same p root new × ((q : Rule N S) → rule_of x ≡ Some q → E.rules_of new q)
-  need_keeps x v r old new e has_list guarded need came = (carried same exact p root old new e carries, λ q is. (length old.coding.search.clauses, rule_stated new.coding.stated.items (length old.coding.search.clauses) x stated_here ∙ is))
+  pub need_keeps : (x : Stated N S) (v : VariableId) (condition : Option (DenseId DisjunctionTag ℕ)) (r : Requirement) (old new : Encoding N S) → IsEncoding same p root old → has_candidates old.lists r ≡ true → IsGuarded same p (E.rules_of old) r
+      → IsNeed same p root old.lists old.coding.atoms.keys x v condition r → IsReady old x → StatesNeed x v condition r old new → IsEncoding same p root new × ((q : Rule N S) → rule_of x ≡ Some q → E.rules_of new q)
+  need_keeps x v condition r old new e has_list guarded need ready came = (carried same exact p root old new e carries, λ q is. (length old.coding.search.clauses, rule_stated new.coding.stated.items (length old.coding.search.clauses) x stated_here ∙ is))
     where
       literals : List Signed
-      literals = no v ∷ literals_in (candidates_in old.lists r)
+      literals = need_literals old v condition r
 
       number : came.number.0 ≡ length old.coding.search.clauses
       number = came.states.number
@@ -227,22 +285,29 @@ module _ {N S : Type 0} (same : S → S → Bool) (exact : IsExact same) (p : Pa
       candidate n s c h = candidate_grows same exact p root old new n s c came.states.grows tracked h
 
       positive : (l : Signed) (s : S) → has literals l ≡ true → Means (origin new.coding.atoms.keys) l (plus (Atom.solvable s)) → Registered same p root new s
-      positive l s h m = elim (has-cons (no v) (literals_in (candidates_in old.lists r)) l h) [
+      positive l s h m = elim (has-cons (no v) (condition_in old.lists condition ++ literals_in (candidates_in old.lists r)) l h) [
         | inl is ↦ absurd (both_ways false refl (ap (λ (y : Signed). y.positive) is ∙ (means_solvable new.coding.atoms.keys l s m).0))
-        | inr a ↦
-            let (c, stands, one) = literal_in (candidates_in old.lists r) l a in
-            let (t, fits, meets_it) = e.listed r c stands in
-            let fits_new = candidate (p.package_of t) t c fits in
-            let here : StandsFor new.coding.atoms.keys c.literal.variable (Solvable s) = subst (λ (y : Signed). StandsFor new.coding.atoms.keys y.variable (Solvable s)) (sym one) (means_solvable new.coding.atoms.keys l s m).1 in
-            let same_solvable : t ≡ s = some_one t s (sym (solvable_stands new.coding.atoms.keys c.literal.variable t fits_new.stands) ∙ solvable_stands new.coding.atoms.keys c.literal.variable s here) in
-            subst (λ y. Registered same p root new y) same_solvable (c.literal.variable, fits_new.stands, fits_new.tracked)
+        | inr a ↦ elim (has-append (condition_in old.lists condition) (literals_in (candidates_in old.lists r)) l a) [
+          | inl b ↦ (let (parent, wanted, case, w, states, there, out) = need_condition old.lists old.coding.atoms.keys x v condition r need l s b (subst (λ ks. Means (origin ks) l (plus (Atom.solvable s))) atoms m) in
+              registered_stays same exact p root old new (p.package_of s) s came.states.grows tracked ((ready parent wanted case w states there).1 s out))
+          | inr b ↦ chosen l s b m
+        ]
       ]
+        where
+          chosen : (l : Signed) (s : S) → has (literals_in (candidates_in old.lists r)) l ≡ true → Means (origin new.coding.atoms.keys) l (plus (Atom.solvable s)) → Registered same p root new s
+          chosen l s a m =
+              let (c, stands, one) = literal_in (candidates_in old.lists r) l a in
+              let (t, fits, meets_it) = e.listed r c stands in
+              let fits_new = candidate (p.package_of t) t c fits in
+              let here : StandsFor new.coding.atoms.keys c.literal.variable (Solvable s) = subst (λ (y : Signed). StandsFor new.coding.atoms.keys y.variable (Solvable s)) (sym one) (means_solvable new.coding.atoms.keys l s m).1 in
+              let same_solvable : t ≡ s = some_one t s (sym (solvable_stands new.coding.atoms.keys c.literal.variable t fits_new.stands) ∙ solvable_stands new.coding.atoms.keys c.literal.variable s here) in
+              subst (λ y. Registered same p root new y) same_solvable (c.literal.variable, fits_new.stands, fits_new.tracked)
 
       right : Came same exact p root new (length old.coding.search.clauses)
       right = record {
         stated = x;
         at = stated_here;
-        rule = λ q is. (let (rule, spells) = need_rule old e x v r has_list need q is in (rule, subst (λ (cl : List Signed). Spells (origin new.coding.atoms.keys) cl (literals_of same p q)) (sym literals_here) (subst (λ ks. Spells (origin ks) literals (literals_of same p q)) (sym atoms) spells)));
+        rule = λ q is. (let (rule, spells) = need_rule old e x v condition r has_list need q is in (rule, subst (λ (cl : List Signed). Spells (origin new.coding.atoms.keys) cl (literals_of same p q)) (sym literals_here) (subst (λ ks. Spells (origin ks) literals (literals_of same p q)) (sym atoms) spells)));
         positive = λ l s h m. positive l s (subst (λ (cl : List Signed). has cl l ≡ true) literals_here h) m;
       }
 
@@ -255,11 +320,11 @@ module _ {N S : Type 0} (same : S → S → Bool) (exact : IsExact same) (p : Pa
       fixed : (q : Requirement) → HasClause same p (E.rules_of new) q → has_candidates new.lists q ≡ true
       fixed q (inl (parent, wanted, vs, stands, is)) = elim (rules_split old.coding new.coding e.coding came.states.coding came.states.grows (Rule.needs parent wanted vs) stands) [
         | inl a ↦ lists_same q (e.fixed q (inl (parent, wanted, vs, a, is)))
-        | inr (n, low, high, at) ↦ lists_same q (subst (λ y. has_candidates old.lists y ≡ true) (sym (asks_need old.coding.atoms.keys x v r need q (inl (parent, wanted, vs, same_rule n (Rule.needs parent wanted vs) low high at, is)))) has_list)
+        | inr (n, low, high, at) ↦ lists_same q (subst (λ y. has_candidates old.lists y ≡ true) (sym (asks_need old.lists old.coding.atoms.keys x v condition r need q (inl (parent, wanted, vs, same_rule n (Rule.needs parent wanted vs) low high at, is)))) has_list)
       ]
       fixed q (inr stands) = elim (rules_split old.coding new.coding e.coding came.states.coding came.states.grows (Rule.shared q) stands) [
         | inl a ↦ lists_same q (e.fixed q (inr a))
-        | inr (n, low, high, at) ↦ lists_same q (subst (λ y. has_candidates old.lists y ≡ true) (sym (asks_need old.coding.atoms.keys x v r need q (inr (same_rule n (Rule.shared q) low high at)))) has_list)
+        | inr (n, low, high, at) ↦ lists_same q (subst (λ y. has_candidates old.lists y ≡ true) (sym (asks_need old.lists old.coding.atoms.keys x v condition r need q (inr (same_rule n (Rule.shared q) low high at)))) has_list)
       ]
 
       guard : (q : Requirement) → IsGuarded same p (E.rules_of old) q → IsGuarded same p (E.rules_of new) q
@@ -268,26 +333,39 @@ module _ {N S : Type 0} (same : S → S → Bool) (exact : IsExact same) (p : Pa
       bar : (q : Requirement) → HasClause same p (E.rules_of new) q → IsGuarded same p (E.rules_of new) q
       bar q (inl (parent, wanted, vs, stands, is)) = elim (rules_split old.coding new.coding e.coding came.states.coding came.states.grows (Rule.needs parent wanted vs) stands) [
         | inl a ↦ guard q (e.bar q (inl (parent, wanted, vs, a, is)))
-        | inr (n, low, high, at) ↦ guard q (subst (λ y. IsGuarded same p (E.rules_of old) y) (sym (asks_need old.coding.atoms.keys x v r need q (inl (parent, wanted, vs, same_rule n (Rule.needs parent wanted vs) low high at, is)))) guarded)
+        | inr (n, low, high, at) ↦ guard q (subst (λ y. IsGuarded same p (E.rules_of old) y) (sym (asks_need old.lists old.coding.atoms.keys x v condition r need q (inl (parent, wanted, vs, same_rule n (Rule.needs parent wanted vs) low high at, is)))) guarded)
       ]
       bar q (inr stands) = elim (rules_split old.coding new.coding e.coding came.states.coding came.states.grows (Rule.shared q) stands) [
         | inl a ↦ guard q (e.bar q (inr a))
-        | inr (n, low, high, at) ↦ guard q (subst (λ y. IsGuarded same p (E.rules_of old) y) (sym (asks_need old.coding.atoms.keys x v r need q (inr (same_rule n (Rule.shared q) low high at)))) guarded)
+        | inr (n, low, high, at) ↦ guard q (subst (λ y. IsGuarded same p (E.rules_of old) y) (sym (asks_need old.lists old.coding.atoms.keys x v condition r need q (inr (same_rule n (Rule.shared q) low high at)))) guarded)
       ]
 
       next : NeedClause
-      next = record { parent = v; requirement = r; condition = None; clause = came.number }
+      next = record { parent = v; requirement = r; condition = condition; clause = came.number }
 
-      queued : (q : NeedClause) → Contains new.queue q → IsQueuedFor new.coding.atoms.keys (stated_at new.coding.stated.items q.clause.0) q
+      lists_front : IsFrontOf old.lists.disjunctions new.lists.disjunctions
+      lists_front = front_lists same exact p root lawful old new came.lists
+
+      next_queued : IsQueuedFor same p new.lists new.coding.atoms.keys (Some x) next
+      next_queued = queued_grows same p old.lists new.lists old.coding new.coding lists_front came.states.grows (Some x) next (need_queued old.lists old.coding.atoms.keys x v condition r came.number need)
+
+      queued : (q : NeedClause) → Contains new.queue q → IsQueuedFor same p new.lists new.coding.atoms.keys (stated_at new.coding.stated.items q.clause.0) q
       queued q h = elim (contains_parts q old.queue (next ∷ []) (subst (λ qs. Contains qs q) came.queue h)) [
-        | inl a ↦ queued_keeps same exact p root lawful old new e came.states.grows q a
-        | inr a ↦ subst (λ y. IsQueuedFor new.coding.atoms.keys (stated_at new.coding.stated.items y.clause.0) y) (sym (contains_one q next a))
-            (subst (λ (o : Option (Stated N S)). IsQueuedFor new.coding.atoms.keys o next) (sym (ap (λ n. stated_at new.coding.stated.items n) number ∙ stated_here))
-            (subst (λ ks. IsQueuedFor ks (Some x) next) (sym atoms) (need_queued old.coding.atoms.keys x v r came.number need)))
+        | inl a ↦ queued_keeps same exact p root lawful old new e came.states.grows lists_front q a
+        | inr a ↦ subst (λ y. IsQueuedFor same p new.lists new.coding.atoms.keys (stated_at new.coding.stated.items y.clause.0) y) (sym (contains_one q next a))
+            (subst (λ (o : Option (Stated N S)). IsQueuedFor same p new.lists new.coding.atoms.keys o next) (sym (ap (λ n. stated_at new.coding.stated.items n) number ∙ stated_here)) next_queued)
+      ]
+
+      cased : (parent : Option S) (wanted : ConditionalRequirement) (case : List VersionSetId) (w : VersionSetId) → E.rules_of new (Rule.needs parent wanted case) → Contains case w
+          → Contains new.noted.helped.keys (p.set_package w) × ((s : S) → is_outside same p w s ≡ true → Registered same p root new s)
+      cased parent wanted case w stands h = elim (rules_split old.coding new.coding e.coding came.states.coding came.states.grows (Rule.needs parent wanted case) stands) [
+        | inl a ↦ cased_stays same exact p root old new e.cases came.states.grows came.noted tracked parent wanted case w a h
+        | inr (n, low, high, at) ↦ (let (named, out) = ready parent wanted case w (same_rule n (Rule.needs parent wanted case) low high at) h in
+            (subst (λ (y : Noted N S). Contains y.helped.keys (p.set_package w)) (sym came.noted) named, λ s o. registered_stays same exact p root old new (p.package_of s) s came.states.grows tracked (out s o)))
       ]
 
       no_digit : (m : N) (t : S) (at bit : ℕ) → x ≡ Says.Digit m t at bit → ⊥
-      no_digit m t at bit is = subst (λ (y : Stated N S). IsNeed same p root old.coding.atoms.keys y v r) is need
+      no_digit m t at bit is = subst (λ (y : Stated N S). IsNeed same p root old.lists old.coding.atoms.keys y v condition r) is need
 
       carries : Carries same exact p root old new
       carries = record {
@@ -310,9 +388,39 @@ module _ {N S : Type 0} (same : S → S → Bool) (exact : IsExact same) (p : Pa
         gates = gates_keep same exact p root lawful old new e came.states.grows came.gates;
         bar = bar;
         noted = noted_grows same exact p root old new came.states.grows came.noted e.noted;
+        cases = cases_keep same exact p root old new e.cases came.states.grows came.deferred came.fired came.noted cased (helped_keeps same exact p root lawful old new e.cases came.states.grows came.noted (registered_before same exact p root lawful old new e.tied came.states.grows came.registry));
         within = within_keeps same exact p root lawful old new e came.parents came.encoded;
-        encoded = encoded_keeps same exact p root lawful old new e came.states.grows came.parents came.encoded;
+        encoded = encoded_keeps same exact p root lawful old new e came.states.grows came.parents came.encoded came.deferred;
       }
+
+  -- a need without condition is stated for the case that asks for nothing
+  plain_need : (e : Encoding N S) (parent : Option S) (need : ConditionalRequirement) (case : Vec VersionSetId Global) (v : VariableId) → case.items ≡ [] → Needs same p root parent need → IsParentVariable e.coding.atoms.keys parent v
+      → IsNeed same p root e.lists e.coding.atoms.keys (Says.Needs parent need case) v None need.requirement
+  plain_need e parent need case v none needs stands = (
+    refl,
+    stands,
+    record {
+      there = tt;
+      in_range = λ l h. absurd (both_ways false refl h);
+      spells = subst (λ vs. Spells (origin e.coding.atoms.keys) [] (case_literals same p vs)) (sym none) (record { only = λ l h. absurd (both_ways false refl h); each = λ m h. absurd (contains_none m h) });
+    },
+    needs.listed,
+    subst (λ vs. Contains (cases_for same p need) vs) (sym none) (subst (λ c. Contains (cases_under p.condition_of c) []) (sym needs.free) (contains_only [])),
+  )
+
+  -- the clause of a parent's need without condition came
+  pub needed_keeps : (parent : Option S) (need : ConditionalRequirement) (v : VariableId) (old new : Encoding N S) → IsEncoding same p root old → has_candidates old.lists need.requirement ≡ true → IsGuarded same p (E.rules_of old) need.requirement
+      → IsParentVariable old.coding.atoms.keys parent v → Needs same p root parent need → NeedsDirectly parent need v old new → IsEncoding same p root new × E.rules_of new (Rule.needs parent need [])
+  needed_keeps parent need v old new e has_list guarded stands needs came =
+      let (keeps, rules) = need_keeps (Says.Needs parent need came.case) v None need.requirement old new e has_list guarded (plain_need old parent need came.case v came.none needs stands) ready came.states in
+      (keeps, subst (λ vs. E.rules_of new (Rule.needs parent need vs)) came.none (rules (Rule.needs parent need came.case.items) refl))
+    where
+      ready : IsReady old (Says.Needs parent need came.case)
+      ready who wanted vs w states h = let which : came.case.items ≡ vs = cc in absurd (contains_none w (subst (λ xs. Contains xs w) (sym which ∙ came.none) h))
+
+  -- the clause of a gate rests on no case
+  pub shared_ready : (e : Encoding N S) (r : Requirement) → IsReady e (Says.Shared r)
+  shared_ready e r who wanted vs w states h = absurd cc
 
   -- A clause came that states a rule, with its literals; none of these makes a solvable true, and the rule asks for no
   -- match and tells no digit.
@@ -406,13 +514,14 @@ module _ {N S : Type 0} (same : S → S → Bool) (exact : IsExact same) (p : Pa
     asked = e.asked;
     bar = e.bar;
     noted = record { packages = e.noted.packages; version_sets = e.noted.version_sets };
+    cases = cases_keep same exact p root old (record old { gates = new.gates }) e.cases (grows_same old.coding) refl refl refl e.cases.cased e.cases.helped;
     gates = λ q u at. elim (put_other old.gates new.gates r q v puts) [
       | inl same_one ↦ (let one : v ≡ u = some_one v u (sym (ap (slot_of new.gates) same_one ∙ put_at old.gates new.gates r v puts) ∙ at) in
           (subst (λ y. StandsFor old.coding.atoms.keys u (Gate y)) (sym same_one) (subst (λ w. StandsFor old.coding.atoms.keys w (Gate r)) one stands), subst (λ y. E.rules_of old (Rule.shared y)) (sym same_one) rule))
       | inr stays ↦ e.gates q u (sym stays ∙ at)
     ];
     within = e.within;
-    encoded = e.encoded;
+    encoded = encoded_keeps same exact p root lawful old (record old { gates = new.gates }) e (grows_same old.coding) refl refl refl;
     called = e.called;
   })
 
@@ -438,12 +547,23 @@ module _ {N S : Type 0} (same : S → S → Bool) (exact : IsExact same) (p : Pa
       packages = λ n s a barred. absurd (contains_none n (subst (λ (ks : List N). Contains ks n) b.packages a));
       version_sets = λ v s a outside. absurd (contains_none v (subst (λ (ks : List VersionSetId). Contains ks v) b.version_sets a));
     };
+    cases = record {
+      waiting = λ i d at. absurd (no_deferred i d at);
+      places = λ i h. absurd (contains_none i (subst (λ (ks : List ℕ). Contains ks i) b.fired h));
+      fired = λ i d h at. absurd (no_deferred i d at);
+      cased = λ parent need case v (n, at) h. absurd (no_rule n (Rule.needs parent need case) at);
+      helped = λ n s h a. absurd (contains_none n (subst (λ (ks : List N). Contains ks n) b.helped h));
+      there = λ s h. absurd (contains_none s (subst (λ (ks : List S). Contains ks s) b.there h));
+    };
     encoded = λ i parent below at. (let none : e.encoded ≡ 0 = b.encoded in absurd (omega arith));
     called = λ x older stands is other. absurd (no_choice x older stands other);
   }
     where
       none_some : (v : VariableId) → None ≡ Some v → ⊥
       none_some v h = absurd cc
+
+      no_deferred : (i : ℕ) (d : Deferred S) → slice_get e.deferred.items i ≡ Some d → ⊥
+      no_deferred i d at = contains_none d (subst (λ (ds : List (Deferred S)). Contains ds d) b.deferred (get_contains e.deferred.items i d at))
 
       no_rule : (n : ℕ) (r : Rule N S) → rule_at e.coding.stated.items n ≡ Some r → ⊥
       no_rule n r h = go n (subst (λ (xs : List (Stated N S)). rule_at xs n ≡ Some r) b.coding.stated h)
@@ -476,3 +596,6 @@ module _ {N S : Type 0} (same : S → S → Bool) (exact : IsExact same) (p : Pa
           go : StandsOn (root_entry ∷ []) x older → ⊥
           go (inl (is, rest)) = let z : x.decision.variable.0 ≡ 0 = ap (λ (y : Entry). y.decision.variable.0) (sym is) in omega arith
           go (inr f) = f
+
+pub need_extends : {N S : Type 0} (x : Stated N S) (v : VariableId) (condition : Option (DenseId DisjunctionTag ℕ)) (r : Requirement) (old new : Encoding N S) → StatesNeed x v condition r old new → Extends old new
+need_extends x v condition r old new s = record { grows = s.states.grows; parents = s.parents; encoded = s.encoded; deferred = s.deferred; fired = s.fired }

@@ -14,10 +14,10 @@ use Rattle.resolvo_pool.specs.Slots.{at}
 use Rattle.resolvo_pool.specs.OnePass.{Literal}
 use Rattle.resolvo_pool.specs.Provider.{listed}
 use Rattle.resolvo_pool.specs.Text.{solvable_of, alternatives_of}
-use Rattle.resolvo_pool.specs.RuleKeeping.{Packages, Rules, IsLawful, is_in, is_match, meets}
-use Rattle.resolvo_store.specs.AtMostOne.{digit}
+use Rattle.resolvo_pool.specs.RuleKeeping.{Packages, Rules, IsLawful, is_in, is_match, is_outside, meets}
+use Rattle.resolvo_store.specs.AtMostOne.{IsFrontOf, digit}
 use Rattle.resolvo_store.specs.Signed.{Signed, has}
-use Rattle.resolvo_store.specs.Lists.{has_candidates, candidates_in, items_or_none, FixesCandidates}
+use Rattle.resolvo_store.specs.Lists.{has_candidates, candidates_in, FixesCandidates}
 use Rattle.resolvo_store.specs.declared.decide_queue.NeedClause.{NeedClause}
 use Rattle.resolvo_store.specs.declared.lists.Candidate.{Candidate}
 use Rattle.resolvo_store.specs.declared.lists.FixedLists.{FixedLists}
@@ -41,33 +41,20 @@ use Rattle.resolvo_coding.specs.Atoms.{origin, StandsFor}
 use Rattle.resolvo_coding.specs.Statements.{rule_of, stated_at, rule_at}
 use Rattle.resolvo_coding.specs.Coding.{IsCoding, Grows, SameTrail}
 use Rattle.resolvo_coding.specs.Registered.{AreTied, IsTracked, IsRegistered, IsDigitClause, digit_literals}
-use Rattle.resolvo_encoding.specs.Encoded.{IsParentVariable, IsCandidate, AreCandidates, HasOrder, IsQueuedFor, Asks, IsGuarded, IsLimitEncoded, IsNoted, IsParentEncoded, Registered, IsEncoding}
+use Rattle.resolvo_encoding.specs.Cases.{case_of, IsDeferred}
+use Rattle.resolvo_encoding.specs.Encoded.{IsCandidate, AreCandidates, HasOrder, IsQueuedFor, Asks, IsGuarded, IsLimitEncoded, IsNoted, IsCaseEncoded, IsParentEncoded, Registered, AreCased, IsEncoding}
 use Rattle.resolvo_encoding.specs.Encoded as E
-use Rattle.resolvo_encoding.specs.Steps.{IsOfferedAs, RegistersAll, KeepsLists, AddsCandidates, Fixes, StatesNeed, SameButCoding, Extends}
+use Rattle.resolvo_encoding.specs.Steps.{RegistersAll, KeepsLists, SameButCoding, Extends}
+use Rattle.resolvo_encoding.specs.declared.encoding.Deferred.{Deferred}
 use Rattle.resolvo_encoding.specs.declared.encoding.Encoding.{Encoding}
 use Rattle.resolvo_encoding.specs.declared.encoding.Noted.{Noted}
-use Rattle.resolvo_encoding.proofs.Picking.{candidates_grow, taken_grows}
+use Rattle.resolvo_encoding.proofs.Conditions.{queued_grows}
+use Rattle.resolvo_encoding.proofs.Picking.{taken_grows}
 use Rattle.resolvo_coding.proofs.Origins.{solvable_stands}
+use Rattle.resolvo_coding.proofs.Positions.{front_get, front_equal}
 use Rattle.resolvo_coding.proofs.Registering.{KeepsDigits, ties_grow}
 use Rattle.resolvo_coding.proofs.Rules.{rule_stated}
 use Rattle.resolvo_coding.proofs.Growth.{grows_same, grows_then, stands_grow, rules_grow, stated_grows, rule_split, rules_split, spelled_grows, registered_grows, called_grows_trail}
-
--- the same decision is made for the clause as variables come
-pub queued_grows : {N S : Type 0} (old new : Coding N S) (x : Option (Stated N S)) (q : NeedClause) → Grows old new → IsQueuedFor old.atoms.keys x q → IsQueuedFor new.atoms.keys x q
-queued_grows old new None q grows h = h
-queued_grows old new (Some Says.Root) q grows h = h
-queued_grows old new (Some (Says.Needs None need case)) q grows h = h
-queued_grows old new (Some (Says.Needs (Some s) need case)) q grows (a, b, c, d) = (a, b, c, stands_grow old new q.parent (Solvable s) grows d)
-queued_grows old new (Some (Says.Gated s r)) q grows h = h
-queued_grows old new (Some (Says.Shared r)) q grows (a, b, c) = (a, b, stands_grow old new q.parent (Gate r) grows c)
-queued_grows old new (Some (Says.Limits parent v s)) q grows h = h
-queued_grows old new (Some (Says.LimitsOutside parent v)) q grows h = h
-queued_grows old new (Some (Says.IsOut v s)) q grows h = h
-queued_grows old new (Some (Says.Locked locked s)) q grows h = h
-queued_grows old new (Some (Says.Excluded s why)) q grows h = h
-queued_grows old new (Some (Says.Digit n s place bit)) q grows h = h
-queued_grows old new (Some (Says.IsThere n s)) q grows h = h
-queued_grows old new (Some Says.Learnt) q grows h = h
 
 module _ {N S : Type 0} (same : S → S → Bool) (exact : IsExact same) (p : Packages N S) (root : Rules) where
   -- what came with the clause of this number
@@ -91,13 +78,14 @@ module _ {N S : Type 0} (same : S → S → Bool) (exact : IsExact same) (p : Pa
     pub listed : (r : Requirement) (c : Candidate N) → Contains (candidates_in new.lists r) c → (s : S) × IsCandidate new (p.package_of s) s c × (meets same p r s ≡ true)
     pub offered : (r : Requirement) (s : S) → has_candidates new.lists r ≡ true → meets same p r s ≡ true → (c : Candidate N) × Contains (candidates_in new.lists r) c × IsCandidate new (p.package_of s) s c
     pub fixed : (r : Requirement) → HasClause same p (E.rules_of new) r → has_candidates new.lists r ≡ true
-    pub queued : (q : NeedClause) → Contains new.queue q → IsQueuedFor new.coding.atoms.keys (stated_at new.coding.stated.items q.clause.0) q
+    pub queued : (q : NeedClause) → Contains new.queue q → IsQueuedFor same p new.lists new.coding.atoms.keys (stated_at new.coding.stated.items q.clause.0) q
     pub asked : (n : ℕ) (r : Rule N S) → rule_at new.coding.stated.items n ≡ Some r → Asks r → (q : NeedClause) × Contains new.queue q × (q.clause.0 ≡ n)
     pub gates : (r : Requirement) (v : VariableId) → slot_of new.gates r ≡ Some v → StandsFor new.coding.atoms.keys v (Gate r) × E.rules_of new (Rule.shared r)
     pub within : new.encoded ≤ length new.parents.keys
     pub bar : (r : Requirement) → HasClause same p (E.rules_of new) r → IsGuarded same p (E.rules_of new) r
     pub noted : IsNoted same p (E.rules_of new) new.noted
-    pub encoded : (i : ℕ) (parent : SolvableIdOrRoot S) → i < new.encoded → slice_get new.parents.keys i ≡ Some parent → IsParentEncoded same p (E.rules_of new) root (solvable_of parent)
+    pub cases : AreCased same p root new
+    pub encoded : (i : ℕ) (parent : SolvableIdOrRoot S) → i < new.encoded → slice_get new.parents.keys i ≡ Some parent → IsParentEncoded same p new root (solvable_of parent)
 
   pub carried : (old new : Encoding N S) → IsEncoding same p root old → Carries old new → IsEncoding same p root new
   carried old new e h = record {
@@ -119,6 +107,7 @@ module _ {N S : Type 0} (same : S → S → Bool) (exact : IsExact same) (p : Pa
     gates = h.gates;
     bar = h.bar;
     noted = h.noted;
+    cases = h.cases;
     within = h.within;
     encoded = h.encoded;
     called = called_grows_trail (IsFirstPick same p (HasOrder old) (E.rules_of old)) (IsFirstPick same p (HasOrder new) (E.rules_of new)) (taken_grows old new h.grows h.lists same p) old.coding new.coding e.coding h.grows h.trail e.called;
@@ -153,10 +142,19 @@ module _ {N S : Type 0} (same : S → S → Bool) (exact : IsExact same) (p : Pa
     | inr (a, b) ↦ inr (rules_grow old.coding new.coding grows (Rule.limits_outside parent v) a, rules_grow old.coding new.coding grows (Rule.is_out v s) b)
   ]
 
+  -- a case that waits goes on to do so, or has its clauses
+  pub deferred_grows : (old new : Encoding N S) (parent : Option S) (need : ConditionalRequirement) (case : List VersionSetId) → IsFrontOf old.deferred.items new.deferred.items → IsDeferred old parent need case → IsDeferred new parent need case
+  deferred_grows old new parent need case front (i, d, at, a, b, c) = (i, d, front_get old.deferred.items new.deferred.items i d front at, a, b, c)
+
+  -- a case that is encoded, or waits, stays so
+  pub case_grows : (old new : Encoding N S) (parent : Option S) (need : ConditionalRequirement) (case : List VersionSetId) → Grows old.coding new.coding → IsFrontOf old.deferred.items new.deferred.items → IsCaseEncoded same p old parent need case → IsCaseEncoded same p new parent need case
+  case_grows old new parent need case grows front (inl a) = inl (need_grows old new parent need case grows a)
+  case_grows old new parent need case grows front (inr a) = inr (deferred_grows old new parent need case front a)
+
   -- a parent that is encoded stays so
-  pub parent_grows : (old new : Encoding N S) (parent : Option S) → Grows old.coding new.coding → IsParentEncoded same p (E.rules_of old) root parent → IsParentEncoded same p (E.rules_of new) root parent
-  parent_grows old new parent grows h = record {
-    needs = λ need a. need_grows old new parent need [] grows (h.needs need a);
+  pub parent_grows : (old new : Encoding N S) (parent : Option S) → Grows old.coding new.coding → IsFrontOf old.deferred.items new.deferred.items → IsParentEncoded same p old root parent → IsParentEncoded same p new root parent
+  parent_grows old new parent grows front h = record {
+    needs = λ need case a b. case_grows old new parent need case grows front (h.needs need case a b);
     limits = λ v a. limit_grows old new parent v grows (h.limits v a);
     guarded = λ v a. guard_grows old new (Single v) grows (h.guarded v a);
     unknown = λ s is a. rules_grow old.coding new.coding grows (Rule.bars s) (h.unknown s is a);
@@ -165,9 +163,34 @@ module _ {N S : Type 0} (same : S → S → Bool) (exact : IsExact same) (p : Pa
   -- what is noted goes on to be stated
   pub noted_grows : (old new : Encoding N S) → Grows old.coding new.coding → new.noted ≡ old.noted → IsNoted same p (E.rules_of old) old.noted → IsNoted same p (E.rules_of new) new.noted
   noted_grows old new grows noted h = record {
-    packages = λ n s a barred. rules_grow old.coding new.coding grows (Rule.bars s) (h.packages n s (subst (λ (x : Noted N). Contains x.packages.keys n) noted a) barred);
-    version_sets = λ v s a outside. rules_grow old.coding new.coding grows (Rule.is_out v s) (h.version_sets v s (subst (λ (x : Noted N). Contains x.version_sets.keys v) noted a) outside);
+    packages = λ n s a barred. rules_grow old.coding new.coding grows (Rule.bars s) (h.packages n s (subst (λ (x : Noted N S). Contains x.packages.keys n) noted a) barred);
+    version_sets = λ v s a outside. rules_grow old.coding new.coding grows (Rule.is_out v s) (h.version_sets v s (subst (λ (x : Noted N S). Contains x.version_sets.keys v) noted a) outside);
   }
+
+  -- a registered solvable stays so
+  pub registered_stays : (old new : Encoding N S) (n : N) (s : S) → Grows old.coding new.coding → ((m : N) (u : VariableId) → IsTracked old.registry m u → IsTracked new.registry m u) → IsRegistered old.registry old.coding n s → IsRegistered new.registry new.coding n s
+  registered_stays old new n s grows keeps (v, stands, tracked) = (v, stands_grow old.coding new.coding v (Solvable s) grows stands, keeps n v tracked)
+
+  -- The cases that wait and that fired are those that did.
+  pub cases_keep : (old new : Encoding N S) → AreCased same p root old → Grows old.coding new.coding → new.deferred ≡ old.deferred → new.fired ≡ old.fired → new.noted ≡ old.noted
+      → ((parent : Option S) (need : ConditionalRequirement) (case : List VersionSetId) (v : VersionSetId) → E.rules_of new (Rule.needs parent need case) → Contains case v → Contains new.noted.helped.keys (p.set_package v) × ((s : S) → is_outside same p v s ≡ true → Registered same p root new s))
+      → ((n : N) (s : S) → Contains new.noted.helped.keys n → IsRegistered new.registry new.coding n s → E.rules_of new (Rule.is_there n s)) → AreCased same p root new
+  cases_keep old new e grows deferred fired noted cased helped = record {
+    waiting = λ i d at. e.waiting i d (subst (λ (ds : Vec (Deferred S) Global). slice_get ds.items i ≡ Some d) deferred at);
+    places = λ i h. subst (λ (ds : Vec (Deferred S) Global). i < length ds.items) (sym deferred) (e.places i (subst (λ ks. Contains ks.keys i) fired h));
+    fired = λ i d h at. need_grows old new d.parent d.need (case_of d.conjuncts.items) grows (e.fired i d (subst (λ ks. Contains ks.keys i) fired h) (subst (λ (ds : Vec (Deferred S) Global). slice_get ds.items i ≡ Some d) deferred at));
+    cased = cased;
+    helped = helped;
+    there = λ s h. rules_grow old.coding new.coding grows (Rule.is_there (p.package_of s) s) (e.there s (subst (λ (x : Noted N S). Contains x.there.keys s) noted h));
+  }
+
+  -- what an old clause of a case rests on stands
+  pub cased_stays : (old new : Encoding N S) → AreCased same p root old → Grows old.coding new.coding → new.noted ≡ old.noted → ((m : N) (u : VariableId) → IsTracked old.registry m u → IsTracked new.registry m u)
+      → (parent : Option S) (need : ConditionalRequirement) (case : List VersionSetId) (v : VersionSetId) → E.rules_of old (Rule.needs parent need case) → Contains case v
+      → Contains new.noted.helped.keys (p.set_package v) × ((s : S) → is_outside same p v s ≡ true → Registered same p root new s)
+  cased_stays old new e grows noted keeps parent need case v stands h =
+      let (named, out) = e.cased parent need case v stands h in
+      (subst (λ (x : Noted N S). Contains x.helped.keys (p.set_package v)) (sym noted) named, λ s o. registered_stays old new (p.package_of s) s grows keeps (out s o))
 
 -- what a map by requirement has at one where it was put
 pub put_at : {V : Type 0} (m n : List (Option V) × List (Option V)) (r : Requirement) (x : V) → PutsAt m n r x → slot_of n r ≡ Some x
@@ -204,23 +227,23 @@ some_one x y e = ap (λ o. unwrap_or o x) e
 
 module _ {N S : Type 0} (same : S → S → Bool) (exact : IsExact same) (p : Packages N S) (root : Rules) (lawful : IsLawful p) where
   -- what meets a requirement is a candidate of its package
-  meets_listed : (r : Requirement) (s : S) → meets same p r s ≡ true → is_in same p (listed (p.candidates_of (p.package_of s))) s ≡ true
+  pub meets_listed : (r : Requirement) (s : S) → meets same p r s ≡ true → is_in same p (listed (p.candidates_of (p.package_of s))) s ≡ true
   meets_listed r s h =
       let (v, stands, match) = any_contained (λ w. is_match same p w s) (alternatives_of p.members_of r) h in
       let there = (and_parts _ _ match).0 in
       subst (λ n. is_in same p (listed (p.candidates_of n)) s ≡ true) (sym (candidate_named same exact p lawful (p.set_package v) s there)) there
 
-  offer_named : (r : Requirement) (offered : List (Offered N S)) (o : Offered N S) → AreOffered same p r offered → Contains offered o → o.name ≡ p.package_of o.solvable
+  pub offer_named : (r : Requirement) (offered : List (Offered N S)) (o : Offered N S) → AreOffered same p r offered → Contains offered o → o.name ≡ p.package_of o.solvable
   offer_named r offered o h c = each_of (λ (x : Offered N S). x.name ≡ p.package_of x.solvable) offered o h.named c
 
-  offer_meets : (r : Requirement) (offered : List (Offered N S)) (o : Offered N S) → AreOffered same p r offered → Contains offered o → meets same p r o.solvable ≡ true
+  pub offer_meets : (r : Requirement) (offered : List (Offered N S)) (o : Offered N S) → AreOffered same p r offered → Contains offered o → meets same p r o.solvable ≡ true
   offer_meets r offered o h c = sym (h.matches o.solvable) ∙ contained_in same exact p (offered_solvables offered) o.solvable (contains_map (λ (x : Offered N S). x.solvable) o offered c)
 
-  meets_offer : (r : Requirement) (offered : List (Offered N S)) (s : S) → AreOffered same p r offered → meets same p r s ≡ true → (o : Offered N S) × Contains offered o × (s ≡ o.solvable)
+  pub meets_offer : (r : Requirement) (offered : List (Offered N S)) (s : S) → AreOffered same p r offered → meets same p r s ≡ true → (o : Offered N S) × Contains offered o × (s ≡ o.solvable)
   meets_offer r offered s h m = map_contains (λ (x : Offered N S). x.solvable) s offered (in_contained same exact p (offered_solvables offered) s (h.matches s ∙ m))
 
   -- a registered solvable was registered, or offered
-  registered_split : (offered : List (Offered N S)) (given : List (Candidate N)) (r t : Registry N) (old new : Coding N S) → AreTied r old → RegistersAll offered given r old t new
+  pub registered_split : (offered : List (Offered N S)) (given : List (Candidate N)) (r t : Registry N) (old new : Coding N S) → AreTied r old → RegistersAll offered given r old t new
       → (n : N) (s : S) → IsRegistered t new n s → IsRegistered r old n s ⊎ ((o : Offered N S) × Contains offered o × (n ≡ o.name) × (o.solvable ≡ s))
   registered_split offered given r t old new tied all n s (v, stands, tracked) = elim (all.only n v tracked) [
     | inl k ↦
@@ -230,12 +253,17 @@ module _ {N S : Type 0} (same : S → S → Bool) (exact : IsExact same) (p : Pa
     | inr (o, c, e, f) ↦ inr (o, c, e, some_one o.solvable s (sym (solvable_stands new.atoms.keys v o.solvable f) ∙ solvable_stands new.atoms.keys v s stands))
   ]
 
-  pub queued_keeps : (old new : Encoding N S) → IsEncoding same p root old → Grows old.coding new.coding → (q : NeedClause) → Contains old.queue q → IsQueuedFor new.coding.atoms.keys (stated_at new.coding.stated.items q.clause.0) q
-  queued_keeps old new e grows q c = go (stated_at old.coding.stated.items q.clause.0) refl (e.queued q c)
+  pub queued_keeps : (old new : Encoding N S) → IsEncoding same p root old → Grows old.coding new.coding → IsFrontOf old.lists.disjunctions new.lists.disjunctions → (q : NeedClause) → Contains old.queue q → IsQueuedFor same p new.lists new.coding.atoms.keys (stated_at new.coding.stated.items q.clause.0) q
+  queued_keeps old new e grows front q c = go (stated_at old.coding.stated.items q.clause.0) refl (e.queued q c)
     where
-      go : (x : Option (Stated N S)) → stated_at old.coding.stated.items q.clause.0 ≡ x → IsQueuedFor old.coding.atoms.keys (stated_at old.coding.stated.items q.clause.0) q → IsQueuedFor new.coding.atoms.keys (stated_at new.coding.stated.items q.clause.0) q
-      go None at h = absurd (subst (λ y. IsQueuedFor old.coding.atoms.keys y q) at h)
-      go (Some y) at h = subst (λ z. IsQueuedFor new.coding.atoms.keys z q) (sym (stated_grows old.coding new.coding grows q.clause.0 y at)) (queued_grows old.coding new.coding (Some y) q grows (subst (λ z. IsQueuedFor old.coding.atoms.keys z q) at h))
+      go : (x : Option (Stated N S)) → stated_at old.coding.stated.items q.clause.0 ≡ x → IsQueuedFor same p old.lists old.coding.atoms.keys (stated_at old.coding.stated.items q.clause.0) q → IsQueuedFor same p new.lists new.coding.atoms.keys (stated_at new.coding.stated.items q.clause.0) q
+      go None at h = absurd (subst (λ y. IsQueuedFor same p old.lists old.coding.atoms.keys y q) at h)
+      go (Some y) at h = subst (λ z. IsQueuedFor same p new.lists new.coding.atoms.keys z q) (sym (stated_grows old.coding new.coding grows q.clause.0 y at))
+          (queued_grows same p old.lists new.lists old.coding new.coding front grows (Some y) q (subst (λ z. IsQueuedFor same p old.lists old.coding.atoms.keys z q) at h))
+
+  -- conditions stay where the lists do
+  pub front_lists : (old new : Encoding N S) → new.lists ≡ old.lists → IsFrontOf old.lists.disjunctions new.lists.disjunctions
+  front_lists old new lists = front_equal old.lists.disjunctions new.lists.disjunctions (ap (λ (ls : FixedLists N). ls.disjunctions) lists)
 
   pub gates_keep : (old new : Encoding N S) → IsEncoding same p root old → Grows old.coding new.coding → new.gates ≡ old.gates
       → (r : Requirement) (v : VariableId) → slot_of new.gates r ≡ Some v → StandsFor new.coding.atoms.keys v (Gate r) × E.rules_of new (Rule.shared r)
@@ -247,7 +275,7 @@ module _ {N S : Type 0} (same : S → S → Bool) (exact : IsExact same) (p : Pa
   abbrev pub NoneAsks : Encoding N S → Encoding N S → Type 0
   NoneAsks old new = (n : ℕ) (r : Rule N S) → length old.coding.search.clauses ≤ n → n < length new.coding.search.clauses → rule_at new.coding.stated.items n ≡ Some r → Asks r → ⊥
 
-  fixed_keeps : (old new : Encoding N S) → IsEncoding same p root old → IsCoding new.coding → Grows old.coding new.coding → ((r : Requirement) → has_candidates old.lists r ≡ true → has_candidates new.lists r ≡ true) → NoneAsks old new
+  pub fixed_keeps : (old new : Encoding N S) → IsEncoding same p root old → IsCoding new.coding → Grows old.coding new.coding → ((r : Requirement) → has_candidates old.lists r ≡ true → has_candidates new.lists r ≡ true) → NoneAsks old new
       → (r : Requirement) → HasClause same p (E.rules_of new) r → has_candidates new.lists r ≡ true
   fixed_keeps old new e coding grows has none r (inl (parent, need, case, stands, is)) = elim (rules_split old.coding new.coding e.coding coding grows (Rule.needs parent need case) stands) [
     | inl a ↦ has r (e.fixed r (inl (parent, need, case, a, is)))
@@ -258,7 +286,7 @@ module _ {N S : Type 0} (same : S → S → Bool) (exact : IsExact same) (p : Pa
     | inr (n, low, high, at) ↦ absurd (none n (Rule.shared r) low high at tt)
   ]
 
-  asked_keeps : (old new : Encoding N S) → IsEncoding same p root old → IsCoding new.coding → Grows old.coding new.coding → new.queue ≡ old.queue → NoneAsks old new
+  pub asked_keeps : (old new : Encoding N S) → IsEncoding same p root old → IsCoding new.coding → Grows old.coding new.coding → new.queue ≡ old.queue → NoneAsks old new
       → (n : ℕ) (r : Rule N S) → rule_at new.coding.stated.items n ≡ Some r → Asks r → (q : NeedClause) × Contains new.queue q × (q.clause.0 ≡ n)
   asked_keeps old new e coding grows queue none n r at a = elim (rule_split old.coding new.coding e.coding coding grows n r at) [
     | inl b ↦ let (q, c, d) = e.asked n r b a in (q, subst (λ qs. Contains qs q) (sym queue) c, d)
@@ -268,12 +296,35 @@ module _ {N S : Type 0} (same : S → S → Bool) (exact : IsExact same) (p : Pa
   pub within_keeps : (old new : Encoding N S) → IsEncoding same p root old → new.parents ≡ old.parents → new.encoded ≡ old.encoded → new.encoded ≤ length new.parents.keys
   within_keeps old new e parents encoded = subst (λ n. n ≤ length new.parents.keys) (sym encoded) (subst (λ ps. old.encoded ≤ length ps.keys) (sym parents) e.within)
 
-  pub encoded_keeps : (old new : Encoding N S) → IsEncoding same p root old → Grows old.coding new.coding → new.parents ≡ old.parents → new.encoded ≡ old.encoded
-      → (i : ℕ) (parent : SolvableIdOrRoot S) → i < new.encoded → slice_get new.parents.keys i ≡ Some parent → IsParentEncoded same p (E.rules_of new) root (solvable_of parent)
-  encoded_keeps old new e grows parents encoded i parent below at =
-      parent_grows same exact p root old new (solvable_of parent) grows (e.encoded i parent (subst (λ n. i < n) encoded below) (sym (ap (λ ps. slice_get ps.keys i) parents) ∙ at))
+  pub encoded_keeps : (old new : Encoding N S) → IsEncoding same p root old → Grows old.coding new.coding → new.parents ≡ old.parents → new.encoded ≡ old.encoded → new.deferred ≡ old.deferred
+      → (i : ℕ) (parent : SolvableIdOrRoot S) → i < new.encoded → slice_get new.parents.keys i ≡ Some parent → IsParentEncoded same p new root (solvable_of parent)
+  encoded_keeps old new e grows parents encoded deferred i parent below at =
+      parent_grows same exact p root old new (solvable_of parent) grows (front_equal old.deferred.items new.deferred.items (ap (λ (ds : Vec (Deferred S) Global). ds.items) deferred))
+      (e.encoded i parent (subst (λ n. i < n) encoded below) (sym (ap (λ ps. slice_get ps.keys i) parents) ∙ at))
 
-  bar_keeps : (old new : Encoding N S) → IsEncoding same p root old → IsCoding new.coding → Grows old.coding new.coding → NoneAsks old new → (r : Requirement) → HasClause same p (E.rules_of new) r → IsGuarded same p (E.rules_of new) r
+  -- no clause of a case came
+  pub cased_keeps : (old new : Encoding N S) → IsEncoding same p root old → IsCoding new.coding → Grows old.coding new.coding → new.noted ≡ old.noted → ((m : N) (u : VariableId) → IsTracked old.registry m u → IsTracked new.registry m u) → NoneAsks old new
+      → (parent : Option S) (need : ConditionalRequirement) (case : List VersionSetId) (v : VersionSetId) → E.rules_of new (Rule.needs parent need case) → Contains case v
+      → Contains new.noted.helped.keys (p.set_package v) × ((s : S) → is_outside same p v s ≡ true → Registered same p root new s)
+  cased_keeps old new e coding grows noted keeps none parent need case v stands h = elim (rules_split old.coding new.coding e.coding coding grows (Rule.needs parent need case) stands) [
+    | inl a ↦ cased_stays same exact p root old new e.cases grows noted keeps parent need case v a h
+    | inr (n, low, high, at) ↦ absurd (none n (Rule.needs parent need case) low high at tt)
+  ]
+
+  -- no solvable was registered
+  pub helped_keeps : (old new : Encoding N S) → AreCased same p root old → Grows old.coding new.coding → new.noted ≡ old.noted → ((n : N) (s : S) → IsRegistered new.registry new.coding n s → IsRegistered old.registry old.coding n s)
+      → (n : N) (s : S) → Contains new.noted.helped.keys n → IsRegistered new.registry new.coding n s → E.rules_of new (Rule.is_there n s)
+  helped_keeps old new e grows noted back n s h a = rules_grow old.coding new.coding grows (Rule.is_there n s) (e.helped n s (subst (λ (x : Noted N S). Contains x.helped.keys n) noted h) (back n s a))
+
+  -- what is registered was so, where the registry stays
+  pub registered_before : (old new : Encoding N S) → AreTied old.registry old.coding → Grows old.coding new.coding → new.registry ≡ old.registry → (n : N) (s : S) → IsRegistered new.registry new.coding n s → IsRegistered old.registry old.coding n s
+  registered_before old new tied grows registry n s (u, stands, there) =
+      let k = subst (λ (t : Registry N). IsTracked t n u) registry there in
+      let (x, before) = (tied.tied k.place n k.tracker k.named k.tracked).solvables u k.stands in
+      let one : x ≡ s = some_one x s (sym (solvable_stands new.coding.atoms.keys u x (stands_grow old.coding new.coding u (Solvable x) grows before)) ∙ solvable_stands new.coding.atoms.keys u s stands) in
+      (u, subst (λ y. StandsFor old.coding.atoms.keys u (Solvable y)) one before, k)
+
+  pub bar_keeps : (old new : Encoding N S) → IsEncoding same p root old → IsCoding new.coding → Grows old.coding new.coding → NoneAsks old new → (r : Requirement) → HasClause same p (E.rules_of new) r → IsGuarded same p (E.rules_of new) r
   bar_keeps old new e coding grows none r (inl (parent, need, case, stands, is)) = elim (rules_split old.coding new.coding e.coding coding grows (Rule.needs parent need case) stands) [
     | inl a ↦ guard_grows same exact p root old new r grows (e.bar r (inl (parent, need, case, a, is)))
     | inr (n, low, high, at) ↦ absurd (none n (Rule.needs parent need case) low high at tt)
@@ -292,33 +343,30 @@ module _ {N S : Type 0} (same : S → S → Bool) (exact : IsExact same) (p : Pa
     trail = trail;
     tied = subst (λ t. AreTied t new.coding) (sym rest.registry) (ties_grow old.registry old.coding new.coding grows kept e.tied);
     keeps = tracked;
-    registered = λ n s a. (let (u, stands, there) = registered_back n s a in inl (u, stands, there));
+    registered = λ n s a. (let (u, stands, there) = back n s a in inl (u, stands, there));
     came = came;
     lists = λ q h. ap (λ ls. slot_of ls.candidates q) rest.lists;
     listed = λ q c a. (let (s, fits, m) = e.listed q c (subst (λ ls. Contains (candidates_in ls q) c) rest.lists a) in (s, candidate_grows same exact p root old new (p.package_of s) s c grows tracked fits, m));
     offered = λ q s h m. (let (c, a, fits) = e.offered q s (subst (λ ls. has_candidates ls q ≡ true) rest.lists h) m in (c, subst (λ ls. Contains (candidates_in ls q) c) (sym rest.lists) a, candidate_grows same exact p root old new (p.package_of s) s c grows tracked fits));
     fixed = fixed_keeps old new e coding grows (λ q h. subst (λ ls. has_candidates ls q ≡ true) (sym rest.lists) h) none;
-    queued = λ q a. queued_keeps old new e grows q (subst (λ qs. Contains qs q) rest.queue a);
+    queued = λ q a. queued_keeps old new e grows (front_lists old new rest.lists) q (subst (λ qs. Contains qs q) rest.queue a);
     asked = asked_keeps old new e coding grows rest.queue none;
     gates = gates_keep old new e grows rest.gates;
     bar = bar_keeps old new e coding grows none;
     noted = noted_grows same exact p root old new grows rest.noted e.noted;
+    cases = cases_keep same exact p root old new e.cases grows rest.deferred rest.fired rest.noted (cased_keeps old new e coding grows rest.noted tracked none) (helped_keeps old new e.cases grows rest.noted back);
     within = within_keeps old new e rest.parents rest.encoded;
-    encoded = encoded_keeps old new e grows rest.parents rest.encoded;
+    encoded = encoded_keeps old new e grows rest.parents rest.encoded rest.deferred;
   }
     where
       tracked : (m : N) (u : VariableId) → IsTracked old.registry m u → IsTracked new.registry m u
       tracked m u h = subst (λ t. IsTracked t m u) (sym rest.registry) h
 
-      registered_back : (n : N) (s : S) → IsRegistered new.registry new.coding n s → IsRegistered old.registry old.coding n s
-      registered_back n s (u, stands, there) =
-          let k = subst (λ t. IsTracked t n u) rest.registry there in
-          let (x, before) = (e.tied.tied k.place n k.tracker k.named k.tracked).solvables u k.stands in
-          let one : x ≡ s = some_one x s (sym (solvable_stands new.coding.atoms.keys u x (stands_grow old.coding new.coding u (Solvable x) grows before)) ∙ solvable_stands new.coding.atoms.keys u s stands) in
-          (u, subst (λ y. StandsFor old.coding.atoms.keys u (Solvable y)) one before, k)
+      back : (n : N) (s : S) → IsRegistered new.registry new.coding n s → IsRegistered old.registry old.coding n s
+      back = registered_before old new e.tied grows rest.registry
 
   -- a clause that tells a digit comes right
-  digit_came : (old new : Encoding N S) (name : N) (n : ℕ) → (d : IsDigitClause new.registry new.coding name n) → name ≡ p.package_of d.solvable → is_in same p (listed (p.candidates_of (p.package_of d.solvable))) d.solvable ≡ true → Came same exact p root new n
+  pub digit_came : (old new : Encoding N S) (name : N) (n : ℕ) → (d : IsDigitClause new.registry new.coding name n) → name ≡ p.package_of d.solvable → is_in same p (listed (p.candidates_of (p.package_of d.solvable))) d.solvable ≡ true → Came same exact p root new n
   digit_came old new name n d e candidate = record {
     stated = Says.Digit name d.solvable d.place d.bit;
     at = d.stated;
@@ -341,118 +389,14 @@ module _ {N S : Type 0} (same : S → S → Bool) (exact : IsExact same) (p : Pa
       solvable_no_digit : (s : S) (m : N) (bit : ℕ) → Atom.solvable s ≡ Atom.digit m bit → ⊥
       solvable_no_digit s m bit e = cc
 
-  -- what is offered for a requirement became its candidates
-  pub fixes_keep : (r : Requirement) (offered : List (Offered N S)) (old new : Encoding N S) → IsEncoding same p root old → AreOffered same p r offered → Fixes r offered old new → IsEncoding same p root new × (has_candidates new.lists r ≡ true)
-  fixes_keep r offered old new e h f = go f.fixed
-    where
-      go : ((has_candidates old.lists r ≡ true) × (new ≡ old)) ⊎ ((has_candidates old.lists r ≡ false) × (given : Vec (Candidate N) Global) × RegistersAll offered given.items old.registry old.coding new.registry new.coding × FixesCandidates r given old.lists new.lists) → IsEncoding same p root new × (has_candidates new.lists r ≡ true)
-      go (inl (has, is)) = (subst (λ (x : Encoding N S). IsEncoding same p root x) (sym is) e, subst (λ (x : Encoding N S). has_candidates x.lists r ≡ true) (sym is) has)
-      go (inr (fresh, given, all, fixes)) = (carried same exact p root old new e carries, ap is_some here)
-        where
-          here : slot_of new.lists.candidates r ≡ Some given
-          here = fix_at r given old.lists new.lists fixes
-
-          -- what is registered is so as one of its package's candidates
-          registered_new : (n : N) (s : S) → IsRegistered new.registry new.coding n s → (n ≡ p.package_of s) × (is_in same p (listed (p.candidates_of (p.package_of s))) s ≡ true)
-          registered_new n s a = elim (registered_split offered given.items old.registry new.registry old.coding new.coding e.tied all n s a) [
-            | inl b ↦ (let own = e.named n s b in (own, e.candidates s (subst (λ m. IsRegistered old.registry old.coding m s) own b)))
-            | inr (o, c, is, one) ↦ (is ∙ offer_named r offered o h c ∙ ap p.package_of one, subst (λ x. is_in same p (listed (p.candidates_of (p.package_of x))) x ≡ true) one (meets_listed r o.solvable (offer_meets r offered o h c)))
-          ]
-
-          came : (n : ℕ) → length old.coding.search.clauses ≤ n → n < length new.coding.search.clauses → Came same exact p root new n
-          came n low high =
-              let (name, d) = all.digits n low high in
-              let (own, candidate) = registered_new name d.solvable d.registered in
-              digit_came old new name n d own candidate
-
-          none : NoneAsks old new
-          none n q low high at a =
-              let (name, d) = all.digits n low high in
-              let one : Rule.has_digit d.solvable d.bit (digit d.place d.bit) ≡ q = some_one (Rule.has_digit d.solvable d.bit (digit d.place d.bit)) q (sym (rule_stated new.coding.stated.items n (Says.Digit name d.solvable d.place d.bit) d.stated) ∙ at) in
-              subst Asks (sym one) a
-
-          slots : (q : Requirement) → (q ≡ r) ⊎ (slot_of new.lists.candidates q ≡ slot_of old.lists.candidates q)
-          slots q = fix_other r q given old.lists new.lists fixes
-
-          has : (q : Requirement) → has_candidates old.lists q ≡ true → has_candidates new.lists q ≡ true
-          has q k = elim (slots q) [ inl is ↦ ap is_some (ap (slot_of new.lists.candidates) is ∙ here) | inr is ↦ ap is_some is ∙ k ]
-
-          given_candidate : (c : Candidate N) (o : Offered N S) → Contains offered o → IsOfferedAs new.registry new.coding o c → IsCandidate new (p.package_of o.solvable) o.solvable c
-          given_candidate c o a fits = record { positive = fits.positive; stands = fits.stands; tracked = subst (λ n. IsTracked new.registry n c.literal.variable) (offer_named r offered o h a) fits.tracked }
-
-          listed_new : (q : Requirement) (c : Candidate N) → Contains (candidates_in new.lists q) c → (s : S) × IsCandidate new (p.package_of s) s c × (meets same p q s ≡ true)
-          listed_new q c a = elim (slots q) [
-            | inl is ↦
-                let (o, b, fits) = all.all c (subst (λ x. Contains (items_or_none x) c) (ap (slot_of new.lists.candidates) is ∙ here) a) in
-                (o.solvable, given_candidate c o b fits, subst (λ x. meets same p x o.solvable ≡ true) (sym is) (offer_meets r offered o h b))
-            | inr is ↦
-                let (s, b, m) = e.listed q c (subst (λ x. Contains (items_or_none x) c) is a) in
-                (s, candidate_grows same exact p root old new (p.package_of s) s c all.grows all.keeps b, m)
-          ]
-
-          offered_new : (q : Requirement) (s : S) → has_candidates new.lists q ≡ true → meets same p q s ≡ true → (c : Candidate N) × Contains (candidates_in new.lists q) c × IsCandidate new (p.package_of s) s c
-          offered_new q s k m = elim (slots q) [
-            | inl is ↦
-                let (o, b, one) = meets_offer r offered s h (subst (λ x. meets same p x s ≡ true) is m) in
-                let (c, there, fits) = all.each o b in
-                (c, subst (λ x. Contains (items_or_none x) c) (sym (ap (slot_of new.lists.candidates) is ∙ here)) there, subst (λ x. IsCandidate new (p.package_of x) x c) (sym one) (given_candidate c o b fits))
-            | inr is ↦
-                let (c, there, fits) = e.offered q s (sym (ap is_some is) ∙ k) m in
-                (c, subst (λ x. Contains (items_or_none x) c) (sym is) there, candidate_grows same exact p root old new (p.package_of s) s c all.grows all.keeps fits)
-          ]
-
-          carries : Carries same exact p root old new
-          carries = record {
-            coding = all.coding;
-            grows = all.grows;
-            trail = all.trail;
-            tied = all.tied;
-            keeps = all.keeps;
-            registered = λ n s a. inr (registered_new n s a);
-            came = came;
-            lists = λ q k. elim (slots q) [ inl is ↦ absurd (both_ways _ fresh (subst (λ y. has_candidates old.lists y ≡ true) is k)) | inr is ↦ is ];
-            listed = listed_new;
-            offered = offered_new;
-            fixed = fixed_keeps old new e all.coding all.grows has none;
-            queued = λ q a. queued_keeps old new e all.grows q (subst (λ qs. Contains qs q) f.queue a);
-            asked = asked_keeps old new e all.coding all.grows f.queue none;
-            gates = gates_keep old new e all.grows f.gates;
-            bar = bar_keeps old new e all.coding all.grows none;
-            noted = noted_grows same exact p root old new all.grows f.noted e.noted;
-            within = within_keeps old new e f.parents f.encoded;
-            encoded = encoded_keeps old new e all.grows f.parents f.encoded;
-          }
-
 -- what came in two steps came
 pub extends_then : {N S : Type 0} (a b c : Encoding N S) → Extends a b → Extends b c → Extends a c
-extends_then a b c f g = record { grows = grows_then a.coding b.coding c.coding f.grows g.grows; parents = g.parents ∙ f.parents; encoded = g.encoded ∙ f.encoded }
+extends_then a b c f g = record { grows = grows_then a.coding b.coding c.coding f.grows g.grows; parents = g.parents ∙ f.parents; encoded = g.encoded ∙ f.encoded; deferred = g.deferred ∙ f.deferred; fired = g.fired ∙ f.fired }
 
-pub fixes_extend : {N S : Type 0} (r : Requirement) (offered : List (Offered N S)) (old new : Encoding N S) → Fixes r offered old new → Extends old new
-fixes_extend {N} {S} r offered old new f = record {
-  grows = elim f.fixed [
-    | inl (has, is) ↦ subst (λ (x : Encoding N S). Grows old.coding x.coding) (sym is) (grows_same old.coding)
-    | inr (fresh, given, all, fixes) ↦ all.grows
-  ];
-  parents = f.parents;
-  encoded = f.encoded;
-}
+pub extends_same : {N S : Type 0} (e : Encoding N S) → Extends e e
+extends_same e = record { grows = grows_same e.coding; parents = refl; encoded = refl; deferred = refl; fired = refl }
 
 -- what is so of an answer that is none
 pub where_none : {X : Type 0} (o : Option X) (P : Type 0) (Q : X → Type 0) → MatchOption o P Q → is_some o ≡ false → P
 where_none None P Q h none = h
 where_none (Some x) P Q h none = absurd (both_ways true none refl)
-
--- what is offered for a requirement became its candidates, in its order, and then the lists stayed
-pub fixes_add : {N S : Type 0} (r : Requirement) (offered : List (Offered N S)) (old middle new : Encoding N S) → Fixes r offered old middle → Grows middle.coding new.coding → new.lists ≡ middle.lists → AddsCandidates r offered old new
-fixes_add {N} {S} r offered old middle new f grows lists q has = elim f.fixed [
-  | inl (there, is) ↦ inl (ap (λ ls. slot_of ls.candidates q) lists ∙ ap (λ (x : Encoding N S). slot_of x.lists.candidates q) is)
-  | inr (fresh, given, all, fixes) ↦ elim (fix_other r q given old.lists middle.lists fixes) [
-    | inr stays ↦ inl (ap (λ ls. slot_of ls.candidates q) lists ∙ stays)
-    | inl is ↦
-        let here : slot_of new.lists.candidates q ≡ Some given = ap (λ ls. slot_of ls.candidates q) lists ∙ ap (slot_of middle.lists.candidates) is ∙ fix_at r given old.lists middle.lists fixes in
-        inr (is, subst (λ x. AreCandidates new.coding.atoms.keys (items_or_none x) (offered_solvables offered)) (sym here) (candidates_grow middle.coding new.coding given.items (offered_solvables offered) grows all.ordered))
-  ]
-]
-
-pub need_extends : {N S : Type 0} (x : Stated N S) (v : VariableId) (r : Requirement) (old new : Encoding N S) → StatesNeed x v r old new → Extends old new
-need_extends x v r old new s = record { grows = s.states.grows; parents = s.parents; encoded = s.encoded }

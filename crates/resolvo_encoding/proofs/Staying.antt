@@ -49,7 +49,7 @@ use Rattle.resolvo_encoding.specs.Going.{GoesOn}
 use Rattle.resolvo_encoding.specs.Steps.{SameButCoding}
 use Rattle.resolvo_encoding.proofs.Carrying.{split_at}
 use Rattle.resolvo_encoding.proofs.Picking.{taken_grows}
-use Rattle.resolvo_encoding.proofs.Requiring.{candidate_grows, queued_keeps, gates_keep, within_keeps, encoded_keeps, guard_grows, noted_grows}
+use Rattle.resolvo_encoding.proofs.Requiring.{candidate_grows, cases_keep, cased_stays, helped_keeps, front_lists, queued_keeps, gates_keep, within_keeps, encoded_keeps, guard_grows, noted_grows}
 
 -- what was learnt states no rule
 nothing_stated : {N S : Type 0} (old new : Encoding N S) → GoesOn old new → (n : ℕ) (r : Rule N S) → length old.coding.search.clauses ≤ n → n < length new.coding.search.clauses → rule_at new.coding.stated.items n ≡ Some r → ⊥
@@ -77,7 +77,7 @@ module _ {N S : Type 0} (same : S → S → Bool) (exact : IsExact same) (p : Pa
     listed = λ q c a. (let (s, fits, m) = e.listed q c (subst (λ ls. Contains (candidates_in ls q) c) goes.rest.lists a) in (s, candidate_grows same exact p root old new (p.package_of s) s c goes.grows tracked fits, m));
     offered = λ q s h m. (let (c, a, fits) = e.offered q s (subst (λ ls. has_candidates ls q ≡ true) goes.rest.lists h) m in (c, subst (λ ls. Contains (candidates_in ls q) c) (sym goes.rest.lists) a, candidate_grows same exact p root old new (p.package_of s) s c goes.grows tracked fits));
     fixed = λ r has. subst (λ ls. has_candidates ls r ≡ true) (sym goes.rest.lists) (e.fixed r (clause_back r has));
-    queued = λ q a. queued_keeps same exact p root lawful old new e goes.grows q (subst (λ (qs : List NeedClause). Contains qs q) goes.rest.queue a);
+    queued = λ q a. queued_keeps same exact p root lawful old new e goes.grows (front_lists same exact p root lawful old new goes.rest.lists) q (subst (λ (qs : List NeedClause). Contains qs q) goes.rest.queue a);
     asked = λ n r at a. elim (rule_split old.coding new.coding e.coding goes.coding goes.grows n r at) [
       | inl b ↦ let (q, c, d) = e.asked n r b a in (q, subst (λ (qs : List NeedClause). Contains qs q) (sym goes.rest.queue) c, d)
       | inr (low, high) ↦ absurd (nothing_stated old new goes n r low high at)
@@ -85,8 +85,11 @@ module _ {N S : Type 0} (same : S → S → Bool) (exact : IsExact same) (p : Pa
     gates = gates_keep same exact p root lawful old new e goes.grows goes.rest.gates;
     bar = λ r has. guard_grows same exact p root old new r goes.grows (e.bar r (clause_back r has));
     noted = noted_grows same exact p root old new goes.grows goes.rest.noted e.noted;
+    cases = cases_keep same exact p root old new e.cases goes.grows goes.rest.deferred goes.rest.fired goes.rest.noted
+        (λ parent need case v stands h. cased_stays same exact p root old new e.cases goes.grows goes.rest.noted tracked parent need case v (rule_back (Rule.needs parent need case) stands) h)
+        (helped_keeps same exact p root lawful old new e.cases goes.grows goes.rest.noted registered_back);
     within = within_keeps same exact p root lawful old new e goes.rest.parents goes.rest.encoded;
-    encoded = encoded_keeps same exact p root lawful old new e goes.grows goes.rest.parents goes.rest.encoded;
+    encoded = encoded_keeps same exact p root lawful old new e goes.grows goes.rest.parents goes.rest.encoded goes.rest.deferred;
     called = called;
   }
     where
@@ -131,7 +134,7 @@ module _ {N S : Type 0} (old : Encoding N S) (c : Coding N S) where
   went = record old { coding = c }
 
   step_rest : SameButCoding old went
-  step_rest = record { registry = refl; lists = refl; queue = refl; gates = refl; noted = refl; parents = refl; encoded = refl }
+  step_rest = record { registry = refl; lists = refl; queue = refl; gates = refl; noted = refl; parents = refl; encoded = refl; deferred = refl; fired = refl }
 
   step_learns : (q : Progress) → IsCoding old.coding → Advances old.coding c q → (n : ℕ) → length old.coding.search.clauses ≤ n → n < length c.search.clauses → stated_at c.stated.items n ≡ Some Says.Learnt
   step_learns q before step n low high = go q step.progress step.stated
@@ -237,7 +240,7 @@ complete_gains s t w h =
 
 pub goes_none : {N S : Type 0} (e : Encoding N S) → IsCoding e.coding → GoesOn e e
 goes_none e coding = record {
-  rest = record { registry = refl; lists = refl; queue = refl; gates = refl; noted = refl; parents = refl; encoded = refl };
+  rest = record { registry = refl; lists = refl; queue = refl; gates = refl; noted = refl; parents = refl; encoded = refl; deferred = refl; fired = refl };
   coding = coding;
   atoms = refl;
   variables = refl;
@@ -247,7 +250,7 @@ goes_none e coding = record {
 
 pub goes_then : {N S : Type 0} (a b c : Encoding N S) → GoesOn a b → GoesOn b c → GoesOn a c
 goes_then a b c f g = record {
-  rest = record { registry = g.rest.registry ∙ f.rest.registry; lists = g.rest.lists ∙ f.rest.lists; queue = g.rest.queue ∙ f.rest.queue; gates = g.rest.gates ∙ f.rest.gates; noted = g.rest.noted ∙ f.rest.noted; parents = g.rest.parents ∙ f.rest.parents; encoded = g.rest.encoded ∙ f.rest.encoded };
+  rest = record { registry = g.rest.registry ∙ f.rest.registry; lists = g.rest.lists ∙ f.rest.lists; queue = g.rest.queue ∙ f.rest.queue; gates = g.rest.gates ∙ f.rest.gates; noted = g.rest.noted ∙ f.rest.noted; parents = g.rest.parents ∙ f.rest.parents; encoded = g.rest.encoded ∙ f.rest.encoded; deferred = g.rest.deferred ∙ f.rest.deferred; fired = g.rest.fired ∙ f.rest.fired };
   coding = g.coding;
   atoms = g.atoms ∙ f.atoms;
   variables = g.variables ∙ f.variables;

@@ -8,6 +8,7 @@ use Rattle.resolvo_pool.specs.declared.id.StringId.{StringId}
 use Rattle.resolvo_pool.specs.declared.id.VariableId.{VariableId}
 use Rattle.resolvo_pool.specs.declared.id.VersionSetId.{VersionSetId}
 use Rattle.resolvo_pool.specs.Provider.{listing_or_empty}
+use Rattle.resolvo_pool.specs.Text.{solvable_of}
 use Rattle.resolvo_pool.specs.RuleKeeping.{Packages, Rules, rules_for, is_in, is_outside, locks_out}
 use Rattle.resolvo_store.specs.Signed.{Signed}
 use Rattle.resolvo_store.specs.Clauses.{yes, no}
@@ -23,15 +24,17 @@ use Rattle.resolvo_rules.specs.Numbered.{Spells}
 use Rattle.resolvo_rules.proofs.Lists.{contains_none, contains_only, contains_left, contains_right, contains_parts, contains_one, contains_map, map_contains, contained_any}
 use Rattle.resolvo_rules.proofs.Members.{in_contained, contained_in}
 use Rattle.resolvo_coding.specs.declared.atom.ProofAtom.{ProofAtom}
-use Rattle.resolvo_coding.specs.declared.atom.ProofAtom.TheVariants.{Solvable, Outside}
+use Rattle.resolvo_coding.specs.declared.atom.ProofAtom.TheVariants.{Solvable, AtLeastOne, Outside}
 use Rattle.resolvo_coding.specs.declared.coding.Coding.{Coding}
 use Rattle.resolvo_coding.specs.declared.stated.Stated.{Stated}
 use Rattle.resolvo_coding.specs.declared.stated.Stated.TheVariants as Says
 use Rattle.resolvo_coding.specs.Atoms.{origin, StandsFor}
 use Rattle.resolvo_coding.specs.Coding.{Gives}
+use Rattle.resolvo_coding.specs.Registered.{IsRegistered}
 use Rattle.resolvo_coding.specs.Statements.{rule_of}
 use Rattle.resolvo_coding.proofs.Growth.{grows_same, rules_grow, stands_grow}
 use Rattle.resolvo_coding.proofs.Origins.{means_atom}
+use Rattle.resolvo_coding.proofs.Positions.{front_same}
 use Rattle.resolvo_coding.proofs.Registering.{digits_same, digits_more}
 use Rattle.resolvo_encoding.specs.declared.encoding.Encoding.{Encoding}
 use Rattle.resolvo_encoding.specs.declared.encoding.Noted.{Noted}
@@ -42,7 +45,7 @@ use Rattle.resolvo_encoding.specs.Telling.{IsRestraint, IsPair, StatesPair, Tell
 use Rattle.resolvo_encoding.proofs.Building.{built_grows, built_rest}
 use Rattle.resolvo_encoding.proofs.Denials.{Reads, pair_members, pair_spells, one_spells, not_digit}
 use Rattle.resolvo_encoding.proofs.Needing.{gives_keeps, clause_keeps}
-use Rattle.resolvo_encoding.proofs.Requiring.{each_of, extends_then}
+use Rattle.resolvo_encoding.proofs.Requiring.{each_of, parent_grows, extends_same, extends_then}
 
 -- the literals of a pair have variables
 pub pair_in_range : (count : ℕ) (a b : Signed) (literals : List Signed) → IsPair a b literals → a.variable.0 < count → b.variable.0 < count → AreInRange count literals
@@ -71,8 +74,9 @@ module _ {N S : Type 0} (same : S → S → Bool) (exact : IsExact same) where
   pub tells_none : (e : Encoding N S) → IsBuilt e → Tells same [] e e
   tells_none e built = record {
     built = built;
-    extends = record { grows = grows_same e.coding; parents = refl; encoded = refl };
+    extends = extends_same e;
     lists = refl;
+    registry = refl;
     noted = refl;
     encoding = λ p root lawful holds rules. (holds, λ r h. absurd (contains_none r h));
   }
@@ -82,6 +86,7 @@ module _ {N S : Type 0} (same : S → S → Bool) (exact : IsExact same) where
     built = g.built;
     extends = extends_then a b c f.extends g.extends;
     lists = g.lists ∙ f.lists;
+    registry = g.registry ∙ f.registry;
     noted = g.noted ∙ f.noted;
     encoding = λ p root lawful holds rules.
         let (middle, first) = f.encoding p root lawful holds (λ r h. rules r (contains_left r xs ys h)) in
@@ -97,11 +102,12 @@ module _ {N S : Type 0} (same : S → S → Bool) (exact : IsExact same) where
   pub gives_tells : (atom : ProofAtom N S) (v : VariableId) (old : Encoding N S) (c : Coding N S) → IsBuilt old → Gives atom v old.coding c → Tells same [] old (record old { coding = c })
   gives_tells atom v old c built gives = record {
     built = built_grows old (record old { coding = c }) built gives.coding gives.grows refl refl refl refl refl (digits_same old.coding c gives.stated);
-    extends = record { grows = gives.grows; parents = refl; encoded = refl };
+    extends = record { grows = gives.grows; parents = refl; encoded = refl; deferred = refl; fired = refl };
     lists = refl;
+    registry = refl;
     noted = refl;
     encoding = λ p root lawful holds rules. (
-      gives_keeps same exact p root lawful atom v old (record old { coding = c }) holds gives (record { registry = refl; lists = refl; queue = refl; gates = refl; noted = refl; parents = refl; encoded = refl }),
+      gives_keeps same exact p root lawful atom v old (record old { coding = c }) holds gives (record { registry = refl; lists = refl; queue = refl; gates = refl; noted = refl; parents = refl; encoded = refl; deferred = refl; fired = refl }),
       λ r h. absurd (contains_none r h),
     );
   }
@@ -111,8 +117,9 @@ module _ {N S : Type 0} (same : S → S → Bool) (exact : IsExact same) where
       → ((p : Packages N S) (literals : List Signed) → IsPair a b literals → Spells (origin old.coding.atoms.keys) literals (literals_of same p rule)) → StatesPair x a b old new → Tells same (rule ∷ []) old new
   pair_tells x rule a b old new built is denial spells came = record {
     built = built_rest old new built came.states.coding came.states.grows (digits_more x old.coding new.coding came.states.stated (not_digit x rule is denial)) came.rest;
-    extends = record { grows = came.states.grows; parents = came.rest.parents; encoded = came.rest.encoded };
+    extends = record { grows = came.states.grows; parents = came.rest.parents; encoded = came.rest.encoded; deferred = came.rest.deferred; fired = came.rest.fired };
     lists = came.rest.lists;
+    registry = came.rest.registry;
     noted = came.rest.noted;
     encoding = λ p root lawful holds rules.
         let (keeps, stands) = clause_keeps same exact p root lawful x rule came.literals came.number old new holds is denial (rules rule (contains_only rule)) (spells p came.literals came.pair) came.states came.rest in
@@ -139,6 +146,13 @@ module _ {N S : Type 0} (same : S → S → Bool) (exact : IsExact same) where
   out_tells v s first second old new built is stands = pair_tells (Says.IsOut v s) (Rule.is_out v s) (no first) (yes second) old new built refl tt
       (λ p literals pair. pair_spells (origin old.coding.atoms.keys) (no first) (yes second) literals (minus (Atom.solvable s) ∷ []) (plus (Atom.outside v) ∷ []) pair
       (inr (minus (Atom.solvable s), refl, means_atom old.coding.atoms.keys (no first) (Solvable s) is)) (inr (plus (Atom.outside v), refl, means_atom old.coding.atoms.keys (yes second) (Outside v) stands)))
+
+  -- one of its package is there
+  pub there_tells : (n : N) (s : S) (first second : VariableId) (old new : Encoding N S) → IsBuilt old → StandsFor old.coding.atoms.keys first (Solvable s) → StandsFor old.coding.atoms.keys second (AtLeastOne n)
+      → StatesPair (Says.IsThere n s) (no first) (yes second) old new → Tells same (Rule.is_there n s ∷ []) old new
+  there_tells n s first second old new built is stands = pair_tells (Says.IsThere n s) (Rule.is_there n s) (no first) (yes second) old new built refl tt
+      (λ p literals pair. pair_spells (origin old.coding.atoms.keys) (no first) (yes second) literals (minus (Atom.solvable s) ∷ []) (plus (Atom.any_of n) ∷ []) pair
+      (inr (minus (Atom.solvable s), refl, means_atom old.coding.atoms.keys (no first) (Solvable s) is)) (inr (plus (Atom.any_of n), refl, means_atom old.coding.atoms.keys (yes second) (AtLeastOne n) stands)))
 
   -- a solvable is kept out
   pub bar_tells : (x : Stated N S) (s : S) (v : VariableId) (old new : Encoding N S) → IsBuilt old → rule_of x ≡ Some (Rule.bars s) → StandsFor old.coding.atoms.keys v (Solvable s) → StatesPair x (no v) (no v) old new → Tells same (Rule.bars s ∷ []) old new
@@ -187,9 +201,11 @@ module _ {N S : Type 0} (same : S → S → Bool) (exact : IsExact same) where
         let (o, there, is) = map_contains (λ (x : Offered N S). x.solvable) s list (in_contained same exact p (offered_solvables list) s (outside.outside s ∙ h)) in
         subst (λ y. rules (rule y)) (sym is) (each (rule o.solvable) (contains_map (λ (x : Offered N S). rule x.solvable) o list there))
 
-    -- what was stated is noted
-    pub noted_keeps : (old : Encoding N S) (x : Noted N) → IsEncoding same p root old → IsNoted same p (E.rules_of old) x → IsEncoding same p root (record old { noted = x })
-    noted_keeps old x e noted = record {
+    -- What was stated is noted, of packages, version sets and solvables.
+    pub noted_keeps : (old : Encoding N S) (x : Noted N S) → IsEncoding same p root old → IsNoted same p (E.rules_of old) x
+        → ((n : N) → Contains old.noted.helped.keys n → Contains x.helped.keys n) → ((n : N) (s : S) → Contains x.helped.keys n → IsRegistered old.registry old.coding n s → E.rules_of old (Rule.is_there n s))
+        → ((s : S) → Contains x.there.keys s → E.rules_of old (Rule.is_there (p.package_of s) s)) → IsEncoding same p root (record old { noted = x })
+    noted_keeps old x e noted keeps helped there = record {
       coding = e.coding;
       tied = e.tied;
       spelled = e.spelled;
@@ -205,27 +221,47 @@ module _ {N S : Type 0} (same : S → S → Bool) (exact : IsExact same) where
       gates = e.gates;
       bar = e.bar;
       noted = record { packages = noted.packages; version_sets = noted.version_sets };
+      cases = record {
+        waiting = e.cases.waiting;
+        places = e.cases.places;
+        fired = e.cases.fired;
+        cased = λ parent need case v stands h. (let (named, out) = e.cases.cased parent need case v stands h in (keeps (p.set_package v) named, out));
+        helped = helped;
+        there = there;
+      };
       within = e.within;
-      encoded = e.encoded;
+      encoded = λ i parent below at. parent_grows same exact p root old (record old { noted = x }) (solvable_of parent) (grows_same old.coding) (front_same old.deferred.items) (e.encoded i parent below at);
       called = e.called;
     }
 
-    pub package_noted : (old : Encoding N S) (x : Noted N) (n : N) → IsEncoding same p root old → ((m : N) → Contains x.packages.keys m → Contains old.noted.packages.keys m ⊎ (m ≡ n)) → x.version_sets ≡ old.noted.version_sets
+    pub package_noted : (old : Encoding N S) (x : Noted N S) (n : N) → IsEncoding same p root old → ((m : N) → Contains x.packages.keys m → Contains old.noted.packages.keys m ⊎ (m ≡ n)) → x ≡ record old.noted { packages = x.packages }
         → ((s : S) → IsBarredIn same p n s → E.rules_of old (Rule.bars s)) → IsEncoding same p root (record old { noted = x })
-    package_noted old x n e only others bars = noted_keeps old x e (record {
+    package_noted old x n e only others bars = subst (λ (y : Noted N S). IsEncoding same p root (record old { noted = y })) (sym others) (noted_keeps old (record old.noted { packages = x.packages }) e (record {
       packages = λ m s h barred. elim (only m h) [ inl a ↦ e.noted.packages m s a barred | inr is ↦ bars s (subst (λ y. IsBarredIn same p y s) is barred) ];
-      version_sets = λ v s h outside. e.noted.version_sets v s (subst (λ ks. Contains ks.keys v) others h) outside;
-    })
+      version_sets = e.noted.version_sets;
+    }) (λ m h. h) e.cases.helped e.cases.there)
 
-    pub set_noted : (old : Encoding N S) (x : Noted N) (v : VersionSetId) → IsEncoding same p root old → ((w : VersionSetId) → Contains x.version_sets.keys w → Contains old.noted.version_sets.keys w ⊎ (w ≡ v)) → x.packages ≡ old.noted.packages
+    pub set_noted : (old : Encoding N S) (x : Noted N S) (v : VersionSetId) → IsEncoding same p root old → ((w : VersionSetId) → Contains x.version_sets.keys w → Contains old.noted.version_sets.keys w ⊎ (w ≡ v)) → x ≡ record old.noted { version_sets = x.version_sets }
         → ((s : S) → is_outside same p v s ≡ true → E.rules_of old (Rule.is_out v s)) → IsEncoding same p root (record old { noted = x })
-    set_noted old x v e only others outside = noted_keeps old x e (record {
-      packages = λ m s h barred. e.noted.packages m s (subst (λ ks. Contains ks.keys m) others h) barred;
+    set_noted old x v e only others outside = subst (λ (y : Noted N S). IsEncoding same p root (record old { noted = y })) (sym others) (noted_keeps old (record old.noted { version_sets = x.version_sets }) e (record {
+      packages = e.noted.packages;
       version_sets = λ w s h out. elim (only w h) [
         | inl a ↦ e.noted.version_sets w s a out
         | inr is ↦ subst (λ y. E.rules_of old (Rule.is_out y s)) (sym is) (outside s (subst (λ y. is_outside same p y s ≡ true) is out))
       ];
-    })
+    }) (λ m h. h) e.cases.helped e.cases.there)
 
-pub built_noted : {N S : Type 0} (e : Encoding N S) (x : Noted N) → IsBuilt e → IsBuilt (record e { noted = x })
+    -- a package is noted of whose registered solvables clauses say that one is there
+    pub helped_noted : (old : Encoding N S) (x : Noted N S) (n : N) → IsEncoding same p root old → ((m : N) → Contains x.helped.keys m → Contains old.noted.helped.keys m ⊎ (m ≡ n)) → ((m : N) → Contains old.noted.helped.keys m → Contains x.helped.keys m) → x ≡ record old.noted { helped = x.helped }
+        → ((s : S) → IsRegistered old.registry old.coding n s → E.rules_of old (Rule.is_there n s)) → IsEncoding same p root (record old { noted = x })
+    helped_noted old x n e only keeps others there = subst (λ (y : Noted N S). IsEncoding same p root (record old { noted = y })) (sym others) (noted_keeps old (record old.noted { helped = x.helped }) e (record { packages = e.noted.packages; version_sets = e.noted.version_sets }) keeps
+        (λ m s h a. elim (only m h) [ inl b ↦ e.cases.helped m s b a | inr is ↦ subst (λ y. E.rules_of old (Rule.is_there y s)) (sym is) (there s (subst (λ y. IsRegistered old.registry old.coding y s) is a)) ]) e.cases.there)
+
+    -- a solvable is noted of which a clause says so
+    pub there_noted : (old : Encoding N S) (x : Noted N S) (s : S) → IsEncoding same p root old → ((t : S) → Contains x.there.keys t → Contains old.noted.there.keys t ⊎ (t ≡ s)) → x ≡ record old.noted { there = x.there }
+        → E.rules_of old (Rule.is_there (p.package_of s) s) → IsEncoding same p root (record old { noted = x })
+    there_noted old x s e only others stands = subst (λ (y : Noted N S). IsEncoding same p root (record old { noted = y })) (sym others) (noted_keeps old (record old.noted { there = x.there }) e (record { packages = e.noted.packages; version_sets = e.noted.version_sets }) (λ m h. h) e.cases.helped
+        (λ t h. elim (only t h) [ inl b ↦ e.cases.there t b | inr is ↦ subst (λ y. E.rules_of old (Rule.is_there (p.package_of y) y)) (sym is) stands ]))
+
+pub built_noted : {N S : Type 0} (e : Encoding N S) (x : Noted N S) → IsBuilt e → IsBuilt (record e { noted = x })
 built_noted e x b = record { coding = b.coding; tied = b.tied; candidates = b.candidates; gates = b.gates; within = b.within }

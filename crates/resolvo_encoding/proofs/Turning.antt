@@ -1,10 +1,11 @@
--- The end of a turn, for what was encoded of a problem whose requirements have no condition.
+-- The end of a turn, for what was encoded of a problem.
 use Rattle.std.proofs.Common.{◌≡◌, ℕ, suc, ◌<◌, ◌≤◌, ◌⊎◌, inl, inr, Bool, true, false, List, [], ◌∷◌, ◌++◌, length, Option, Some, None, refl, sym, ◌∙◌, ap, subst, arith}
 use Rattle.std.specs.Prelude.{Contains}
-use Rattle.std.specs.List.{list_all}
 use Rattle.std.proofs.lemmas.Bool.{both_ways, cases_Bool, and_from}
 use Rattle.std.proofs.lemmas.Option.{slice_get_within}
 use Rattle.resolvo_pool.specs.declared.id.ClauseId.{ClauseId}
+use Rattle.resolvo_pool.specs.declared.id.DenseId.{DenseId}
+use Rattle.resolvo_pool.specs.declared.id.DisjunctionTag.{DisjunctionTag}
 use Rattle.resolvo_pool.specs.declared.id.VersionSetId.{VersionSetId}
 use Rattle.resolvo_pool.specs.declared.requirement.ConditionalRequirement.{ConditionalRequirement}
 use Rattle.resolvo_pool.specs.declared.requirement.Requirement.{Requirement}
@@ -27,7 +28,7 @@ use Rattle.resolvo_search.specs.Propagation.{IsQuiet}
 use Rattle.resolvo_search.specs.State.{history, count_of, clauses_of}
 use Rattle.resolvo_search.proofs.Trails.{consistent, known_in_range, level_steps, root_known}
 use Rattle.resolvo_search.proofs.Literals.{negation-negation}
-use Rattle.resolvo_rules.specs.Encoding.{IsExact, Atom, Rule, plus, minus, cases_under, parent_literals, case_literals, candidate_literals, literals_of, AgreeWith}
+use Rattle.resolvo_rules.specs.Encoding.{IsExact, Atom, Rule, plus, minus, case_holds, parent_literals, case_literals, candidate_literals, literals_of, AgreeWith}
 use Rattle.resolvo_rules.specs.Ending as Ending
 use Rattle.resolvo_rules.specs.First.{ArePreferred}
 use Rattle.resolvo_rules.specs.Numbered.{meaning, Means, known_of, IsTurnEnd}
@@ -44,16 +45,19 @@ use Rattle.resolvo_coding.specs.Statements.{rule_of, rule_at, stated_at}
 use Rattle.resolvo_coding.specs.Coding.{IsCoding}
 use Rattle.resolvo_coding.specs.Chosen.{AreChosen}
 use Rattle.resolvo_coding.proofs.Rules.{stated_rule}
-use Rattle.resolvo_coding.proofs.Origins.{coding_once, means_atom, means_solvable, solvable_means}
+use Rattle.resolvo_coding.proofs.Origins.{count_is, coding_once, means_atom, means_solvable, solvable_means}
 use Rattle.resolvo_coding.proofs.Growth.{stands_once, stands_in_range, coding_coded}
 use Rattle.resolvo_coding.proofs.Registering.{told}
 use Rattle.resolvo_coding.specs.Registered.{IsRegistered}
-use Rattle.resolvo_encoding.specs.Encoded.{IsParentVariable, IsCandidate, AreOrdered, IsQueuedFor, Asks, IsParentEncoded, IsEncoding, IsUnconditional, Registered}
+use Rattle.resolvo_encoding.specs.Encoded.{IsParentVariable, IsCandidate, AreOrdered, IsCondition, IsQueuedFor, Asks, IsParentEncoded, IsEncoding, Registered}
+use Rattle.resolvo_encoding.specs.Cases.{IsDeferred}
+use Rattle.resolvo_encoding.specs.Casing.{AreSpent}
 use Rattle.resolvo_encoding.specs.Encoded as E
 use Rattle.resolvo_encoding.specs.Turning.{AreValues, IsDecided, AreAmongEncoded}
 use Rattle.resolvo_encoding.proofs.Digits.{digit_told, digits_agree}
 use Rattle.resolvo_encoding.proofs.Picking.{taken_ordered}
-use Rattle.resolvo_encoding.proofs.Deciding.{nothing_offered, known_parent, value_known, open_or_known, has_clause, choices_called}
+use Rattle.resolvo_encoding.proofs.Conditions.{has_all}
+use Rattle.resolvo_encoding.proofs.Deciding.{nothing_offered, known_false, known_parent, value_known, open_or_known, has_clause, choices_called}
 use Rattle.resolvo_encoding.specs.declared.encoding.Encoding.{Encoding}
 
 -- levels begin at 1, which is the root's alone or a level above it
@@ -83,22 +87,16 @@ root_denied e coding first literals causes refusal l h =
     ]
 
 module _ {N S : Type 0} (same : S → S → Bool) (exact : IsExact same) (p : Packages N S) (root : Rules) (lawful : IsLawful p) (e : Encoding N S) where
-  -- a stated need has one case, which asks for nothing
-  no_case : IsEncoding same p root e → IsUnconditional same p root → (parent : Option S) (need : ConditionalRequirement) (case : List VersionSetId) → E.rules_of e (Rule.needs parent need case) → case ≡ []
-  no_case holds free parent need case stands =
-      let (listed, one) = holds.rule (Rule.needs parent need case) stands in
-      contains_one case [] (subst (λ c. Contains (cases_under p.condition_of c) case) (free.unconditional parent need listed) one)
-
   -- What holds of the clauses whatever stands on the trail.
-  pub register : IsEncoding same p root e → IsUnconditional same p root → Ending.AreRegistered same p (E.rules_of e) root (Registered same p root e) []
-  register holds free = record {
+  pub register : IsEncoding same p root e → Ending.AreRegistered same p (E.rules_of e) root (Registered same p root e) []
+  register holds = record {
     rule = holds.rule;
     wish = λ s h. absurd (both_ways false refl h);
     candidate = λ r s has fits. (let (c, stands, is) = holds.offered r s (holds.fixed r has) fits in (c.literal.variable, is.stands, is.tracked));
-    out = λ parent need case v s stands h outside. absurd (contains_none v (subst (λ (vs : List VersionSetId). Contains vs v) (no_case holds free parent need case stands) h));
+    out = λ parent need case v s stands h outside. (holds.cases.cased parent need case v stands h).1 s outside;
     candidates = holds.candidates;
     told = λ s t a b named. told e.registry e.coding (p.package_of s) s t holds.tied a (subst (λ (n : N). IsRegistered e.registry e.coding n t) (sym named) b);
-    there = λ parent need case v s stands h registered named. absurd (contains_none v (subst (λ (vs : List VersionSetId). Contains vs v) (no_case holds free parent need case stands) h));
+    there = λ parent need case v s stands h registered named. holds.cases.helped (p.set_package v) s (holds.cases.cased parent need case v stands h).0 (subst (λ (n : N). IsRegistered e.registry e.coding n s) named registered);
     bar = λ r v s has h barred. holds.bar r has v s h barred;
   }
 
@@ -130,11 +128,11 @@ module _ {N S : Type 0} (same : S → S → Bool) (exact : IsExact same) (p : Pa
       other (holds.coding.ready.state.in_range n l stands) (subst (λ (x : Literal (Atom N S)). Contains (known_of (origin e.coding.atoms.keys) (history e.coding.search)) (negate x)) (sym is) h)
 
   -- A literal of a clause that asks, which is not false, is that a match of the requirement is chosen.
-  asking_candidate : IsEncoding same p root e → IsUnconditional same p root → (n : ℕ) (r : Requirement) (k : Ending.IsAsked same p (E.rules_of e) (known_of (origin e.coding.atoms.keys) (history e.coding.search)) r) (l : Signed)
+  asking_candidate : IsEncoding same p root e → (n : ℕ) (r : Requirement) (k : Ending.IsAsked same p (E.rules_of e) (known_of (origin e.coding.atoms.keys) (history e.coding.search)) r) (l : Signed)
       → rule_at e.coding.stated.items n ≡ Some (Ending.asking same p (E.rules_of e) (known_of (origin e.coding.atoms.keys) (history e.coding.search)) r k)
       → has (clause_at (clauses_of e.coding.search) n) l ≡ true → has (made_true (history e.coding.search)) (negation l) ≡ false
       → (s : S) × (meets same p r s ≡ true) × Means (origin e.coding.atoms.keys) l (plus (Atom.solvable s))
-  asking_candidate holds free n r k l at stands open_still = elim ((holds.spelled n (Ending.asking same p (E.rules_of e) (known_of (origin e.coding.atoms.keys) (history e.coding.search)) r k) at).only l stands) [
+  asking_candidate holds n r k l at stands open_still = elim ((holds.spelled n (Ending.asking same p (E.rules_of e) (known_of (origin e.coding.atoms.keys) (history e.coding.search)) r k) at).only l stands) [
     | inl z ↦ absurd (both_ways _ open_still (subst (λ (x : Signed). has (made_true (history e.coding.search)) (negation x) ≡ true) (sym z) (root_known (history e.coding.search) holds.coding.ready.state.rooted)))
     | inr (other, c) ↦ go other k c
   ]
@@ -178,25 +176,36 @@ module _ {N S : Type 0} (same : S → S → Bool) (exact : IsExact same) (p : Pa
   parent_found holds None v is t = subst (λ (w : VariableId). has (made_true (history e.coding.search)) (yes w) ≡ true) (sym is) (root_known (history e.coding.search) holds.coding.ready.state.rooted)
   parent_found holds (Some s) v stands t = atom_found holds v (Solvable s) stands t
 
-  -- the clause of the queue is of what is asked for, and its parent is true
+  -- where the literals of a case are false, so are those of its condition
+  condition_fell : IsEncoding same p root e → (condition : Option (DenseId DisjunctionTag ℕ)) (case : List VersionSetId) → IsCondition same p e.lists e.coding.atoms.keys condition case
+      → Ending.AreFalse (known_of (origin e.coding.atoms.keys) (history e.coding.search)) (case_literals same p case) → (l : Signed) → has (condition_in e.lists condition) l ≡ true → has (made_true (history e.coding.search)) (negation l) ≡ true
+  condition_fell holds condition case h fell l a = elim (h.spells.only l a) [
+    | inl z ↦ subst (λ (x : Signed). has (made_true (history e.coding.search)) (negation x) ≡ true) (sym z) (root_known (history e.coding.search) holds.coding.ready.state.rooted)
+    | inr (other, c) ↦ found (origin e.coding.atoms.keys) (count_of e.coding.search) (coding_once e.coding holds.coding) (made_true (history e.coding.search)) (negation l)
+        (λ x b. known_in_range (count_of e.coding.search) (clauses_of e.coding.search) (history e.coding.search) x holds.coding.ready.state.trail b)
+        other (subst (λ n. l.variable.0 < n) (sym (count_is e.coding holds.coding)) (h.in_range l a)) (fell (meaning (origin e.coding.atoms.keys) l) c)
+  ]
+
+  -- the clause of the queue is of what is asked for, its parent is true, and its condition's literals are false
   record IsAsking (r : Requirement) (q : NeedClause) : Type 0 where
     requirement : q.requirement ≡ r
-    free : q.condition ≡ None
+    condition : (l : Signed) → has (condition_in e.lists q.condition) l ≡ true → has (made_true (history e.coding.search)) (negation l) ≡ true
     parent : has (made_true (history e.coding.search)) (yes q.parent) ≡ true
 
-  queue_fits : IsEncoding same p root e → (r : Requirement) (k : Ending.IsAsked same p (E.rules_of e) (known_of (origin e.coding.atoms.keys) (history e.coding.search)) r) (q : NeedClause) (x : Stated N S) → IsQueuedFor e.coding.atoms.keys (Some x) q
+  queue_fits : IsEncoding same p root e → (r : Requirement) (k : Ending.IsAsked same p (E.rules_of e) (known_of (origin e.coding.atoms.keys) (history e.coding.search)) r) (q : NeedClause) (x : Stated N S) → IsQueuedFor same p e.lists e.coding.atoms.keys (Some x) q
       → rule_of x ≡ Some (Ending.asking same p (E.rules_of e) (known_of (origin e.coding.atoms.keys) (history e.coding.search)) r k) → IsAsking r q
-  queue_fits holds r (inl k) q (Says.Needs parent need case) (none, is, free, stands) said =
+  queue_fits holds r (inl k) q (Says.Needs parent need case) (is, conditioned, stands) said =
       let wanted : need ≡ k.need = cc in
       let who : parent ≡ k.parent = cc in
+      let which : case.items ≡ k.case = cc in
       record {
         requirement = is ∙ ap (λ (n : ConditionalRequirement). n.requirement) wanted ∙ sym k.asks;
-        free = free;
+        condition = condition_fell holds q.condition case.items conditioned (subst (λ vs. Ending.AreFalse (known_of (origin e.coding.atoms.keys) (history e.coding.search)) (case_literals same p vs)) (sym which) k.holds);
         parent = parent_found holds k.parent q.parent (subst (λ (o : Option S). IsParentVariable e.coding.atoms.keys o q.parent) who stands) k.chosen;
       }
   queue_fits holds r (inr k) q (Says.Shared w) (is, free, stands) said =
       let one : w ≡ r = cc in
-      record { requirement = is ∙ one; free = free; parent = atom_found holds q.parent (Gate r) (subst (λ y. StandsFor e.coding.atoms.keys q.parent (Gate y)) one stands) k.opened }
+      record { requirement = is ∙ one; condition = λ l h. absurd (both_ways false refl (subst (λ c. has (condition_in e.lists c) l ≡ true) free h)); parent = atom_found holds q.parent (Gate r) (subst (λ y. StandsFor e.coding.atoms.keys q.parent (Gate y)) one stands) k.opened }
   queue_fits holds r (inr k) q (Says.Needs parent need case) h said = absurd cc
   queue_fits holds r (inl k) q (Says.Shared w) h said = absurd cc
   queue_fits holds r k q Says.Root h said = absurd h
@@ -233,50 +242,57 @@ module _ {N S : Type 0} (same : S → S → Bool) (exact : IsExact same) (p : Pa
   true_candidate holds values score agree r q c asking nothing stands unfalse = elim (open_or_known values (made_true (history e.coding.search)) agree c.literal unfalse) [
     | inr known ↦ (c, stands, known)
     | inl undecided ↦
-        let eligible : is_eligible_by (named_by e.lists) values q ≡ true = and_from _ _ (known_parent values (made_true (history e.coding.search)) agree q.parent asking.parent) (subst (λ d. list_all (λ l. is_false (value_under values l)) (condition_in e.lists d) ≡ true) (sym asking.free) refl) in
+        let eligible : is_eligible_by (named_by e.lists) values q ≡ true = and_from _ _ (known_parent values (made_true (history e.coding.search)) agree q.parent asking.parent) (has_all (λ l. is_false (value_under values l)) (condition_in e.lists q.condition) (λ l a. known_false values (made_true (history e.coding.search)) agree l (asking.condition l a))) in
         let (d, listed, is) = nothing_offered (named_by e.lists) values score q c nothing eligible (subst (λ y. Contains (candidates_in e.lists y) c) (sym asking.requirement) stands) undecided in
         (d, subst (λ y. Contains (candidates_in e.lists y) d) asking.requirement listed, value_known values (made_true (history e.coding.search)) agree d.literal is)
   ]
 
   -- What is asked for is met, where the clauses are quiet and nothing is left to decide.
-  pub met : IsEncoding same p root e → IsUnconditional same p root → (values : ℕ → Option Bool) (score : N → ℕ) → AreValues values (made_true (history e.coding.search))
+  pub met : IsEncoding same p root e → (values : ℕ → Option Bool) (score : N → ℕ) → AreValues values (made_true (history e.coding.search))
       → ((n : ℕ) → n < length e.coding.search.clauses → IsQuiet (made_true (history e.coding.search)) (clause_at (clauses_of e.coding.search) n)) → IsDecided e values score
       → (r : Requirement) → Ending.IsAsked same p (E.rules_of e) (known_of (origin e.coding.atoms.keys) (history e.coding.search)) r
       → (s : S) × (meets same p r s ≡ true) × ((l : Signed) × (has (made_true (history e.coding.search)) l ≡ true) × Means (origin e.coding.atoms.keys) l (plus (Atom.solvable s)))
-  met holds free values score agree quiet decided r k =
+  met holds values score agree quiet decided r k =
       let (n, at) = rule_stands r k in
       let (q, queued, number) = holds.asked n _ at (rule_asks r k) in
       let (x, said, states) = stated_rule e.coding.stated.items n _ at in
-      let asking : IsAsking r q = queue_fits holds r k q x (subst (λ o. IsQueuedFor e.coding.atoms.keys o q) (ap (stated_at e.coding.stated.items) number ∙ said) (holds.queued q queued)) states in
+      let asking : IsAsking r q = queue_fits holds r k q x (subst (λ o. IsQueuedFor same p e.lists e.coding.atoms.keys o q) (ap (stated_at e.coding.stated.items) number ∙ said) (holds.queued q queued)) states in
       let (l, stands, unfalse) = unfallen holds (clause_at (clauses_of e.coding.search) n) (quiet n (rule_within holds n _ at)) in
-      let (s, fits, means) = asking_candidate holds free n r k l at stands unfalse in
+      let (s, fits, means) = asking_candidate holds n r k l at stands unfalse in
       let (c, listed, is) = holds.offered r s (holds.fixed r (has_clause same p root e r k)) fits in
       let literal : c.literal ≡ l = candidate_is holds (p.package_of s) s c l is means in
       let (d, there, known) = true_candidate holds values score agree r q c asking (decided q queued) listed (subst (λ (y : Signed). has (made_true (history e.coding.search)) (negation y) ≡ false) (sym literal) unfalse) in
       let (t, one, suits) = holds.listed r d there in
       (t, suits, (d.literal, known, solvable_means e.coding.atoms.keys d.literal t one.positive one.stands))
 
-  -- the needs and the limits of the root and of the members are clauses, and so is what bars them
-  members_encoded : IsEncoding same p root e → IsUnconditional same p root → (members : List S) → AreAmongEncoded e members → Ending.AreEncoded same p (E.rules_of e) root members
-  members_encoded holds free members among = record {
-    need = λ parent need case member listed one truth. subst (λ (vs : List VersionSetId). Ending.IsNeedEncoded same p (E.rules_of e) parent need vs)
-        (sym (contains_one case [] (subst (λ c. Contains (cases_under p.condition_of c) case) (free.unconditional parent need listed) one))) ((encoded parent member).needs need listed);
+  -- The needs and the limits of the root and of the members are clauses, and so is what bars them: a case that waited and that holds
+  -- in the members was fired.
+  members_encoded : IsEncoding same p root e → AreSpent same e → (members : List S) → AreChosen e.coding.atoms.keys (made_true (history e.coding.search)) members → AreAmongEncoded e members → Ending.AreEncoded same p (E.rules_of e) root members
+  members_encoded holds spent members chosen among = record {
+    need = λ parent need case member listed one truth. elim ((encoded parent member).needs need case listed one) [ inl a ↦ a | inr waits ↦ fired parent need case waits truth ];
     limit = λ parent v s member listed outside. (encoded parent member).limits v listed s outside;
     bar = λ parent v s member listed barred. (encoded parent member).guarded v listed v s (contains_only v) barred;
     unknown = λ s member unknown. (encoded (Some s) member).unknown s refl unknown;
   }
     where
-      encoded : (parent : Option S) → is_member same p root members parent ≡ true → IsParentEncoded same p (E.rules_of e) root parent
+      encoded : (parent : Option S) → is_member same p root members parent ≡ true → IsParentEncoded same p e root parent
       encoded None member = let (i, below, at) = among.root in holds.encoded i Place.Root below at
       encoded (Some s) member = let (i, below, at) = among.each s (in_contained same exact p members s member) in holds.encoded i (Place.Solvable s) below at
 
-  -- Where the clauses are quiet, nothing is left to decide, and the needs of the root and of the chosen solvables are
-  -- clauses, the turn has ended.
-  pub turn_ended : IsEncoding same p root e → IsUnconditional same p root → (values : ℕ → Option Bool) (score : N → ℕ) → AreValues values (made_true (history e.coding.search))
+      fired : (parent : Option S) (need : ConditionalRequirement) (case : List VersionSetId) → IsDeferred e parent need case → case_holds same p members case ≡ true → Ending.IsNeedEncoded same p (E.rules_of e) parent need case
+      fired parent need case (i, d, at, who, wanted, which) truth = elim (spent i (slice_get_within e.deferred.items i d at)) [
+        | inl h ↦ subst (λ x. Ending.IsNeedEncoded same p (E.rules_of e) x need case) who
+            (subst (λ x. Ending.IsNeedEncoded same p (E.rules_of e) d.parent x case) wanted (subst (λ x. Ending.IsNeedEncoded same p (E.rules_of e) d.parent d.need x) which (holds.cases.fired i d h at)))
+        | inr h ↦ absurd (both_ways _ (h p root lawful holds d at members chosen) (subst (λ x. case_holds same p members x ≡ true) (sym which) truth))
+      ]
+
+  -- Where the clauses are quiet, nothing is left to decide, the needs of the root and of the chosen solvables are clauses, and
+  -- no case that waits holds, the turn has ended.
+  pub turn_ended : IsEncoding same p root e → AreSpent same e → (values : ℕ → Option Bool) (score : N → ℕ) → AreValues values (made_true (history e.coding.search))
       → ((n : ℕ) → n < length e.coding.search.clauses → IsQuiet (made_true (history e.coding.search)) (clause_at (clauses_of e.coding.search) n)) → IsDecided e values score
       → (members : List S) → AreChosen e.coding.atoms.keys (made_true (history e.coding.search)) members → AreAmongEncoded e members
       → IsTurnEnd (origin e.coding.atoms.keys) same p (E.rules_of e) root (Registered same p root e) [] (count_of e.coding.search) e.coding.search.clauses (history e.coding.search) members
-  turn_ended holds free values score agree quiet decided members chosen among = record {
+  turn_ended holds spent values score agree quiet decided members chosen among = record {
     lawful = lawful;
     coded = coding_coded same p (Registered same p root e) e.coding holds.coding holds.spelled holds.positive;
     trail = holds.coding.ready.state.trail;
@@ -285,28 +301,28 @@ module _ {N S : Type 0} (same : S → S → Bool) (exact : IsExact same) (p : Pa
     quiet = quiet;
     true_on_trail = λ s h. chosen.each s (in_contained same exact p members s h);
     chosen = λ l s h means. contained_in same exact p members s (chosen.all l s h means);
-    met = λ r k. (let (s, fits, (l, h, means)) = met holds free values score agree quiet decided r k in inr (s, fits, contained_in same exact p members s (chosen.all l s h means)));
-    register = register holds free;
-    encoded = members_encoded holds free members among;
+    met = λ r k. (let (s, fits, (l, h, means)) = met holds values score agree quiet decided r k in inr (s, fits, contained_in same exact p members s (chosen.all l s h means)));
+    register = register holds;
+    encoded = members_encoded holds spent members chosen among;
   }
 
   -- The chosen solvables keep all rules, and are those that the root reaches.
-  pub turn_keeps : (same_name : N → N → Bool) → IsExact same_name → IsEncoding same p root e → IsUnconditional same p root → (values : ℕ → Option Bool) (score : N → ℕ) → AreValues values (made_true (history e.coding.search))
+  pub turn_keeps : (same_name : N → N → Bool) → IsExact same_name → IsEncoding same p root e → AreSpent same e → (values : ℕ → Option Bool) (score : N → ℕ) → AreValues values (made_true (history e.coding.search))
       → ((n : ℕ) → n < length e.coding.search.clauses → IsQuiet (made_true (history e.coding.search)) (clause_at (clauses_of e.coding.search) n)) → IsDecided e values score
       → (members : List S) → AreChosen e.coding.atoms.keys (made_true (history e.coding.search)) members → AreAmongEncoded e members
       → IsRuleKeeping same p root members × ((s : S) → is_in same p members s ≡ true → IsReached same p root [] members s) × ((s : S) → IsReached same p root [] members s → is_in same p members s ≡ true)
-  turn_keeps same_name names holds free values score agree quiet decided members chosen among =
-      let ended = turn_ended holds free values score agree quiet decided members chosen among in
+  turn_keeps same_name names holds spent values score agree quiet decided members chosen among =
+      let ended = turn_ended holds spent values score agree quiet decided members chosen among in
       let accepted = turn_accepted same exact same_name names p root (origin e.coding.atoms.keys) (E.rules_of e) (Registered same p root e) [] (count_of e.coding.search) e.coding.search.clauses (history e.coding.search) members ended in
       (turn_keeps_rules same exact same_name names p root (origin e.coding.atoms.keys) (E.rules_of e) (Registered same p root e) (count_of e.coding.search) e.coding.search.clauses (history e.coding.search) members ended, accepted.reached, accepted.inside)
 
   -- They were chosen in the order in which they are tried.
-  pub turn_preferred : (same_name : N → N → Bool) → IsExact same_name → IsEncoding same p root e → IsUnconditional same p root → (orders : Requirement → List S → Type 0) → AreOrdered orders e → (values : ℕ → Option Bool) (score : N → ℕ) → AreValues values (made_true (history e.coding.search))
+  pub turn_preferred : (same_name : N → N → Bool) → IsExact same_name → IsEncoding same p root e → AreSpent same e → (orders : Requirement → List S → Type 0) → AreOrdered orders e → (values : ℕ → Option Bool) (score : N → ℕ) → AreValues values (made_true (history e.coding.search))
       → ((n : ℕ) → n < length e.coding.search.clauses → IsQuiet (made_true (history e.coding.search)) (clause_at (clauses_of e.coding.search) n)) → IsDecided e values score
       → (members : List S) → AreChosen e.coding.atoms.keys (made_true (history e.coding.search)) members → AreAmongEncoded e members → ArePreferred same p orders root members
-  turn_preferred same_name names holds free orders ordered values score agree quiet decided members chosen among =
+  turn_preferred same_name names holds spent orders ordered values score agree quiet decided members chosen among =
       turn_prefers same exact same_name names p root (origin e.coding.atoms.keys) (E.rules_of e) (Registered same p root e) orders (digit_told same e.coding.stated.items) (count_of e.coding.search) e.coding.search.clauses (history e.coding.search) members
-      (turn_ended holds free values score agree quiet decided members chosen among) (λ x older stands is other. taken_ordered orders e same p ordered _ _ (holds.called x older stands is other)) (digits_agree same exact p root e holds)
+      (turn_ended holds spent values score agree quiet decided members chosen among) (λ x older stands is other. taken_ordered orders e same p ordered _ _ (holds.called x older stands is other)) (digits_agree same exact p root e holds)
 
   -- A clause that denies choices of the first level alone, by clauses that digits of places agree with, leaves no
   -- rule-keeping set.

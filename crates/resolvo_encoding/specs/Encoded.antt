@@ -1,5 +1,7 @@
 -- What was encoded, and what it tells of the packages.
-use Rattle.std.specs.Prelude.{◌≡◌, ℕ, ◌<◌, ◌≤◌, ◌⊎◌, Bool, true, List, [], ◌∷◌, length, slice_get, Option, Some, None, Contains}
+use Rattle.std.specs.Prelude.{◌≡◌, ℕ, suc, ◌<◌, ◌≤◌, ◌⊎◌, Bool, true, List, [], ◌∷◌, length, slice_get, Option, Some, None, Contains}
+use Rattle.resolvo_pool.specs.declared.id.DenseId.{DenseId}
+use Rattle.resolvo_pool.specs.declared.id.DisjunctionTag.{DisjunctionTag}
 use Rattle.resolvo_pool.specs.declared.id.VariableId.{VariableId}
 use Rattle.resolvo_pool.specs.declared.id.VersionSetId.{VersionSetId}
 use Rattle.resolvo_pool.specs.declared.requirement.ConditionalRequirement.{ConditionalRequirement}
@@ -13,12 +15,14 @@ use Rattle.resolvo_pool.specs.RuleKeeping.{Packages, Rules, is_in, meets, rules_
 use Rattle.resolvo_store.specs.Clauses.{root as root_variable}
 use Rattle.resolvo_store.specs.declared.decide_queue.NeedClause.{NeedClause}
 use Rattle.resolvo_store.specs.declared.lists.Candidate.{Candidate}
-use Rattle.resolvo_store.specs.Lists.{has_candidates, candidates_in}
+use Rattle.resolvo_store.specs.declared.lists.FixedLists.{FixedLists}
+use Rattle.resolvo_store.specs.Lists.{has_candidates, candidates_in, condition_in, HasDisjunction}
 use Rattle.resolvo_search.specs.State.{history}
-use Rattle.resolvo_rules.specs.Encoding.{Rule, IsRule, IsBarredIn}
+use Rattle.resolvo_search.specs.Steps.{AreInRange}
+use Rattle.resolvo_rules.specs.Encoding.{Rule, case_literals, cases_for, IsRule, IsBarredIn}
 use Rattle.resolvo_rules.specs.Ending.{IsNeedEncoded, HasClause}
 use Rattle.resolvo_rules.specs.First.{IsFirstPick}
-use Rattle.resolvo_rules.specs.Numbered.{AreCalledFor}
+use Rattle.resolvo_rules.specs.Numbered.{Spells, AreCalledFor}
 use Rattle.resolvo_coding.specs.declared.atom.ProofAtom.{ProofAtom}
 use Rattle.resolvo_coding.specs.declared.atom.ProofAtom.TheVariants.{Solvable, Gate}
 use Rattle.resolvo_coding.specs.declared.stated.Stated.{Stated}
@@ -28,8 +32,10 @@ use Rattle.resolvo_coding.specs.Statements.{stated_at, rule_at, rules_in}
 use Rattle.resolvo_coding.specs.Coding.{IsCoding}
 use Rattle.resolvo_coding.specs.Registered.{AreTied, IsTracked, IsRegistered}
 use Rattle.resolvo_coding.specs.Spelled.{Spelled, AreRegistered}
+use Rattle.resolvo_encoding.specs.declared.encoding.Deferred.{Deferred}
 use Rattle.resolvo_encoding.specs.declared.encoding.Encoding.{Encoding}
 use Rattle.resolvo_encoding.specs.declared.encoding.Noted.{Noted}
+use Rattle.resolvo_encoding.specs.Cases.{case_of, IsDeferred, IsCaseOf}
 
 -- the rules that clauses state
 abbrev pub rules_of : {N S : Type 0} → Encoding N S → Rule N S → Type 0
@@ -61,21 +67,28 @@ HasOrder e r list = (has_candidates e.lists r ≡ true) × AreCandidates e.codin
 abbrev pub AreOrdered : {N S : Type 0} → (Requirement → List S → Type 0) → Encoding N S → Type 0
 AreOrdered {N} {S} orders e = (r : Requirement) → has_candidates e.lists r ≡ true → (list : List S) × orders r list × AreCandidates e.coding.atoms.keys (candidates_in e.lists r) list
 
--- decisions are made for the clause that states this: one of a need without condition, or of a gate
-abbrev pub IsQueuedFor : {N S : Type 0} → List (ProofAtom N S) → Option (Stated N S) → NeedClause → Type 0
-IsQueuedFor atoms None q = ⊥
-IsQueuedFor atoms (Some Says.Root) q = ⊥
-IsQueuedFor atoms (Some (Says.Needs parent need case)) q = (case.items ≡ []) × (q.requirement ≡ need.requirement) × (q.condition ≡ None) × IsParentVariable atoms parent q.parent
-IsQueuedFor atoms (Some (Says.Gated s r)) q = ⊥
-IsQueuedFor atoms (Some (Says.Shared r)) q = (q.requirement ≡ r) × (q.condition ≡ None) × StandsFor atoms q.parent (Gate r)
-IsQueuedFor atoms (Some (Says.Limits parent v s)) q = ⊥
-IsQueuedFor atoms (Some (Says.LimitsOutside parent v)) q = ⊥
-IsQueuedFor atoms (Some (Says.IsOut v s)) q = ⊥
-IsQueuedFor atoms (Some (Says.Locked locked s)) q = ⊥
-IsQueuedFor atoms (Some (Says.Excluded s why)) q = ⊥
-IsQueuedFor atoms (Some (Says.Digit n s place bit)) q = ⊥
-IsQueuedFor atoms (Some (Says.IsThere n s)) q = ⊥
-IsQueuedFor atoms (Some Says.Learnt) q = ⊥
+module _ {N S : Type 0} (same : S → S → Bool) (p : Packages N S) (lists : FixedLists N) where
+  -- the literals of the condition are those of the case, of variables that are there
+  pub record IsCondition (atoms : List (ProofAtom N S)) (condition : Option (DenseId DisjunctionTag ℕ)) (case : List VersionSetId) : Type 0 where
+    pub there : HasDisjunction lists condition
+    pub in_range : AreInRange (suc (length atoms)) (condition_in lists condition)
+    pub spells : Spells (origin atoms) (condition_in lists condition) (case_literals same p case)
+
+  -- decisions are made for the clause that states this: one of a need, or of a gate
+  abbrev pub IsQueuedFor : List (ProofAtom N S) → Option (Stated N S) → NeedClause → Type 0
+  IsQueuedFor atoms None q = ⊥
+  IsQueuedFor atoms (Some Says.Root) q = ⊥
+  IsQueuedFor atoms (Some (Says.Needs parent need case)) q = (q.requirement ≡ need.requirement) × IsCondition atoms q.condition case.items × IsParentVariable atoms parent q.parent
+  IsQueuedFor atoms (Some (Says.Gated s r)) q = ⊥
+  IsQueuedFor atoms (Some (Says.Shared r)) q = (q.requirement ≡ r) × (q.condition ≡ None) × StandsFor atoms q.parent (Gate r)
+  IsQueuedFor atoms (Some (Says.Limits parent v s)) q = ⊥
+  IsQueuedFor atoms (Some (Says.LimitsOutside parent v)) q = ⊥
+  IsQueuedFor atoms (Some (Says.IsOut v s)) q = ⊥
+  IsQueuedFor atoms (Some (Says.Locked locked s)) q = ⊥
+  IsQueuedFor atoms (Some (Says.Excluded s why)) q = ⊥
+  IsQueuedFor atoms (Some (Says.Digit n s place bit)) q = ⊥
+  IsQueuedFor atoms (Some (Says.IsThere n s)) q = ⊥
+  IsQueuedFor atoms (Some Says.Learnt) q = ⊥
 
 -- the rule's clause asks for a match of a requirement
 abbrev pub Asks : {N S : Type 0} → Rule N S → Type 0
@@ -99,26 +112,40 @@ module _ {N S : Type 0} (same : S → S → Bool) (p : Packages N S) (rules : Ru
   IsLimitEncoded parent v = (s : S) → is_outside same p v s ≡ true → rules (Rule.limits parent v s) ⊎ (rules (Rule.limits_outside parent v) × rules (Rule.is_out v s))
 
   -- What locks and exclusions bar in the noted packages is stated, and what is outside the noted version sets.
-  pub record IsNoted (noted : Noted N) : Type 0 where
+  pub record IsNoted (noted : Noted N S) : Type 0 where
     pub packages : (n : N) (s : S) → Contains noted.packages.keys n → IsBarredIn same p n s → rules (Rule.bars s)
     pub version_sets : (v : VersionSetId) (s : S) → Contains noted.version_sets.keys v → is_outside same p v s ≡ true → rules (Rule.is_out v s)
 
-  -- The parent's needs and limits are clauses, and so is what bars candidates that its limits name, and the parent itself
-  -- if its dependencies are unknown.
-  pub record IsParentEncoded (root : Rules) (parent : Option S) : Type 0 where
-    pub needs : (need : ConditionalRequirement) → Contains (rules_for same p root parent).requirements need → IsNeedEncoded same p rules parent need []
-    pub limits : (v : VersionSetId) → Contains (rules_for same p root parent).constraints v → IsLimitEncoded parent v
-    pub guarded : (v : VersionSetId) → Contains (rules_for same p root parent).constraints v → IsGuarded (Single v)
-    pub unknown : (s : S) → parent ≡ Some s → is_unknown (p.dependencies_of s) ≡ true → rules (Rule.bars s)
+module _ {N S : Type 0} (same : S → S → Bool) (p : Packages N S) where
+  -- the case of the parent's need has its clauses, or it waits
+  abbrev pub IsCaseEncoded : Encoding N S → Option S → ConditionalRequirement → List VersionSetId → Type 0
+  IsCaseEncoded e parent need case = IsNeedEncoded same p (rules_of e) parent need case ⊎ IsDeferred e parent need case
 
--- no requirement has a condition
-pub record IsUnconditional {N S : Type 0} (same : S → S → Bool) (p : Packages N S) (root : Rules) : Type 0 where
-  pub unconditional : (parent : Option S) (need : ConditionalRequirement) → Contains (rules_for same p root parent).requirements need → need.condition ≡ None
+  -- The parent's needs and limits are clauses, but for cases that wait, and so is what bars candidates that its limits name,
+  -- and the parent itself if its dependencies are unknown.
+  pub record IsParentEncoded (e : Encoding N S) (root : Rules) (parent : Option S) : Type 0 where
+    pub needs : (need : ConditionalRequirement) (case : List VersionSetId) → Contains (rules_for same p root parent).requirements need → Contains (cases_for same p need) case → IsCaseEncoded e parent need case
+    pub limits : (v : VersionSetId) → Contains (rules_for same p root parent).constraints v → IsLimitEncoded same p (rules_of e) parent v
+    pub guarded : (v : VersionSetId) → Contains (rules_for same p root parent).constraints v → IsGuarded same p (rules_of e) (Single v)
+    pub unknown : (s : S) → parent ≡ Some s → is_unknown (p.dependencies_of s) ≡ true → rules_of e (Rule.bars s)
 
 module _ {N S : Type 0} (same : S → S → Bool) (p : Packages N S) (root : Rules) where
   -- the solvable is registered as one of its package's
   abbrev pub Registered : Encoding N S → S → Type 0
   Registered e s = IsRegistered e.registry e.coding (p.package_of s) s
+
+  -- What holds of the cases of conditions.
+  pub record AreCased (e : Encoding N S) : Type 0 where
+    -- what waits is a case of a need of its parent; what fired has its clauses
+    pub waiting : (i : ℕ) (d : Deferred S) → slice_get e.deferred.items i ≡ Some d → IsCaseOf same p root d
+    pub places : (i : ℕ) → Contains e.fired.keys i → i < length e.deferred.items
+    pub fired : (i : ℕ) (d : Deferred S) → Contains e.fired.keys i → slice_get e.deferred.items i ≡ Some d → IsNeedEncoded same p (rules_of e) d.parent d.need (case_of d.conjuncts.items)
+    -- the packages that a case with a clause names are noted, and what is outside its version sets is registered
+    pub cased : (parent : Option S) (need : ConditionalRequirement) (case : List VersionSetId) (v : VersionSetId) → rules_of e (Rule.needs parent need case) → Contains case v
+        → Contains e.noted.helped.keys (p.set_package v) × ((s : S) → is_outside same p v s ≡ true → Registered e s)
+    -- a clause says of each registered solvable of a noted package that one of them is there
+    pub helped : (n : N) (s : S) → Contains e.noted.helped.keys n → IsRegistered e.registry e.coding n s → rules_of e (Rule.is_there n s)
+    pub there : (s : S) → Contains e.noted.there.keys s → rules_of e (Rule.is_there (p.package_of s) s)
 
   -- What holds of the encoding between its steps.
   pub record IsEncoding (e : Encoding N S) : Type 0 where
@@ -136,15 +163,16 @@ module _ {N S : Type 0} (same : S → S → Bool) (p : Packages N S) (root : Rul
     pub offered : (r : Requirement) (s : S) → has_candidates e.lists r ≡ true → meets same p r s ≡ true → (c : Candidate N) × Contains (candidates_in e.lists r) c × IsCandidate e (p.package_of s) s c
     -- each need clause, and each gate's, has its candidates, and decisions are made for it
     pub fixed : (r : Requirement) → HasClause same p (rules_of e) r → has_candidates e.lists r ≡ true
-    pub queued : (q : NeedClause) → Contains e.queue q → IsQueuedFor e.coding.atoms.keys (stated_at e.coding.stated.items q.clause.0) q
+    pub queued : (q : NeedClause) → Contains e.queue q → IsQueuedFor same p e.lists e.coding.atoms.keys (stated_at e.coding.stated.items q.clause.0) q
     pub asked : (n : ℕ) (r : Rule N S) → rule_at e.coding.stated.items n ≡ Some r → Asks r → (q : NeedClause) × Contains e.queue q × (q.clause.0 ≡ n)
     -- each gate has its clause
     pub gates : (r : Requirement) (v : VariableId) → slot_of e.gates r ≡ Some v → StandsFor e.coding.atoms.keys v (Gate r) × rules_of e (Rule.shared r)
     -- what bars candidates of requirements with a clause is stated, and so is what is noted
     pub bar : (r : Requirement) → HasClause same p (rules_of e) r → IsGuarded same p (rules_of e) r
     pub noted : IsNoted same p (rules_of e) e.noted
-    -- the needs and the limits of the first parents are clauses
+    pub cases : AreCased e
+    -- the needs and the limits of the first parents are clauses, but for cases that wait
     pub within : e.encoded ≤ length e.parents.keys
-    pub encoded : (i : ℕ) (parent : SolvableIdOrRoot S) → i < e.encoded → slice_get e.parents.keys i ≡ Some parent → IsParentEncoded same p (rules_of e) root (solvable_of parent)
+    pub encoded : (i : ℕ) (parent : SolvableIdOrRoot S) → i < e.encoded → slice_get e.parents.keys i ≡ Some parent → IsParentEncoded same p e root (solvable_of parent)
     -- each choice is the first candidate that was not false, of a requirement that was asked for
     pub called : AreCalledFor (origin e.coding.atoms.keys) (IsFirstPick same p (HasOrder e) (rules_of e)) (history e.coding.search)

@@ -4,25 +4,29 @@ use Rattle.std.specs.declared.alloc.Global.{Global}
 use Rattle.resolvo_pool.specs.declared.id.ClauseId.{ClauseId}
 use Rattle.resolvo_pool.specs.declared.id.VariableId.{VariableId}
 use Rattle.resolvo_pool.specs.declared.requirement.Requirement.{Requirement}
+use Rattle.resolvo_pool.specs.declared.id.DenseId.{DenseId}
+use Rattle.resolvo_pool.specs.declared.id.DisjunctionTag.{DisjunctionTag}
 use Rattle.resolvo_store.specs.Clauses.{yes, no, candidate_literals}
 use Rattle.resolvo_store.specs.declared.decide_queue.NeedClause.{NeedClause}
 use Rattle.resolvo_store.specs.declared.lists.Candidate.{Candidate}
-use Rattle.resolvo_store.specs.Lists.{has_candidates, candidates_in, FixesCandidates, IsEmpty}
+use Rattle.resolvo_store.specs.declared.lists.FixedLists.{FixedLists}
+use Rattle.resolvo_store.specs.Lists.{has_candidates, candidates_in, condition_in, FixesCandidates, IsEmpty}
 use Rattle.resolvo_pool.specs.ByRequirement.{slot_of}
 use Rattle.resolvo_pool.specs.declared.solver_id.SolvableIdOrRoot.TheVariants.{Root}
 use Rattle.resolvo_answers.specs.declared.answering.Offered.{Offered}
 use Rattle.resolvo_answers.specs.Answering.{offered_solvables}
-use Rattle.resolvo_pool.specs.RuleKeeping.{Packages, Rules, rules_for}
+use Rattle.resolvo_pool.specs.Provider.{listed}
+use Rattle.resolvo_pool.specs.RuleKeeping.{Packages, Rules, IsLawful, is_in, rules_for}
 use Rattle.resolvo_pool.specs.declared.id.VersionSetId.{VersionSetId}
 use Rattle.resolvo_pool.specs.declared.requirement.ConditionalRequirement.{ConditionalRequirement}
-use Rattle.resolvo_rules.specs.Encoding.{Rule, IsRule}
+use Rattle.resolvo_rules.specs.Encoding.{Rule, cases_for, IsRule}
 use Rattle.resolvo_coding.specs.declared.atom.ProofAtom.{ProofAtom}
 use Rattle.resolvo_coding.specs.declared.atom.ProofAtom.TheVariants.{Solvable, Gate}
 use Rattle.resolvo_coding.specs.declared.stated.Stated.TheVariants as Says
 use Rattle.resolvo_pool.specs.Text.{solvable_of}
 use Rattle.resolvo_pool.specs.declared.solver_id.SolvableIdOrRoot.{SolvableIdOrRoot}
 use Rattle.resolvo_store.specs.AtMostOne.{IsFrontOf}
-use Rattle.resolvo_encoding.specs.Encoded.{IsParentVariable, IsParentEncoded, AreCandidates, rules_of}
+use Rattle.resolvo_encoding.specs.Encoded.{IsParentVariable, IsCondition, IsParentEncoded, IsEncoding, AreCandidates}
 use Rattle.resolvo_coding.specs.declared.stated.Stated.{Stated}
 use Rattle.resolvo_coding.specs.declared.coding.Coding.{Coding}
 use Rattle.resolvo_coding.specs.declared.registry.Registry.{Registry}
@@ -30,6 +34,23 @@ use Rattle.resolvo_coding.specs.Atoms.{StandsFor}
 use Rattle.resolvo_coding.specs.Coding.{IsCoding, IsBegun, Grows, SameTrail, States}
 use Rattle.resolvo_coding.specs.Registered.{AreTied, IsTracked, IsDigitClause, IsNothing, Registers}
 use Rattle.resolvo_encoding.specs.declared.encoding.Encoding.{Encoding}
+
+-- What the calls rest on, whatever the packages are: the search is ready, registered solvables are tied, candidates are
+-- solvables that are to be chosen, and each gate is its requirement's.
+pub record IsBuilt {N S : Type 0} (e : Encoding N S) : Type 0 where
+  pub coding : IsCoding e.coding
+  pub tied : AreTied e.registry e.coding
+  pub candidates : (r : Requirement) (c : Candidate N) → Contains (candidates_in e.lists r) c → (c.literal.positive ≡ true) × ((s : S) × StandsFor e.coding.atoms.keys c.literal.variable (Solvable s))
+  pub gates : (r : Requirement) (v : VariableId) → slot_of e.gates r ≡ Some v → StandsFor e.coding.atoms.keys v (Gate r)
+  pub within : e.encoded ≤ length e.parents.keys
+
+-- clauses and what they state came, and the parents stay, and so do the cases that wait
+pub record Extends {N S : Type 0} (old new : Encoding N S) : Type 0 where
+  pub grows : Grows old.coding new.coding
+  pub parents : new.parents ≡ old.parents
+  pub encoded : new.encoded ≡ old.encoded
+  pub deferred : new.deferred ≡ old.deferred
+  pub fired : new.fired ≡ old.fired
 
 -- the candidate's literal is that what is offered, which is registered, is chosen
 pub record IsOfferedAs {N S : Type 0} (r : Registry N) (c : Coding N S) (o : Offered N S) (candidate : Candidate N) : Type 0 where
@@ -64,44 +85,57 @@ abbrev pub AddsCandidates : {N S : Type 0} → Requirement → List (Offered N S
 AddsCandidates r offered old new = (q : Requirement) → has_candidates new.lists q ≡ true
     → (slot_of new.lists.candidates q ≡ slot_of old.lists.candidates q) ⊎ ((q ≡ r) × AreCandidates new.coding.atoms.keys (candidates_in new.lists q) (offered_solvables offered))
 
--- what is offered became the requirement's candidates, unless it had them
-pub record Fixes {N S : Type 0} (r : Requirement) (offered : List (Offered N S)) (old new : Encoding N S) : Type 0 where
-  pub queue : new.queue ≡ old.queue
-  pub gates : new.gates ≡ old.gates
-  pub noted : new.noted ≡ old.noted
-  pub parents : new.parents ≡ old.parents
-  pub encoded : new.encoded ≡ old.encoded
-  pub fixed : ((has_candidates old.lists r ≡ true) × (new ≡ old))
-      ⊎ ((has_candidates old.lists r ≡ false) × (given : Vec (Candidate N) Global) × RegistersAll offered given.items old.registry old.coding new.registry new.coding × FixesCandidates r given old.lists new.lists)
+-- the solvable is offered with its package, of which it is a candidate
+abbrev pub IsListed : {N S : Type 0} → (S → S → Bool) → Packages N S → Offered N S → Type 0
+IsListed same p o = (o.name ≡ p.package_of o.solvable) × (is_in same p (listed (p.candidates_of o.name)) o.solvable ≡ true)
 
--- A clause came that states this of a variable: it is false, or one of the requirement's candidates is chosen. Decisions
--- are made for it.
-pub record StatesNeed {N S : Type 0} (stated : Stated N S) (v : VariableId) (r : Requirement) (old new : Encoding N S) : Type 0 where
+-- What is offered is registered, and given as candidates; where a case names its package, a clause says that it is there.
+pub record Enrols {N S : Type 0} (same : S → S → Bool) (offered : List (Offered N S)) (given : List (Candidate N)) (old new : Encoding N S) : Type 0 where
+  pub built : IsBuilt new
+  pub extends : Extends old new
+  pub lists : new.lists ≡ old.lists
+  pub helped : new.noted.helped ≡ old.noted.helped
+  pub keeps : (m : N) (u : VariableId) → IsTracked old.registry m u → IsTracked new.registry m u
+  pub each : (o : Offered N S) → Contains offered o → (c : Candidate N) × Contains given c × IsOfferedAs new.registry new.coding o c
+  pub all : (c : Candidate N) → Contains given c → (o : Offered N S) × Contains offered o × IsOfferedAs new.registry new.coding o c
+  pub ordered : AreCandidates new.coding.atoms.keys given (offered_solvables offered)
+  pub encoding : (p : Packages N S) (root : Rules) → IsLawful p → IsEncoding same p root old → ((o : Offered N S) → Contains offered o → IsListed same p o) → IsEncoding same p root new
+
+-- what is offered became the requirement's candidates, unless it had them
+pub record Fixes {N S : Type 0} (same : S → S → Bool) (r : Requirement) (offered : List (Offered N S)) (old new : Encoding N S) : Type 0 where
+  pub fixed : ((has_candidates old.lists r ≡ true) × (new ≡ old))
+      ⊎ ((has_candidates old.lists r ≡ false) × (middle : Encoding N S) × (given : Vec (Candidate N) Global) × Enrols same offered given.items old middle × FixesCandidates r given middle.lists new.lists × (new ≡ record middle { lists = new.lists }))
+
+-- A clause came that states this of a variable: it is false, or a literal of the condition is true, or one of the requirement's
+-- candidates is chosen. Decisions are made for it.
+pub record StatesNeed {N S : Type 0} (stated : Stated N S) (v : VariableId) (condition : Option (DenseId DisjunctionTag ℕ)) (r : Requirement) (old new : Encoding N S) : Type 0 where
   pub number : ClauseId
-  pub states : States stated (no v ∷ candidate_literals (candidates_in old.lists r)) number old.coding new.coding
-  pub queue : new.queue ≡ old.queue ++ (let q : NeedClause = record { parent = v; requirement = r; condition = None; clause = number } in q) ∷ []
+  pub states : States stated (no v ∷ (condition_in old.lists condition ++ candidate_literals (candidates_in old.lists r))) number old.coding new.coding
+  pub queue : new.queue ≡ old.queue ++ (let q : NeedClause = record { parent = v; requirement = r; condition = condition; clause = number } in q) ∷ []
   pub registry : new.registry ≡ old.registry
   pub lists : new.lists ≡ old.lists
   pub gates : new.gates ≡ old.gates
   pub noted : new.noted ≡ old.noted
   pub parents : new.parents ≡ old.parents
   pub encoded : new.encoded ≡ old.encoded
+  pub deferred : new.deferred ≡ old.deferred
+  pub fired : new.fired ≡ old.fired
 
--- The clause of a parent's need, which has no condition, or of the gate of a requirement that some solvable asks for; the
--- variable is the parent's or the gate's.
-abbrev pub IsNeed : {N S : Type 0} → (S → S → Bool) → Packages N S → Rules → List (ProofAtom N S) → Stated N S → VariableId → Requirement → Type 0
-IsNeed same p root atoms Says.Root v r = ⊥
-IsNeed same p root atoms (Says.Needs parent need case) v r = (case.items ≡ []) × (need.requirement ≡ r) × IsParentVariable atoms parent v × Contains (rules_for same p root parent).requirements need × (need.condition ≡ None)
-IsNeed same p root atoms (Says.Gated s w) v r = ⊥
-IsNeed same p root atoms (Says.Shared w) v r = (w ≡ r) × StandsFor atoms v (Gate w) × IsRule same p root (Rule.shared w)
-IsNeed same p root atoms (Says.Limits parent w s) v r = ⊥
-IsNeed same p root atoms (Says.LimitsOutside parent w) v r = ⊥
-IsNeed same p root atoms (Says.IsOut w s) v r = ⊥
-IsNeed same p root atoms (Says.Locked locked s) v r = ⊥
-IsNeed same p root atoms (Says.Excluded s why) v r = ⊥
-IsNeed same p root atoms (Says.Digit n s place bit) v r = ⊥
-IsNeed same p root atoms (Says.IsThere n s) v r = ⊥
-IsNeed same p root atoms Says.Learnt v r = ⊥
+-- The clause of a case of a parent's need, or of the gate of a requirement that some solvable asks for; the variable is the
+-- parent's or the gate's, the condition's literals those of the case.
+abbrev pub IsNeed : {N S : Type 0} → (S → S → Bool) → Packages N S → Rules → FixedLists N → List (ProofAtom N S) → Stated N S → VariableId → Option (DenseId DisjunctionTag ℕ) → Requirement → Type 0
+IsNeed same p root lists atoms Says.Root v condition r = ⊥
+IsNeed same p root lists atoms (Says.Needs parent need case) v condition r = (need.requirement ≡ r) × IsParentVariable atoms parent v × IsCondition same p lists atoms condition case.items × Contains (rules_for same p root parent).requirements need × Contains (cases_for same p need) case.items
+IsNeed same p root lists atoms (Says.Gated s w) v condition r = ⊥
+IsNeed same p root lists atoms (Says.Shared w) v condition r = (w ≡ r) × (condition ≡ None) × StandsFor atoms v (Gate w) × IsRule same p root (Rule.shared w)
+IsNeed same p root lists atoms (Says.Limits parent w s) v condition r = ⊥
+IsNeed same p root lists atoms (Says.LimitsOutside parent w) v condition r = ⊥
+IsNeed same p root lists atoms (Says.IsOut w s) v condition r = ⊥
+IsNeed same p root lists atoms (Says.Locked locked s) v condition r = ⊥
+IsNeed same p root lists atoms (Says.Excluded s why) v condition r = ⊥
+IsNeed same p root lists atoms (Says.Digit n s place bit) v condition r = ⊥
+IsNeed same p root lists atoms (Says.IsThere n s) v condition r = ⊥
+IsNeed same p root lists atoms Says.Learnt v condition r = ⊥
 
 -- only the clauses, variables and what these mean changed
 pub record SameButCoding {N S : Type 0} (old new : Encoding N S) : Type 0 where
@@ -112,32 +146,19 @@ pub record SameButCoding {N S : Type 0} (old new : Encoding N S) : Type 0 where
   pub noted : new.noted ≡ old.noted
   pub parents : new.parents ≡ old.parents
   pub encoded : new.encoded ≡ old.encoded
-
--- What the calls rest on, whatever the packages are: the search is ready, registered solvables are tied, candidates are
--- solvables that are to be chosen, and each gate is its requirement's.
-pub record IsBuilt {N S : Type 0} (e : Encoding N S) : Type 0 where
-  pub coding : IsCoding e.coding
-  pub tied : AreTied e.registry e.coding
-  pub candidates : (r : Requirement) (c : Candidate N) → Contains (candidates_in e.lists r) c → (c.literal.positive ≡ true) × ((s : S) × StandsFor e.coding.atoms.keys c.literal.variable (Solvable s))
-  pub gates : (r : Requirement) (v : VariableId) → slot_of e.gates r ≡ Some v → StandsFor e.coding.atoms.keys v (Gate r)
-  pub within : e.encoded ≤ length e.parents.keys
+  pub deferred : new.deferred ≡ old.deferred
+  pub fired : new.fired ≡ old.fired
 
 -- the parent has the need, without condition
 pub record Needs {N S : Type 0} (same : S → S → Bool) (p : Packages N S) (root : Rules) (parent : Option S) (need : ConditionalRequirement) : Type 0 where
   pub listed : Contains (rules_for same p root parent).requirements need
   pub free : need.condition ≡ None
 
--- clauses and what they state came, and the parents stay
-pub record Extends {N S : Type 0} (old new : Encoding N S) : Type 0 where
-  pub grows : Grows old.coding new.coding
-  pub parents : new.parents ≡ old.parents
-  pub encoded : new.encoded ≡ old.encoded
-
 -- the clause of the parent's need came
 pub record NeedsDirectly {N S : Type 0} (parent : Option S) (need : ConditionalRequirement) (v : VariableId) (old new : Encoding N S) : Type 0 where
   pub case : Vec VersionSetId Global
   pub none : case.items ≡ []
-  pub states : StatesNeed (Says.Needs parent need case) v need.requirement old new
+  pub states : StatesNeed (Says.Needs parent need case) v None need.requirement old new
 
 -- the clause that the solvable opens the gate came
 pub record Opens {N S : Type 0} (s : S) (v gate : VariableId) (r : Requirement) (old new : Encoding N S) : Type 0 where
@@ -154,14 +175,18 @@ pub record IsBegunEncoding {N S : Type 0} (e : Encoding N S) : Type 0 where
   pub gates : (r : Requirement) → slot_of e.gates r ≡ None
   pub packages : e.noted.packages.keys ≡ []
   pub version_sets : e.noted.version_sets.keys ≡ []
+  pub helped : e.noted.helped.keys ≡ []
+  pub there : e.noted.there.keys ≡ []
   pub parents : e.parents.keys ≡ Root ∷ []
   pub encoded : e.encoded ≡ 0
+  pub deferred : e.deferred.items ≡ []
+  pub fired : e.fired.keys ≡ []
 
 -- parents came behind the others, or none
 pub record AddsParent {N S : Type 0} (old new : Encoding N S) : Type 0 where
   pub front : IsFrontOf old.parents.keys new.parents.keys
   pub rest : new ≡ record old { parents = new.parents }
 
--- the needs and the limits of the next parent are clauses
+-- the needs and the limits of the next parent are clauses, but for cases that wait
 abbrev pub IsNextEncoded : {N S : Type 0} → (S → S → Bool) → Packages N S → Rules → Encoding N S → Type 0
-IsNextEncoded {N} {S} same p root e = (parent : SolvableIdOrRoot S) → slice_get e.parents.keys e.encoded ≡ Some parent → IsParentEncoded same p (rules_of e) root (solvable_of parent)
+IsNextEncoded {N} {S} same p root e = (parent : SolvableIdOrRoot S) → slice_get e.parents.keys e.encoded ≡ Some parent → IsParentEncoded same p e root (solvable_of parent)

@@ -23,7 +23,7 @@ IsRestraint (Rule.limits_outside parent v) = Unit {0}
 IsRestraint (Rule.is_out v s) = Unit {0}
 IsRestraint (Rule.bars s) = Unit {0}
 IsRestraint (Rule.has_digit s bit b) = ⊥
-IsRestraint (Rule.is_there n s) = ⊥
+IsRestraint (Rule.is_there n s) = Unit {0}
 
 -- the clause has these two literals, or the one that both are
 abbrev pub IsPair : Signed → Signed → List Signed → Type 0
@@ -42,6 +42,7 @@ pub record Tells {N S : Type 0} (same : S → S → Bool) (rules : List (Rule N 
   pub built : IsBuilt new
   pub extends : Extends old new
   pub lists : new.lists ≡ old.lists
+  pub registry : new.registry ≡ old.registry
   pub noted : new.noted ≡ old.noted
   pub encoding : (p : Packages N S) (root : Rules) → IsLawful p → IsEncoding same p root old → ((r : Rule N S) → Contains rules r → IsRule same p root r) → IsEncoding same p root new × ((r : Rule N S) → Contains rules r → rules_of new r)
 

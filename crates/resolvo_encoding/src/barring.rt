@@ -212,7 +212,7 @@ impl<N: SolverId + Drop, S: SolverId> Encoding<N, S> {
     }
 
     /// The variable of the root, or of a solvable.
-    fn parent_variable(&mut self, parent: Option<S>) -> R<VariableId>
+    pub(crate) fn parent_variable(&mut self, parent: Option<S>) -> R<VariableId>
         requires { IsBuilt self.old }
         ensures told { OnOk result (Tells S.eq [] self.old self.new) }
         ensures stands { IfOk result (λ v. IsParentVariable self.new.coding.atoms.keys parent v) }
@@ -227,7 +227,7 @@ impl<N: SolverId + Drop, S: SolverId> Encoding<N, S> {
     }
 
     /// The variable that stands for this.
-    fn give(&mut self, atom: ProofAtom<N, S>) -> R<VariableId>
+    pub(crate) fn give(&mut self, atom: ProofAtom<N, S>) -> R<VariableId>
         requires { IsBuilt self.old }
         ensures told { OnOk result (Tells S.eq [] self.old self.new) }
         ensures stands { IfOk result (λ v. StandsFor self.new.coding.atoms.keys v atom) }
@@ -237,7 +237,7 @@ impl<N: SolverId + Drop, S: SolverId> Encoding<N, S> {
     }
 
     /// States a rule by the clause that the first is false, or the second literal true.
-    fn state_pair(
+    pub(crate) fn state_pair(
         &mut self,
         alloc: Global,
         stated: Stated<N, S>,

@@ -1,11 +1,13 @@
 //! What was encoded: the clauses with what they state, the registered solvables, the candidates of
-//! requirements, the need clauses in their order, and the parents whose needs are encoded in turn.
-ghost use Rattle.std.specs.Prelude.{◌≡◌, ◌⊎◌, ◌<◌, ◌∷◌, [], true, Some, OnOk, IfOk, IsSome, Contains, slice_get, length, ◌+◌};
+//! requirements, the need clauses in their order, the parents whose needs are encoded in turn, and the
+//! cases of conditions that wait.
+ghost use Rattle.std.specs.Prelude.{◌≡◌, ◌⊎◌, ◌<◌, ◌∷◌, ◌++◌, [], true, Some, OnOk, IfOk, IsSome, Contains, slice_get, length, ◌+◌};
+ghost use Rattle.indexmap.specs.IndexSet.{insert_key};
 ghost use Rattle.resolvo_pool.specs.declared.solver_id.SolvableIdOrRoot.TheVariants.{Solvable as Parent};
 ghost use Rattle.resolvo_pool.specs.RuleKeeping.{Packages, Rules, IsLawful};
 ghost use Rattle.resolvo_store.specs.AtMostOne.{IsFrontOf};
 ghost use Rattle.resolvo_store.specs.Clauses.{no, candidate_literals};
-ghost use Rattle.resolvo_store.specs.Lists.{has_candidates, candidates_in};
+ghost use Rattle.resolvo_store.specs.Lists.{has_candidates, candidates_in, condition_in};
 ghost use Rattle.resolvo_search.specs.State.{count_of};
 ghost use Rattle.resolvo_search.specs.Steps.{AreInRange};
 ghost use Rattle.resolvo_answers.specs.Answering.{AreOffered};
@@ -16,8 +18,7 @@ ghost use Rattle.resolvo_coding.specs.Atoms.{StandsFor};
 ghost use Rattle.resolvo_encoding.specs.Encoded.{rules_of, IsGuarded, IsEncoding};
 ghost use Rattle.resolvo_coding.specs.Statements.{rule_of};
 ghost use Rattle.resolvo_coding.specs.Coding.{IsCoding};
-ghost use Rattle.resolvo_coding.specs.Registered.{AreTied};
-ghost use Rattle.resolvo_encoding.specs.Steps.{RegistersOne, RegistersAll, Fixes, StatesNeed, IsBuilt, Needs, Extends, NeedsDirectly, Opens, AddsCandidates, IsBegunEncoding, AddsParent, IsNextEncoded};
+ghost use Rattle.resolvo_encoding.specs.Steps.{Fixes, StatesNeed, IsBuilt, Needs, Extends, NeedsDirectly, Opens, AddsCandidates, IsBegunEncoding, AddsParent, IsNextEncoded};
 
 use indexmap::IndexSet;
 use resolvo_answers::answering::Offered;
@@ -25,10 +26,11 @@ use resolvo_coding::atom::ProofAtom;
 use resolvo_coding::coding::Coding;
 use resolvo_coding::registry::Registry;
 use resolvo_coding::stated::Stated;
-use resolvo_pool::id::{ClauseId, VariableId, VersionSetId};
+use resolvo_pool::id::{DisjunctionId, VariableId, VersionSetId};
 use resolvo_pool::requirement::{ConditionalRequirement, Requirement, RequirementMap};
 use resolvo_pool::solver_id::{SolvableIdOrRoot, SolverId};
 use resolvo_pool::want::R;
+use resolvo_store::conditions::DeferredConjunct;
 use resolvo_store::decide_queue::{DecideQueue, NeedClause};
 use resolvo_store::lists::{Candidate, FixedLists};
 use resolvo_store::literal::Literal;
@@ -39,13 +41,25 @@ use std::hash::Hash;
 /// limit and those that it keeps out.
 pub const GATED: usize = 4;
 
-/// What was stated of packages and version sets as a whole, each once.
+/// What was stated of packages, version sets and solvables as a whole, each once.
 #[derive(Drop)]
-pub struct Noted<N: Eq + Hash> {
+pub struct Noted<N: Eq + Hash, S: Eq + Hash> {
     /// The packages whose locks and exclusions are clauses.
     pub packages: IndexSet<N>,
     /// The version sets for which clauses say which candidates are outside.
     pub version_sets: IndexSet<VersionSetId>,
+    /// The packages that cases name: a clause says of each registered solvable of theirs that one of them is there.
+    pub helped: IndexSet<N>,
+    /// The solvables of which such a clause says it.
+    pub there: IndexSet<S>,
+}
+
+/// A case of a parent's need, which waits until each of its version sets has a chosen match.
+#[derive(Drop)]
+pub struct Deferred<S> {
+    pub parent: Option<S>,
+    pub need: ConditionalRequirement,
+    pub conjuncts: Vec<DeferredConjunct<S>>,
 }
 
 /// What was encoded so far.
@@ -57,12 +71,16 @@ pub struct Encoding<N: Eq + Hash, S: Eq + Hash> {
     pub queue: DecideQueue,
     /// The gate of each requirement that has one.
     pub gates: RequirementMap<VariableId>,
-    /// What was stated of packages and version sets as a whole.
-    pub noted: Noted<N>,
+    /// What was stated of packages, version sets and solvables as a whole.
+    pub noted: Noted<N, S>,
     /// The parents whose needs are to be encoded, first come first.
     pub parents: IndexSet<SolvableIdOrRoot<S>>,
     /// How many of them were.
     pub encoded: usize,
+    /// The cases of needs with a condition, in the order in which their parents came.
+    pub deferred: Vec<Deferred<S>>,
+    /// The places of those that became clauses.
+    pub fired: IndexSet<usize>,
 }
 
 impl<N: SolverId + Drop, S: SolverId> Encoding<N, S> {
@@ -83,9 +101,13 @@ impl<N: SolverId + Drop, S: SolverId> Encoding<N, S> {
             noted: Noted {
                 packages: IndexSet::new(alloc),
                 version_sets: IndexSet::new(alloc),
+                helped: IndexSet::new(alloc),
+                there: IndexSet::new(alloc),
             },
             parents,
             encoded: 0,
+            deferred: Vec::new(alloc),
+            fired: IndexSet::new(alloc),
         })
     }
 
@@ -142,20 +164,19 @@ impl<N: SolverId + Drop, S: SolverId> Encoding<N, S> {
     }
 
     /// Registers what is offered for a requirement, and notes it as its candidates, once.
-    fn fix_candidates(
+    pub(crate) fn fix_candidates(
         &mut self,
         alloc: Global,
         requirement: Requirement,
         offered: &[Offered<N, S>],
     ) -> R<()>
-        requires coding { IsCoding self.old.coding }
-        requires tied { AreTied self.old.registry self.old.coding }
-        ensures fixed { OnOk result (Fixes requirement offered.now self.old self.new) }
+        requires { IsBuilt self.old }
+        ensures { OnOk result (Fixes S.eq requirement offered.now self.old self.new) }
     {
         if self.lists.candidates(requirement).is_some() {
             return Ok(());
         }
-        let candidates = register_all(alloc, &mut self.registry, &mut self.coding, offered)?;
+        let candidates = self.register(alloc, offered)?;
         self.lists.fix_candidates(requirement, candidates)?;
         Ok(())
     }
@@ -177,30 +198,31 @@ impl<N: SolverId + Drop, S: SolverId> Encoding<N, S> {
             need,
             case: Vec::new(alloc),
         };
-        self.state_need(alloc, stated, variable, need.requirement)?;
+        self.state_need(alloc, stated, variable, None, need.requirement)?;
         Ok(())
     }
 
-    /// States that a variable is false or one of the requirement's candidates is chosen, and lets
-    /// decisions be made for it.
-    fn state_need(
+    /// States that a variable is false, or a literal of the condition true, or one of the requirement's
+    /// candidates is chosen, and lets decisions be made for it.
+    pub(crate) fn state_need(
         &mut self,
         alloc: Global,
         stated: Stated<N, S>,
         variable: VariableId,
+        condition: Option<DisjunctionId>,
         requirement: Requirement,
     ) -> R<()>
         requires coding { IsCoding self.old.coding }
         requires rule { IsSome (rule_of stated) }
-        requires in_range { AreInRange (count_of self.old.coding.search) (no variable ∷ candidate_literals (candidates_in self.old.lists requirement)) }
-        ensures stated { OnOk result (StatesNeed stated variable requirement self.old self.new) }
+        requires in_range { AreInRange (count_of self.old.coding.search) (no variable ∷ (condition_in self.old.lists condition ++ candidate_literals (candidates_in self.old.lists requirement))) }
+        ensures stated { OnOk result (StatesNeed stated variable condition requirement self.old self.new) }
     {
-        let literals = self.literals_of(alloc, variable, requirement)?;
+        let literals = self.literals_of(alloc, variable, condition, requirement)?;
         let clause = self.coding.state(stated, literals)?;
         self.queue.register_clause(NeedClause {
             parent: variable,
             requirement,
-            condition: None,
+            condition,
             clause,
         })
     }
@@ -218,7 +240,13 @@ impl<N: SolverId + Drop, S: SolverId> Encoding<N, S> {
             return Ok(*gate);
         }
         let gate = self.coding.variable(ProofAtom::Gate(requirement))?;
-        self.state_need(alloc, Stated::Shared { requirement }, gate, requirement)?;
+        self.state_need(
+            alloc,
+            Stated::Shared { requirement },
+            gate,
+            None,
+            requirement,
+        )?;
         self.gates.insert(requirement, gate)?;
         Ok(gate)
     }
@@ -248,22 +276,25 @@ impl<N: SolverId + Drop, S: SolverId> Encoding<N, S> {
         Ok(())
     }
 
-    /// The literals that a parent, or a gate, has not come or that a candidate has.
+    /// The literals that a parent, or a gate, has not come, that a condition doesn't hold, or that a
+    /// candidate has.
     fn literals_of(
         &self,
         alloc: Global,
         variable: VariableId,
+        condition: Option<DisjunctionId>,
         requirement: Requirement,
     ) -> R<Vec<Literal>>
         requires { variable.0 < 2147483648 }
-        ensures literals { IfOk result (λ v. v.items ≡ no variable ∷ candidate_literals (candidates_in self.now.lists requirement)) }
+        ensures literals { IfOk result (λ v. v.items ≡ no variable ∷ (condition_in self.now.lists condition ++ candidate_literals (candidates_in self.now.lists requirement))) }
     {
         let mut literals = Vec::new(alloc);
         literals.push(Literal::new(variable, true))?;
+        if let Some(condition) = self.lists.condition(condition) {
+            literals.extend_from_slice(condition)?;
+        }
         if let Some(candidates) = self.lists.candidates(requirement) {
-            for candidate in candidates {
-                literals.push(candidate.literal)?;
-            }
+            push_candidates(candidates, &mut literals)?;
         }
         Ok(literals)
     }
@@ -301,40 +332,14 @@ impl<N: SolverId + Drop, S: SolverId> Encoding<N, S> {
     }
 }
 
-/// Registers what is offered, and gives it as candidates.
-fn register_all<N: SolverId, S: SolverId>(
-    alloc: Global,
-    registry: &mut Registry<N>,
-    coding: &mut Coding<N, S>,
-    offered: &[Offered<N, S>],
-) -> R<Vec<Candidate<N>>>
-    requires coding { IsCoding coding.old }
-    requires tied { AreTied registry.old coding.old }
-    ensures registered { IfOk result (λ v. RegistersAll offered.now v.items registry.old coding.old registry.new coding.new) }
+/// Puts the literals of candidates behind the others.
+pub(crate) fn push_candidates<N>(candidates: &[Candidate<N>], literals: &mut Vec<Literal>) -> R<()>
+    ensures { OnOk result (literals.new.items ≡ literals.old.items ++ candidate_literals candidates.now) }
 {
-    let mut candidates = Vec::new(alloc);
-    for one in offered {
-        let candidate = register_one(registry, coding, *one)?;
-        candidates.push(candidate)?;
+    for candidate in candidates {
+        literals.push(candidate.literal)?;
     }
-    Ok(candidates)
-}
-
-/// Registers what is offered, and gives it as a candidate.
-fn register_one<N: SolverId, S: SolverId>(
-    registry: &mut Registry<N>,
-    coding: &mut Coding<N, S>,
-    one: Offered<N, S>,
-) -> R<Candidate<N>>
-    requires coding { IsCoding coding.old }
-    requires tied { AreTied registry.old coding.old }
-    ensures registered { IfOk result (λ c. RegistersOne one c registry.old coding.old registry.new coding.new) }
-{
-    let variable = registry.register(coding, one.name, one.solvable)?;
-    Ok(Candidate {
-        literal: Literal::new(variable, false),
-        package: one.name,
-    })
+    Ok(())
 }
 
 /// Puts a value behind the others, unless it stands there.
@@ -342,6 +347,7 @@ pub fn add_key<K: Copy + Eq + Hash + Drop>(keys: &mut IndexSet<K>, key: K) -> R<
     ensures front { OnOk result (IsFrontOf keys.old.keys keys.new.keys) }
     ensures stands { OnOk result (((other : K) → K.eq key other ≡ true → other ≡ key) → Contains keys.new.keys key) }
     ensures only { OnOk result ((other : K) → Contains keys.new.keys other → Contains keys.old.keys other ⊎ (other ≡ key)) }
+    ensures added { OnOk result (keys.new.keys ≡ insert_key K.eq keys.old.keys key) }
 {
     keys.insert(key)?;
     Ok(())

@@ -4,12 +4,5 @@ use Rattle.resolvo_encoding.proofs.encoding.Encoding.fix_candidates.Goals as goa
 
 pub returns : goal.returns
 returns g c = record {
-  fixed = record {
-    queue = refl;
-    gates = refl;
-    noted = refl;
-    parents = refl;
-    encoded = refl;
-    fixed = inr (where_none c.candidates.result _ _ c.candidates.ensures (sym c.if-is_some.ensures), c.in_ok-candidates.candidates, c.in_ok-candidates.ensures.registered, c.in_ok-fix_candidates.ensures.fixed);
-  };
+  fixed = inr (where_none c.candidates.result _ _ c.candidates.ensures (sym c.if-is_some.ensures), c.register.new.self, c.in_ok-candidates.candidates, c.in_ok-candidates.ensures, c.in_ok-fix_candidates.ensures.fixed, refl);
 }

@@ -1,14 +1,13 @@
-use Rattle.std.proofs.Common.{inl, inr, Some, refl, subst}
+use Rattle.std.proofs.Common.{inl, inr, Some, None, refl}
 use Rattle.resolvo_rules.specs.Encoding.{IsExact, Rule}
 use Rattle.resolvo_coding.specs.declared.atom.ProofAtom.TheVariants.{Solvable, Gate}
 use Rattle.resolvo_coding.specs.declared.stated.Stated.TheVariants as Says
 use Rattle.resolvo_encoding.specs.declared.encoding.Encoding.{Encoding}
-use Rattle.resolvo_encoding.specs.Encoded.{rules_of}
 use Rattle.resolvo_encoding.specs.Steps.{SameButCoding, Extends}
 use Rattle.resolvo_coding.proofs.Growth.{stands_grow, rules_grow, stands_in_range}
 use Rattle.resolvo_coding.proofs.Registering.{digits_same, digits_more}
-use Rattle.resolvo_encoding.proofs.Requiring.{extends_then, need_extends, guard_grows}
-use Rattle.resolvo_encoding.proofs.Needing.{need_keeps, gated_keeps, gives_keeps, needed_asks}
+use Rattle.resolvo_encoding.proofs.Requiring.{extends_then, guard_grows}
+use Rattle.resolvo_encoding.proofs.Needing.{needed_keeps, need_extends, gated_keeps, gives_keeps, needed_asks}
 use Rattle.resolvo_encoding.proofs.Building.{built_grows, built_rest, built_states}
 use Rattle.resolvo_encoding.proofs.encoding.Encoding.require_of.Goals as goal
 
@@ -26,18 +25,17 @@ returns-then-count-lt-GATED-clause-encoded g c = λ p root lawful e has guarded 
     let exact : IsExact g.S.PartialEq.eq = record { one = g.met.S.Exact.exact; own = g.met.S.Eq.laws.refl } in
     let middle : Encoding _ _ = record c.args.self.now { coding = c.variable.new.self } in
     let gives = c.in_ok-variable.ensures.given in
-    let rest : SameButCoding c.args.self.now middle = record { registry = refl; lists = refl; queue = refl; gates = refl; noted = refl; parents = refl; encoded = refl } in
+    let rest : SameButCoding c.args.self.now middle = record { registry = refl; lists = refl; queue = refl; gates = refl; noted = refl; parents = refl; encoded = refl; deferred = refl; fired = refl } in
     let kept = gives_keeps g.S.PartialEq.eq exact p root lawful (Solvable c.args.solvable) c.in_ok-variable.variable c.args.self.now middle e gives rest in
-    let needed = c.in_ok-need_directly.ensures.needed in
-    let (stated, rules) = need_keeps g.S.PartialEq.eq exact p root lawful (Says.Needs (Some c.args.solvable) c.args.need needed.case) c.in_ok-variable.variable c.args.need.requirement middle c.need_directly.new.self kept has (guard_grows g.S.PartialEq.eq exact p root c.args.self.now middle c.args.need.requirement gives.grows guarded) (needed.none, refl, gives.stands, needs.listed, needs.free) needed.states in
-    (stated, inl (subst (λ vs. rules_of c.need_directly.new.self (Rule.needs (Some c.args.solvable) c.args.need vs)) needed.none (rules (Rule.needs (Some c.args.solvable) c.args.need needed.case.items) refl)))
+    let (stated, rule) = needed_keeps g.S.PartialEq.eq exact p root lawful (Some c.args.solvable) c.args.need c.in_ok-variable.variable middle c.need_directly.new.self kept has (guard_grows g.S.PartialEq.eq exact p root c.args.self.now middle c.args.need.requirement gives.grows guarded) gives.stands needs c.in_ok-need_directly.ensures.needed in
+    (stated, inl rule)
 
 pub returns-then-count-lt-GATED-clause-kept : goal.returns-then-count-lt-GATED-clause-kept
 returns-then-count-lt-GATED-clause-kept g c =
     let middle : Encoding _ _ = record c.args.self.now { coding = c.variable.new.self } in
-    let first : Extends c.args.self.now middle = record { grows = c.in_ok-variable.ensures.given.grows; parents = refl; encoded = refl } in
+    let first : Extends c.args.self.now middle = record { grows = c.in_ok-variable.ensures.given.grows; parents = refl; encoded = refl; deferred = refl; fired = refl } in
     let needed = c.in_ok-need_directly.ensures.needed in
-    extends_then c.args.self.now middle c.need_directly.new.self first (need_extends (Says.Needs (Some c.args.solvable) c.args.need needed.case) c.in_ok-variable.variable c.args.need.requirement middle c.need_directly.new.self needed.states)
+    extends_then c.args.self.now middle c.need_directly.new.self first (need_extends (Says.Needs (Some c.args.solvable) c.args.need needed.case) c.in_ok-variable.variable None c.args.need.requirement middle c.need_directly.new.self needed.states)
 
 pub gate-requires : goal.gate-requires
 gate-requires g c =
@@ -59,7 +57,7 @@ returns-clause-encoded g c = λ p root lawful e has guarded needs.
     let exact : IsExact g.S.PartialEq.eq = record { one = g.met.S.Exact.exact; own = g.met.S.Eq.laws.refl } in
     let middle : Encoding _ _ = record c.args.self.now { coding = c.variable.new.self } in
     let gives = c.in_ok-variable.ensures.given in
-    let rest : SameButCoding c.args.self.now middle = record { registry = refl; lists = refl; queue = refl; gates = refl; noted = refl; parents = refl; encoded = refl } in
+    let rest : SameButCoding c.args.self.now middle = record { registry = refl; lists = refl; queue = refl; gates = refl; noted = refl; parents = refl; encoded = refl; deferred = refl; fired = refl } in
     let kept = gives_keeps g.S.PartialEq.eq exact p root lawful (Solvable c.args.solvable) c.in_ok-variable.variable c.args.self.now middle e gives rest in
     let (gated, shared) = c.in_ok-gate.ensures.encoded p root lawful kept has (guard_grows g.S.PartialEq.eq exact p root c.args.self.now middle c.args.need.requirement gives.grows guarded)
     (c.args.solvable, needed_asks g.S.PartialEq.eq exact p root lawful c.args.solvable c.args.need needs.listed needs.free) in
@@ -71,9 +69,9 @@ returns-clause-encoded g c = λ p root lawful e has guarded needs.
 pub returns-clause-kept : goal.returns-clause-kept
 returns-clause-kept g c =
     let middle : Encoding _ _ = record c.args.self.now { coding = c.variable.new.self } in
-    let first : Extends c.args.self.now middle = record { grows = c.in_ok-variable.ensures.given.grows; parents = refl; encoded = refl } in
+    let first : Extends c.args.self.now middle = record { grows = c.in_ok-variable.ensures.given.grows; parents = refl; encoded = refl; deferred = refl; fired = refl } in
     let opened = c.in_ok-open_gate.ensures.opened in
-    let last : Extends c.gate.new.self c.open_gate.new.self = record { grows = opened.states.grows; parents = opened.rest.parents; encoded = opened.rest.encoded } in
+    let last : Extends c.gate.new.self c.open_gate.new.self = record { grows = opened.states.grows; parents = opened.rest.parents; encoded = opened.rest.encoded; deferred = opened.rest.deferred; fired = opened.rest.fired } in
     extends_then c.args.self.now middle c.open_gate.new.self first (extends_then middle c.gate.new.self c.open_gate.new.self c.in_ok-gate.ensures.kept last)
 
 pub returns-clause-built : goal.returns-clause-built
@@ -87,5 +85,5 @@ returns-then-count-lt-GATED-clause-built g c =
     let middle : Encoding _ _ = record c.args.self.now { coding = c.variable.new.self } in
     let gives = c.in_ok-variable.ensures.given in
     let needed = c.in_ok-need_directly.ensures.needed in
-    built_states (Says.Needs (Some c.args.solvable) c.args.need needed.case) c.in_ok-variable.variable c.args.need.requirement middle c.need_directly.new.self
+    built_states (Says.Needs (Some c.args.solvable) c.args.need needed.case) c.in_ok-variable.variable None c.args.need.requirement middle c.need_directly.new.self
     (built_grows c.args.self.now middle c.requires gives.coding gives.grows refl refl refl refl refl (digits_same c.args.self.now.coding c.variable.new.self gives.stated)) (λ name s place bit h. absurd cc) needed.states

@@ -5,7 +5,7 @@ use Rattle.resolvo_store.specs.declared.lists.Candidate.{Candidate}
 use Rattle.resolvo_answers.specs.declared.answering.Offered.{Offered}
 use Rattle.resolvo_encoding.specs.Steps.{RegistersAll}
 use Rattle.resolvo_encoding.proofs.Carrying.{registers_none, registers_more}
-use Rattle.resolvo_encoding.proofs.encoding.register_all.Goals as goal
+use Rattle.resolvo_encoding.proofs.registering.register_all.Goals as goal
 
 pub loop-one-init : goal.loop-one-init
 loop-one-init g c = subst (λ (xs : List (Candidate _)). RegistersAll [] xs c.args.registry.now c.args.coding.now c.args.registry.now c.args.coding.now) (sym c.new-candidates.ensures.items)

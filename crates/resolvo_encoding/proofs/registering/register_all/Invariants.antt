@@ -1,6 +1,6 @@
 use Rattle.std.proofs.Common.{take}
 use Rattle.resolvo_encoding.specs.Steps.{RegistersAll}
-use Rattle.resolvo_encoding.proofs.encoding.register_all.Given as goal
+use Rattle.resolvo_encoding.proofs.registering.register_all.Given as goal
 
 -- what was offered so far is registered
 abbrev pub invariant-loop-one : goal.invariant-loop-one

@@ -1,0 +1,82 @@
+//! Solvables are registered, as the candidates of a requirement or since they are outside a case's version set. Where a case names
+//! their package, a clause says first that one of it is there.
+ghost use Rattle.std.specs.Prelude.{◌≡◌, ◌∷◌, [], OnOk, IfOk};
+ghost use Rattle.resolvo_coding.specs.Coding.{IsCoding};
+ghost use Rattle.resolvo_coding.specs.Registered.{AreTied};
+ghost use Rattle.resolvo_encoding.specs.Steps.{RegistersOne, RegistersAll, IsBuilt, Enrols};
+ghost use Rattle.resolvo_encoding.specs.Helped.{SaysThere, Admits};
+
+use crate::encoding::Encoding;
+use resolvo_answers::answering::Offered;
+use resolvo_coding::coding::Coding;
+use resolvo_coding::registry::Registry;
+use resolvo_pool::solver_id::SolverId;
+use resolvo_pool::want::R;
+use resolvo_store::lists::Candidate;
+use resolvo_store::literal::Literal;
+use std::alloc::Global;
+
+impl<N: SolverId + Drop, S: SolverId> Encoding<N, S> {
+    /// Registers what is offered, and gives it as candidates.
+    pub(crate) fn register(
+        &mut self,
+        alloc: Global,
+        offered: &[Offered<N, S>],
+    ) -> R<Vec<Candidate<N>>>
+        requires { IsBuilt self.old }
+        ensures { IfOk result (λ v. Enrols S.eq offered.now v.items self.old self.new) }
+    {
+        self.admit(alloc, offered)?;
+        let given = register_all(alloc, &mut self.registry, &mut self.coding, offered)?;
+        Ok(given)
+    }
+
+    /// States of each of these whose package a case names that one of it is there.
+    fn admit(&mut self, alloc: Global, offered: &[Offered<N, S>]) -> R<()>
+        requires { IsBuilt self.old }
+        ensures { OnOk result (Admits S.eq offered.now self.old self.new) }
+    {
+        for one in offered {
+            if self.noted.helped.contains(&one.name) {
+                self.say_there(alloc, *one)?;
+            }
+        }
+        Ok(())
+    }
+}
+
+/// Registers what is offered, and gives it as candidates.
+fn register_all<N: SolverId, S: SolverId>(
+    alloc: Global,
+    registry: &mut Registry<N>,
+    coding: &mut Coding<N, S>,
+    offered: &[Offered<N, S>],
+) -> R<Vec<Candidate<N>>>
+    requires coding { IsCoding coding.old }
+    requires tied { AreTied registry.old coding.old }
+    ensures registered { IfOk result (λ v. RegistersAll offered.now v.items registry.old coding.old registry.new coding.new) }
+{
+    let mut candidates = Vec::new(alloc);
+    for one in offered {
+        let candidate = register_one(registry, coding, *one)?;
+        candidates.push(candidate)?;
+    }
+    Ok(candidates)
+}
+
+/// Registers what is offered, and gives it as a candidate.
+fn register_one<N: SolverId, S: SolverId>(
+    registry: &mut Registry<N>,
+    coding: &mut Coding<N, S>,
+    one: Offered<N, S>,
+) -> R<Candidate<N>>
+    requires coding { IsCoding coding.old }
+    requires tied { AreTied registry.old coding.old }
+    ensures registered { IfOk result (λ c. RegistersOne one c registry.old coding.old registry.new coding.new) }
+{
+    let variable = registry.register(coding, one.name, one.solvable)?;
+    Ok(Candidate {
+        literal: Literal::new(variable, false),
+        package: one.name,
+    })
+}
