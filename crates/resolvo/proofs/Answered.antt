@@ -5,7 +5,6 @@ use Rattle.resolvo_pool.specs.declared.cache.CacheFault.{CacheFault}
 use Rattle.resolvo_pool.specs.declared.cache.CacheFault.TheVariants as fault
 use Rattle.resolvo_pool.specs.Cached.{IsCancelledBy}
 use Rattle.resolvo_pool.specs.RuleKeeping.{Packages, Rules}
-use Rattle.resolvo_encoding.specs.Encoded.{IsUnconditional}
 use Rattle.resolvo.specs.declared.search.Found.{Found}
 use Rattle.resolvo.specs.declared.search.Found.TheVariants.{Chosen, Clash}
 use Rattle.resolvo.specs.declared.solver.UnsolvableOrCancelled.{UnsolvableOrCancelled}
@@ -13,15 +12,15 @@ use Rattle.resolvo.specs.Solving.{Holds, IsPreferred, AreProved, EndsSo, Counts}
 use Rattle.resolvo.specs.Solver.{Kept, HasNothing, IsAnswer, Prefers, Leaves, AnswersSo, stopped_by}
 
 module _ {N S C : Type 0} (same : S → S → Bool) (p : Packages N S) (root : Rules) where
-  pub found_answers : (may : C → Type 0) (f : Found S) (r : Result (Vec S Global) (UnsolvableOrCancelled C)) → AnswersSo f r → (IsUnconditional same p root → Holds same p root f) → IsAnswer same p root may r
+  pub found_answers : (may : C → Type 0) (f : Found S) (r : Result (Vec S Global) (UnsolvableOrCancelled C)) → AnswersSo f r → (Holds same p root f) → IsAnswer same p root may r
   found_answers may (Chosen v) r is h = subst (λ (x : Result (Vec S Global) (UnsolvableOrCancelled C)). IsAnswer same p root may x) (sym is) h
   found_answers may (Clash q) r is h = subst (λ (x : Result (Vec S Global) (UnsolvableOrCancelled C)). IsAnswer same p root may x) (sym is) h
 
-  pub found_prefers : (orders : Requirement → List S → Type 0) (f : Found S) (r : Result (Vec S Global) (UnsolvableOrCancelled C)) → AnswersSo f r → (IsUnconditional same p root → IsPreferred same p orders root f) → Prefers same p root orders r
+  pub found_prefers : (orders : Requirement → List S → Type 0) (f : Found S) (r : Result (Vec S Global) (UnsolvableOrCancelled C)) → AnswersSo f r → (IsPreferred same p orders root f) → Prefers same p root orders r
   found_prefers orders (Chosen v) r is h = subst (λ (x : Result (Vec S Global) (UnsolvableOrCancelled C)). Prefers same p root orders x) (sym is) h
   found_prefers orders (Clash q) r is h = subst (λ (x : Result (Vec S Global) (UnsolvableOrCancelled C)). Prefers same p root orders x) (sym is) tt
 
-  pub found_leaves : {P : Type 0} (f : Found S) (r : Result (Vec S Global) (UnsolvableOrCancelled C)) (k : Kept P N S) → AnswersSo f r → Counts f k.clause_count (length k.proof) → EndsSo f k.proof → (IsUnconditional same p root → AreProved same p root k.proof) → Leaves same p root r k
+  pub found_leaves : {P : Type 0} (f : Found S) (r : Result (Vec S Global) (UnsolvableOrCancelled C)) (k : Kept P N S) → AnswersSo f r → Counts f k.clause_count (length k.proof) → EndsSo f k.proof → (AreProved same p root k.proof) → Leaves same p root r k
   found_leaves (Chosen v) r k is counts ends h = subst (λ (x : Result (Vec S Global) (UnsolvableOrCancelled C)). Leaves same p root x k) (sym is) (counts, h)
   found_leaves (Clash q) r k is counts ends h = subst (λ (x : Result (Vec S Global) (UnsolvableOrCancelled C)). Leaves same p root x k) (sym is) (counts, ends, h)
 

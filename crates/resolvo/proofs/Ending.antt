@@ -1,5 +1,5 @@
 -- The end of a turn, and what it tells.
-use Rattle.std.proofs.Common.{◌≡◌, ℕ, ◌<◌, ◌≤◌, inl, inr, true, false, List, [], ◌∷◌, ◌++◌, length, Option, Some, None, refl, sym, ◌∙◌, ap, subst, arith}
+use Rattle.std.proofs.Common.{◌≡◌, ℕ, ◌<◌, ◌≤◌, inl, inr, Bool, true, false, nat_lt, cond, lt-ltb, le-ltb, List, [], ◌∷◌, ◌++◌, length, Option, Some, None, refl, sym, ◌∙◌, ap, subst, arith}
 use Rattle.std.specs.Prelude.{slice_get, Contains, is_some}
 use Rattle.std.proofs.lemmas.Bool.{false≢true}
 use Rattle.std.proofs.lemmas.Option.{slice_get_within}
@@ -11,13 +11,13 @@ use Rattle.resolvo_coding.proofs.Growth.{below_or_not}
 use Rattle.resolvo_coding.proofs.Positions.{contains_get, front_get, front_long, get_below}
 use Rattle.resolvo_encoding.specs.declared.encoding.Encoding.{Encoding}
 use Rattle.resolvo_encoding.specs.Steps.{AddsParent}
+use Rattle.resolvo_encoding.specs.Casing.{AreSpent}
 use Rattle.resolvo_encoding.specs.Going.{IsSettled, GoesOn}
 use Rattle.resolvo_store.specs.AtMostOne.{IsFrontOf}
 use Rattle.resolvo_rules.proofs.Lists.{contains_one, contains_left, contains_parts}
 use Rattle.resolvo_coding.specs.declared.coding.Coding.{Coding}
 use Rattle.resolvo.specs.Encoder.{AddsParents, AddsAll}
-use Rattle.resolvo.specs.declared.turn.Round.TheVariants as Round
-use Rattle.resolvo.specs.Turn.{AddsChosen, IsNextRound, IsRound, IsTurn, IsWhole}
+use Rattle.resolvo.specs.Turn.{AddsChosen, FiresMore, GoesFurther, IsRooted, IsTurn, IsWhole, rounds_left}
 use Rattle.resolvo.proofs.Adding.{all_then, goes_parents, needs_parents, parents_needs, parents_coding, parents_encoded}
 
 -- nothing stands from the end on
@@ -78,28 +78,69 @@ some_is : {X : Type 0} (o : Option X) → is_some o ≡ true → (x : X) × (o �
 some_is None h = absurd (false≢true h)
 some_is (Some x) h = (x, refl)
 
-module _ {N S : Type 0} (a b c : Encoding N S) (next : IsNextRound a) (all : AddsAll a b) (chosen : AddsChosen b c) where
+-- the root still is the first parent
+pub still_rooted : {N S : Type 0} (a b : Encoding N S) → IsRooted a → AddsParents a b → IsRooted b
+still_rooted a b rooted adds = front_get a.parents.keys b.parents.keys 0 Place.Root adds.parents rooted
+
+module _ {N S : Type 0} (same : S → S → Bool) (a b c : Encoding N S) (first : IsRooted a) (all : AddsAll a b) (chosen : AddsChosen b c) where
   pub round_adds : AddsParents a c
   round_adds = all_then a b c all.adds (needs_parents b c (parents_needs b c chosen.added))
 
   -- the root is the first parent
-  rooted : slice_get c.parents.keys 0 ≡ Some Place.Root
-  rooted = front_get a.parents.keys c.parents.keys 0 Place.Root round_adds.parents next.rooted
+  pub round_rooted : IsRooted c
+  round_rooted = still_rooted a c first round_adds
 
-  -- where nothing waits, the turn has ended
-  pub round_whole : IsSettled b → is_some (slice_get c.parents.keys c.encoded) ≡ false → IsTurn c None
-  round_whole settled none = (settled_parents b c chosen.added settled, turn_whole b c chosen rooted (none_is (slice_get c.parents.keys c.encoded) none))
+  -- where nothing waits and no case holds, the turn has ended
+  pub round_whole : IsSettled b → is_some (slice_get c.parents.keys c.encoded) ≡ false → AreSpent same c → IsTurn same c None
+  round_whole settled none spent = (settled_parents b c chosen.added settled, turn_whole b c chosen round_rooted (none_is (slice_get c.parents.keys c.encoded) none), spent)
 
-  -- where a parent waits, the next round has one
-  pub round_goes : is_some (slice_get c.parents.keys c.encoded) ≡ true → c.encoded < 18446744073709551616 → IsRound a c Round.Goes
+  -- where a parent waits, the turn goes further
+  pub round_goes : is_some (slice_get c.parents.keys c.encoded) ≡ true → c.encoded < 18446744073709551616 → GoesFurther a c
   round_goes some small =
       let (x, at) = some_is (slice_get c.parents.keys c.encoded) some in
-      let low : a.encoded < length a.parents.keys = next.waiting in
+      let waits : c.encoded < length c.parents.keys = slice_get_within c.parents.keys c.encoded x at in
       let long : length a.parents.keys ≤ length b.parents.keys = front_long a.parents.keys b.parents.keys all.adds.parents in
       let whole : b.encoded ≡ length b.parents.keys = all.all in
       let stays : c.encoded ≡ b.encoded = parents_encoded b c chosen.added in
-      (omega arith, small, slice_get_within c.parents.keys c.encoded x at)
+      elim (below_or_not a.encoded (length a.parents.keys)) [
+        | inl below ↦ inl (omega arith, small)
+        | inr past ↦ inr (inr (past, waits))
+      ]
 
--- the next round after one
-pub next_round : {N S : Type 0} (a b : Encoding N S) → IsNextRound a → AddsParents a b → b.encoded < length b.parents.keys → IsNextRound b
-next_round a b next adds waiting = record { rooted = front_get a.parents.keys b.parents.keys 0 Place.Root adds.parents next.rooted; waiting = waiting }
+-- so it does where cases became clauses
+pub fires_goes : {N S : Type 0} (a b c : Encoding N S) → AddsParents a b → FiresMore b c → GoesFurther a c
+fires_goes a b c adds fires =
+    let long : length a.fired.keys ≤ length b.fired.keys = front_long a.fired.keys b.fired.keys adds.fired in
+    let more : length b.fired.keys < length c.fired.keys = fires.more in
+    inr (inl (record { more = omega arith; bounded = fires.bounded }))
+
+one_at_most : (b : Bool) → cond b 0 1 ≤ 1
+one_at_most true = omega arith
+one_at_most false = omega arith
+
+none_left : (b : Bool) → b ≡ true → cond b 0 1 ≤ 0
+none_left true h = omega arith
+none_left false h = absurd (false≢true h)
+
+one_left : (b : Bool) → b ≡ false → 1 ≤ cond b 0 1
+one_left true h = absurd (false≢true (sym h))
+one_left false h = omega arith
+
+-- where the turn goes further, fewer rounds are left
+pub fewer_left : {N S : Type 0} (a b : Encoding N S) → AddsParents a b → GoesFurther a b → rounds_left b < rounds_left a
+fewer_left a b adds goes =
+    let long : length a.fired.keys ≤ length b.fired.keys = front_long a.fired.keys b.fired.keys adds.fired in
+    let far : a.encoded ≤ b.encoded = adds.encoded in
+    let one : cond (nat_lt b.encoded (length b.parents.keys)) 0 1 ≤ 1 = one_at_most (nat_lt b.encoded (length b.parents.keys)) in
+    elim goes [
+      | inl (more, small) ↦ (let x : a.encoded < b.encoded = more in let y : b.encoded < 18446744073709551616 = small in omega arith)
+      | inr (inl fires) ↦ (let x : length a.fired.keys < length b.fired.keys = fires.more in let y : length b.fired.keys < 18446744073709551616 = fires.bounded in omega arith)
+      | inr (inr (none, waits)) ↦ (
+          let x : cond (nat_lt b.encoded (length b.parents.keys)) 0 1 ≤ 0 = none_left (nat_lt b.encoded (length b.parents.keys)) (lt-ltb b.encoded (length b.parents.keys) waits) in
+          let y : 1 ≤ cond (nat_lt a.encoded (length a.parents.keys)) 0 1 = one_left (nat_lt a.encoded (length a.parents.keys)) (le-ltb a.encoded (length a.parents.keys) none) in
+          omega arith)
+    ]
+
+-- a turn that has ended where nothing changed since
+pub turn_same : {N S : Type 0} (same : S → S → Bool) (c d : Encoding N S) → d ≡ c → AreSpent same d → (AreSpent same c → IsTurn same c None) → IsTurn same d None
+turn_same {N} {S} same c d is spent ends = subst (λ (x : Encoding N S). IsTurn same x None) (sym is) (ends (subst (λ (x : Encoding N S). AreSpent same x) is spent))

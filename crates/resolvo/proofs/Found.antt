@@ -1,5 +1,5 @@
 -- What a search found is true.
-use Rattle.std.proofs.Common.{◌≡◌, Bool, List, length, Option, Some, None, refl, sym, ap, subst, arith}
+use Rattle.std.proofs.Common.{◌≡◌, Bool, List, Option, Some, None, refl, sym, ap, subst}
 use Rattle.std.specs.Prelude.{slice_get, is_some}
 use Rattle.std.proofs.lemmas.Bool.{both_ways}
 use Rattle.resolvo_pool.specs.declared.requirement.Requirement.{Requirement}
@@ -12,21 +12,18 @@ use Rattle.resolvo_rules.specs.Encoding.{IsExact}
 use Rattle.resolvo_coding.specs.Coding.{IsCoding}
 use Rattle.resolvo_proof.specs.Proof.{DenyRoot}
 use Rattle.resolvo_encoding.specs.declared.encoding.Encoding.{Encoding}
-use Rattle.resolvo_encoding.specs.Encoded.{IsEncoding, IsUnconditional}
+use Rattle.resolvo_encoding.specs.Encoded.{IsEncoding}
 use Rattle.resolvo_encoding.specs.Steps.{IsBegunEncoding}
 use Rattle.resolvo_encoding.proofs.Turning.{turn_keeps, turn_preferred, refused, root_denied}
 use Rattle.resolvo.specs.declared.search.Found.{Found}
 use Rattle.resolvo.specs.declared.search.Found.TheVariants.{Chosen, Clash}
-use Rattle.resolvo.specs.Turn.{IsNextRound, IsTurn}
+use Rattle.resolvo.specs.Turn.{IsRooted, IsTurn}
 use Rattle.resolvo.specs.Encoder.{IsInOrder}
 use Rattle.resolvo.specs.Solving.{IsFoundBy, IsFound, IsPreferred, IsDenial}
 
--- the root is to be encoded first
-pub begun_next : {N S : Type 0} (e : Encoding N S) → IsBegunEncoding e → IsNextRound e
-begun_next {N} {S} e begun = record {
-  rooted = subst (λ (ks : List (SolvableIdOrRoot S)). slice_get ks 0 ≡ Some Root) (sym begun.parents) refl;
-  waiting = (let long : length e.parents.keys ≡ 1 = ap length begun.parents in let none : e.encoded ≡ 0 = begun.encoded in omega arith);
-}
+-- the root is the first parent
+pub begun_rooted : {N S : Type 0} (e : Encoding N S) → IsBegunEncoding e → IsRooted e
+begun_rooted {N} {S} e begun = subst (λ (ks : List (SolvableIdOrRoot S)). slice_get ks 0 ≡ Some Root) (sym begun.parents) refl
 
 -- nothing is kept yet that could be out of order
 pub begun_in_order : {N S : Type 0} (same : S → S → Bool) (p : Packages N S) (orders : Requirement → List S → Type 0) (root : Rules) (e : Encoding N S) → IsBegunEncoding e → IsEncoding same p root e → IsInOrder same p orders root e
@@ -34,15 +31,15 @@ begun_in_order same p orders root e begun holds = record { encoding = holds; ord
 
 module _ {N S : Type 0} (same_name : N → N → Bool) (names : IsExact same_name) (same : S → S → Bool) (exact : IsExact same) (p : Packages N S) (orders : Requirement → List S → Type 0) (root : Rules) (lawful : IsLawful p) (e : Encoding N S) where
   -- what the end of the root's turn tells
-  pub turn_found : IsInOrder same p orders root e → IsUnconditional same p root → e.coding.search.floor ≡ 1 → (turn : Option Refusal) → IsTurn e turn → (f : Found S) → IsFoundBy e turn f → IsFound same p root e f × IsPreferred same p orders root f
-  turn_found holds plain first None (settled, whole) (Chosen v) chosen =
-      let (keeping, reached, inside) = turn_keeps same exact p root lawful e same_name names holds.encoding plain settled.values settled.score settled.agree settled.quiet settled.decided v.items chosen (whole v.items chosen) in (
+  pub turn_found : IsInOrder same p orders root e → e.coding.search.floor ≡ 1 → (turn : Option Refusal) → IsTurn same e turn → (f : Found S) → IsFoundBy e turn f → IsFound same p root e f × IsPreferred same p orders root f
+  turn_found holds first None (settled, whole, spent) (Chosen v) chosen =
+      let (keeping, reached, inside) = turn_keeps same exact p root lawful e same_name names holds.encoding spent settled.values settled.score settled.agree settled.quiet settled.decided v.items chosen (whole v.items chosen) in (
         record { keeping = keeping; reached = reached; inside = inside },
-        turn_preferred same exact p root lawful e same_name names holds.encoding plain orders holds.ordered settled.values settled.score settled.agree settled.quiet settled.decided v.items chosen (whole v.items chosen),
+        turn_preferred same exact p root lawful e same_name names holds.encoding spent orders holds.ordered settled.values settled.score settled.agree settled.quiet settled.decided v.items chosen (whole v.items chosen),
       )
-  turn_found holds plain first None ended (Clash q) h = absurd h
-  turn_found holds plain first (Some r) refusal (Chosen v) h = absurd h
-  turn_found holds plain first (Some r) refusal (Clash q) is = (
+  turn_found holds first None ended (Clash q) h = absurd h
+  turn_found holds first (Some r) refusal (Chosen v) h = absurd h
+  turn_found holds first (Some r) refusal (Clash q) is = (
     (
       λ chosen keeping. refused same exact p root lawful e same_name names holds.encoding first r.literals.items r.causes.items refusal chosen keeping,
       subst (λ (x : Refusal). IsRefusal e.coding.search x.literals.items x.causes.items) (sym is) refusal,
@@ -51,9 +48,9 @@ module _ {N S : Type 0} (same_name : N → N → Bool) (names : IsExact same_nam
   )
 
 -- a clash of the root's turn denies the root alone
-pub turn_denial : {N S : Type 0} (e : Encoding N S) → IsCoding e.coding → e.coding.search.floor ≡ 1 → (turn : Option Refusal) → IsTurn e turn → (f : Found S) → IsFoundBy e turn f → IsDenial e.coding f
-turn_denial e coding first None ended (Chosen v) h = tt
-turn_denial e coding first None ended (Clash q) h = absurd h
-turn_denial e coding first (Some r) refusal (Chosen v) h = absurd h
-turn_denial e coding first (Some r) refusal (Clash q) is =
+pub turn_denial : {N S : Type 0} (same : S → S → Bool) (e : Encoding N S) → IsCoding e.coding → e.coding.search.floor ≡ 1 → (turn : Option Refusal) → IsTurn same e turn → (f : Found S) → IsFoundBy e turn f → IsDenial e.coding f
+turn_denial same e coding first None ended (Chosen v) h = tt
+turn_denial same e coding first None ended (Clash q) h = absurd h
+turn_denial same e coding first (Some r) refusal (Chosen v) h = absurd h
+turn_denial same e coding first (Some r) refusal (Clash q) is =
     subst (λ (x : Refusal). IsRefusal e.coding.search x.literals.items x.causes.items × DenyRoot x.literals.items) (sym is) (refusal, root_denied e coding first r.literals.items r.causes.items refusal)

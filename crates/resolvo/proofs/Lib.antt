@@ -3,3 +3,5 @@ pub mod Ending
 pub mod Found
 pub mod Solved
 pub mod Answered
+pub mod CaseStated
+pub mod Passing

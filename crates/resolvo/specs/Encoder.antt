@@ -1,5 +1,5 @@
 -- How the encoding of parents goes on.
-use Rattle.std.specs.Prelude.{◌≡◌, ◌≤◌, Bool, false, List, length, Option, Some}
+use Rattle.std.specs.Prelude.{◌≡◌, ◌≤◌, Bool, false, List, length, Option, Some, Contains}
 use Rattle.resolvo_pool.specs.declared.id.VersionSetId.{VersionSetId}
 use Rattle.resolvo_pool.specs.declared.requirement.ConditionalRequirement.{ConditionalRequirement}
 use Rattle.resolvo_pool.specs.declared.requirement.Requirement.{Requirement}
@@ -7,7 +7,9 @@ use Rattle.resolvo_pool.specs.RuleKeeping.{Packages, Rules, rules_for, is_unknow
 use Rattle.resolvo_store.specs.AtMostOne.{IsFrontOf}
 use Rattle.resolvo_coding.specs.Coding.{Grows}
 use Rattle.resolvo_encoding.specs.declared.encoding.Encoding.{Encoding}
-use Rattle.resolvo_encoding.specs.Encoded.{AreOrdered, IsEncoding}
+use Rattle.resolvo_encoding.specs.Casing.{IsDeferred}
+use Rattle.resolvo_encoding.specs.Encoded.{AreOrdered, IsCaseEncoded, IsEncoding}
+use Rattle.resolvo_rules.specs.Encoding.{cases_for}
 
 -- the root has these requirements and constraints
 abbrev pub IsRoot : List ConditionalRequirement → List VersionSetId → Rules → Type 0
@@ -24,17 +26,29 @@ pub record IsInOrder {N S : Type 0} (same : S → S → Bool) (p : Packages N S)
   pub encoding : IsEncoding same p root e
   pub ordered : AreOrdered orders e
 
--- clauses, what they state, and parents came behind the others; no parent more is encoded
+-- each of these cases of the parent's need waits, or did
+abbrev pub AreDeferred : {N S : Type 0} → Encoding N S → Option S → ConditionalRequirement → List (List VersionSetId) → Type 0
+AreDeferred {N} {S} e parent need cases = (case : List VersionSetId) → Contains cases case → IsDeferred e parent need case
+
+-- each case of the parent's need is a clause, or waits
+abbrev pub IsConditionalEncoded : {N S : Type 0} → (S → S → Bool) → Packages N S → Encoding N S → Option S → ConditionalRequirement → Type 0
+IsConditionalEncoded {N} {S} same p e parent need = (case : List VersionSetId) → Contains (cases_for same p need) case → IsCaseEncoded same p e parent need case
+
+-- clauses, what they state, parents, and cases that wait or fired came behind the others; no parent more is encoded
 pub record AddsNeeds {N S : Type 0} (old new : Encoding N S) : Type 0 where
   pub grows : Grows old.coding new.coding
   pub parents : IsFrontOf old.parents.keys new.parents.keys
   pub encoded : new.encoded ≡ old.encoded
+  pub deferred : IsFrontOf old.deferred.items new.deferred.items
+  pub fired : IsFrontOf old.fired.keys new.fired.keys
 
 -- the same, and parents more may be encoded
 pub record AddsParents {N S : Type 0} (old new : Encoding N S) : Type 0 where
   pub grows : Grows old.coding new.coding
   pub parents : IsFrontOf old.parents.keys new.parents.keys
   pub encoded : old.encoded ≤ new.encoded
+  pub deferred : IsFrontOf old.deferred.items new.deferred.items
+  pub fired : IsFrontOf old.fired.keys new.fired.keys
 
 -- the same, and all parents are encoded
 pub record AddsAll {N S : Type 0} (old new : Encoding N S) : Type 0 where

@@ -1,5 +1,5 @@
 -- What a turn comes to.
-use Rattle.std.specs.Prelude.{◌≡◌, ◌<◌, List, length, Option, Some, None, Contains, slice_get}
+use Rattle.std.specs.Prelude.{◌≡◌, ℕ, ◌<◌, ◌≤◌, ◌+◌, ◌-◌, ◌*◌, nat_lt, cond, ◌⊎◌, Bool, List, length, Option, Some, None, Contains, slice_get}
 use Rattle.resolvo_pool.specs.declared.solver_id.SolvableIdOrRoot.TheVariants.{Root, Solvable}
 use Rattle.resolvo.specs.declared.turn.Round.{Round}
 use Rattle.resolvo.specs.declared.turn.Round.TheVariants.{Goes, Whole, Refused}
@@ -8,6 +8,7 @@ use Rattle.resolvo_search.specs.Analysis.{IsRefusal}
 use Rattle.resolvo_search.specs.Entries.{made_true}
 use Rattle.resolvo_search.specs.State.{history}
 use Rattle.resolvo_coding.specs.Chosen.{AreChosen}
+use Rattle.resolvo_encoding.specs.Casing.{AreSpent}
 use Rattle.resolvo_encoding.specs.Turning.{AreAmongEncoded}
 use Rattle.resolvo_encoding.specs.Going.{IsSettled}
 use Rattle.resolvo_encoding.specs.Steps.{AddsParent}
@@ -17,23 +18,40 @@ use Rattle.resolvo_encoding.specs.declared.encoding.Encoding.{Encoding}
 abbrev pub IsWhole : {N S : Type 0} → Encoding N S → Type 0
 IsWhole {N} {S} e = (members : List S) → AreChosen e.coding.atoms.keys (made_true (history e.coding.search)) members → AreAmongEncoded e members
 
--- nothing is left to set, to choose or to encode; or choices can't stand together
-abbrev pub IsTurn : {N S : Type 0} → Encoding N S → Option Refusal → Type 0
-IsTurn e None = IsSettled e × IsWhole e
-IsTurn e (Some r) = IsRefusal e.coding.search r.literals.items r.causes.items
+-- nothing is left to set, to choose or to encode, and no case that waits holds; or choices can't stand together
+abbrev pub IsTurn : {N S : Type 0} → (S → S → Bool) → Encoding N S → Option Refusal → Type 0
+IsTurn same e None = IsSettled e × IsWhole e × AreSpent same e
+IsTurn same e (Some r) = IsRefusal e.coding.search r.literals.items r.causes.items
 
 -- the chosen solvables are among the parents
 pub record AddsChosen {N S : Type 0} (old new : Encoding N S) : Type 0 where
   pub added : AddsParent old new
   pub chosen : (members : List S) → AreChosen new.coding.atoms.keys (made_true (history new.coding.search)) members → (s : S) → Contains members s → Contains new.parents.keys (Solvable s)
 
--- The root is the first parent, and a parent is to be encoded next.
-pub record IsNextRound {N S : Type 0} (e : Encoding N S) : Type 0 where
-  pub rooted : slice_get e.parents.keys 0 ≡ Some Root
-  pub waiting : e.encoded < length e.parents.keys
+-- the root is the first parent
+abbrev pub IsRooted : {N S : Type 0} → Encoding N S → Type 0
+IsRooted e = slice_get e.parents.keys 0 ≡ Some Root
 
--- what a round came to: parents more are encoded and others wait, or the turn has ended
-abbrev pub IsRound : {N S : Type 0} → Encoding N S → Encoding N S → Round → Type 0
-IsRound old new Goes = (old.encoded < new.encoded) × (new.encoded < 18446744073709551616) × (new.encoded < length new.parents.keys)
-IsRound old new Whole = IsTurn new None
-IsRound old new (Refused r) = IsTurn new (Some r)
+-- cases more became clauses
+pub record FiresMore {N S : Type 0} (old new : Encoding N S) : Type 0 where
+  pub more : length old.fired.keys < length new.fired.keys
+  pub bounded : length new.fired.keys < 18446744073709551616
+
+-- a parent waits to be encoded
+abbrev pub IsWaiting : {N S : Type 0} → Encoding N S → Type 0
+IsWaiting e = e.encoded < length e.parents.keys
+
+-- Parents more are encoded, cases more became clauses, or a parent waits where none did.
+abbrev pub GoesFurther : {N S : Type 0} → Encoding N S → Encoding N S → Type 0
+GoesFurther old new = ((old.encoded < new.encoded) × (new.encoded < 18446744073709551616)) ⊎ (FiresMore old new ⊎ ((length old.parents.keys ≤ old.encoded) × IsWaiting new))
+
+-- how often a turn may go further: by each parent that may be encoded, by each case that may become a clause, and once where no
+-- parent waits
+abbrev pub rounds_left : {N S : Type 0} → Encoding N S → ℕ
+rounds_left e = 2 * (18446744073709551616 - e.encoded) + 2 * (18446744073709551616 - length e.fired.keys) + cond (nat_lt e.encoded (length e.parents.keys)) 0 1
+
+-- what a round came to: it went further, or the turn has ended
+abbrev pub IsRound : {N S : Type 0} → (S → S → Bool) → Encoding N S → Encoding N S → Round → Type 0
+IsRound same old new Goes = GoesFurther old new
+IsRound same old new Whole = IsTurn same new None
+IsRound same old new (Refused r) = IsTurn same new (Some r)

@@ -8,10 +8,11 @@ ghost use Rattle.resolvo_pool.specs.declared.requirement.ConditionalRequirement.
 ghost use Rattle.resolvo_pool.specs.declared.requirement.Requirement.TheVariants.{Single};
 ghost use Rattle.resolvo_rules.specs.Encoding.{Rule, IsBarredIn};
 ghost use Rattle.resolvo_rules.specs.Ending.{IsNeedEncoded};
-ghost use Rattle.resolvo_encoding.specs.Encoded.{IsUnconditional, IsGuarded, IsLimitEncoded, IsParentEncoded, rules_of};
+ghost use Rattle.resolvo_encoding.specs.Encoded.{IsGuarded, IsLimitEncoded, IsParentEncoded, rules_of};
 ghost use Rattle.resolvo_encoding.specs.Steps.{IsBuilt, Needs, AddsParent};
-ghost use Rattle.resolvo.specs.Encoder.{IsRoot, AreRulesOf, IsInOrder, AddsNeeds, AddsAll};
+ghost use Rattle.resolvo.specs.Encoder.{IsRoot, AreRulesOf, IsInOrder, AddsNeeds, AddsAll, IsConditionalEncoded};
 
+use crate::deferring::defer_need;
 use resolvo_answers::answering::{Answering, Offered};
 use resolvo_encoding::encoding::Encoding;
 use resolvo_pool::cache::CacheFault;
@@ -23,7 +24,7 @@ use resolvo_pool::want::R;
 use std::alloc::Global;
 
 /// Lets those candidates be encoded in their turn whose dependencies are at hand.
-fn add_available<A: Answering>(
+pub fn add_available<A: Answering>(
     answers: &A,
     encoding: &mut Encoding<A::NameId, A::SolvableId>,
     offered: &[Offered<A::NameId, A::SolvableId>],
@@ -49,6 +50,7 @@ fn bar_package<A: Answering>(
     ensures same { answers.new ≡ answers.old }
     ensures encoded { OnOk result ((root : Rules) → IsInOrder A.SolvableId.eq (A.packages answers.old) (A.orders answers.old) root encoding.old → IsInOrder A.SolvableId.eq (A.packages answers.old) (A.orders answers.old) root encoding.new × ((s : A.SolvableId) → IsBarredIn A.SolvableId.eq (A.packages answers.old) name s → rules_of encoding.new (Rule.bars s))) }
     ensures kept { OnOk result (AddsNeeds encoding.old encoding.new) }
+    ensures fired { OnOk result (encoding.new.fired ≡ encoding.old.fired) }
     ensures built { OnOk result (IsBuilt encoding.new) }
     ensures cancelled { IfErr result (IsCancelledBy (A.may_cancel answers.old)) }
 {
@@ -71,6 +73,7 @@ fn bar_packages<A: Answering>(
     ensures same { answers.new ≡ answers.old }
     ensures encoded { OnOk result ((root : Rules) → IsInOrder A.SolvableId.eq (A.packages answers.old) (A.orders answers.old) root encoding.old → IsInOrder A.SolvableId.eq (A.packages answers.old) (A.orders answers.old) root encoding.new × ((name : A.NameId) (s : A.SolvableId) → Contains names.now name → IsBarredIn A.SolvableId.eq (A.packages answers.old) name s → rules_of encoding.new (Rule.bars s))) }
     ensures kept { OnOk result (AddsNeeds encoding.old encoding.new) }
+    ensures fired { OnOk result (encoding.new.fired ≡ encoding.old.fired) }
     ensures built { OnOk result (IsBuilt encoding.new) }
     ensures cancelled { IfErr result (IsCancelledBy (A.may_cancel answers.old)) }
 {
@@ -81,7 +84,7 @@ fn bar_packages<A: Answering>(
 }
 
 /// States what locks and exclusions keep out of the packages of a requirement.
-fn guard<A: Answering>(
+pub fn guard<A: Answering>(
     alloc: Global,
     answers: &mut A,
     encoding: &mut Encoding<A::NameId, A::SolvableId>,
@@ -91,6 +94,7 @@ fn guard<A: Answering>(
     ensures same { answers.new ≡ answers.old }
     ensures encoded { OnOk result ((root : Rules) → IsInOrder A.SolvableId.eq (A.packages answers.old) (A.orders answers.old) root encoding.old → IsInOrder A.SolvableId.eq (A.packages answers.old) (A.orders answers.old) root encoding.new × IsGuarded A.SolvableId.eq (A.packages answers.old) (rules_of encoding.new) requirement) }
     ensures kept { OnOk result (AddsNeeds encoding.old encoding.new) }
+    ensures fired { OnOk result (encoding.new.fired ≡ encoding.old.fired) }
     ensures built { OnOk result (IsBuilt encoding.new) }
     ensures cancelled { IfErr result (IsCancelledBy (A.may_cancel answers.old)) }
 {
@@ -120,8 +124,8 @@ fn require<A: Answering>(
     Ok(())
 }
 
-/// States that a parent needs one of the candidates of a requirement, and what bars them.
-fn encode_need<A: Answering>(
+/// States that a parent needs one of the candidates of a requirement without a condition, and what bars them.
+fn encode_plain_need<A: Answering>(
     alloc: Global,
     answers: &mut A,
     encoding: &mut Encoding<A::NameId, A::SolvableId>,
@@ -140,6 +144,33 @@ fn encode_need<A: Answering>(
     Ok(())
 }
 
+/// States what a parent needs of a requirement, or lets it wait where it has a condition.
+fn encode_need<A: Answering>(
+    alloc: Global,
+    answers: &mut A,
+    encoding: &mut Encoding<A::NameId, A::SolvableId>,
+    parent: Option<A::SolvableId>,
+    need: ConditionalRequirement,
+) -> Result<(), CacheFault<A::Cancel>>
+    requires { IsBuilt encoding.old }
+    ensures same { answers.new ≡ answers.old }
+    ensures encoded { OnOk result ((root : Rules) → IsInOrder A.SolvableId.eq (A.packages answers.old) (A.orders answers.old) root encoding.old → Contains (rules_for A.SolvableId.eq (A.packages answers.old) root parent).requirements need → IsInOrder A.SolvableId.eq (A.packages answers.old) (A.orders answers.old) root encoding.new × IsConditionalEncoded A.SolvableId.eq (A.packages answers.old) encoding.new parent need) }
+    ensures kept { OnOk result (AddsNeeds encoding.old encoding.new) }
+    ensures built { OnOk result (IsBuilt encoding.new) }
+    ensures cancelled { IfErr result (IsCancelledBy (A.may_cancel answers.old)) }
+{
+    match need.condition {
+        None => {
+            encode_plain_need(alloc, answers, encoding, parent, need)?;
+            Ok(())
+        }
+        Some(condition) => {
+            defer_need(alloc, answers, encoding, parent, need, condition)?;
+            Ok(())
+        }
+    }
+}
+
 /// States what a parent needs.
 fn encode_needs<A: Answering>(
     alloc: Global,
@@ -150,7 +181,7 @@ fn encode_needs<A: Answering>(
 ) -> Result<(), CacheFault<A::Cancel>>
     requires { IsBuilt encoding.old }
     ensures same { answers.new ≡ answers.old }
-    ensures encoded { OnOk result ((root : Rules) → IsInOrder A.SolvableId.eq (A.packages answers.old) (A.orders answers.old) root encoding.old → ((need : ConditionalRequirement) → Contains needs.now need → Needs A.SolvableId.eq (A.packages answers.old) root parent need) → IsInOrder A.SolvableId.eq (A.packages answers.old) (A.orders answers.old) root encoding.new × ((need : ConditionalRequirement) → Contains needs.now need → IsNeedEncoded A.SolvableId.eq (A.packages answers.old) (rules_of encoding.new) parent need [])) }
+    ensures encoded { OnOk result ((root : Rules) → IsInOrder A.SolvableId.eq (A.packages answers.old) (A.orders answers.old) root encoding.old → ((need : ConditionalRequirement) → Contains needs.now need → Contains (rules_for A.SolvableId.eq (A.packages answers.old) root parent).requirements need) → IsInOrder A.SolvableId.eq (A.packages answers.old) (A.orders answers.old) root encoding.new × ((need : ConditionalRequirement) → Contains needs.now need → IsConditionalEncoded A.SolvableId.eq (A.packages answers.old) encoding.new parent need)) }
     ensures kept { OnOk result (AddsNeeds encoding.old encoding.new) }
     ensures built { OnOk result (IsBuilt encoding.new) }
     ensures cancelled { IfErr result (IsCancelledBy (A.may_cancel answers.old)) }
@@ -233,7 +264,7 @@ fn encode_rules<A: Answering>(
 ) -> Result<(), CacheFault<A::Cancel>>
     requires { IsBuilt encoding.old }
     ensures same { answers.new ≡ answers.old }
-    ensures encoded { OnOk result ((root : Rules) → AreRulesOf A.SolvableId.eq (A.packages answers.old) root parent requirements.now constraints.now → IsUnconditional A.SolvableId.eq (A.packages answers.old) root → IsInOrder A.SolvableId.eq (A.packages answers.old) (A.orders answers.old) root encoding.old → IsInOrder A.SolvableId.eq (A.packages answers.old) (A.orders answers.old) root encoding.new × IsParentEncoded A.SolvableId.eq (A.packages answers.old) (rules_of encoding.new) root parent) }
+    ensures encoded { OnOk result ((root : Rules) → AreRulesOf A.SolvableId.eq (A.packages answers.old) root parent requirements.now constraints.now → IsInOrder A.SolvableId.eq (A.packages answers.old) (A.orders answers.old) root encoding.old → IsInOrder A.SolvableId.eq (A.packages answers.old) (A.orders answers.old) root encoding.new × IsParentEncoded A.SolvableId.eq (A.packages answers.old) encoding.new root parent) }
     ensures kept { OnOk result (AddsNeeds encoding.old encoding.new) }
     ensures built { OnOk result (IsBuilt encoding.new) }
     ensures cancelled { IfErr result (IsCancelledBy (A.may_cancel answers.old)) }
@@ -254,7 +285,7 @@ fn encode_parent<A: Answering>(
 ) -> Result<(), CacheFault<A::Cancel>>
     requires { IsBuilt encoding.old }
     ensures same { answers.new ≡ answers.old }
-    ensures encoded { OnOk result ((root : Rules) → IsRoot requirements.now constraints.now root → IsUnconditional A.SolvableId.eq (A.packages answers.old) root → IsInOrder A.SolvableId.eq (A.packages answers.old) (A.orders answers.old) root encoding.old → IsInOrder A.SolvableId.eq (A.packages answers.old) (A.orders answers.old) root encoding.new × IsParentEncoded A.SolvableId.eq (A.packages answers.old) (rules_of encoding.new) root (solvable_of parent)) }
+    ensures encoded { OnOk result ((root : Rules) → IsRoot requirements.now constraints.now root → IsInOrder A.SolvableId.eq (A.packages answers.old) (A.orders answers.old) root encoding.old → IsInOrder A.SolvableId.eq (A.packages answers.old) (A.orders answers.old) root encoding.new × IsParentEncoded A.SolvableId.eq (A.packages answers.old) encoding.new root (solvable_of parent)) }
     ensures kept { OnOk result (AddsNeeds encoding.old encoding.new) }
     ensures built { OnOk result (IsBuilt encoding.new) }
     ensures cancelled { IfErr result (IsCancelledBy (A.may_cancel answers.old)) }
@@ -294,7 +325,7 @@ pub fn encode_parents<A: Answering>(
 ) -> Result<(), CacheFault<A::Cancel>>
     requires { IsBuilt encoding.old }
     ensures same { answers.new ≡ answers.old }
-    ensures encoded { OnOk result ((root : Rules) → IsRoot requirements.now constraints.now root → IsUnconditional A.SolvableId.eq (A.packages answers.old) root → IsInOrder A.SolvableId.eq (A.packages answers.old) (A.orders answers.old) root encoding.old → IsInOrder A.SolvableId.eq (A.packages answers.old) (A.orders answers.old) root encoding.new) }
+    ensures encoded { OnOk result ((root : Rules) → IsRoot requirements.now constraints.now root → IsInOrder A.SolvableId.eq (A.packages answers.old) (A.orders answers.old) root encoding.old → IsInOrder A.SolvableId.eq (A.packages answers.old) (A.orders answers.old) root encoding.new) }
     ensures all { OnOk result (AddsAll encoding.old encoding.new) }
     ensures built { OnOk result (IsBuilt encoding.new) }
     ensures cancelled { IfErr result (IsCancelledBy (A.may_cancel answers.old)) }

@@ -3,7 +3,9 @@
 #![tactic(auto)]
 
 pub mod deciding;
+pub mod deferring;
 pub mod encoder;
+pub mod firing;
 pub mod problem;
 pub mod proving;
 pub mod search;

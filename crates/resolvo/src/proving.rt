@@ -6,7 +6,7 @@ ghost use Rattle.resolvo_coding.specs.declared.registry.Registry.{Registry};
 ghost use Rattle.resolvo_coding.specs.Coding.{IsCoding};
 ghost use Rattle.resolvo_coding.specs.Registered.{AreTied};
 ghost use Rattle.resolvo_coding.specs.Spelled.{Spelled};
-ghost use Rattle.resolvo_encoding.specs.Encoded.{IsUnconditional};
+ghost use Rattle.resolvo_encoding.specs.Casing.{waiting_count};
 ghost use Rattle.resolvo_proof.specs.Drawn.{AreDrawn, HaveOneSigns};
 ghost use Rattle.resolvo_proof.specs.Places.{HaveOnePlace, AreNamedBy};
 ghost use Rattle.resolvo_proof.specs.Proof.{Proves};
@@ -26,11 +26,13 @@ use resolvo_proof::proof::proof_of;
 use resolvo_proof::step::ProofStep;
 use std::alloc::Global;
 
-/// What was found, of how many clauses, and the steps that prove it.
+/// What was found, of how many clauses, with how many cases left waiting, and the steps that prove it.
 #[derive(Drop)]
 pub struct Solved<N, S> {
     pub found: Found<S>,
     pub clause_count: usize,
+    /// How many cases of conditions still wait.
+    pub deferred_count: usize,
     pub proof: Vec<ProofStep<N, S>>,
 }
 
@@ -63,6 +65,7 @@ fn prove<N: SolverId + Drop, S: SolverId>(
     requires { IsProvable searched }
     ensures found { IfOk result (λ s. s.found ≡ searched.found) }
     ensures count { IfOk result (λ s. Counts s.found s.clause_count (length s.proof.items)) }
+    ensures deferred { IfOk result (λ s. s.deferred_count ≡ waiting_count searched.encoding) }
     ensures proof { IfOk result (λ s. Proves searched.encoding.coding s.proof.items) }
     ensures drawn { IfOk result (λ s. (same : S → S → Bool) (p : Packages N S) → Spelled same p searched.encoding.coding → AreDrawn same p s.proof.items) }
     ensures signs { IfOk result (λ s. HaveOneSigns s.proof.items) }
@@ -74,13 +77,13 @@ fn prove<N: SolverId + Drop, S: SolverId>(
     Ok(Solved {
         found,
         clause_count: encoding.coding.search.clauses.len(),
+        deferred_count: encoding.deferred_count(),
         proof,
     })
 }
 
 /// Searches for solvables that keep the rules of a root with these requirements and constraints, and of each other, and
-/// writes the proof. What it says is true where no requirement has a condition; of other problems nothing is promised.
-/// It stops with `Memory`, `Ids`, or a value with which the answers are cancelled.
+/// writes the proof. It stops with `Memory`, `Ids`, or a value with which the answers are cancelled.
 pub fn solve<A: Answering>(
     alloc: Global,
     answers: &mut A,
@@ -89,7 +92,7 @@ pub fn solve<A: Answering>(
     constraints: &[VersionSetId],
 ) -> Result<Solved<A::NameId, A::SolvableId>, CacheFault<A::Cancel>>
     ensures same { answers.new ≡ answers.old }
-    ensures solved { IfOk result (λ s. (root : Rules) → IsRoot requirements.now constraints.now root → IsUnconditional A.SolvableId.eq (A.packages answers.old) root → IsSolved A.SolvableId.eq (A.packages answers.old) (A.orders answers.old) root s) }
+    ensures solved { IfOk result (λ s. (root : Rules) → IsRoot requirements.now constraints.now root → IsSolved A.SolvableId.eq (A.packages answers.old) (A.orders answers.old) root s) }
     ensures ends { IfOk result (λ s. EndsSo s.found s.proof.items) }
     ensures count { IfOk result (λ s. Counts s.found s.clause_count (length s.proof.items)) }
     ensures cancelled { IfErr result (IsCancelledBy (A.may_cancel answers.old)) }

@@ -2,7 +2,6 @@
 ghost use Rattle.std.specs.Prelude.{◌≡◌, IfOk, IfErr, OnOk};
 ghost use Rattle.resolvo_pool.specs.Cached.{IsCancelledBy};
 ghost use Rattle.resolvo_pool.specs.RuleKeeping.{Rules};
-ghost use Rattle.resolvo_encoding.specs.Encoded.{IsUnconditional};
 ghost use Rattle.resolvo_encoding.specs.Steps.{IsBegunEncoding, IsBuilt};
 ghost use Rattle.resolvo.specs.Encoder.{IsInOrder, IsRoot};
 ghost use Rattle.resolvo.specs.Solving.{IsFound, IsFoundBy, IsPreferred, IsSearch, IsDenial, IsProvable};
@@ -26,7 +25,7 @@ use std::hash::Hash;
 pub enum Found<S> {
     /// Solvables that keep all rules, in the order of the trail.
     Chosen(Vec<S>),
-    /// The clauses can't be true together. Where no requirement has a condition: no solvables keep all rules.
+    /// The clauses can't be true together: no solvables keep all rules.
     Clash(Refusal),
 }
 
@@ -66,7 +65,7 @@ fn run_root<A: Answering>(
 ) -> Result<Found<A::SolvableId>, CacheFault<A::Cancel>>
     requires { IsBegunEncoding encoding.old }
     ensures same { answers.new ≡ answers.old }
-    ensures found { IfOk result (λ f. (root : Rules) → IsRoot requirements.now constraints.now root → IsUnconditional A.SolvableId.eq (A.packages answers.old) root → IsInOrder A.SolvableId.eq (A.packages answers.old) (A.orders answers.old) root encoding.old → IsInOrder A.SolvableId.eq (A.packages answers.old) (A.orders answers.old) root encoding.new × IsFound A.SolvableId.eq (A.packages answers.old) root encoding.new f × IsPreferred A.SolvableId.eq (A.packages answers.old) (A.orders answers.old) root f) }
+    ensures found { IfOk result (λ f. (root : Rules) → IsRoot requirements.now constraints.now root → IsInOrder A.SolvableId.eq (A.packages answers.old) (A.orders answers.old) root encoding.old → IsInOrder A.SolvableId.eq (A.packages answers.old) (A.orders answers.old) root encoding.new × IsFound A.SolvableId.eq (A.packages answers.old) root encoding.new f × IsPreferred A.SolvableId.eq (A.packages answers.old) (A.orders answers.old) root f) }
     ensures denial { IfOk result (IsDenial encoding.new.coding) }
     ensures built { OnOk result (IsBuilt encoding.new) }
     ensures cancelled { IfErr result (IsCancelledBy (A.may_cancel answers.old)) }
@@ -85,8 +84,7 @@ fn run_root<A: Answering>(
 }
 
 /// Searches for solvables that keep the rules of a root with these requirements and constraints, and of each other, and
-/// takes candidates in the order in which they are tried. What it finds is true where no requirement has a condition; of
-/// other problems nothing is promised. It stops with `Memory`, `Ids`, or a value with which the answers are cancelled.
+/// takes candidates in the order in which they are tried. It stops with `Memory`, `Ids`, or a value with which the answers are cancelled.
 pub fn search<A: Answering>(
     alloc: Global,
     answers: &mut A,
@@ -95,7 +93,7 @@ pub fn search<A: Answering>(
     constraints: &[VersionSetId],
 ) -> Result<Searched<A::NameId, A::SolvableId>, CacheFault<A::Cancel>>
     ensures same { answers.new ≡ answers.old }
-    ensures found { IfOk result (λ s. (root : Rules) → IsRoot requirements.now constraints.now root → IsUnconditional A.SolvableId.eq (A.packages answers.old) root → IsSearch A.SolvableId.eq (A.packages answers.old) (A.orders answers.old) root s) }
+    ensures found { IfOk result (λ s. (root : Rules) → IsRoot requirements.now constraints.now root → IsSearch A.SolvableId.eq (A.packages answers.old) (A.orders answers.old) root s) }
     ensures provable { IfOk result IsProvable }
     ensures cancelled { IfErr result (IsCancelledBy (A.may_cancel answers.old)) }
 {

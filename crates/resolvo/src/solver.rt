@@ -60,25 +60,27 @@ pub struct Solver<D: DependencyProvider> {
     answers: Answers<D>,
     activity: Activity,
     clause_count: usize,
+    deferred_count: usize,
     proof: Vec<ProofStep<D::NameId, D::SolvableId>>,
 }
 
 impl<D: DependencyProvider> Model for Solver<D> {
     ghost Value = { Kept D D.NameId D.SolvableId };
 
-    ghost view = { λ s. record { provider = s.answers; clause_count = s.clause_count; proof = s.proof.items } };
+    ghost view = { λ s. record { provider = s.answers; clause_count = s.clause_count; deferred_count = s.deferred_count; proof = s.proof.items } };
 }
 
 impl<D: DependencyProvider> Solver<D> {
     /// A solver that was asked nothing yet.
     pub fn new(alloc: Global, provider: D) -> Solver<D>
-        ensures { result ≡ record { provider = provider; clause_count = 0; proof = [] } }
+        ensures { result ≡ record { provider = provider; clause_count = 0; deferred_count = 0; proof = [] } }
     {
         Solver {
             alloc,
             answers: Answers::new(alloc, provider),
             activity: Activity::standard(),
             clause_count: 0,
+            deferred_count: 0,
             proof: Vec::new(alloc),
         }
     }
@@ -95,6 +97,14 @@ impl<D: DependencyProvider> Solver<D> {
         ensures { result ≡ self.now.clause_count }
     {
         self.clause_count
+    }
+
+    /// How many cases of conditions were deferred in the last search, and still are: each has a version set without a chosen
+    /// match. 0 before the first, and after one that stopped.
+    pub fn deferred_requirements_count(&self) -> usize
+        ensures { result ≡ self.now.deferred_count }
+    {
+        self.deferred_count
     }
 
     /// The steps of the last search's proof; none before the first, and after one that stopped.
@@ -115,6 +125,7 @@ impl<D: DependencyProvider> Solver<D> {
             answers,
             activity: _,
             clause_count,
+            deferred_count,
             proof,
         } = self;
         Solver {
@@ -122,12 +133,13 @@ impl<D: DependencyProvider> Solver<D> {
             answers,
             activity: Activity::new(add, decay),
             clause_count,
+            deferred_count,
             proof,
         }
     }
 
     /// Searches for solvables that keep the rules of the problem, in the order in which they were chosen. A search begins
-    /// anew, with the answers as they are. Of problems in which a requirement has a condition nothing is promised yet.
+    /// anew, with the answers as they are.
     pub fn solve(
         &mut self,
         problem: Problem<D::SolvableId>,
@@ -138,6 +150,7 @@ impl<D: DependencyProvider> Solver<D> {
         ensures leaves { Leaves D.SolvableId.eq (packages_by D.name_of_solvable D.name_of_version_set D.members_of D.condition_of D.candidates_of D.matches D.dependencies_of self.old.provider) (root_of problem) result self.new }
     {
         self.clause_count = 0;
+        self.deferred_count = 0;
         self.proof = Vec::new(self.alloc);
         let requirements = problem.requirements.as_slice();
         let constraints = problem.constraints.as_slice();
@@ -152,9 +165,11 @@ impl<D: DependencyProvider> Solver<D> {
                 let Solved {
                     found,
                     clause_count,
+                    deferred_count,
                     proof,
                 } = solved;
                 self.clause_count = clause_count;
+                self.deferred_count = deferred_count;
                 self.proof = proof;
                 answer_of(found)
             }

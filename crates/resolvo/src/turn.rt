@@ -1,16 +1,18 @@
 //! The root's turn: what was asked for is encoded, then decisions are made; what was chosen and isn't encoded yet is, in
-//! the order of the trail, until nothing is left to encode.
-ghost use Rattle.std.specs.Prelude.{◌≡◌, IfOk, IfErr, OnOk};
+//! the order of the trail, then cases of conditions that hold, until nothing is left to encode.
+ghost use Rattle.std.specs.Prelude.{◌≡◌, true, false, IfOk, IfErr, OnOk};
 ghost use Rattle.resolvo_pool.specs.Cached.{IsCancelledBy};
-ghost use Rattle.resolvo_pool.specs.RuleKeeping.{Rules};
-ghost use Rattle.resolvo_encoding.specs.Encoded.{IsUnconditional};
+ghost use Rattle.resolvo_pool.specs.RuleKeeping.{Packages, Rules, IsLawful};
+ghost use Rattle.resolvo_encoding.specs.Casing.{AreSpent};
 ghost use Rattle.resolvo_encoding.specs.Steps.{IsBuilt, AddsParent};
-ghost use Rattle.resolvo_encoding.specs.Going.{IsDecision};
-ghost use Rattle.resolvo.specs.Encoder.{IsInOrder, IsRoot, AddsParents, AddsAll};
-ghost use Rattle.resolvo.specs.Turn.{AddsChosen, IsNextRound, IsRound, IsTurn};
+ghost use Rattle.resolvo_encoding.specs.Encoded.{IsEncoding};
+ghost use Rattle.resolvo_encoding.specs.Going.{GoesOn, IsDecision};
+ghost use Rattle.resolvo.specs.Encoder.{IsInOrder, IsRoot, AddsNeeds, AddsParents, AddsAll};
+ghost use Rattle.resolvo.specs.Turn.{AddsChosen, FiresMore, IsRooted, IsRound, IsTurn};
 
 use crate::deciding::{Activity, decide};
 use crate::encoder::encode_parents;
+use crate::firing::fire_cases;
 use resolvo_answers::answering::Answering;
 use resolvo_encoding::encoding::Encoding;
 use resolvo_pool::cache::CacheFault;
@@ -48,6 +50,18 @@ fn is_any_broken(search: &SearchState, from: usize) -> bool {
     })
 }
 
+/// Takes all choices away where one of the clauses from this number on is broken by them.
+fn undo_broken<N: SolverId, S: SolverId>(encoding: &mut Encoding<N, S>, from: usize)
+    requires { IsBuilt encoding.old }
+    ensures stays { (p : Packages N S) (root : Rules) → IsLawful p → IsEncoding S.eq p root encoding.old → IsEncoding S.eq p root encoding.new }
+    ensures goes_on { GoesOn encoding.old encoding.new }
+    ensures built { IsBuilt encoding.new }
+{
+    if is_any_broken(&encoding.coding.search, from) {
+        encoding.undo_until(FIRST_LEVEL);
+    }
+}
+
 /// Encodes what is asked for. Where a clause that came is broken by choices, these are taken away.
 fn encode<A: Answering>(
     alloc: Global,
@@ -58,18 +72,39 @@ fn encode<A: Answering>(
 ) -> Result<(), CacheFault<A::Cancel>>
     requires { IsBuilt encoding.old }
     ensures same { answers.new ≡ answers.old }
-    ensures encoded { OnOk result ((root : Rules) → IsRoot requirements.now constraints.now root → IsUnconditional A.SolvableId.eq (A.packages answers.old) root → IsInOrder A.SolvableId.eq (A.packages answers.old) (A.orders answers.old) root encoding.old → IsInOrder A.SolvableId.eq (A.packages answers.old) (A.orders answers.old) root encoding.new) }
+    ensures encoded { OnOk result ((root : Rules) → IsRoot requirements.now constraints.now root → IsInOrder A.SolvableId.eq (A.packages answers.old) (A.orders answers.old) root encoding.old → IsInOrder A.SolvableId.eq (A.packages answers.old) (A.orders answers.old) root encoding.new) }
     ensures all { OnOk result (AddsAll encoding.old encoding.new) }
     ensures built { OnOk result (IsBuilt encoding.new) }
     ensures cancelled { IfErr result (IsCancelledBy (A.may_cancel answers.old)) }
 {
     let before = encoding.coding.search.clauses.len();
     encode_parents(alloc, answers, encoding, requirements, constraints)?;
-    if !is_any_broken(&encoding.coding.search, before) {
-        return Ok(());
-    }
-    encoding.undo_until(FIRST_LEVEL);
+    undo_broken(encoding, before);
     Ok(())
+}
+
+/// States the cases that hold, when nothing is left to decide. Whether there was one; if there was none, nothing changed.
+/// Where a clause that came is broken by choices, these are taken away.
+fn fire<A: Answering>(
+    alloc: Global,
+    answers: &mut A,
+    encoding: &mut Encoding<A::NameId, A::SolvableId>,
+) -> Result<bool, CacheFault<A::Cancel>>
+    requires { IsBuilt encoding.old }
+    ensures same { answers.new ≡ answers.old }
+    ensures stays { OnOk result ((root : Rules) → IsInOrder A.SolvableId.eq (A.packages answers.old) (A.orders answers.old) root encoding.old → IsInOrder A.SolvableId.eq (A.packages answers.old) (A.orders answers.old) root encoding.new) }
+    ensures adds { OnOk result (AddsNeeds encoding.old encoding.new) }
+    ensures fires { IfOk result (λ b. b ≡ true → FiresMore encoding.old encoding.new) }
+    ensures spent { IfOk result (λ b. b ≡ false → (encoding.new ≡ encoding.old) × AreSpent A.SolvableId.eq encoding.new) }
+    ensures built { OnOk result (IsBuilt encoding.new) }
+    ensures cancelled { IfErr result (IsCancelledBy (A.may_cancel answers.old)) }
+{
+    let before = encoding.coding.search.clauses.len();
+    if !fire_cases(alloc, answers, encoding)? {
+        return Ok(false);
+    }
+    undo_broken(encoding, before);
+    Ok(true)
 }
 
 /// Encodes what is asked for, and decides.
@@ -84,7 +119,7 @@ fn encode_and_decide<A: Answering>(
 ) -> Result<Option<Refusal>, CacheFault<A::Cancel>>
     requires { IsBuilt encoding.old }
     ensures same { answers.new ≡ answers.old }
-    ensures stays { OnOk result ((root : Rules) → IsRoot requirements.now constraints.now root → IsUnconditional A.SolvableId.eq (A.packages answers.old) root → IsInOrder A.SolvableId.eq (A.packages answers.old) (A.orders answers.old) root encoding.old → IsInOrder A.SolvableId.eq (A.packages answers.old) (A.orders answers.old) root encoding.new) }
+    ensures stays { OnOk result ((root : Rules) → IsRoot requirements.now constraints.now root → IsInOrder A.SolvableId.eq (A.packages answers.old) (A.orders answers.old) root encoding.old → IsInOrder A.SolvableId.eq (A.packages answers.old) (A.orders answers.old) root encoding.new) }
     ensures all { OnOk result (AddsAll encoding.old encoding.new) }
     ensures decided { IfOk result (IsDecision encoding.new) }
     ensures built { OnOk result (IsBuilt encoding.new) }
@@ -98,7 +133,7 @@ fn encode_and_decide<A: Answering>(
 /// What a round came to.
 #[derive(Debug, Drop)]
 enum Round {
-    /// A chosen solvable is to be encoded.
+    /// A chosen solvable is to be encoded, or a case became a clause.
     Goes,
     /// Nothing is left to set, to choose or to encode.
     Whole,
@@ -106,7 +141,8 @@ enum Round {
     Refused(Refusal),
 }
 
-/// Encodes what is asked for, decides, and lets what was chosen be encoded in the next round.
+/// Encodes what is asked for, decides, and lets what was chosen be encoded in the next round. Where nothing was, the cases
+/// that hold become clauses.
 fn run_round<A: Answering>(
     alloc: Global,
     answers: &mut A,
@@ -117,11 +153,11 @@ fn run_round<A: Answering>(
     constraints: &[VersionSetId],
 ) -> Result<Round, CacheFault<A::Cancel>>
     requires built { IsBuilt encoding.old }
-    requires next { IsNextRound encoding.old }
+    requires rooted { IsRooted encoding.old }
     ensures same { answers.new ≡ answers.old }
-    ensures stays { OnOk result ((root : Rules) → IsRoot requirements.now constraints.now root → IsUnconditional A.SolvableId.eq (A.packages answers.old) root → IsInOrder A.SolvableId.eq (A.packages answers.old) (A.orders answers.old) root encoding.old → IsInOrder A.SolvableId.eq (A.packages answers.old) (A.orders answers.old) root encoding.new) }
+    ensures stays { OnOk result ((root : Rules) → IsRoot requirements.now constraints.now root → IsInOrder A.SolvableId.eq (A.packages answers.old) (A.orders answers.old) root encoding.old → IsInOrder A.SolvableId.eq (A.packages answers.old) (A.orders answers.old) root encoding.new) }
     ensures adds { OnOk result (AddsParents encoding.old encoding.new) }
-    ensures round { IfOk result (IsRound encoding.old encoding.new) }
+    ensures round { IfOk result (IsRound A.SolvableId.eq encoding.old encoding.new) }
     ensures built { OnOk result (IsBuilt encoding.new) }
     ensures cancelled { IfErr result (IsCancelledBy (A.may_cancel answers.old)) }
 {
@@ -138,10 +174,13 @@ fn run_round<A: Answering>(
         return Ok(Round::Refused(refusal));
     }
     add_chosen(alloc, encoding)?;
-    if encoding.next_parent().is_none() {
-        Ok(Round::Whole)
-    } else {
+    if encoding.next_parent().is_some() {
+        return Ok(Round::Goes);
+    }
+    if fire(alloc, answers, encoding)? {
         Ok(Round::Goes)
+    } else {
+        Ok(Round::Whole)
     }
 }
 
@@ -156,11 +195,11 @@ pub fn run_turn<A: Answering>(
     constraints: &[VersionSetId],
 ) -> Result<Option<Refusal>, CacheFault<A::Cancel>>
     requires built { IsBuilt encoding.old }
-    requires next { IsNextRound encoding.old }
+    requires rooted { IsRooted encoding.old }
     ensures same { answers.new ≡ answers.old }
-    ensures stays { OnOk result ((root : Rules) → IsRoot requirements.now constraints.now root → IsUnconditional A.SolvableId.eq (A.packages answers.old) root → IsInOrder A.SolvableId.eq (A.packages answers.old) (A.orders answers.old) root encoding.old → IsInOrder A.SolvableId.eq (A.packages answers.old) (A.orders answers.old) root encoding.new) }
+    ensures stays { OnOk result ((root : Rules) → IsRoot requirements.now constraints.now root → IsInOrder A.SolvableId.eq (A.packages answers.old) (A.orders answers.old) root encoding.old → IsInOrder A.SolvableId.eq (A.packages answers.old) (A.orders answers.old) root encoding.new) }
     ensures adds { OnOk result (AddsParents encoding.old encoding.new) }
-    ensures turn { IfOk result (IsTurn encoding.new) }
+    ensures turn { IfOk result (IsTurn A.SolvableId.eq encoding.new) }
     ensures built { OnOk result (IsBuilt encoding.new) }
     ensures cancelled { IfErr result (IsCancelledBy (A.may_cancel answers.old)) }
 {

@@ -3,14 +3,16 @@
 mod pairs;
 
 use resolvo::deciding::Activity;
+use resolvo::problem::Problem;
 use resolvo::search::{Found, search};
+use resolvo::solver::Solver;
 use resolvo_answers::answers::Answers;
 use resolvo_catalogue::{Catalogue, MemorySource, Request, VersionNo};
 use resolvo_pool::cache::CacheFault;
 use resolvo_pool::id::SolvableId;
 use resolvo_pool::want::Want;
 use resolvo_provider::lawful::Never;
-use resolvo_provider::provider::{CatalogueProvider, Hint};
+use resolvo_provider::provider::{CatalogueProvider, Hint, RequestIds};
 use std::alloc::Global;
 use std::test::Fail;
 
@@ -49,6 +51,26 @@ fn versions(
     }
 }
 
+/// The versions that are chosen for the ids of a request, or none where it is refused.
+fn chosen_of(
+    alloc: Global,
+    answers: &mut Answers<CatalogueProvider>,
+    root: &RequestIds,
+) -> Result<Option<Vec<VersionNo>>, Fail> {
+    let requirements = root.requirements.as_slice();
+    let constraints = root.constraints.as_slice();
+    match search(
+        alloc,
+        answers,
+        Activity::standard(),
+        requirements,
+        constraints,
+    ) {
+        Ok(done) => versions(alloc, answers, &done.found),
+        Err(fault) => Err(failed(fault)),
+    }
+}
+
 /// The versions that are chosen for a request, or none where it is refused.
 fn chosen(
     alloc: Global,
@@ -58,65 +80,55 @@ fn chosen(
 ) -> Result<Option<Vec<VersionNo>>, Fail> {
     let mut provider = CatalogueProvider::new(alloc, catalogue, hint)?;
     let root = provider.intern_request(request)?;
-    let mut answers = Answers::new(alloc, provider);
-    let requirements = root.requirements.as_slice();
-    let constraints = root.constraints.as_slice();
-    match search(
-        alloc,
-        &mut answers,
-        Activity::standard(),
-        requirements,
-        constraints,
-    ) {
-        Ok(done) => versions(alloc, &answers, &done.found),
-        Err(fault) => Err(failed(fault)),
-    }
+    chosen_of(alloc, &mut Answers::new(alloc, provider), &root)
 }
 
-/// The versions that are chosen for two texts.
-fn solved(
+fn solved_over(
+    alloc: Global,
+    catalogue: &Catalogue,
+    request_text: &str,
+) -> Result<Option<Vec<VersionNo>>, Fail> {
+    let request = request(alloc, request_text, catalogue)?;
+    chosen(alloc, catalogue, &request, Hint::All)
+}
+
+/// Whether these versions are chosen for two texts, or none where the request is refused.
+fn solves(
     alloc: Global,
     catalogue_text: &str,
     request_text: &str,
-) -> Result<Option<Vec<VersionNo>>, Fail> {
-    let catalogue = catalogue(alloc, catalogue_text)?;
-    let request = request(alloc, request_text, &catalogue)?;
-    chosen(alloc, &catalogue, &request, Hint::All)
+    want: Option<&[VersionNo]>,
+) -> Result<bool, Fail> {
+    let set = solved_over(alloc, &catalogue(alloc, catalogue_text)?, request_text)?;
+    Ok(set.as_deref() == want)
 }
 
 static MARKET: &str = "version a 1\nversion a 2\nneeds b 1\nversion b 1\nversion b 2\nneeds a\n";
 
 #[test]
 fn newest_that_fit(rt: HostRuntime) -> Result<(), Fail> {
-    let set = solved(rt.alloc(), MARKET, "needs a\n")?;
-    assert_eq!(rt;
-        set.as_deref(),
-        Some([VersionNo(1), VersionNo(2)].as_slice())
-    );
+    let want = [VersionNo(1), VersionNo(2)];
+    assert!(rt; solves(rt.alloc(), MARKET, "needs a\n", Some(&want))?);
     Ok(())
 }
 
 #[test]
 fn newest_would_clash(rt: HostRuntime) -> Result<(), Fail> {
-    let set = solved(rt.alloc(), MARKET, "needs a\nneeds b 2\n")?;
-    assert_eq!(rt;
-        set.as_deref(),
-        Some([VersionNo(3), VersionNo(0)].as_slice())
-    );
+    let want = [VersionNo(3), VersionNo(0)];
+    assert!(rt; solves(rt.alloc(), MARKET, "needs a\nneeds b 2\n", Some(&want))?);
     Ok(())
 }
 
 #[test]
 fn nothing_fits(rt: HostRuntime) -> Result<(), Fail> {
-    let set = solved(rt.alloc(), MARKET, "needs a 2\nneeds b 2\n")?;
-    assert!(rt; set.is_none());
+    assert!(rt; solves(rt.alloc(), MARKET, "needs a 2\nneeds b 2\n", None)?);
     Ok(())
 }
 
 #[test]
 fn root_limits(rt: HostRuntime) -> Result<(), Fail> {
-    let set = solved(rt.alloc(), MARKET, "needs b\nlimits b 1\n")?;
-    assert_eq!(rt; set.as_deref(), Some([VersionNo(2)].as_slice()));
+    let want = [VersionNo(2)];
+    assert!(rt; solves(rt.alloc(), MARKET, "needs b\nlimits b 1\n", Some(&want))?);
     Ok(())
 }
 
@@ -125,15 +137,15 @@ static BARRED: &str =
 
 #[test]
 fn excluded_and_unknown_are_not_chosen(rt: HostRuntime) -> Result<(), Fail> {
-    let set = solved(rt.alloc(), BARRED, "needs b\n")?;
-    assert_eq!(rt; set.as_deref(), Some([VersionNo(1)].as_slice()));
+    let want = [VersionNo(1)];
+    assert!(rt; solves(rt.alloc(), BARRED, "needs b\n", Some(&want))?);
     Ok(())
 }
 
 #[test]
 fn others_than_the_locked_are_not_chosen(rt: HostRuntime) -> Result<(), Fail> {
-    let set = solved(rt.alloc(), BARRED, "needs c\n")?;
-    assert_eq!(rt; set.as_deref(), Some([VersionNo(4)].as_slice()));
+    let want = [VersionNo(4)];
+    assert!(rt; solves(rt.alloc(), BARRED, "needs c\n", Some(&want))?);
     Ok(())
 }
 
@@ -142,12 +154,48 @@ static MANY: &str =
 
 #[test]
 fn many_are_limited(rt: HostRuntime) -> Result<(), Fail> {
-    let none = solved(rt.alloc(), MANY, "needs a\nneeds b 2\n")?;
-    assert!(rt; none.is_none());
-    let set = solved(rt.alloc(), MANY, "needs a\nneeds b\n")?;
-    assert_eq!(rt;
-        set.as_deref(),
-        Some([VersionNo(0), VersionNo(1)].as_slice())
-    );
+    let want = [VersionNo(0), VersionNo(1)];
+    assert!(rt; solves(rt.alloc(), MANY, "needs a\nneeds b 2\n", None)?);
+    assert!(rt; solves(rt.alloc(), MANY, "needs a\nneeds b\n", Some(&want))?);
+    Ok(())
+}
+
+static IF: &str = "version a 1\nversion b 1\nneeds c if a and b\nversion c 1\n";
+
+#[test]
+fn needs_under_conditions(rt: HostRuntime) -> Result<(), Fail> {
+    let both = [VersionNo(0), VersionNo(1), VersionNo(2)];
+    assert!(rt; solves(rt.alloc(), IF, "needs a\nneeds b if a\n", Some(&both))?);
+    let one = [VersionNo(0)];
+    assert!(rt; solves(rt.alloc(), IF, "needs a\nneeds b if a 2\n", Some(&one))?);
+    assert!(rt; solves(rt.alloc(), IF, "needs a\nneeds x if b or a\n", None)?);
+    Ok(())
+}
+
+/// How many cases wait still after a solver answered the ids of a request.
+fn left_waiting(alloc: Global, provider: CatalogueProvider, root: RequestIds) -> Option<usize> {
+    let problem = Problem::new(alloc)
+        .requirements(root.requirements)
+        .constraints(root.constraints);
+    let mut solver = Solver::new(alloc, provider);
+    match solver.solve(problem) {
+        Ok(_) => Some(solver.deferred_requirements_count()),
+        Err(_) => None,
+    }
+}
+
+fn waiting_after(alloc: Global, request_text: &str) -> Result<Option<usize>, Fail> {
+    let catalogue = catalogue(alloc, IF)?;
+    let request = request(alloc, request_text, &catalogue)?;
+    let mut provider = CatalogueProvider::new(alloc, &catalogue, Hint::All)?;
+    let root = provider.intern_request(&request)?;
+    Ok(left_waiting(alloc, provider, root))
+}
+
+#[test]
+fn cases_that_fired_wait_no_more(rt: HostRuntime) -> Result<(), Fail> {
+    let none = waiting_after(rt.alloc(), "needs a\nneeds b if a\n")?;
+    let one = waiting_after(rt.alloc(), "needs a\nneeds b if a 2\n")?;
+    assert_eq!(rt; (none, one), (Some(0), Some(1)));
     Ok(())
 }

@@ -70,7 +70,7 @@ fn members(alloc: Global, number: u32) -> R<Vec<VersionNo>> {
     let places = [[0u32, 6, 3], [4, 8, 1], [5, 2, 7]];
     let mut set = Vec::new(alloc);
     let mut rest = number;
-    for package in places {
+    for package in &places {
         let version = rest % 4;
         if let Some(place) = package.get((version as usize).wrapping_sub(1)) {
             set.push(VersionNo(*place))?;
@@ -80,14 +80,20 @@ fn members(alloc: Global, number: u32) -> R<Vec<VersionNo>> {
     Ok(set)
 }
 
+/// Adds each version of the lines, with needs that are drawn.
+fn draw_versions(lines: &mut String, seed: u32) -> Result<u32, Fail> {
+    let mut seed = seed;
+    for version in &VERSIONS {
+        lines.push_str(version)?;
+        seed = draw(lines, &OWNED, seed, 5)?;
+    }
+    Ok(seed)
+}
+
 /// A generated catalogue.
 fn generated(alloc: Global, seed: u32) -> Result<String, Fail> {
     let mut lines = String::new(alloc);
-    let mut seed = seed;
-    for version in VERSIONS {
-        lines.push_str(version)?;
-        seed = draw(&mut lines, &OWNED, seed, 5)?;
-    }
+    let seed = draw_versions(&mut lines, seed)?;
     draw(&mut lines, &BELOW, seed, 2)?;
     Ok(lines)
 }
@@ -99,11 +105,16 @@ fn wanted(alloc: Global, seed: u32) -> Result<String, Fail> {
     Ok(lines)
 }
 
+/// Whether the set of a number keeps all lines.
+fn keeps(alloc: Global, catalogue: &Catalogue, request: &Request, number: u32) -> R<bool> {
+    let set = members(alloc, number)?;
+    Ok(keeps_by_lines(catalogue, request, set.as_slice()))
+}
+
 /// Whether some set of at most one version of each package keeps all lines.
 fn any_keeps(alloc: Global, catalogue: &Catalogue, request: &Request) -> Result<bool, Fail> {
     for number in 0..64u32 {
-        let set = members(alloc, number)?;
-        if keeps_by_lines(catalogue, request, set.as_slice()) {
+        if keeps(alloc, catalogue, request, number)? {
             return Ok(true);
         }
     }
@@ -111,19 +122,39 @@ fn any_keeps(alloc: Global, catalogue: &Catalogue, request: &Request) -> Result<
 }
 
 /// Whether what is chosen keeps all lines, or none of the sets does where nothing is. Counts what is chosen.
-fn pair_agrees(alloc: Global, seed: u32, kept: &mut u32) -> Result<bool, Fail> {
-    let lines = generated(alloc, seed)?;
-    let catalogue = catalogue(alloc, lines.as_str())?;
-    let text = wanted(alloc, next(seed))?;
-    let request = request(alloc, text.as_str(), &catalogue)?;
-    let hint = if seed % 2 == 0 { Hint::All } else { Hint::None };
-    match chosen(alloc, &catalogue, &request, hint)? {
+fn answer_agrees(
+    alloc: Global,
+    catalogue: &Catalogue,
+    request: &Request,
+    hint: Hint,
+    kept: &mut u32,
+) -> Result<bool, Fail> {
+    match chosen(alloc, catalogue, request, hint)? {
         Some(set) => {
             *kept = kept.saturating_add(1);
-            Ok(keeps_by_lines(&catalogue, &request, set.as_slice()))
+            Ok(keeps_by_lines(catalogue, request, set.as_slice()))
         }
-        None => Ok(!any_keeps(alloc, &catalogue, &request)?),
+        None => Ok(!any_keeps(alloc, catalogue, request)?),
     }
+}
+
+/// The same of a generated request.
+fn request_agrees(
+    alloc: Global,
+    catalogue: &Catalogue,
+    seed: u32,
+    kept: &mut u32,
+) -> Result<bool, Fail> {
+    let text = wanted(alloc, next(seed))?;
+    let request = request(alloc, text.as_str(), catalogue)?;
+    let hint = if seed % 2 == 0 { Hint::All } else { Hint::None };
+    answer_agrees(alloc, catalogue, &request, hint, kept)
+}
+
+/// The same of a generated catalogue and request.
+fn pair_agrees(alloc: Global, seed: u32, kept: &mut u32) -> Result<bool, Fail> {
+    let lines = generated(alloc, seed)?;
+    request_agrees(alloc, &catalogue(alloc, lines.as_str())?, seed, kept)
 }
 
 #[test]

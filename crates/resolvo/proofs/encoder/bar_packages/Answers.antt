@@ -11,7 +11,7 @@ use Rattle.resolvo.proofs.Adding.{needs_none, needs_then}
 use Rattle.resolvo.proofs.encoder.bar_packages.Goals as goal
 
 pub loop-name-init : goal.loop-name-init
-loop-name-init g c = record { same = refl; encoded = λ root e. (e, λ name s h barred. absurd (contains_none name h)); kept = needs_none c.args.encoding.now; built = c.requires }
+loop-name-init g c = record { same = refl; encoded = λ root e. (e, λ name s h barred. absurd (contains_none name h)); kept = needs_none c.args.encoding.now; fired = refl; built = c.requires }
 
 pub loop-name-preserved : goal.loop-name-preserved
 loop-name-preserved g c =
@@ -35,6 +35,7 @@ loop-name-preserved g c =
             ],
           ));
       kept = needs_then c.args.encoding.now c.loop-name.encoding new before.kept c.in_ok-bar_package.ensures.kept;
+      fired = c.in_ok-bar_package.ensures.fired ∙ before.fired;
       built = c.in_ok-bar_package.ensures.built;
     }
 

@@ -15,5 +15,6 @@ invariant-loop-name g l = record {
       → IsInOrder g.A.SolvableId.PartialEq.eq (g.A.Answering.packages l.initial.answers) (g.A.Answering.orders l.initial.answers) root l.encoding
       × ((name : g.row.A-NameId.Denot) (s : g.row.A-SolvableId.Denot) → Contains (take l.name-index l.names) name → IsBarredIn g.A.SolvableId.PartialEq.eq (g.A.Answering.packages l.initial.answers) name s → rules_of l.encoding (Rule.bars s));
   kept : AddsNeeds l.initial.encoding l.encoding;
+  fired : l.encoding.fired ≡ l.initial.encoding.fired;
   built : IsBuilt l.encoding;
 }

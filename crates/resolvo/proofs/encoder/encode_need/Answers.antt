@@ -1,20 +1,24 @@
-use Rattle.std.proofs.Common.{[], subst}
-use Rattle.resolvo_pool.specs.RuleKeeping.{Rules}
+use Rattle.std.proofs.Common.{inl, inr, Option, List, [], sym, subst}
+use Rattle.std.specs.Prelude.{Contains}
+use Rattle.resolvo_pool.specs.declared.id.ConditionId.{ConditionId}
+use Rattle.resolvo_pool.specs.declared.id.VersionSetId.{VersionSetId}
+use Rattle.resolvo_rules.specs.Encoding.{cases_under}
 use Rattle.resolvo_rules.specs.Ending.{IsNeedEncoded}
-use Rattle.resolvo_encoding.specs.Encoded.{IsGuarded, rules_of}
-use Rattle.resolvo_encoding.specs.Steps.{Needs}
-use Rattle.resolvo.specs.Encoder.{IsInOrder}
-use Rattle.resolvo.proofs.Adding.{needs_then}
+use Rattle.resolvo_rules.proofs.Lists.{contains_one}
+use Rattle.resolvo_encoding.specs.Encoded.{rules_of}
 use Rattle.resolvo.proofs.encoder.encode_need.Goals as goal
 
-pub returns-clause-encoded : goal.returns-clause-encoded
-returns-clause-encoded g c = λ root e needs.
+pub returns-in_ok-encode_plain_need-in-None-clause-encoded : goal.returns-in_ok-encode_plain_need-in-None-clause-encoded
+returns-in_ok-encode_plain_need-in-None-clause-encoded g c = λ root e listed.
     let same = g.A.SolvableId.PartialEq.eq in
-    let middle = c.guard.new.encoding in
-    let new = c.require.new.encoding in
-    let (first, guarded) = c.in_ok-guard.ensures.encoded root e in
-    (subst (λ (a : g.row.A.Denot). (root : Rules) → IsInOrder same (g.A.Answering.packages a) (g.A.Answering.orders a) root middle → IsGuarded same (g.A.Answering.packages a) (rules_of middle) c.args.need.requirement → Needs same (g.A.Answering.packages a) root c.args.parent c.args.need
-    → IsInOrder same (g.A.Answering.packages a) (g.A.Answering.orders a) root new × IsNeedEncoded same (g.A.Answering.packages a) (rules_of new) c.args.parent c.args.need []) c.in_ok-guard.ensures.same c.in_ok-require.ensures.encoded) root first guarded needs
+    let p = g.A.Answering.packages c.args.answers.now in
+    let new = c.encode_plain_need.new.encoding in
+    let (last, stated) = c.in_ok-encode_plain_need-in-None.ensures.encoded root e (record { listed = listed; free = c.in-None.is }) in (
+      last,
+      λ case one. (
+          let none = contains_one case [] (subst (λ (o : Option ConditionId). Contains (cases_under p.condition_of o) case) c.in-None.is one) in
+          inl (subst (λ (xs : List VersionSetId). IsNeedEncoded same p (rules_of new) c.args.parent c.args.need xs) (sym none) stated)),
+    )
 
-pub returns-clause-kept : goal.returns-clause-kept
-returns-clause-kept g c = needs_then c.args.encoding.now c.guard.new.encoding c.require.new.encoding c.in_ok-guard.ensures.kept c.in_ok-require.ensures.kept
+pub returns-in_ok-defer_need-in-Some-clause-encoded : goal.returns-in_ok-defer_need-in-Some-clause-encoded
+returns-in_ok-defer_need-in-Some-clause-encoded g c = λ root e listed. let (last, waits) = c.in_ok-defer_need-in-Some.ensures.encoded root e listed in (last, λ case one. inr (waits case one))

@@ -1,16 +1,13 @@
-use Rattle.std.proofs.Common.{[], List, None, slice_index_or, take, sym, ◌∙◌, subst, refl}
+use Rattle.std.proofs.Common.{List, None, slice_index_or, take, sym, ◌∙◌, subst, refl}
 use Rattle.std.specs.Prelude.{Contains}
 use Rattle.std.proofs.lemmas.List.{take_more, take_all}
 use Rattle.std.proofs.lemmas.List.Elements.{Contains-get_or}
 use Rattle.resolvo_pool.specs.declared.requirement.ConditionalRequirement.{ConditionalRequirement}
 use Rattle.resolvo_pool.specs.declared.requirement.Requirement.TheVariants.{Single}
-use Rattle.resolvo_pool.specs.RuleKeeping.{Rules}
+use Rattle.resolvo_pool.specs.RuleKeeping.{Rules, rules_for}
 use Rattle.resolvo_rules.proofs.Lists.{contains_none}
 use Rattle.resolvo_rules.specs.Encoding.{IsExact}
-use Rattle.resolvo_rules.specs.Ending.{IsNeedEncoded}
-use Rattle.resolvo_encoding.specs.Encoded.{rules_of}
-use Rattle.resolvo_encoding.specs.Steps.{Needs}
-use Rattle.resolvo.specs.Encoder.{IsInOrder}
+use Rattle.resolvo.specs.Encoder.{IsInOrder, IsConditionalEncoded}
 use Rattle.resolvo.proofs.Adding.{needs_none, needs_then, more_encoded}
 use Rattle.resolvo.proofs.encoder.encode_needs.Goals as goal
 
@@ -25,8 +22,8 @@ loop-need-preserved g c =
     let blank : ConditionalRequirement = record { condition = None; requirement = Single (record { 0 = 0 }) } in
     let item : ConditionalRequirement = slice_index_or c.args.needs.now c.loop-need.need-index blank in
     let before = c.loop-need.invariant in
-    let came = subst (λ (a : g.row.A.Denot). (root : Rules) → IsInOrder same (g.A.Answering.packages a) (g.A.Answering.orders a) root c.loop-need.encoding → Needs same (g.A.Answering.packages a) root c.args.parent item
-    → IsInOrder same (g.A.Answering.packages a) (g.A.Answering.orders a) root c.encode_need.new.encoding × IsNeedEncoded same (g.A.Answering.packages a) (rules_of c.encode_need.new.encoding) c.args.parent item []) before.same c.in_ok-encode_need.ensures.encoded in
+    let came = subst (λ (a : g.row.A.Denot). (root : Rules) → IsInOrder same (g.A.Answering.packages a) (g.A.Answering.orders a) root c.loop-need.encoding → Contains (rules_for same (g.A.Answering.packages a) root c.args.parent).requirements item
+    → IsInOrder same (g.A.Answering.packages a) (g.A.Answering.orders a) root c.encode_need.new.encoding × IsConditionalEncoded same (g.A.Answering.packages a) c.encode_need.new.encoding c.args.parent item) before.same c.in_ok-encode_need.ensures.encoded in
     record {
       same = c.in_ok-encode_need.ensures.same ∙ before.same;
       encoded = λ root e needs. (

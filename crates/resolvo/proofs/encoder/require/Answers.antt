@@ -1,4 +1,4 @@
-use Rattle.std.proofs.Common.{List, subst, sym}
+use Rattle.std.proofs.Common.{List, [], subst, sym}
 use Rattle.resolvo_answers.specs.declared.answering.Offered.{Offered}
 use Rattle.resolvo_answers.specs.Answering.{AreOffered, offered_solvables}
 use Rattle.resolvo_rules.specs.Encoding.{IsExact}
@@ -18,7 +18,7 @@ returns-clause-encoded g c = λ root e guarded needs.
     let (middle, stated) = c.in_ok-require.ensures.encoded p root (g.met.A.Answering.lawful c.args.answers.now) e.encoding offered guarded needs in
     let ordered = ordered_adds orders c.args.need.requirement c.as_slice.result.now c.args.encoding.now c.require.new.self c.in_ok-require.ensures.kept.grows c.in_ok-require.ensures.candidates tried e.ordered in (
       parents_in_order same p orders root c.require.new.self c.add_available.new.encoding (record { encoding = middle; ordered = ordered }) c.in_ok-add_available.ensures,
-      need_stays same exact p root c.require.new.self c.add_available.new.encoding c.args.parent c.args.need (parents_needs c.require.new.self c.add_available.new.encoding c.in_ok-add_available.ensures) stated,
+      need_stays same exact p root c.require.new.self c.add_available.new.encoding c.args.parent c.args.need [] (parents_needs c.require.new.self c.add_available.new.encoding c.in_ok-add_available.ensures) stated,
     )
 
 pub returns-clause-kept : goal.returns-clause-kept

@@ -3,9 +3,9 @@ use Rattle.resolvo.proofs.Ending.{all_goes}
 use Rattle.resolvo.proofs.turn.encode.Goals as goal
 
 pub returns-clause-encoded : goal.returns-clause-encoded
-returns-clause-encoded g c = λ root is plain e.
-    goes_in_order g.A.SolvableId.PartialEq.eq (g.A.Answering.packages c.args.answers.now) (g.A.Answering.orders c.args.answers.now) root c.encode_parents.new.encoding c.undo_until.new.self c.undo_until.ensures.goes_on
-    (c.undo_until.ensures.stays (g.A.Answering.packages c.args.answers.now) root (g.met.A.Answering.lawful c.args.answers.now)) (c.in_ok-encode_parents.ensures.encoded root is plain e)
+returns-clause-encoded g c = λ root is e.
+    goes_in_order g.A.SolvableId.PartialEq.eq (g.A.Answering.packages c.args.answers.now) (g.A.Answering.orders c.args.answers.now) root c.encode_parents.new.encoding c.undo_broken.new.encoding c.undo_broken.ensures.goes_on
+    (c.undo_broken.ensures.stays (g.A.Answering.packages c.args.answers.now) root (g.met.A.Answering.lawful c.args.answers.now)) (c.in_ok-encode_parents.ensures.encoded root is e)
 
 pub returns-clause-all : goal.returns-clause-all
-returns-clause-all g c = all_goes c.args.encoding.now c.encode_parents.new.encoding c.undo_until.new.self c.in_ok-encode_parents.ensures.all c.undo_until.ensures.goes_on
+returns-clause-all g c = all_goes c.args.encoding.now c.encode_parents.new.encoding c.undo_broken.new.encoding c.in_ok-encode_parents.ensures.all c.undo_broken.ensures.goes_on

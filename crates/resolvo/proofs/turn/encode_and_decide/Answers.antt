@@ -5,9 +5,9 @@ use Rattle.resolvo.proofs.Ending.{all_goes}
 use Rattle.resolvo.proofs.turn.encode_and_decide.Goals as goal
 
 pub returns-clause-stays : goal.returns-clause-stays
-returns-clause-stays g c = λ root is plain e.
+returns-clause-stays g c = λ root is e.
     (subst (λ (a : g.row.A.Denot). (root : Rules) → IsInOrder g.A.SolvableId.PartialEq.eq (g.A.Answering.packages a) (g.A.Answering.orders a) root c.encode.new.encoding → IsInOrder g.A.SolvableId.PartialEq.eq (g.A.Answering.packages a) (g.A.Answering.orders a) root c.decide.new.encoding) c.in_ok-encode.ensures.same c.in_ok-refusal.ensures.stays)
-    root (c.in_ok-encode.ensures.encoded root is plain e)
+    root (c.in_ok-encode.ensures.encoded root is e)
 
 pub returns-clause-all : goal.returns-clause-all
 returns-clause-all g c = all_goes c.args.encoding.now c.encode.new.encoding c.decide.new.encoding c.in_ok-encode.ensures.all c.in_ok-refusal.ensures.goes_on

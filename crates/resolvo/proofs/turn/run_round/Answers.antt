@@ -1,38 +1,67 @@
 use Rattle.std.proofs.Common.{Option, sym, ◌∙◌, ap, subst}
 use Rattle.std.specs.Prelude.{is_some}
 use Rattle.resolvo_search.specs.declared.analysis.Refusal.{Refusal}
+use Rattle.resolvo_pool.specs.RuleKeeping.{Rules}
 use Rattle.resolvo_encoding.specs.Going.{IsDecision}
 use Rattle.resolvo_encoding.proofs.Building.{built_parents}
-use Rattle.resolvo.proofs.Adding.{parents_in_order}
-use Rattle.resolvo.proofs.Ending.{round_adds, round_whole, round_goes}
+use Rattle.resolvo.specs.Encoder.{IsInOrder}
+use Rattle.resolvo.proofs.Adding.{parents_in_order, needs_parents, all_then}
+use Rattle.resolvo.proofs.Ending.{round_adds, round_whole, round_goes, fires_goes, turn_same}
 use Rattle.resolvo.proofs.turn.run_round.Goals as goal
 
-pub returns-then-is_none-clause-stays : goal.returns-then-is_none-clause-stays
-returns-then-is_none-clause-stays g c = λ root is plain e.
-    parents_in_order g.A.SolvableId.PartialEq.eq (g.A.Answering.packages c.args.answers.now) (g.A.Answering.orders c.args.answers.now) root c.encode_and_decide.new.encoding c.add_chosen.new.encoding (c.in_ok-decided.ensures.stays root is plain e) c.in_ok-add_chosen.ensures.added
+pub returns-then-is_some-clause-stays : goal.returns-then-is_some-clause-stays
+returns-then-is_some-clause-stays g c = λ root is e.
+    parents_in_order g.A.SolvableId.PartialEq.eq (g.A.Answering.packages c.args.answers.now) (g.A.Answering.orders c.args.answers.now) root c.encode_and_decide.new.encoding c.add_chosen.new.encoding (c.in_ok-decided.ensures.stays root is e) c.in_ok-add_chosen.ensures.added
 
-pub returns-then-is_none-clause-round : goal.returns-then-is_none-clause-round
-returns-then-is_none-clause-round g c =
-    round_whole c.args.encoding.now c.encode_and_decide.new.encoding c.add_chosen.new.encoding c.requires.next c.in_ok-decided.ensures.all c.in_ok-add_chosen.ensures
-    (subst (λ (o : Option Refusal). IsDecision c.encode_and_decide.new.encoding o) c.in_default.is c.in_ok-decided.ensures.decided) (sym (ap is_some c.next_parent.ensures.parent) ∙ c.if-is_none.ensures)
+pub returns-then-is_some-clause-round : goal.returns-then-is_some-clause-round
+returns-then-is_some-clause-round g c =
+    round_goes g.A.SolvableId.PartialEq.eq c.args.encoding.now c.encode_and_decide.new.encoding c.add_chosen.new.encoding c.requires.rooted c.in_ok-decided.ensures.all c.in_ok-add_chosen.ensures
+    (sym (ap is_some c.next_parent.ensures.parent) ∙ sym c.if-is_some.ensures) c.next_parent.ensures.bounded
 
-pub returns-then-is_none-clause-built : goal.returns-then-is_none-clause-built
-returns-then-is_none-clause-built g c = built_parents c.encode_and_decide.new.encoding c.add_chosen.new.encoding c.in_ok-decided.ensures.built c.in_ok-add_chosen.ensures.added
+pub returns-then-is_some-clause-built : goal.returns-then-is_some-clause-built
+returns-then-is_some-clause-built g c = built_parents c.encode_and_decide.new.encoding c.add_chosen.new.encoding c.in_ok-decided.ensures.built c.in_ok-add_chosen.ensures.added
 
-pub returns-then-is_none-clause-adds : goal.returns-then-is_none-clause-adds
-returns-then-is_none-clause-adds g c = round_adds c.args.encoding.now c.encode_and_decide.new.encoding c.add_chosen.new.encoding c.requires.next c.in_ok-decided.ensures.all c.in_ok-add_chosen.ensures
+pub returns-then-is_some-clause-adds : goal.returns-then-is_some-clause-adds
+returns-then-is_some-clause-adds g c = round_adds g.A.SolvableId.PartialEq.eq c.args.encoding.now c.encode_and_decide.new.encoding c.add_chosen.new.encoding c.requires.rooted c.in_ok-decided.ensures.all c.in_ok-add_chosen.ensures
 
-pub returns-else-is_none-clause-stays : goal.returns-else-is_none-clause-stays
-returns-else-is_none-clause-stays g c = λ root is plain e.
-    parents_in_order g.A.SolvableId.PartialEq.eq (g.A.Answering.packages c.args.answers.now) (g.A.Answering.orders c.args.answers.now) root c.encode_and_decide.new.encoding c.add_chosen.new.encoding (c.in_ok-decided.ensures.stays root is plain e) c.in_ok-add_chosen.ensures.added
+pub fire-requires : goal.fire-requires
+fire-requires g c = built_parents c.encode_and_decide.new.encoding c.add_chosen.new.encoding c.in_ok-decided.ensures.built c.in_ok-add_chosen.ensures.added
 
-pub returns-else-is_none-clause-round : goal.returns-else-is_none-clause-round
-returns-else-is_none-clause-round g c =
-    round_goes c.args.encoding.now c.encode_and_decide.new.encoding c.add_chosen.new.encoding c.requires.next c.in_ok-decided.ensures.all c.in_ok-add_chosen.ensures
-    (sym (ap is_some c.next_parent.ensures.parent) ∙ c.if-is_none.ensures) c.next_parent.ensures.bounded
+pub returns-then-branch-clause-stays : goal.returns-then-branch-clause-stays
+returns-then-branch-clause-stays g c = λ root is e.
+    let same = g.A.SolvableId.PartialEq.eq in
+    let old = c.add_chosen.new.encoding in
+    let new = c.fire.new.encoding in
+    (subst (λ (a : g.row.A.Denot). (root : Rules) → IsInOrder same (g.A.Answering.packages a) (g.A.Answering.orders a) root old → IsInOrder same (g.A.Answering.packages a) (g.A.Answering.orders a) root new) c.in_ok-decided.ensures.same c.in_ok-fire.ensures.stays) root
+    (parents_in_order same (g.A.Answering.packages c.args.answers.now) (g.A.Answering.orders c.args.answers.now) root c.encode_and_decide.new.encoding old (c.in_ok-decided.ensures.stays root is e) c.in_ok-add_chosen.ensures.added)
 
-pub returns-else-is_none-clause-built : goal.returns-else-is_none-clause-built
-returns-else-is_none-clause-built g c = built_parents c.encode_and_decide.new.encoding c.add_chosen.new.encoding c.in_ok-decided.ensures.built c.in_ok-add_chosen.ensures.added
+pub returns-then-branch-clause-round : goal.returns-then-branch-clause-round
+returns-then-branch-clause-round g c =
+    fires_goes c.args.encoding.now c.add_chosen.new.encoding c.fire.new.encoding (round_adds g.A.SolvableId.PartialEq.eq c.args.encoding.now c.encode_and_decide.new.encoding c.add_chosen.new.encoding c.requires.rooted c.in_ok-decided.ensures.all c.in_ok-add_chosen.ensures)
+    (c.in_ok-fire.ensures.fires c.if-branch.true)
 
-pub returns-else-is_none-clause-adds : goal.returns-else-is_none-clause-adds
-returns-else-is_none-clause-adds g c = round_adds c.args.encoding.now c.encode_and_decide.new.encoding c.add_chosen.new.encoding c.requires.next c.in_ok-decided.ensures.all c.in_ok-add_chosen.ensures
+pub returns-then-branch-clause-adds : goal.returns-then-branch-clause-adds
+returns-then-branch-clause-adds g c =
+    all_then c.args.encoding.now c.add_chosen.new.encoding c.fire.new.encoding (round_adds g.A.SolvableId.PartialEq.eq c.args.encoding.now c.encode_and_decide.new.encoding c.add_chosen.new.encoding c.requires.rooted c.in_ok-decided.ensures.all c.in_ok-add_chosen.ensures)
+    (needs_parents c.add_chosen.new.encoding c.fire.new.encoding c.in_ok-fire.ensures.adds)
+
+pub returns-else-branch-clause-stays : goal.returns-else-branch-clause-stays
+returns-else-branch-clause-stays g c = λ root is e.
+    let same = g.A.SolvableId.PartialEq.eq in
+    let old = c.add_chosen.new.encoding in
+    let new = c.fire.new.encoding in
+    (subst (λ (a : g.row.A.Denot). (root : Rules) → IsInOrder same (g.A.Answering.packages a) (g.A.Answering.orders a) root old → IsInOrder same (g.A.Answering.packages a) (g.A.Answering.orders a) root new) c.in_ok-decided.ensures.same c.in_ok-fire.ensures.stays) root
+    (parents_in_order same (g.A.Answering.packages c.args.answers.now) (g.A.Answering.orders c.args.answers.now) root c.encode_and_decide.new.encoding old (c.in_ok-decided.ensures.stays root is e) c.in_ok-add_chosen.ensures.added)
+
+pub returns-else-branch-clause-round : goal.returns-else-branch-clause-round
+returns-else-branch-clause-round g c =
+    let same = g.A.SolvableId.PartialEq.eq in
+    let (stays, spent) = c.in_ok-fire.ensures.spent c.if-branch.false in
+    turn_same same c.add_chosen.new.encoding c.fire.new.encoding stays spent (λ none. (
+    round_whole same c.args.encoding.now c.encode_and_decide.new.encoding c.add_chosen.new.encoding c.requires.rooted c.in_ok-decided.ensures.all c.in_ok-add_chosen.ensures
+    (subst (λ (o : Option Refusal). IsDecision c.encode_and_decide.new.encoding o) c.in_default.is c.in_ok-decided.ensures.decided) (sym (ap is_some c.next_parent.ensures.parent) ∙ sym c.if-is_some.ensures) none))
+
+pub returns-else-branch-clause-adds : goal.returns-else-branch-clause-adds
+returns-else-branch-clause-adds g c =
+    all_then c.args.encoding.now c.add_chosen.new.encoding c.fire.new.encoding (round_adds g.A.SolvableId.PartialEq.eq c.args.encoding.now c.encode_and_decide.new.encoding c.add_chosen.new.encoding c.requires.rooted c.in_ok-decided.ensures.all c.in_ok-add_chosen.ensures)
+    (needs_parents c.add_chosen.new.encoding c.fire.new.encoding c.in_ok-fire.ensures.adds)
