@@ -1,4 +1,4 @@
--- The judge accepts the refused report whose steps tell a proof without conditions, and its claim is true.
+-- The judge accepts the refused report whose steps tell a proof, and its claim is true.
 use Rattle.std.proofs.Common.{◌≡◌, ◌⊎◌, inl, inr, ℕ, zero, suc, ◌+◌, ◌<◌, true, List, [], ◌∷◌, ◌++◌, map, take, length, Some, refl, sym, ap, subst, ◌∙◌}
 use Rattle.std.specs.Prelude.{◌==◌, Contains, slice_get}
 use Rattle.std.specs.List.{AllZip, flat_map}

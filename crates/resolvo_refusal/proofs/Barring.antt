@@ -1,9 +1,9 @@
 -- The line by which a version is barred: it is there where a rule bars the version, and the step that names it says so.
-use Rattle.std.proofs.Common.{◌≡◌, ◌==◌, ◌⊎◌, inl, inr, ℕ, suc, Bool, true, false, List, [], ◌∷◌, Option, Some, None, refl, sym, ap, subst, ◌∙◌}
-use Rattle.std.specs.Prelude.{IfSome, IfNone, ◌||◌, not, ◌≢◌, Contains, slice_get}
+use Rattle.std.proofs.Common.{◌≡◌, ◌==◌, ◌<◌, ◌⊎◌, inl, inr, ℕ, suc, Bool, true, false, List, [], ◌∷◌, length, Option, Some, None, refl, sym, ap, subst, ◌∙◌, arith}
+use Rattle.std.specs.Prelude.{IfSome, IfNone, ◌||◌, not, ◌≢◌, unwrap_or, Contains, slice_get}
 use Rattle.std.specs.List.{list_any, find, flat_map}
 use Rattle.std.specs.Cmp.Lexicographic.{bytes_decides}
-use Rattle.std.proofs.lemmas.Bool.{false≢true, eq-eqb, eqb-true, or_cases}
+use Rattle.std.proofs.lemmas.Bool.{false≢true, eq-eqb, eqb-true, and_parts, or_cases}
 use Rattle.resolvo_text.specs.Line.{Version, Line, Skipped, Listed, Needs, Limits, Unknown, Lock, Favour, Exclude, Wish}
 use Rattle.resolvo_text.specs.Matching.{same_package}
 use Rattle.resolvo_catalogue.specs.Grammar.{line_at, owner_of}
@@ -12,12 +12,14 @@ use Rattle.resolvo_catalogue.specs.Questions.{is_rule, IsOnly, AreAll, SaysOf, B
 use Rattle.resolvo_catalogue.proofs.Placing.{at_from_contains}
 use Rattle.resolvo_pool.specs.RuleKeeping.{is_unknown, is_barred, locks_out}
 use Rattle.resolvo_pool.specs.declared.id.StringId.{StringId}
-use Rattle.resolvo_rules.specs.Encoding.{IsExact}
+use Rattle.resolvo_pool.specs.Provider as pool
+use Rattle.resolvo_rules.specs.Encoding.{IsExact, is_kept_out}
+use Rattle.resolvo_rules.proofs.Lists.{contains_none}
 use Rattle.resolvo_provider.specs.Ids.{SolvableId, IsPackage, solvable_id, solvables_of}
 use Rattle.resolvo_provider.specs.Known.{name_of}
-use Rattle.resolvo_provider.specs.Told.{reason_in, lines_at}
+use Rattle.resolvo_provider.specs.Told.{Told, reason_in, lines_at}
 use Rattle.resolvo_provider.specs.Marked.{IsMarked}
-use Rattle.resolvo_provider.specs.Provider.{Provider, packages_of, exclusion_of, marks_at, told_at, no_marks, dependencies_of}
+use Rattle.resolvo_provider.specs.Provider.{Provider, packages_of, listing_if_any, exclusion_of, marks_at, told_at, no_marks, no_lines, needs_of, dependencies_of}
 use Rattle.resolvo_provider.specs.Over.{IsOver}
 use Rattle.resolvo_provider.specs.Keeping.{TellsApart}
 use Rattle.resolvo_provider.proofs.Alike.{is_package, in_from, candidate, listed_is}
@@ -26,7 +28,7 @@ use Rattle.resolvo_provider.proofs.Marking.{one_some}
 use Rattle.resolvo_provider.proofs.Passing.{any_from}
 use Rattle.resolvo_provider.proofs.Elements.{flat_from, reason_from, from_lines}
 use Rattle.resolvo_provider.proofs.RulesKept.{found_in, unknown_from, listing_is, locked_by, excluded_by, exclusion_word}
-use Rattle.std.proofs.lemmas.Option.{slice_get-get_or, slice_get_within, get_or_from_slice_get}
+use Rattle.std.proofs.lemmas.Option.{slice_get-get_or, slice_get_within, get_or_from_slice_get, unwrap_or-slice_get}
 use Rattle.resolvo_report.specs.Value as told
 use Rattle.resolvo_judge.specs.StepClauses as judge
 use Rattle.resolvo_refusal.specs.declared.named.Text.{Text}
@@ -162,6 +164,46 @@ module _ (catalogue : List Line) (p : Provider) (over : IsOver catalogue p) (sam
         let at = from_lines (listed catalogue) catalogue s.raw v e tells.0 tells.1 (Unknown r.0) (subst (λ (l : Line). Contains (lines_at catalogue tells.0) l) is f.1) in
         known at.0 (Unknown r.0, at.1, at.2)
   ]
+
+  -- ---- what a rule bars is a version
+
+  -- a solvable of which something is told is a version
+  pub told_version : (s : SolvableId) → (told_at p s ≡ no_lines → ⊥) → (v : Version) × (slice_get (listed catalogue) s.raw ≡ Some v)
+  told_version s there = go (slice_get p.told s.raw) refl
+    where
+      go : (o : Option Told) → slice_get p.told s.raw ≡ o → (v : Version) × (slice_get (listed catalogue) s.raw ≡ Some v)
+      go None e = absurd (there (sym (unwrap_or-slice_get p.told s.raw no_lines) ∙ ap (λ (x : Option Told). unwrap_or x no_lines) e))
+      go (Some t) e =
+          let below : s.raw < length p.told = slice_get_within p.told s.raw t e in
+          let long : length p.told ≡ length (listed catalogue) = over.told.as_many in
+          let none : Version = record { name = []; number = 0 } in
+          (_, slice_get-get_or (listed catalogue) s.raw none (omega (arith, below, long)))
+
+  candidates_are : (ss : List SolvableId) → (pool.listing_or_empty (listing_if_any p ss)).candidates ≡ ss
+  candidates_are [] = refl
+  candidates_are (x ∷ xs) = refl
+
+  -- what is excluded is a candidate
+  excluded_in : (ss : List SolvableId) (e : SolvableId × StringId) → Contains (pool.listing_or_empty (listing_if_any p ss)).excluded e → Contains ss e.0
+  excluded_in [] e h = absurd (contains_none e h)
+  excluded_in (x ∷ xs) e h =
+      let f = flat_from (exclusion_of p) (x ∷ xs) e h in
+      subst (λ (y : SolvableId). Contains (x ∷ xs) y) (excluded_by f.0 (marks_at p f.0).excluded e f.2).1 f.1
+
+  pub barred_version : (s : SolvableId) → (is_kept_out same (packages_of p) s || is_unknown (dependencies_of p s)) ≡ true → (v : Version) × (slice_get (listed catalogue) s.raw ≡ Some v)
+  barred_version s h = elim (or_cases (is_kept_out same (packages_of p) s) (is_unknown (dependencies_of p s)) h) [
+    | inl out ↦ elim (or_cases _ _ out) [
+      | inl c ↦ among (subst (λ xs. Contains xs s) (candidates_are ss) (in_from p (listed catalogue) over.versions over.once same apart _ s (and_parts _ _ c).0))
+      | inr c ↦ (let x = any_from (λ (e : SolvableId × StringId). same e.0 s) _ c in among (subst (λ y. Contains ss y) (exact.one x.0.0 s x.2) (excluded_in ss x.0 x.1)))
+    ]
+    | inr lost ↦ told_version s (λ e. false≢true (sym (ap (λ (t : Told). is_unknown (needs_of t t.unknown)) e) ∙ lost))
+  ]
+    where
+      ss : List SolvableId
+      ss = solvables_of p.ids (name_of p.ids s).raw
+
+      among : Contains ss s → (v : Version) × (slice_get (listed catalogue) s.raw ≡ Some v)
+      among has = (let (v, e, packaged) = its_version p catalogue over same apart (name_of p.ids s) s has in (v, e))
 
 -- ---- the line that is found
 

@@ -1,12 +1,12 @@
--- The clause of each step of a proof without conditions, and that of the step in a report which tells it.
+-- The clause of each step of a proof, and that of the step in a report which tells it.
 use Rattle.std.proofs.Common.{◌≡◌, ◌==◌, inl, inr, ℕ, zero, suc, ◌/◌, Bool, true, false, List, [], ◌∷◌, ◌++◌, map, length, Option, Some, None, refl, sym, ap, subst, ◌∙◌, arith}
-use Rattle.std.specs.Prelude.{◌&&◌, ◌<◌, not, filter, unwrap_or, Contains, slice_get, slice_index_or, nat_lt}
+use Rattle.std.specs.Prelude.{◌&&◌, ◌<◌, not, filter, option_map, unwrap_or, Contains, slice_get, slice_index_or, nat_lt}
 use Rattle.std.specs.Int.{bit_at}
-use Rattle.std.proofs.lemmas.Bool.{and_parts, eqb-true}
+use Rattle.std.proofs.lemmas.Bool.{and_parts, and_from, eqb-true}
 use Rattle.std.proofs.lemmas.Bool.Decides.{Decides-ltb}
-use Rattle.std.proofs.lemmas.Option.{slice_get-get_or, slice_get_within, unwrap_or-slice_get}
+use Rattle.std.proofs.lemmas.Option.{slice_get-get_or, slice_get_within, get_or_from_slice_get, unwrap_or-slice_get}
 use Rattle.std.proofs.lemmas.Nat.Bits.{bit_at_lowest, bit_at-suc}
-use Rattle.resolvo_text.specs.Line.{Version, Spec, Line, Needs, Limits}
+use Rattle.resolvo_text.specs.Line.{Version, Spec, Cond, Line, Needs, Limits}
 use Rattle.resolvo_text.specs.Matching as lines
 use Rattle.resolvo_catalogue.specs.Listed.{listed}
 use Rattle.resolvo_catalogue.specs.Questions.{Said}
@@ -23,7 +23,7 @@ use Rattle.resolvo_pool.specs.RuleKeeping.{rules_of, rules_for}
 use Rattle.resolvo_pool.specs.RuleKeeping as pool_rules
 use Rattle.resolvo_pool.specs.Text.{alternatives_of}
 use Rattle.resolvo_store.specs.AtMostOne.{digit}
-use Rattle.resolvo_rules.specs.Encoding.{Atom, Rule, IsExact, plus, minus, solvables, parent_literals, candidate_literals, same_requirement, asks, has_condition, literals_of}
+use Rattle.resolvo_rules.specs.Encoding.{Atom, Rule, IsExact, plus, minus, solvables, parent_literals, case_literals, candidate_literals, same_requirement, asks, has_condition, literals_of}
 use Rattle.resolvo_rules.proofs.Lists.{contains_none, contains_cases, contains_first, contains_later, contains_left, contains_right, contains_parts, contains_map, map_contains, contains_filter, filter_contains, any_contained, contained_all}
 use Rattle.resolvo_coding.specs.declared.atom.ProofAtom.{ProofAtom}
 use Rattle.resolvo_coding.specs.declared.atom.ProofAtom.TheVariants as atom
@@ -38,7 +38,8 @@ use Rattle.resolvo_provider.specs.Provider.{Provider, packages_of, candidates_of
 use Rattle.resolvo_provider.specs.Over.{IsOver, AreAsked}
 use Rattle.resolvo_provider.specs.Keeping.{TellsApart, root_of}
 use Rattle.resolvo_provider.specs.declared.provider.RequestIds.{RequestIds}
-use Rattle.resolvo_provider.proofs.Alike.{member_place, listed_is, is_package, admits, match_same, in_from, outside_same}
+use Rattle.resolvo_provider.specs.declared.id_table.Numbers.{Numbers}
+use Rattle.resolvo_provider.proofs.Alike.{member_place, listed_is, is_package, match_same, in_from, in_to, outside_same}
 use Rattle.resolvo_provider.proofs.KeptAlike.{its_version}
 use Rattle.resolvo_provider.proofs.RulesKept.{con_from}
 use Rattle.resolvo_provider.proofs.Marking.{one_some}
@@ -47,7 +48,8 @@ use Rattle.resolvo_report.specs.Value as told
 use Rattle.resolvo_judge.specs.StepClauses as judge
 use Rattle.resolvo_judge.proofs.Sets.{is_contained}
 use Rattle.resolvo_refusal.specs.Writing.{version_at, place_at}
-use Rattle.resolvo_refusal.specs.Refusal.{IsVersion, IsRequirement, IsKnownAtom, atom_at, literal_at, AreLiterals, IsBarredBy}
+use Rattle.resolvo_refusal.specs.Lines.{NeedsAs}
+use Rattle.resolvo_refusal.specs.Refusal.{IsVersion, IsRequirement, IsKnownAtom, atom_at, literal_at, AreLiterals, IsOfPlace, IsBarredBy}
 use Rattle.resolvo_refusal.proofs.Barring.{bar_clause}
 use Rattle.resolvo_refusal.proofs.Renaming.{IsKnown, IsKnownClause, name, name_literal, name_clause, version_is, name_is, spec_is, specs_are, members_known}
 
@@ -140,30 +142,31 @@ module _ (catalogue : List Line) (provider : Provider) (over : IsOver catalogue 
         let (v, e, more) = each_left (IsSolvable provider.ids) provider.ids.solvables (listed catalogue) over.versions i x there in
         (v, subst (λ (k : ℕ). slice_get (listed catalogue) k ≡ Some v) (let e : i ≡ s.raw = omega (arith, at) in e) e)
 
-    -- the matches of a version set, and the listed versions that its SPEC matches
-    matches_spelled : (w : VersionSetId) (s : Spec) → IsSpec provider.ids w s
-        → Spells (solvables (filter (matches provider w) (pool.listed (candidates_of provider (set_at provider.ids w).0)))) (judge.each_listed catalogue (lines.matches s))
-    matches_spelled w s spec = record {
+    -- the candidates of a version set's package that pass a test, and the listed versions that pass one
+    tested_spelled : (w : VersionSetId) (test : SolvableId → Bool) (said : Version → Bool)
+        → ((x : SolvableId) (v : Version) → slice_get (listed catalogue) x.raw ≡ Some v → (pool_rules.is_in same (packages_of provider) (pool.listed (candidates_of provider (set_at provider.ids w).0)) x && test x) ≡ said v)
+        → Spells (solvables (filter test (pool.listed (candidates_of provider (set_at provider.ids w).0)))) (judge.each_listed catalogue said)
+    tested_spelled w test said alike = record {
       known = λ l h. (
-          let (x, a, e) = map_contains (λ (y : SolvableId). plus (Atom.solvable y)) l (filter (matches provider w) candidates) h in
-          subst (λ (y : pass.Literal (Atom NameId SolvableId)). IsKnown catalogue provider over y.atom) (sym e) (candidate_listed (set_at provider.ids w).0 x (filter_contains (matches provider w) x candidates a).0)
+          let (x, a, e) = map_contains (λ (y : SolvableId). plus (Atom.solvable y)) l (filter test candidates) h in
+          subst (λ (y : pass.Literal (Atom NameId SolvableId)). IsKnown catalogue provider over y.atom) (sym e) (candidate_listed (set_at provider.ids w).0 x (filter_contains test x candidates a).0)
           );
       only = λ l h. (
-          let (x, a, e) = map_contains (λ (y : SolvableId). plus (Atom.solvable y)) l (filter (matches provider w) candidates) h in
-          let (b, t) = filter_contains (matches provider w) x candidates a in
+          let (x, a, e) = map_contains (λ (y : SolvableId). plus (Atom.solvable y)) l (filter test candidates) h in
+          let (b, t) = filter_contains test x candidates a in
           let (v, g) = candidate_listed (set_at provider.ids w).0 x b in
-          let m : lines.matches s v ≡ true = sym (admits provider (listed catalogue) over.versions over.once same apart w s x v spec g) ∙ t in
-          let there : Contains (judge.each_listed catalogue (lines.matches s)) (judge.is_in v) = contains_map judge.is_in v (filter (lines.matches s) (listed catalogue)) (contains_filter (lines.matches s) v (listed catalogue) (contains_from_at (listed catalogue) v x.raw g) m) in
-          subst (λ y. Contains (judge.each_listed catalogue (lines.matches s)) (name_literal catalogue provider over y)) (sym e) (subst (λ (u : Version). Contains (judge.each_listed catalogue (lines.matches s)) (judge.is_in u)) (sym (version_is catalogue provider over x v g)) there)
+          let m : said v ≡ true = sym (alike x v g) ∙ and_from _ _ (in_to provider (listed catalogue) over.versions over.once same apart candidates x b) t in
+          let there : Contains (judge.each_listed catalogue said) (judge.is_in v) = contains_map judge.is_in v (filter said (listed catalogue)) (contains_filter said v (listed catalogue) (contains_from_at (listed catalogue) v x.raw g) m) in
+          subst (λ y. Contains (judge.each_listed catalogue said) (name_literal catalogue provider over y)) (sym e) (subst (λ (u : Version). Contains (judge.each_listed catalogue said) (judge.is_in u)) (sym (version_is catalogue provider over x v g)) there)
           );
       each = λ m h. (
-          let (v, a, e) = map_contains judge.is_in m (filter (lines.matches s) (listed catalogue)) h in
-          let (b, t) = filter_contains (lines.matches s) v (listed catalogue) a in
+          let (v, a, e) = map_contains judge.is_in m (filter said (listed catalogue)) h in
+          let (b, t) = filter_contains said v (listed catalogue) a in
           let (k, g) = at_from_contains (listed catalogue) v b in
           let x : SolvableId = solvable_id k in
-          let p = and_parts _ _ (match_same provider (listed catalogue) over.versions over.once same apart w s x v spec g ∙ t) in (
+          let p = and_parts _ _ (alike x v g ∙ t) in (
             plus (Atom.solvable x),
-            contains_map (λ (y : SolvableId). plus (Atom.solvable y)) x (filter (matches provider w) candidates) (contains_filter (matches provider w) x candidates (in_from provider (listed catalogue) over.versions over.once same apart candidates x p.0) p.1),
+            contains_map (λ (y : SolvableId). plus (Atom.solvable y)) x (filter test candidates) (contains_filter test x candidates (in_from provider (listed catalogue) over.versions over.once same apart candidates x p.0) p.1),
             e ∙ ap judge.is_in (sym (version_is catalogue provider over x v g)),
           )
           );
@@ -171,6 +174,28 @@ module _ (catalogue : List Line) (provider : Provider) (over : IsOver catalogue 
       where
         candidates : List SolvableId
         candidates = pool.listed (candidates_of provider (set_at provider.ids w).0)
+
+    -- the matches of a version set, and the listed versions that its SPEC matches
+    matches_spelled : (w : VersionSetId) (s : Spec) → IsSpec provider.ids w s
+        → Spells (solvables (filter (matches provider w) (pool.listed (candidates_of provider (set_at provider.ids w).0)))) (judge.each_listed catalogue (lines.matches s))
+    matches_spelled w s spec = tested_spelled w (matches provider w) (lines.matches s) (λ x v e. match_same provider (listed catalogue) over.versions over.once same apart w s x v spec e)
+
+    -- the candidates outside a version set, and the listed versions outside its SPEC
+    others_spelled : (w : VersionSetId) (s : Spec) → IsSpec provider.ids w s
+        → Spells (solvables (filter (λ x. not (matches provider w x)) (pool.listed (candidates_of provider (set_at provider.ids w).0)))) (judge.each_listed catalogue (judge.is_outside s))
+    others_spelled w s spec = tested_spelled w (λ x. not (matches provider w x)) (judge.is_outside s) (λ x v e. outside_same provider (listed catalogue) over.versions over.once same apart w s x v spec e)
+
+    -- a case of a condition, and its SPECs
+    case_spelled : (vs : List VersionSetId) (ss : List Spec) → AreEach (IsSpec provider.ids) vs ss → Spells (case_literals same (packages_of provider) vs) (judge.case_fails catalogue ss)
+    case_spelled [] [] h = spelled_none
+    case_spelled [] (s ∷ ss) h = absurd h
+    case_spelled (v ∷ vs) [] h = absurd h
+    case_spelled (v ∷ vs) (s ∷ ss) h =
+        let (n, e, named) = h.0 in
+        let set : (set_at provider.ids v).0 ≡ n = ap (λ (x : NameId × Numbers). x.0) (get_or_from_slice_get provider.ids.version_sets v.0 _ _ e) in
+        let its : IsPackage provider.ids (set_at provider.ids v).0 s.name = subst (λ (m : NameId). IsPackage provider.ids m s.name) (sym set) named in
+        let text : s.name ≡ name_text provider.ids (set_at provider.ids v).0 = sym (name_is catalogue provider over (set_at provider.ids v).0 s.name its) in
+        spelled_more (minus (Atom.any_of (set_at provider.ids v).0)) _ _ _ (s.name, its) (λ i. record { atom = told.AnyOf (text i); positive = false }) (spelled_append _ _ _ _ (others_spelled v s h.0) (case_spelled vs ss h.1))
 
     candidates_spelled : (vs : List VersionSetId) (ss : List Spec) → AreEach (IsSpec provider.ids) vs ss → Spells (candidate_literals same (packages_of provider) vs) (judge.some_match catalogue ss)
     candidates_spelled [] [] h = spelled_none
@@ -188,7 +213,7 @@ module _ (catalogue : List Line) (provider : Provider) (over : IsOver catalogue 
     -- ---- rules
 
     -- a solvable that needs something is a listed version, and what it needs is known
-    pub needed : (s : SolvableId) (need : ConditionalRequirement) → Contains (rules_of (dependencies_of provider s)).requirements need → IsVersion catalogue provider.ids s × IsRequirement catalogue provider.ids need.requirement
+    pub needed : (s : SolvableId) (need : ConditionalRequirement) → Contains (rules_of (dependencies_of provider s)).requirements need → IsVersion catalogue provider.ids s × ((said : List Spec × Option Cond) × IsNeed provider.ids need said)
     needed s need h = go (slice_get provider.told s.raw) refl
       where
         told_is : (o : Option Told) → slice_get provider.told s.raw ≡ o → told_at provider s ≡ unwrap_or o no_lines
@@ -198,7 +223,7 @@ module _ (catalogue : List Line) (provider : Provider) (over : IsOver catalogue 
         stated t None a = a
         stated t (Some w) a = absurd (contains_none need a)
 
-        go : (o : Option Told) → slice_get provider.told s.raw ≡ o → IsVersion catalogue provider.ids s × IsRequirement catalogue provider.ids need.requirement
+        go : (o : Option Told) → slice_get provider.told s.raw ≡ o → IsVersion catalogue provider.ids s × ((said : List Spec × Option Cond) × IsNeed provider.ids need said)
         go None e = absurd (contains_none need (stated no_lines None (subst (λ (t : Told). Contains (rules_of (needs_of t t.unknown)).requirements need) (told_is None e) h)))
         go (Some t) e =
             let (numbers, all, tells) = over.told.each s.raw t e in
@@ -206,14 +231,12 @@ module _ (catalogue : List Line) (provider : Provider) (over : IsOver catalogue 
             let below : s.raw < length provider.told = slice_get_within provider.told s.raw t e in
             let long : length provider.told ≡ length (listed catalogue) = over.told.as_many in
             let none : Version = record { name = []; number = 0 } in
-            ((_, slice_get-get_or (listed catalogue) s.raw none (omega (arith, below, long))), (said.0, is.0))
+            ((_, slice_get-get_or (listed catalogue) s.raw none (omega (arith, below, long))), (said, is))
 
     -- so is what the root needs
     pub asked_for : (said : Said) (ids : RequestIds) → AreAsked provider.ids said ids → (parent : Option SolvableId) (need : ConditionalRequirement) → Contains (rules_for same (packages_of provider) (root_of ids) parent).requirements need
-        → ((s : SolvableId) → parent ≡ Some s → IsVersion catalogue provider.ids s) × IsRequirement catalogue provider.ids need.requirement
-    asked_for said ids asked None need h =
-        let (x, is) = each_contained (IsNeed provider.ids) ids.requirements.items _ asked.requirements need h in
-        ((λ s e. absurd cc), (x.0, is.0))
+        → ((s : SolvableId) → parent ≡ Some s → IsVersion catalogue provider.ids s) × ((x : List Spec × Option Cond) × IsNeed provider.ids need x)
+    asked_for said ids asked None need h = (λ s e. absurd cc, each_contained (IsNeed provider.ids) ids.requirements.items _ asked.requirements need h)
     asked_for said ids asked (Some s) need h =
         let (v, r) = needed s need h in
         ((λ t e. (let at : s ≡ t = one_some e in subst (λ (x : SolvableId). IsVersion catalogue provider.ids x) at v)), r)
@@ -222,8 +245,8 @@ module _ (catalogue : List Line) (provider : Provider) (over : IsOver catalogue 
     gate_asked s r h =
         let (need, a, t) = any_contained (λ (n : ConditionalRequirement). not (has_condition n.condition) && same_requirement r n.requirement) _ h in
         let is : r ≡ need.requirement = same_requirement_is r need.requirement (and_parts (not (has_condition need.condition)) _ t).1 in
-        let (v, known) = needed s need a in
-        (v, subst (λ (q : Requirement). IsRequirement catalogue provider.ids q) (sym is) known)
+        let (v, (said, (alternatives, condition))) = needed s need a in
+        (v, subst (λ (q : Requirement). IsRequirement catalogue provider.ids q) (sym is) (said.0, alternatives))
 
     -- ---- the clauses of steps
 
@@ -231,14 +254,17 @@ module _ (catalogue : List Line) (provider : Provider) (over : IsOver catalogue 
     abbrev pub IsSpelled : List Line → List (pass.Literal (Atom NameId SolvableId)) → told.Step → Type 0
     IsSpelled request c step = (d : judge.Clause) × (judge.clause_of catalogue request step ≡ Some d) × Spells c d
 
-    pub need_spelled : (request : List Line) (parent : Option SolvableId) (r : Requirement) (line : ℕ) → ((s : SolvableId) → parent ≡ Some s → IsVersion catalogue provider.ids s) → IsRequirement catalogue provider.ids r
-        → judge.line_of catalogue request (place_at catalogue parent) line ≡ Some (Needs (alternatives_at provider.ids r) None)
-        → IsSpelled request (parent_literals parent ++ candidate_literals same (packages_of provider) (alternatives_of (members_of provider.ids) r)) (told.Need (place_at catalogue parent) line 1)
-    need_spelled request parent r line listed known needs = (
-      judge.place_fails (place_at catalogue parent) ++ judge.some_match catalogue (alternatives_at provider.ids r),
-      ap (judge.need_clause catalogue (place_at catalogue parent) 1) needs,
-      spelled_append _ _ _ _ (fails_spelled parent listed) (alternatives_spelled r known),
-    )
+    pub need_spelled : (request : List Line) (parent : Option SolvableId) (r : Requirement) (case : List VersionSetId) (line k : ℕ) → ((s : SolvableId) → parent ≡ Some s → IsVersion catalogue provider.ids s) → IsRequirement catalogue provider.ids r
+        → (specs : List Spec) × AreEach (IsSpec provider.ids) case specs → IsOfPlace catalogue provider.ids request (place_at catalogue parent) (NeedsAs (alternatives_at provider.ids r) (map (spec_at provider.ids) case) k) line
+        → IsSpelled request (parent_literals parent ++ (case_literals same (packages_of provider) case ++ candidate_literals same (packages_of provider) (alternatives_of (members_of provider.ids) r))) (told.Need (place_at catalogue parent) line k)
+    need_spelled request parent r case line k listed known (specs, each) (l, says, (condition, is, (at, first))) =
+        let stated : judge.line_of catalogue request (place_at catalogue parent) line ≡ Some (Needs (alternatives_at provider.ids r) condition) = says ∙ ap (λ (x : Line). Some x) is in
+        let cased : judge.case_at condition k ≡ Some specs = at ∙ ap (λ (ss : List Spec). Some ss) (specs_are catalogue provider over case specs each) in (
+          judge.place_fails (place_at catalogue parent) ++ (judge.case_fails catalogue specs ++ judge.some_match catalogue (alternatives_at provider.ids r)),
+          ap (judge.need_clause catalogue (place_at catalogue parent) k) stated
+              ∙ ap (option_map (λ ss. judge.place_fails (place_at catalogue parent) ++ (judge.case_fails catalogue ss ++ judge.some_match catalogue (alternatives_at provider.ids r)))) cased,
+          spelled_append _ _ _ _ (fails_spelled parent listed) (spelled_append _ _ _ _ (case_spelled case specs each) (alternatives_spelled r known)),
+        )
 
     pub gate_spelled : (request : List Line) (s : SolvableId) (r : Requirement) (line : ℕ) → IsVersion catalogue provider.ids s → IsRequirement catalogue provider.ids r
         → judge.line_of catalogue request (told.OfVersion (version_at catalogue s)) line ≡ Some (Needs (alternatives_at provider.ids r) None)

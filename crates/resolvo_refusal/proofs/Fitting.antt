@@ -1,23 +1,28 @@
--- Each step that tells one of a proof without conditions has a text, and so has the report.
-use Rattle.std.proofs.Common.{inl, inr, ◌≡◌, ◌<◌, ℕ, suc, List, [], ◌∷◌, ◌++◌, map, length, Option, Some, None, refl, sym, subst, ◌∙◌, arith, Vec, Global}
-use Rattle.std.specs.Prelude.{IsTrue, Contains, slice_get}
+-- Each step that tells one of a proof has a text, and so has the report.
+use Rattle.std.proofs.Common.{inl, inr, ◌≡◌, ◌<◌, ℕ, zero, suc, List, [], ◌∷◌, ◌++◌, map, length, Option, Some, None, refl, sym, ap, subst, ◌∙◌, arith, Vec, Global}
+use Rattle.std.specs.Prelude.{IsTrue, ◌&&◌, not, Contains, slice_get}
 use Rattle.std.specs.List.{AllZip}
 use Rattle.std.proofs.lemmas.Option.{slice_get_within}
-use Rattle.resolvo_text.specs.Line.{Spec, Line}
+use Rattle.resolvo_text.specs.Line.{Spec, Line, Needs}
 use Rattle.resolvo_text.specs.Spelling.{IsNumber}
 use Rattle.resolvo_text.specs.Spelling as form
 use Rattle.resolvo_catalogue.specs.Grammar.{line_at}
 use Rattle.resolvo_catalogue.specs.Questions.{Said, AreAll}
-use Rattle.resolvo_rules.proofs.Lists.{contains_map, map_contains}
+use Rattle.resolvo_pool.specs.declared.requirement.Requirement.{Requirement}
+use Rattle.resolvo_pool.specs.declared.requirement.ConditionalRequirement.{ConditionalRequirement}
+use Rattle.resolvo_pool.specs.RuleKeeping.{rules_of}
+use Rattle.resolvo_rules.specs.Encoding.{has_condition, same_requirement}
+use Rattle.resolvo_rules.proofs.Lists.{contains_map, map_contains, any_contained}
 use Rattle.resolvo_proof.specs.Steps.{literal_in}
 use Rattle.resolvo_proof.specs.declared.step.ProofLiteral.{ProofLiteral}
 use Rattle.resolvo_proof.specs.declared.step.ProofStep.{ProofStep}
 use Rattle.resolvo_proof.specs.declared.step.ProofStep.TheVariants.{Rule, Derived}
 use Rattle.resolvo_proof.specs.declared.step.ProofRule.TheVariants.{Needs as NeedsRule, GateOf, Shared, Limit, Outside, Locked, Excluded, Digit, AtLeastOne}
 use Rattle.resolvo_provider.specs.Ids.{NameId, SolvableId}
-use Rattle.resolvo_provider.specs.Provider.{Provider, packages_of}
+use Rattle.resolvo_provider.specs.Known.{alternatives_at}
+use Rattle.resolvo_provider.specs.Provider.{Provider, packages_of, dependencies_of}
 use Rattle.resolvo_provider.specs.Keeping.{root_of}
-use Rattle.resolvo_provider.proofs.Covering.{alternatives_stand, spec_stands}
+use Rattle.resolvo_provider.proofs.Covering.{spec_stands}
 use Rattle.resolvo_report.specs.Value.{Place, OfRequest, OfVersion, Literal, Step, Report, Refused}
 use Rattle.resolvo_report.specs.Value as told
 use Rattle.resolvo_report.specs.Text.{literal_text, are_rising, IsLineNumber, IsPlace, IsAtom, IsStep}
@@ -33,9 +38,10 @@ use Rattle.resolvo_refusal.specs.Refusal.{IsVersion, IsKnownAtom, AreLiterals, I
 use Rattle.resolvo_refusal.proofs.Renaming.{named_once}
 use Rattle.resolvo_refusal.proofs.Clauses.{Spells, spelled_members, asked_for, gate_asked, limited, is_out, candidate_of, literals_spelled}
 use Rattle.resolvo_refusal.proofs.Taken.{out_says}
-use Rattle.resolvo_refusal.proofs.Following.{owned}
+use Rattle.resolvo_refusal.proofs.Following.{owned, digit_known}
+use Rattle.resolvo_refusal.proofs.Barring.{barred_version}
 use Rattle.resolvo_refusal.proofs.Accepting.{refusal_of}
-use Rattle.resolvo_refusal.proofs.Telling.{within_line, zipped, steps_told}
+use Rattle.resolvo_refusal.proofs.Telling.{within_line, zipped, version_line, same_need, need_told, steps_told}
 use Rattle.resolvo_refusal.proofs.Spelled.{version_fits, atom_fits}
 use Rattle.resolvo_refusal.proofs.Grammar.{of_every, rising_sorted, atoms_once, in_grammar}
 
@@ -94,6 +100,11 @@ module _ (catalogue : List Line) (said : Said) (provider : Provider) (steps : Li
           named_once catalogue provider refuted.over refuted.same_atom refuted.exact_atom (map literal_in literals.items) spelled.known (refuted.one_sign n literals causes at) (judge.literal_of l) (judge.literal_of m)
           (same.each (judge.literal_of l) (contains_map judge.literal_of l written h)) (same.each (judge.literal_of m) (contains_map judge.literal_of m written k)) e
 
+  -- a line of the catalogue has a form
+  catalogue_form : (n : ℕ) (l : Line) → line_at catalogue n ≡ Some l → form.HasForm l
+  catalogue_form zero l e = absurd cc
+  catalogue_form (suc k) l e = (let (bytes, line) = refuted.over.grammatical k l e in line.says.form)
+
   catalogue_fits : (n : ℕ) (l : Line) → line_at catalogue n ≡ Some l → IsLineNumber n
   catalogue_fits n l e = (let (first, last) = within_line catalogue n l e in (first, omega (arith, last, long)))
 
@@ -105,17 +116,22 @@ module _ (catalogue : List Line) (said : Said) (provider : Provider) (steps : Li
 
   -- the step has a text
   pub step_fits : (n : ℕ) (s : ProofStep NameId SolvableId) (t : Step) → slice_get steps n ≡ Some s → Tells catalogue said.lines provider.ids s t → IsToldBy catalogue provider.ids said.lines s t → IsStep t
-  step_fits n (Rule (NeedsRule parent r case)) t at tells (line, is, first) =
+  step_fits n (Rule (NeedsRule parent r case)) t at tells told_so =
       let (condition, (needs, cases)) = refuted.proof n _ at in
       let (versions, known) = asked_for catalogue provider refuted.over refuted.same refuted.exact said refuted.ids refuted.asked parent (record { condition = condition; requirement = r }) needs in
-      subst (λ (x : Step). IsStep x) (sym is) (parent_fits parent versions, line_fits (place_at catalogue parent) line _ first.says, omega arith)
+      let (line, k, number, is, first) = need_told catalogue said provider steps refuted few n parent r case t at tells in
+      let (l, says, needing) = first.says in
+      subst (λ (x : Step). IsStep x) (sym is) (parent_fits parent versions, line_fits (place_at catalogue parent) line l says, number)
   step_fits n (Rule (GateOf s r)) t at tells (line, is, first) =
       let (condition, asks) = refuted.proof n _ at in
       let (version, known) = gate_asked catalogue provider refuted.over refuted.same refuted.exact s r asks in
       subst (λ (x : Step). IsStep x) (sym is) (version_fits catalogue provider refuted.over s version, line_fits (OfVersion (version_at catalogue s)) line _ first.says)
   step_fits n (Rule (Shared r)) t at tells is =
-      let (ss, are, fit) = refuted.known n _ at in
-      subst (λ (x : Step). IsStep x) (sym is) (subst (λ ts. form_of.AreAlternatives ts) (sym (alternatives_stand provider.ids r ss are)) fit)
+      let (condition, (s, asks)) = refuted.proof n _ at in
+      let (need, has, same) = any_contained (λ (need : ConditionalRequirement). not (has_condition need.condition) && same_requirement r need.requirement) (rules_of (dependencies_of provider s)).requirements asks in
+      let (c, stated, m, of, there) = version_line catalogue provider refuted.over s need has in
+      let spelled : form_of.AreAlternatives (alternatives_at provider.ids need.requirement) = catalogue_form m (Needs (alternatives_at provider.ids need.requirement) c) there in
+      subst (λ (x : Step). IsStep x) (sym is) (subst (λ (q : Requirement). form_of.AreAlternatives (alternatives_at provider.ids q)) (ap (λ (x : ConditionalRequirement). x.requirement) (same_need need r same)) spelled)
   step_fits n (Rule (Limit parent v None)) t at tells (line, is, first) =
       let (condition, has) = refuted.proof n _ at in
       let (versions, known) = limited catalogue provider refuted.over refuted.same refuted.exact said refuted.ids refuted.asked parent v has in
@@ -130,10 +146,10 @@ module _ (catalogue : List Line) (said : Said) (provider : Provider) (steps : Li
       let (spec, named, fits) = refuted.known n _ at in
       let (version, outside) = is_out catalogue provider refuted.over refuted.same refuted.exact v spec s named (out_says refuted.same (packages_of provider) (root_of refuted.ids) v s out) in
       subst (λ (x : Step). IsStep x) (sym is) (subst (λ (x : Spec). form.IsSpec x) (sym (spec_stands provider.ids v spec named)) fits, version_fits catalogue provider refuted.over s version)
-  step_fits n (Rule (Locked locked s)) t at tells bars = bar_fits s t (refuted.known n _ at) bars
-  step_fits n (Rule (Excluded s reason)) t at tells bars = bar_fits s t (refuted.known n _ at) bars
+  step_fits n (Rule (Locked locked s)) t at tells by = (let (condition, bars) = refuted.proof n _ at in bar_fits s t (barred_version catalogue provider refuted.over refuted.same refuted.exact s bars) by)
+  step_fits n (Rule (Excluded s reason)) t at tells by = (let (condition, bars) = refuted.proof n _ at in bar_fits s t (barred_version catalogue provider refuted.over refuted.same refuted.exact s bars) by)
   step_fits n (Rule (Digit s place bit)) t at tells is =
-      let (version, below) = refuted.known n _ at in
+      let (version, below) = digit_known catalogue said provider steps refuted n s place bit at in
       subst (λ (x : Step). IsStep x) (sym is) (version_fits catalogue provider refuted.over s version, tells, below)
   step_fits n (Rule (AtLeastOne m s)) t at tells is =
       let (condition, there) = refuted.proof n _ at in

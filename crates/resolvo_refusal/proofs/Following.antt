@@ -1,4 +1,4 @@
--- The steps that tell a proof without conditions are one of the judge: each may stand after those before it.
+-- The steps that tell a proof are one of the judge: each may stand after those before it.
 use Rattle.std.proofs.Common.{◌≡◌, ℕ, zero, suc, ◌<◌, Bool, true, false, List, [], ◌∷◌, ◌++◌, map, take, length, Option, Some, None, refl, sym, ap, subst, ◌∙◌, arith, cond, Vec, Global}
 use Rattle.std.specs.Prelude.{◌||◌, ◌==◌, not, unwrap_or, is_some, Contains, slice_get}
 use Rattle.std.specs.List.{AllZip}
@@ -11,9 +11,6 @@ use Rattle.resolvo_text.specs.Matching.{same_version}
 use Rattle.resolvo_catalogue.specs.Grammar.{line_at}
 use Rattle.resolvo_catalogue.specs.Questions.{Said, is_rule}
 use Rattle.resolvo_catalogue.proofs.Placing.{at_from_contains}
-use Rattle.resolvo_pool.specs.declared.id.VersionSetId.{VersionSetId}
-use Rattle.resolvo_pool.specs.Text.{alternatives_of}
-use Rattle.resolvo_rules.specs.Encoding.{parent_literals, case_literals, candidate_literals}
 use Rattle.resolvo_rules.proofs.Lists.{contains_none, contains_first, contains_later, map_contains, contained_all}
 use Rattle.resolvo_proof.specs.Members.{SameMembers}
 use Rattle.resolvo_proof.specs.Steps.{literal_in, clause_of, clause_at}
@@ -22,7 +19,7 @@ use Rattle.resolvo_proof.specs.declared.step.ProofStep.{ProofStep}
 use Rattle.resolvo_proof.specs.declared.step.ProofStep.TheVariants.{Rule, Derived}
 use Rattle.resolvo_proof.specs.declared.step.ProofRule.TheVariants.{Needs as NeedsRule, GateOf, Shared, Limit, Outside, Locked, Excluded, Digit, AtLeastOne}
 use Rattle.resolvo_provider.specs.Ids.{NameId, SolvableId}
-use Rattle.resolvo_provider.specs.Known.{members_of, spec_at, alternatives_at}
+use Rattle.resolvo_provider.specs.Known.{name_of, spec_at, alternatives_at}
 use Rattle.resolvo_provider.specs.Provider.{Provider, packages_of}
 use Rattle.resolvo_provider.specs.Keeping.{root_of}
 use Rattle.resolvo_provider.proofs.Marking.{one_some}
@@ -37,11 +34,12 @@ use Rattle.resolvo_refusal.specs.declared.named.Text.TheVariants as text
 use Rattle.resolvo_refusal.specs.Named.{line_in, in_catalogue}
 use Rattle.resolvo_refusal.specs.Named as named
 use Rattle.resolvo_refusal.specs.Writing.{version_at, place_at}
-use Rattle.resolvo_refusal.specs.Refusal.{IsToldBy, AreLiterals, Refutes}
+use Rattle.resolvo_refusal.specs.Refusal.{IsVersion, IsToldBy, AreLiterals, Refutes}
 use Rattle.resolvo_refusal.proofs.Renaming.{IsKnownClause, name_clause, version_is, pass_told}
 use Rattle.resolvo_refusal.proofs.Taken.{out_says}
-use Rattle.resolvo_refusal.proofs.Barring.{bar_stated, by_bar}
-use Rattle.resolvo_refusal.proofs.Clauses.{Spells, IsSpelled, spelled_members, asked_for, gate_asked, need_spelled, gate_spelled, shared_spelled, limited, limit_spelled, limit_bars_spelled, outside_spelled, any_spelled, bar_spelled, digit_spelled, literals_spelled, derived_spelled}
+use Rattle.resolvo_refusal.proofs.Cases.{case_said}
+use Rattle.resolvo_refusal.proofs.Barring.{bar_stated, by_bar, barred_version}
+use Rattle.resolvo_refusal.proofs.Clauses.{Spells, IsSpelled, spelled_members, asked_for, gate_asked, need_spelled, gate_spelled, shared_spelled, limited, limit_spelled, limit_bars_spelled, outside_spelled, candidate_of, any_spelled, bar_spelled, digit_spelled, literals_spelled, derived_spelled}
 
 -- ---- lists, place by place
 
@@ -107,7 +105,9 @@ gate_stated catalogue request of v line n l at e = catalogue_stated catalogue re
 module _ (catalogue : List Line) (said : Said) (provider : Provider) (steps : List (ProofStep NameId SolvableId)) (refuted : Refutes catalogue said provider steps) where
   -- the line that a written step rests on states a rule
   pub line_stated : (of : Text) (s : ProofStep NameId SolvableId) (t : told.Step) (n : ℕ) → IsToldBy catalogue provider.ids said.lines s t → line_in of t ≡ Some n → (l : Line) × (line_at (lines_in catalogue said.lines of) n ≡ Some l) × (is_rule l ≡ true)
-  line_stated of (Rule (NeedsRule parent r case)) t n (line, is, first) e = (_, place_stated catalogue said.lines of (place_at catalogue parent) line n _ first.says (subst (λ (x : told.Step). line_in of x ≡ Some n) is e), refl)
+  line_stated of (Rule (NeedsRule parent r case)) t n (line, k, is, first) e =
+      let (l, says, (condition, needs, numbered)) = first.says in
+      (l, place_stated catalogue said.lines of (place_at catalogue parent) line n l says (subst (λ (x : told.Step). line_in of x ≡ Some n) is e), ap is_rule needs)
   line_stated of (Rule (GateOf s r)) t n (line, is, first) e = (_, gate_stated catalogue said.lines of (version_at catalogue s) line n _ first.says (subst (λ (x : told.Step). line_in of x ≡ Some n) is e), refl)
   line_stated of (Rule (Shared r)) t n is e = absurd (let g : line_in of (told.Shared (alternatives_at provider.ids r)) ≡ Some n = subst (λ (x : told.Step). line_in of x ≡ Some n) is e in cc)
   line_stated of (Rule (Limit parent v None)) t n (line, is, first) e = (_, place_stated catalogue said.lines of (place_at catalogue parent) line n _ first.says (subst (λ (x : told.Step). line_in of x ≡ Some n) is e), refl)
@@ -124,23 +124,29 @@ module _ (catalogue : List Line) (said : Said) (provider : Provider) (steps : Li
   abbrev IsClauseOf : ProofStep NameId SolvableId → told.Step → Type 0
   IsClauseOf s t = IsSpelled catalogue provider refuted.over refuted.same refuted.exact said.lines (clause_of refuted.same (packages_of provider) s) t
 
+  -- the digit of a step is one of the first 32, of a version's place
+  pub digit_known : (n : ℕ) (s : SolvableId) (place bit : ℕ) → slice_get steps n ≡ Some (Rule (Digit s place bit)) → IsVersion catalogue provider.ids s × (bit < 32)
+  digit_known n s place bit at =
+      let (condition, (among, below)) = refuted.proof n _ at in
+      let (version, packaged) = candidate_of catalogue provider refuted.over refuted.same refuted.exact (name_of provider.ids s) s among in
+      (version, below)
+
   -- the clause of a written step spells that of the step which it tells
   step_spelled : (n : ℕ) (s : ProofStep NameId SolvableId) (t : told.Step) → slice_get steps n ≡ Some s → IsToldBy catalogue provider.ids said.lines s t → IsClauseOf s t
-  step_spelled n (Rule (NeedsRule parent r case)) t at (line, is, first) =
+  step_spelled n (Rule (NeedsRule parent r case)) t at (line, k, is, first) =
       let (condition, (needs, cases)) = refuted.proof n _ at in
-      let (versions, known) = asked_for catalogue provider refuted.over refuted.same refuted.exact said refuted.ids refuted.asked parent (record { condition = condition; requirement = r }) needs in
-      subst (λ (x : told.Step). IsClauseOf (Rule (NeedsRule parent r case)) x) (sym is)
-      (subst (λ (vs : List VersionSetId). IsSpelled catalogue provider refuted.over refuted.same refuted.exact said.lines
-      (parent_literals parent ++ (case_literals refuted.same (packages_of provider) vs ++ candidate_literals refuted.same (packages_of provider) (alternatives_of (members_of provider.ids) r))) (told.Need (place_at catalogue parent) line 1))
-      (sym (refuted.known n _ at))
-      (need_spelled catalogue provider refuted.over refuted.same refuted.exact said.lines parent r line versions known first.says))
+      let (versions, (x, (alternatives, conditioned))) = asked_for catalogue provider refuted.over refuted.same refuted.exact said refuted.ids refuted.asked parent (record { condition = condition; requirement = r }) needs in
+      let (specs, among, each) = case_said provider.ids refuted.over.once.below condition x.1 conditioned case.items cases in
+      subst (λ (y : told.Step). IsClauseOf (Rule (NeedsRule parent r case)) y) (sym is)
+      (need_spelled catalogue provider refuted.over refuted.same refuted.exact said.lines parent r case.items line k versions (x.0, alternatives) (specs, each) first.says)
   step_spelled n (Rule (GateOf s r)) t at (line, is, first) =
       let (condition, asks) = refuted.proof n _ at in
       let (version, known) = gate_asked catalogue provider refuted.over refuted.same refuted.exact s r asks in
       subst (λ (x : told.Step). IsClauseOf (Rule (GateOf s r)) x) (sym is) (gate_spelled catalogue provider refuted.over refuted.same refuted.exact said.lines s r line version known first.says)
   step_spelled n (Rule (Shared r)) t at is =
-      let (ss, are, fit) = refuted.known n _ at in
-      subst (λ (x : told.Step). IsClauseOf (Rule (Shared r)) x) (sym is) (shared_spelled catalogue provider refuted.over refuted.same refuted.exact said.lines r (ss, are))
+      let (condition, (s, asks)) = refuted.proof n _ at in
+      let (version, known) = gate_asked catalogue provider refuted.over refuted.same refuted.exact s r asks in
+      subst (λ (x : told.Step). IsClauseOf (Rule (Shared r)) x) (sym is) (shared_spelled catalogue provider refuted.over refuted.same refuted.exact said.lines r known)
   step_spelled n (Rule (Limit parent v None)) t at (line, is, first) =
       let (condition, has) = refuted.proof n _ at in
       let (versions, known) = limited catalogue provider refuted.over refuted.same refuted.exact said refuted.ids refuted.asked parent v has in
@@ -153,10 +159,10 @@ module _ (catalogue : List Line) (said : Said) (provider : Provider) (steps : Li
       let (condition, out) = refuted.proof n _ at in
       let (spec, known, fits) = refuted.known n _ at in
       subst (λ (x : told.Step). IsClauseOf (Rule (Outside v s)) x) (sym is) (outside_spelled catalogue provider refuted.over refuted.same refuted.exact said.lines v s (spec, known) (out_says refuted.same (packages_of provider) (root_of refuted.ids) v s out))
-  step_spelled n (Rule (Locked locked s)) t at bars = bar_spelled catalogue provider refuted.over refuted.same refuted.exact said.lines s t (refuted.known n _ at) bars
-  step_spelled n (Rule (Excluded s reason)) t at bars = bar_spelled catalogue provider refuted.over refuted.same refuted.exact said.lines s t (refuted.known n _ at) bars
+  step_spelled n (Rule (Locked locked s)) t at by = (let (condition, bars) = refuted.proof n _ at in bar_spelled catalogue provider refuted.over refuted.same refuted.exact said.lines s t (barred_version catalogue provider refuted.over refuted.same refuted.exact s bars) by)
+  step_spelled n (Rule (Excluded s reason)) t at by = (let (condition, bars) = refuted.proof n _ at in bar_spelled catalogue provider refuted.over refuted.same refuted.exact said.lines s t (barred_version catalogue provider refuted.over refuted.same refuted.exact s bars) by)
   step_spelled n (Rule (Digit s place bit)) t at is =
-      let (version, below) = refuted.known n _ at in
+      let (version, below) = digit_known n s place bit at in
       subst (λ (x : told.Step). IsClauseOf (Rule (Digit s place bit)) x) (sym is) (digit_spelled catalogue provider refuted.over refuted.same refuted.exact said.lines s place bit version below)
   step_spelled n (Rule (AtLeastOne m s)) t at is =
       let (condition, there) = refuted.proof n _ at in
@@ -195,7 +201,7 @@ module _ (catalogue : List Line) (said : Said) (provider : Provider) (steps : Li
     -- an earlier step gives a version no other place
     no_other_place : (n m : ℕ) (s : SolvableId) (place bit : ℕ) (x : ProofStep NameId SolvableId) (u : told.Step) → slice_get steps n ≡ Some (Rule (Digit s place bit)) → slice_get steps m ≡ Some x → IsToldBy catalogue provider.ids said.lines x u
         → allows_place (version_at catalogue s) place u ≡ true
-    no_other_place n m s place bit (Rule (NeedsRule parent r case)) u at there (line, is, first) = ap (allows_place (version_at catalogue s) place) is
+    no_other_place n m s place bit (Rule (NeedsRule parent r case)) u at there (line, k, is, first) = ap (allows_place (version_at catalogue s) place) is
     no_other_place n m s place bit (Rule (GateOf q r)) u at there (line, is, first) = ap (allows_place (version_at catalogue s) place) is
     no_other_place n m s place bit (Rule (Shared r)) u at there is = ap (allows_place (version_at catalogue s) place) is
     no_other_place n m s place bit (Rule (Limit parent v None)) u at there (line, is, first) = ap (allows_place (version_at catalogue s) place) is
@@ -209,8 +215,8 @@ module _ (catalogue : List Line) (said : Said) (provider : Provider) (steps : Li
       where
         one_version : version_at catalogue q ≡ version_at catalogue s → q ≡ s
         one_version e =
-            let ((v, a), below) = refuted.known m _ there in
-            let ((w, b), within) = refuted.known n _ at in
+            let ((v, a), below) = digit_known m q other digit there in
+            let ((w, b), within) = digit_known n s place bit at in
             let same : v ≡ w = sym (version_is catalogue provider refuted.over q v a) ∙ (e ∙ version_is catalogue provider refuted.over s w b) in
             let raw : q.raw ≡ s.raw = refuted.over.distinct w q.raw s.raw (a ∙ ap (λ (y : Version). Some y) same) b in
             λ i. record { raw = raw i; tag = q.tag }
@@ -223,7 +229,7 @@ module _ (catalogue : List Line) (said : Said) (provider : Provider) (steps : Li
 
     -- what a step owes to the earlier ones
     step_follows : (n : ℕ) (s : ProofStep NameId SolvableId) (t : told.Step) → slice_get steps n ≡ Some s → slice_get written n ≡ Some t → IsToldBy catalogue provider.ids said.lines s t → follows catalogue said.lines (take n written) t ≡ true
-    step_follows n (Rule (NeedsRule parent r case)) t at there (line, is, first) = ap (follows catalogue said.lines (take n written)) is
+    step_follows n (Rule (NeedsRule parent r case)) t at there (line, k, is, first) = ap (follows catalogue said.lines (take n written)) is
     step_follows n (Rule (GateOf q r)) t at there (line, is, first) = ap (follows catalogue said.lines (take n written)) is
     step_follows n (Rule (Shared r)) t at there is = ap (follows catalogue said.lines (take n written)) is
     step_follows n (Rule (Limit parent v None)) t at there (line, is, first) = ap (follows catalogue said.lines (take n written)) is

@@ -6,6 +6,7 @@ pub mod Clauses
 pub mod Following
 pub mod Accepting
 pub mod Finding
+pub mod Cases
 pub mod Sorting
 pub mod Spelled
 pub mod Telling

@@ -1,11 +1,13 @@
--- The lines by which the rules of a proof without conditions are told.
+-- The lines by which the rules of a proof are told.
 use Rattle.std.proofs.lemmas.Bool.Decides.{nat_tests}
-use Rattle.std.proofs.Common.{◌≡◌, ◌+◌, ◌<◌, ◌≤◌, inl, inr, ℕ, zero, suc, Bool, true, false, List, [], ◌∷◌, ◌++◌, map, length, Option, Some, None, refl, sym, ◌∙◌, ap, subst, arith, Vec, Global, not, ◌&&◌}
-use Rattle.std.specs.Prelude.{◌↔◌, ◌||◌, option_map, nat_lt, Contains, slice_get, slice_index_or, unwrap_or, option_to_list, if◌then◌else◌}
+use Rattle.std.proofs.Common.{◌≡◌, ◌+◌, ◌<◌, ◌≤◌, inl, inr, ℕ, zero, suc, Bool, true, false, List, [], ◌∷◌, map, length, Option, Some, None, refl, sym, ◌∙◌, ap, subst, arith, Vec, Global, not, ◌&&◌}
+use Rattle.std.specs.Prelude.{◌↔◌, ◌||◌, IfSome, option_map, nat_lt, Contains, slice_get, slice_index_or, unwrap_or, option_to_list, if◌then◌else◌}
 use Rattle.std.specs.List.{AllZip, flat_map}
-use Rattle.std.proofs.lemmas.Option.{get_or_from_slice_get}
+use Rattle.std.proofs.lemmas.Option.{get_or_from_slice_get, slice_get_within}
 use Rattle.std.proofs.lemmas.Bool.{and_parts, false≢true, eqb-true}
 use Rattle.resolvo_text.specs.Line.{Version, Spec, Cond, Line, Needs, Limits}
+use Rattle.resolvo_text.specs.Cases.{condition_cases}
+use Rattle.resolvo_text.specs.Spelling.{IsNumber}
 use Rattle.resolvo_catalogue.specs.Grammar.{line_at, owner_of}
 use Rattle.resolvo_catalogue.specs.Listed.{listed}
 use Rattle.resolvo_catalogue.specs.Questions.{SaysOf, BelongsTo}
@@ -13,15 +15,11 @@ use Rattle.resolvo_catalogue.proofs.Placing.{at_from_contains}
 use Rattle.resolvo_catalogue.proofs.TableSteps.{same_version_is}
 use Rattle.resolvo_pool.specs.declared.id.ConditionId.{ConditionId}
 use Rattle.resolvo_pool.specs.declared.id.VersionSetId.{VersionSetId}
-use Rattle.resolvo_pool.specs.declared.condition.Condition.{Condition}
-use Rattle.resolvo_pool.specs.declared.condition.Condition.TheVariants.{Binary, Requirement as Asked}
-use Rattle.resolvo_pool.specs.declared.condition.LogicalOperator.TheVariants.{And, Or}
 use Rattle.resolvo_pool.specs.declared.requirement.Requirement.{Requirement}
 use Rattle.resolvo_pool.specs.declared.requirement.ConditionalRequirement.{ConditionalRequirement}
 use Rattle.resolvo_pool.specs.RuleKeeping.{rules_of, rules_for, is_barred, is_unknown}
-use Rattle.resolvo_store.specs.Cases.{cases_by, cases_within}
 use Rattle.resolvo_rules.specs.Encoding.{has_condition, same_requirement, cases_under}
-use Rattle.resolvo_rules.proofs.Lists.{contains_none, contains_one, contains_parts, contains_first, contains_later, map_contains, any_contained}
+use Rattle.resolvo_rules.proofs.Lists.{contains_first, contains_later, any_contained}
 use Rattle.resolvo_proof.specs.declared.step.ProofStep.{ProofStep}
 use Rattle.resolvo_proof.specs.declared.step.ProofStep.TheVariants.{Rule, Derived}
 use Rattle.resolvo_proof.specs.declared.step.ProofRule.TheVariants.{Needs as NeedsRule, GateOf, Shared, Limit, Outside, Locked, Excluded, Digit, AtLeastOne}
@@ -41,50 +39,40 @@ use Rattle.resolvo_report.specs.Value.{OfRequest, OfVersion, Step}
 use Rattle.resolvo_report.specs.Value as told
 use Rattle.resolvo_judge.specs.StepClauses.{is_owner}
 use Rattle.resolvo_refusal.specs.Writing.{version_at, place_at, number_of, IsWritten}
-use Rattle.resolvo_refusal.specs.Lines.{IsLeast, IsLineOf, SaysAt}
-use Rattle.resolvo_refusal.specs.Telling.{version_no, IsFirstLine, TellsBar, Tells}
-use Rattle.resolvo_refusal.specs.Refusal.{IsVersion, PlaceSays, IsFirst, IsBarredBy, IsToldBy, Refutes}
-use Rattle.resolvo_refusal.proofs.Finding.{length_bound}
-use Rattle.resolvo_refusal.proofs.Renaming.{version_is}
+use Rattle.resolvo_refusal.specs.declared.lines.NeedLine.{NeedLine}
+use Rattle.resolvo_refusal.specs.Lines.{IsLeast, IsLineOf, SaysAt, NeedsIn, IsNeedLine}
+use Rattle.resolvo_refusal.specs.Telling.{version_no, IsFirstLine, IsNeedLineOf, TellsNeed, TellsBar, Tells}
+use Rattle.resolvo_refusal.specs.Refusal.{IsVersion, PlaceSays, IsFirst, IsFirstNeed, IsBarredBy, IsToldBy, Refutes}
+use Rattle.resolvo_refusal.proofs.Cases.{case_said}
+use Rattle.resolvo_refusal.proofs.Renaming.{version_is, specs_are}
 use Rattle.resolvo_refusal.proofs.Clauses.{told_limits}
 use Rattle.resolvo_refusal.proofs.Taken.{bars_says}
-use Rattle.resolvo_refusal.proofs.Barring.{some_bars}
+use Rattle.resolvo_refusal.proofs.Barring.{some_bars, barred_version}
 use Rattle.resolvo_refusal.proofs.Spelled.{literals_fit}
-
--- ---- cases
-
-front_nil : {X : Type 0} (xs ys : List X) → [] ≡ xs ++ ys → xs ≡ []
-front_nil [] ys e = refl
-front_nil (x ∷ xs) ys e = absurd cc
-
-some_by : (below : ConditionId → List (List VersionSetId)) → ((a : ConditionId) → Contains (below a) [] → ⊥) → (q : Condition) → Contains (cases_by below q) [] → ⊥
-some_by below none (Asked v) h = (let e : [] ≡ v ∷ [] = contains_one [] (v ∷ []) h in absurd cc)
-some_by below none (Binary And a b) h =
-    let (l, has, more) = flat_from (λ (l : List VersionSetId). map (λ r. l ++ r) (below b)) (below a) [] h in
-    let (r, other, is) = map_contains (λ (r : List VersionSetId). l ++ r) [] (below b) more in
-    none a (subst (λ (x : List VersionSetId). Contains (below a) x) (front_nil l r is) has)
-some_by below none (Binary Or a b) h = elim (contains_parts [] (below a) (below b) h) [ inl x ↦ none a x | inr y ↦ none b y ]
-
--- each case of a condition asks for something
-pub cases_ask : (condition_of : ConditionId → Condition) (n : ℕ) (c : ConditionId) → Contains (cases_within condition_of n c) [] → ⊥
-cases_ask condition_of zero c h = contains_none [] h
-cases_ask condition_of (suc n) c h = some_by (cases_within condition_of n) (cases_ask condition_of n) (condition_of c) h
 
 -- ---- lines that need
 
 abbrev pub plain : Requirement → ConditionalRequirement
 plain r = record { condition = None; requirement = r }
 
+-- a need of the lines, with the condition as it is said
+pub line_from : (ids : Ids) (needs : List ConditionalRequirement) (ls : List Line) → AreEach (IsNeed ids) needs (flat_map need_in ls) → (need : ConditionalRequirement) → Contains needs need
+    → (condition : Option Cond) × IsConditionOf ids need.condition condition × Contains ls (Needs (alternatives_at ids need.requirement) condition)
+line_from ids needs ls each need has =
+    let (said, among, (alternatives, condition)) = each_from_left (IsNeed ids) needs (flat_map need_in ls) each need has in
+    let (l, here, says) = flat_from need_in ls said among in
+    let stands : alternatives_at ids need.requirement ≡ said.0 = alternatives_stand ids need.requirement said.0 alternatives in
+    (said.1, condition, subst (λ (x : Line). Contains ls x) (need_from l said says ∙ ap (λ (ss : List Spec). Needs ss said.1) (sym stands)) here)
+
 no_condition : (ids : Ids) (c : Option Cond) → IsConditionOf ids None c → c ≡ None
 no_condition ids None h = refl
 no_condition ids (Some c) h = absurd h
 
-pub line_from : (ids : Ids) (needs : List ConditionalRequirement) (ls : List Line) → AreEach (IsNeed ids) needs (flat_map need_in ls) → (r : Requirement) → Contains needs (plain r) → Contains ls (Needs (alternatives_at ids r) None)
-line_from ids needs ls each r has =
-    let (said, among, (alternatives, condition)) = each_from_left (IsNeed ids) needs (flat_map need_in ls) each (plain r) has in
-    let (l, here, says) = flat_from need_in ls said among in
-    let stands : alternatives_at ids r ≡ said.0 = alternatives_stand ids r said.0 alternatives in
-    subst (λ (x : Line). Contains ls x) (need_from l said says ∙ (ap (λ (c : Option Cond). Needs said.0 c) (no_condition ids said.1 condition) ∙ ap (λ (ss : List Spec). Needs ss None) (sym stands))) here
+-- a line with the case of the condition that it says
+needs_in : (catalogue : List Line) (p : Provider) → IsOver catalogue p → (r : Requirement) (condition : Option ConditionId) (said : Option Cond) → IsConditionOf p.ids condition said → (case : List VersionSetId) → Contains (cases_under (condition_at p.ids) condition) case → NeedsIn (alternatives_at p.ids r) (map (spec_at p.ids) case) (Needs (alternatives_at p.ids r) said)
+needs_in catalogue p over r condition said is case among =
+    let (specs, has, each) = case_said p.ids over.once.below condition said is case among in
+    (said, refl, subst (λ (ss : List Spec). Contains (condition_cases said) ss) (sym (specs_are catalogue p over case specs each)) has)
 
 -- a limit of the lines, by its version set
 pub limit_in_lines : (ids : Ids) (vs : List VersionSetId) (ls : List Line) → AreEach (IsSpec ids) vs (flat_map limit_in ls) → (v : VersionSetId) → Contains vs v → Contains ls (Limits (spec_at ids v))
@@ -95,7 +83,7 @@ limit_in_lines ids vs ls each v has =
 
 -- the line stands in the request
 pub request_line : (lines : List Line) (l : Line) → Contains lines l → (m : ℕ) × ((1 ≤ m) × (m ≤ length lines)) × (line_at lines m ≡ Some l)
-request_line lines l has = (let (k, there) = at_from_contains lines l has in let b : k < length lines = length_bound lines k l there in (suc k, (omega arith, omega (arith, b)), there))
+request_line lines l has = (let (k, there) = at_from_contains lines l has in let b : k < length lines = slice_get_within lines k l there in (suc k, (omega arith, omega (arith, b)), there))
 
 told_there : (told : List Told) (k : ℕ) (need : ConditionalRequirement) → Contains (slice_index_or told k no_lines).requirements need → slice_get told k ≡ Some (slice_index_or told k no_lines)
 told_there [] k need h = absurd (no_element need h)
@@ -103,12 +91,20 @@ told_there (t ∷ told) zero need h = refl
 told_there (t ∷ told) (suc k) need h = told_there told k need h
 
 -- the line belongs to the version
-pub version_line : (catalogue : List Line) (p : Provider) → IsOver catalogue p → (s : SolvableId) (r : Requirement) → Contains (rules_of (dependencies_of p s)).requirements (plain r) → (m : ℕ) × SaysOf (listed catalogue) catalogue s.raw BelongsTo m × (line_at catalogue m ≡ Some (Needs (alternatives_at p.ids r) None))
-version_line catalogue p over s r h =
-    let has = req_from (told_at p s) (told_at p s).unknown (plain r) h in
-    let (numbers, all, tells) = over.told.each s.raw (told_at p s) (told_there p.told s.raw (plain r) has) in
-    let (m, among, opt) = flat_from (λ (n : ℕ). option_to_list (line_at catalogue n)) numbers (Needs (alternatives_at p.ids r) None) (line_from p.ids (told_at p s).requirements (lines_at catalogue numbers) tells.requirements r has) in
-    (m, (all.all m).0 among, option_from (line_at catalogue m) (Needs (alternatives_at p.ids r) None) opt)
+pub version_line : (catalogue : List Line) (p : Provider) → IsOver catalogue p → (s : SolvableId) (need : ConditionalRequirement) → Contains (rules_of (dependencies_of p s)).requirements need
+    → (condition : Option Cond) × IsConditionOf p.ids need.condition condition × (m : ℕ) × SaysOf (listed catalogue) catalogue s.raw BelongsTo m × (line_at catalogue m ≡ Some (Needs (alternatives_at p.ids need.requirement) condition))
+version_line catalogue p over s need h =
+    let has = req_from (told_at p s) (told_at p s).unknown need h in
+    let (numbers, all, tells) = over.told.each s.raw (told_at p s) (told_there p.told s.raw need has) in
+    let (condition, is, here) = line_from p.ids (told_at p s).requirements (lines_at catalogue numbers) tells.requirements need has in
+    let (m, among, opt) = flat_from (λ (n : ℕ). option_to_list (line_at catalogue n)) numbers (Needs (alternatives_at p.ids need.requirement) condition) here in
+    (condition, is, m, (all.all m).0 among, option_from (line_at catalogue m) (Needs (alternatives_at p.ids need.requirement) condition) opt)
+
+-- without a condition, so is the line
+plain_version_line : (catalogue : List Line) (p : Provider) → IsOver catalogue p → (s : SolvableId) (r : Requirement) → Contains (rules_of (dependencies_of p s)).requirements (plain r) → (m : ℕ) × SaysOf (listed catalogue) catalogue s.raw BelongsTo m × (line_at catalogue m ≡ Some (Needs (alternatives_at p.ids r) None))
+plain_version_line catalogue p over s r h =
+    let (condition, is, m, of, there) = version_line catalogue p over s (plain r) h in
+    (m, of, there ∙ ap (λ (c : Option Cond). Some (Needs (alternatives_at p.ids r) c)) (no_condition p.ids condition is))
 
 -- a limit's line belongs to the version
 pub version_limit : (catalogue : List Line) (p : Provider) → IsOver catalogue p → (s : SolvableId) (v : VersionSetId) → Contains (rules_of (dependencies_of p s)).constraints v → (m : ℕ) × SaysOf (listed catalogue) catalogue s.raw BelongsTo m × (line_at catalogue m ≡ Some (Limits (spec_at p.ids v)))
@@ -126,7 +122,7 @@ least_is {P = P} (Some n) line is least m p = subst (λ (k : ℕ). P k × ((j : 
 
 pub within_line : (lines : List Line) (n : ℕ) (l : Line) → line_at lines n ≡ Some l → (1 ≤ n) × (n ≤ length lines)
 within_line lines zero l e = absurd cc
-within_line lines (suc k) l e = (let b : k < length lines = length_bound lines k l e in (omega arith, omega (arith, b)))
+within_line lines (suc k) l e = (let b : k < length lines = slice_get_within lines k l e in (omega arith, omega (arith, b)))
 
 -- by the first line of the request
 pub first_asked : (catalogue : List Line) (ids : Ids) (request : List Line) (said : Line) (line : ℕ) → IsFirstLine catalogue request None said line → Contains request said → IsFirst catalogue ids request OfRequest said line
@@ -150,37 +146,67 @@ taken false o l e = absurd cc
 abbrev pub IsOwned : Line → Type 0
 IsOwned said = (v : Version) (owner : Option Version) → BelongsTo v owner said ↔ (owner ≡ Some v)
 
+module _ (catalogue : List Line) (ids : Ids) (request : List Line) (s : SolvableId) (v : Version) (listed_at : slice_get (listed catalogue) s.raw ≡ Some v) where
+  own_version : version_at catalogue s ≡ v
+  own_version = get_or_from_slice_get (listed catalogue) s.raw v (record { name = []; number = 0 }) listed_at
+
+  -- a line of the version stands at its place
+  placed : (said : Line) → IsOwned said → (n : ℕ) → SaysOf (listed catalogue) catalogue s.raw BelongsTo n → line_at catalogue n ≡ Some said → PlaceSays catalogue ids request (OfVersion (version_at catalogue s)) said n
+  placed said own n (w, at, (l, stands, has)) e =
+      let same : l ≡ said = (let both : Some l ≡ Some said = sym stands ∙ e in cc) in
+      let owner : owner_of catalogue n ≡ Some (version_at catalogue s) = (own w (owner_of catalogue n)).0 (subst (λ (x : Line). BelongsTo w (owner_of catalogue n) x) same has) ∙ ap (λ (x : Version). Some x) (sym (get_or_from_slice_get (listed catalogue) s.raw w (record { name = []; number = 0 }) at)) in
+      subst (λ (b : Bool). (if b then line_at catalogue n else None) ≡ Some said) (sym (is_own (version_at catalogue s) (owner_of catalogue n) owner)) e
+
+  -- what stands at its place is a line of the version
+  of_place : (said : Line) → IsOwned said → (n : ℕ) → PlaceSays catalogue ids request (OfVersion (version_at catalogue s)) said n → SaysOf (listed catalogue) catalogue s.raw BelongsTo n × (line_at catalogue n ≡ Some said)
+  of_place said own n e =
+      let (mine, is) = taken (is_owner (version_at catalogue s) (owner_of catalogue n)) (line_at catalogue n) said e in
+      ((v, listed_at, (said, is, (own v (owner_of catalogue n)).1 (owner_is (version_at catalogue s) (owner_of catalogue n) mine ∙ ap (λ (x : Version). Some x) own_version))), is)
+
 -- by the first line of the version
 pub first_told : (catalogue : List Line) (ids : Ids) (request : List Line) (said : Line) → IsOwned said → (s : SolvableId) (line : ℕ) → IsFirstLine catalogue request (Some (version_no s)) said line
     → (m : ℕ) → SaysOf (listed catalogue) catalogue s.raw BelongsTo m → line_at catalogue m ≡ Some said → IsFirst catalogue ids request (OfVersion (version_at catalogue s)) said line
 first_told catalogue ids request said own s line (found, is, least) m belongs there =
     let (here, none) = least_is {P = λ n. IsLineOf catalogue request (Some (version_no s)) n × SaysAt catalogue said n} found line is least m (belongs, there) in
     record {
-      says = placed line here.0 here.1;
-      first = λ n below says. none n below (back n says);
+      says = placed catalogue ids request s belongs.0 belongs.1 said own line here.0 here.1;
+      first = λ n below says. none n below (of_place catalogue ids request s belongs.0 belongs.1 said own n says);
     }
-  where
-    listed_there : version_at catalogue s ≡ belongs.0
-    listed_there = get_or_from_slice_get (listed catalogue) s.raw belongs.0 (record { name = []; number = 0 }) belongs.1
-
-    owned : (n : ℕ) → SaysOf (listed catalogue) catalogue s.raw BelongsTo n → line_at catalogue n ≡ Some said → owner_of catalogue n ≡ Some (version_at catalogue s)
-    owned n (w, at, (l, stands, has)) e =
-        let same : l ≡ said = (let both : Some l ≡ Some said = sym stands ∙ e in cc) in
-        (own w (owner_of catalogue n)).0 (subst (λ (x : Line). BelongsTo w (owner_of catalogue n) x) same has) ∙ ap (λ (x : Version). Some x) (sym (get_or_from_slice_get (listed catalogue) s.raw w (record { name = []; number = 0 }) at))
-
-    placed : (n : ℕ) → SaysOf (listed catalogue) catalogue s.raw BelongsTo n → line_at catalogue n ≡ Some said → PlaceSays catalogue ids request (OfVersion (version_at catalogue s)) said n
-    placed n of e = subst (λ (b : Bool). (if b then line_at catalogue n else None) ≡ Some said) (sym (is_own (version_at catalogue s) (owner_of catalogue n) (owned n of e))) e
-
-    back : (n : ℕ) → PlaceSays catalogue ids request (OfVersion (version_at catalogue s)) said n → SaysOf (listed catalogue) catalogue s.raw BelongsTo n × (line_at catalogue n ≡ Some said)
-    back n e =
-        let (mine, is) = taken (is_owner (version_at catalogue s) (owner_of catalogue n)) (line_at catalogue n) said e in
-        ((belongs.0, belongs.1, (said, is, (own belongs.0 (owner_of catalogue n)).1 (owner_is (version_at catalogue s) (owner_of catalogue n) mine ∙ ap (λ (x : Version). Some x) listed_there))), is)
 
 need_owned : (alternatives : List Spec) (condition : Option Cond) → IsOwned (Needs alternatives condition)
 need_owned alternatives condition v owner = (λ e. e, λ e. e)
 
 limit_owned : (s : Spec) → IsOwned (Limits s)
 limit_owned s v owner = (λ e. e, λ e. e)
+
+-- ---- the first line that needs something in a case
+
+-- by the first line of the request
+first_need_asked : (catalogue : List Line) (ids : Ids) (request : List Line) (alternatives case : List Spec) (found : Option NeedLine) → IsNeedLine (IsLineOf catalogue request None) request alternatives case found → (l : Line) → Contains request l → NeedsIn alternatives case l
+    → (n : NeedLine) × (found ≡ Some n) × IsFirstNeed catalogue ids request OfRequest alternatives case n.line n.case
+first_need_asked catalogue ids request alternatives case None none l has needs = (let (m, bounds, there) = request_line request l has in absurd (none m bounds (l, there, needs)))
+first_need_asked catalogue ids request alternatives case (Some n) (bounds, says, first) l has needs = (
+  n,
+  refl,
+  record { says = says; first = λ m below (k, there, other). first m below (within_line request m k there) (k, there, other) },
+)
+
+needing_owned : (alternatives case : List Spec) (l : Line) → NeedsIn alternatives case l → IsOwned l
+needing_owned alternatives case l (condition, is, has) = subst (λ (x : Line). IsOwned x) (sym is) (need_owned alternatives condition)
+
+-- by the first line of the version
+first_need_told : (catalogue : List Line) (ids : Ids) (request : List Line) (alternatives case : List Spec) (s : SolvableId) (found : Option NeedLine) → IsNeedLine (IsLineOf catalogue request (Some (version_no s))) catalogue alternatives case found
+    → (m : ℕ) → SaysOf (listed catalogue) catalogue s.raw BelongsTo m → (l : Line) → line_at catalogue m ≡ Some l → NeedsIn alternatives case l
+    → (n : NeedLine) × (found ≡ Some n) × IsFirstNeed catalogue ids request (OfVersion (version_at catalogue s)) alternatives case n.line n.case
+first_need_told catalogue ids request alternatives case s None none m belongs l there needs = absurd (none m belongs (l, there, needs))
+first_need_told catalogue ids request alternatives case s (Some n) (of, (k, here, (condition, is, numbered)), first) m belongs l there needs = (
+  n,
+  refl,
+  record {
+    says = (k, placed catalogue ids request s belongs.0 belongs.1 k (subst (λ (x : Line). IsOwned x) (sym is) (need_owned alternatives condition)) n.line of here, (condition, is, numbered));
+    first = λ j below (x, says, other). (let (own, at) = of_place catalogue ids request s belongs.0 belongs.1 x (needing_owned alternatives case x other) j says in first j below own (x, at, other));
+  },
+)
 
 -- ---- steps
 
@@ -189,11 +215,6 @@ requirements_same (Single v) (Single w) e = ap (λ (n : ℕ). Single (record { 0
 requirements_same (Union v) (Union w) e = ap (λ (n : ℕ). Union (record { 0 = n })) (eqb-true v.0 w.0 e)
 requirements_same (Single v) (Union w) e = absurd (false≢true e)
 requirements_same (Union v) (Single w) e = absurd (false≢true e)
-
--- a need whose case is empty has no condition
-plain_of : (needs : List ConditionalRequirement) (p : Provider) (r : Requirement) (condition : Option ConditionId) (case : Vec VersionSetId Global) → case.items ≡ [] → Contains (cases_under (condition_at p.ids) condition) case.items → Contains needs (record { condition = condition; requirement = r }) → Contains needs (plain r)
-plain_of needs p r None case none among has = has
-plain_of needs p r (Some c) case none among has = absurd (cases_ask (condition_at p.ids) (suc c.0) c (subst (λ (vs : List VersionSetId). Contains (cases_within (condition_at p.ids) (suc c.0) c) vs) none among))
 
 -- what follows of two lists from what holds of them place by place
 pub zipped : {A B : Type 0} {P Q R : A → B → Type 0} (xs : List A) (ys : List B) → ((n : ℕ) (x : A) (y : B) → slice_get xs n ≡ Some x → P x y → Q x y → R x y) → AllZip P xs ys → AllZip Q xs ys → AllZip R xs ys
@@ -234,26 +255,34 @@ module _ (catalogue : List Line) (said : Said) (p : Provider) (steps : List (Pro
     | inr none ↦ absurd (some_bars catalogue p refutes.over refutes.same refutes.exact s v e bars none.0 none.1)
   ]
 
+  -- a need of a parent is told by the first line that states it
+  need_found : (parent : Option SolvableId) (r : Requirement) (condition : Option ConditionId) (case : List VersionSetId) (found : Option NeedLine) → IsNeedLineOf catalogue said.lines p.ids parent r case found
+      → Contains (rules_for refutes.same (packages_of p) (root_of refutes.ids) parent).requirements (record { condition = condition; requirement = r }) → Contains (cases_under (condition_at p.ids) condition) case
+      → (n : NeedLine) × (found ≡ Some n) × IsFirstNeed catalogue p.ids said.lines (place_at catalogue parent) (alternatives_at p.ids r) (map (spec_at p.ids) case) n.line n.case
+  need_found None r condition case found by has among =
+      let (c, is, here) = line_from p.ids refutes.ids.requirements.items said.lines refutes.asked.requirements (record { condition = condition; requirement = r }) has in
+      first_need_asked catalogue p.ids said.lines (alternatives_at p.ids r) (map (spec_at p.ids) case) found by _ here (needs_in catalogue p refutes.over r condition c is case among)
+  need_found (Some s) r condition case found by has among =
+      let (c, is, m, of, there) = version_line catalogue p refutes.over s (record { condition = condition; requirement = r }) has in
+      first_need_told catalogue p.ids said.lines (alternatives_at p.ids r) (map (spec_at p.ids) case) s found by m of _ there (needs_in catalogue p refutes.over r condition c is case among)
+
+  -- a need that is written is told rightly
+  pub need_told : (n : ℕ) (parent : Option SolvableId) (r : Requirement) (case : Vec VersionSetId Global) (t : Step) → slice_get steps n ≡ Some (Rule (NeedsRule parent r case)) → TellsNeed catalogue said.lines p.ids parent r case.items t
+      → (line k : ℕ) × IsNumber k × (t ≡ told.Need (place_at catalogue parent) line k) × IsFirstNeed catalogue p.ids said.lines (place_at catalogue parent) (alternatives_at p.ids r) (map (spec_at p.ids) case.items) line k
+  need_told n parent r case t at (found, by, tells) =
+      let (condition, (has, among)) = refutes.proof n _ at in
+      let (l, is, first) = need_found parent r condition case.items found by has among in
+      let (number, told_so) = subst (λ (o : Option NeedLine). IfSome o (λ x. IsNumber x.case × (t ≡ told.Need (place_at catalogue parent) x.line x.case))) is tells in
+      (l.line, l.case, number, told_so, first)
+
   -- a step that is written is told rightly
   step_told : (n : ℕ) (s : ProofStep NameId SolvableId) (t : Step) → slice_get steps n ≡ Some s → Tells catalogue said.lines p.ids s t → IsWritten catalogue p.ids s t → IsToldBy catalogue p.ids said.lines s t
-  step_told n (Rule (NeedsRule None r case)) t at tells written =
-      let none : case.items ≡ [] = refutes.known n _ at in
-      let (line, is, by) = tells none in
-      let (condition, rule) = refutes.proof n _ at in
-      let (has, among) = rule in
-      (line, is, first_asked catalogue p.ids said.lines (Needs (alternatives_at p.ids r) None) line by (line_from p.ids refutes.ids.requirements.items said.lines refutes.asked.requirements r (plain_of refutes.ids.requirements.items p r condition case none among has)))
-  step_told n (Rule (NeedsRule (Some s) r case)) t at tells written =
-      let none : case.items ≡ [] = refutes.known n _ at in
-      let (line, is, by) = tells none in
-      let (condition, rule) = refutes.proof n _ at in
-      let (has, among) = rule in
-      let (m, of, there) = version_line catalogue p refutes.over s r (plain_of (rules_of (dependencies_of p s)).requirements p r condition case none among has) in
-      (line, is, first_told catalogue p.ids said.lines (Needs (alternatives_at p.ids r) None) (need_owned (alternatives_at p.ids r) None) s line by m of there)
+  step_told n (Rule (NeedsRule parent r case)) t at tells written = (let (line, k, number, is, first) = need_told n parent r case t at tells in (line, k, is, first))
   step_told n (Rule (GateOf s r)) t at tells written =
       let (line, is, by) = tells in
       let (condition, asked) = refutes.proof n _ at in
       let (need, has, same) = any_contained (λ (need : ConditionalRequirement). not (has_condition need.condition) && same_requirement r need.requirement) (rules_of (dependencies_of p s)).requirements asked in
-      let (m, of, there) = version_line catalogue p refutes.over s r (subst (λ (x : ConditionalRequirement). Contains (rules_of (dependencies_of p s)).requirements x) (same_need need r same) has) in
+      let (m, of, there) = plain_version_line catalogue p refutes.over s r (subst (λ (x : ConditionalRequirement). Contains (rules_of (dependencies_of p s)).requirements x) (same_need need r same) has) in
       (line, is, first_told catalogue p.ids said.lines (Needs (alternatives_at p.ids r) None) (need_owned (alternatives_at p.ids r) None) s line by m of there)
   step_told n (Rule (Shared r)) t at tells written = written
   step_told n (Rule (Limit parent v None)) t at (line, is, by) written =
@@ -263,13 +292,13 @@ module _ (catalogue : List Line) (said : Said) (p : Provider) (steps : List (Pro
       let (condition, (has, out)) = refutes.proof n _ at in
       (line, is, limit_told parent v line by has)
   step_told n (Rule (Outside v s)) t at tells written = written
-  step_told n (Rule (Locked locked s)) t at tells written = (let (condition, bars) = refutes.proof n _ at in bar_told s t (refutes.known n _ at) tells (bars_says refutes.same (packages_of p) (root_of refutes.ids) s bars))
-  step_told n (Rule (Excluded s reason)) t at tells written = (let (condition, bars) = refutes.proof n _ at in bar_told s t (refutes.known n _ at) tells (bars_says refutes.same (packages_of p) (root_of refutes.ids) s bars))
+  step_told n (Rule (Locked locked s)) t at tells written = (let (condition, bars) = refutes.proof n _ at in bar_told s t (barred_version catalogue p refutes.over refutes.same refutes.exact s bars) tells (bars_says refutes.same (packages_of p) (root_of refutes.ids) s bars))
+  step_told n (Rule (Excluded s reason)) t at tells written = (let (condition, bars) = refutes.proof n _ at in bar_told s t (barred_version catalogue p refutes.over refutes.same refutes.exact s bars) tells (bars_says refutes.same (packages_of p) (root_of refutes.ids) s bars))
   step_told n (Rule (Digit s place bit)) t at tells written = written
   step_told n (Rule (AtLeastOne name s)) t at tells written = written
   step_told n (Derived literals causes) t at tells written =
       let (clause, is, same, rising) = tells in
-      let below : n < length steps = length_bound steps n _ at in
+      let below : n < length steps = slice_get_within steps n _ at in
       (clause, is ∙ ap (λ (ns : List ℕ). told.Derive clause ns) (numbers_from n causes.items (omega (arith, below, fits)) (λ k h. let e : k < n = (refutes.proof n _ at).earlier k h in omega (arith, e))), same (literals_fit catalogue p refutes.over literals.items (refutes.known n _ at)))
 
   -- each step is told rightly

@@ -1,12 +1,33 @@
 -- The line of a place by which a need or a limit is told, and the line by which a version is barred.
-use Rattle.std.specs.Prelude.{◌≡◌, ◌<◌, ◌≤◌, ℕ, Bool, true, false, List, length, Option, None, Some}
-use Rattle.resolvo_text.specs.Line.{Version, Line, Skipped, Listed, Needs, Limits, Unknown, Lock, Favour, Exclude, Wish}
+use Rattle.std.specs.Prelude.{◌≡◌, ◌<◌, ◌≤◌, ◌+◌, ℕ, Bool, true, false, List, length, slice_index_or, Option, None, Some, Contains}
+use Rattle.resolvo_text.specs.Line.{Version, Spec, Cond, Line, Skipped, Listed, Needs, Limits, Unknown, Lock, Favour, Exclude, Wish}
+use Rattle.resolvo_text.specs.Cases.{condition_cases}
 use Rattle.resolvo_catalogue.specs.Grammar.{line_at}
 use Rattle.resolvo_catalogue.specs.Listed.{listed}
 use Rattle.resolvo_catalogue.specs.Questions.{SaysOf, BelongsTo, LineIs, LocksAnother, Excludes, MarksUnknownOf, Bars}
 use Rattle.resolvo_catalogue.specs.declared.rule.VersionNo.{VersionNo}
+use Rattle.resolvo_judge.specs.StepClauses.{case_at}
+use Rattle.resolvo_refusal.specs.declared.lines.PlaceLines.{PlaceLines}
+use Rattle.resolvo_refusal.specs.declared.lines.PlaceLines.TheVariants as of_place
+use Rattle.resolvo_refusal.specs.declared.lines.NeedLine.{NeedLine}
 use Rattle.resolvo_refusal.specs.declared.lines.BarringLine.{BarringLine}
 use Rattle.resolvo_refusal.specs.declared.lines.BarringLine.TheVariants as barring
+
+-- how many lines the place has
+abbrev pub count_of : PlaceLines → ℕ
+count_of (of_place.UpTo last) = last
+count_of (of_place.These lines) = length lines.now
+
+-- the number of its line at this place, from 0
+abbrev pub number_at : PlaceLines → ℕ → ℕ
+number_at (of_place.UpTo last) place = place + 1
+number_at (of_place.These lines) place = slice_index_or lines.now place 0
+
+-- The lines are those of which P is true, rising.
+pub record AreLines (lines : PlaceLines) (P : ℕ → Type 0) : Type 0 where
+  pub rising : (i j : ℕ) → i < j → j < count_of lines → number_at lines i < number_at lines j
+  pub only : (i : ℕ) → i < count_of lines → P (number_at lines i)
+  pub all : (n : ℕ) → P n → (i : ℕ) × (i < count_of lines) × (number_at lines i ≡ n)
 
 -- The number is the least of which P is true, or there is none.
 abbrev pub IsLeast : Option ℕ → (ℕ → Type 0) → Type 0
@@ -26,6 +47,35 @@ IsLineOf catalogue request (Some v) n = SaysOf (listed catalogue) catalogue v.0 
 -- Line n of a text says this.
 abbrev pub SaysAt : List Line → Line → ℕ → Type 0
 SaysAt lines line n = line_at lines n ≡ Some line
+
+-- Line n of a text has the property.
+abbrev pub IsAt : List Line → (Line → Type 0) → ℕ → Type 0
+IsAt lines P n = (l : Line) × SaysAt lines l n × P l
+
+-- The line needs these alternatives, and this is one of its cases. A line without condition has one case, which is empty;
+-- no case of a condition is.
+abbrev pub NeedsIn : List Spec → List Spec → Line → Type 0
+NeedsIn alternatives case line = (condition : Option Cond) × (line ≡ Needs alternatives condition) × Contains (condition_cases condition) case
+
+-- The line needs these alternatives, and k is the number of the first of its cases, from 1, that is this one.
+abbrev pub NeedsAs : List Spec → List Spec → ℕ → Line → Type 0
+NeedsAs alternatives case k line = (condition : Option Cond) × (line ≡ Needs alternatives condition) × IsLeast (Some k) (λ j. case_at condition j ≡ Some case)
+
+-- It is the number of the first case of the line that is this one; or there is no such case, or the line doesn't need these alternatives.
+abbrev pub IsCaseOf : List Spec → List Spec → Line → Option ℕ → Type 0
+IsCaseOf alternatives case line None = NeedsIn alternatives case line → ⊥
+IsCaseOf alternatives case line (Some k) = NeedsAs alternatives case k line
+
+-- The same of line n of a text.
+abbrev pub IsCaseAt : List Line → List Spec → List Spec → ℕ → Option ℕ → Type 0
+IsCaseAt lines alternatives case n None = IsAt lines (NeedsIn alternatives case) n → ⊥
+IsCaseAt lines alternatives case n (Some k) = IsAt lines (NeedsAs alternatives case k) n
+
+-- It is the first of these lines of the text that needs the alternatives in this case, with the number of its first such
+-- case; or none does.
+abbrev pub IsNeedLine : (ℕ → Type 0) → List Line → List Spec → List Spec → Option NeedLine → Type 0
+IsNeedLine Among lines alternatives case None = (n : ℕ) → Among n → IsAt lines (NeedsIn alternatives case) n → ⊥
+IsNeedLine Among lines alternatives case (Some found) = Among found.line × IsAt lines (NeedsAs alternatives case found.case) found.line × ((m : ℕ) → m < found.line → Among m → IsAt lines (NeedsIn alternatives case) m → ⊥)
 
 -- the line locks a version
 abbrev pub locks : Line → Bool

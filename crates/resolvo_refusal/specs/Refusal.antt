@@ -1,4 +1,4 @@
--- What the refused report of a proof over the provider of a catalogue is, where no requirement has a condition.
+-- What the refused report of a proof over the provider of a catalogue is.
 use Rattle.std.specs.Prelude.{◌≡◌, ◌↔◌, ◌⊎◌, ℕ, suc, Bool, ◌<◌, ⊤, IsTrue, List, [], map, None, Some, Contains, slice_get}
 use Rattle.std.specs.List.{AllZip}
 use Rattle.std.proofs.Common.{Vec, Global}
@@ -35,6 +35,7 @@ use Rattle.resolvo_judge.specs.StepClauses.{line_of}
 use Rattle.resolvo_judge.specs.Judgement.{IsClaimTrue}
 use Rattle.resolvo_judge.specs.Refusal.{IsAccepted}
 use Rattle.resolvo_refusal.specs.Writing.{version_at, place_at}
+use Rattle.resolvo_refusal.specs.Lines.{NeedsIn, NeedsAs}
 
 -- ---- ids that the provider knows
 
@@ -66,16 +67,16 @@ module _ (catalogue : List Line) (ids : Ids) where
   IsKnownAtom (atom.Outside v) = IsSpelledSet v
   IsKnownAtom (atom.Bit n bit) = IsSpelledName n × (bit < 32)
 
-  -- The step needs nothing under a condition, and what it names that no rule of the problem tells is known.
+  -- The step's SPEC can be spelled, and so can the atoms of its literals. What other steps name is told by the rules.
   abbrev pub IsKnownStep : ProofStep NameId SolvableId → Type 0
-  IsKnownStep (Rule (NeedsRule parent r case)) = case.items ≡ []
+  IsKnownStep (Rule (NeedsRule parent r case)) = ⊤
   IsKnownStep (Rule (GateOf s r)) = ⊤
-  IsKnownStep (Rule (Shared r)) = IsSpelledRequirement r
+  IsKnownStep (Rule (Shared r)) = ⊤
   IsKnownStep (Rule (Limit parent v barred)) = ⊤
   IsKnownStep (Rule (Outside v s)) = IsSpelledSet v
-  IsKnownStep (Rule (Locked locked s)) = IsVersion s
-  IsKnownStep (Rule (Excluded s reason)) = IsVersion s
-  IsKnownStep (Rule (Digit s place bit)) = IsVersion s × (bit < 32)
+  IsKnownStep (Rule (Locked locked s)) = ⊤
+  IsKnownStep (Rule (Excluded s reason)) = ⊤
+  IsKnownStep (Rule (Digit s place bit)) = ⊤
   IsKnownStep (Rule (AtLeastOne n s)) = ⊤
   IsKnownStep (Derived literals causes) = (l : ProofLiteral NameId SolvableId) → Contains literals.items l → IsKnownAtom l.atom
 
@@ -117,10 +118,20 @@ module _ (catalogue : List Line) (ids : Ids) where
     pub says : PlaceSays request place said n
     pub first : (m : ℕ) → m < n → PlaceSays request place said m → ⊥
 
-  -- The step tells the proof's step: a need or a limit by the first line that states it, what bars a version by a line
-  -- that does, a derived clause by its literals and the numbers of its causes.
+  -- line n of the place has the property
+  abbrev pub IsOfPlace : List Line → Place → (Line → Type 0) → ℕ → Type 0
+  IsOfPlace request place P n = (l : Line) × PlaceSays request place l n × P l
+
+  -- The line needs these alternatives in this case, which is its case k and none before; and no line of the place before
+  -- it does.
+  pub record IsFirstNeed (request : List Line) (place : Place) (alternatives case : List Spec) (n k : ℕ) : Type 0 where
+    pub says : IsOfPlace request place (NeedsAs alternatives case k) n
+    pub first : (m : ℕ) → m < n → IsOfPlace request place (NeedsIn alternatives case) m → ⊥
+
+  -- The step tells the proof's step: a need or a limit by the first line that states it, a need by its first such case too,
+  -- what bars a version by a line that does, a derived clause by its literals and the numbers of its causes.
   abbrev pub IsToldBy : List Line → ProofStep NameId SolvableId → Step → Type 0
-  IsToldBy request (Rule (NeedsRule parent r case)) step = (line : ℕ) × (step ≡ told.Need (place_at catalogue parent) line 1) × IsFirst request (place_at catalogue parent) (Needs (alternatives_at ids r) None) line
+  IsToldBy request (Rule (NeedsRule parent r case)) step = (line k : ℕ) × (step ≡ told.Need (place_at catalogue parent) line k) × IsFirstNeed request (place_at catalogue parent) (alternatives_at ids r) (map (spec_at ids) case.items) line k
   IsToldBy request (Rule (GateOf s r)) step = (line : ℕ) × (step ≡ told.Gate (version_at catalogue s) line) × IsFirst request (OfVersion (version_at catalogue s)) (Needs (alternatives_at ids r) None) line
   IsToldBy request (Rule (Shared r)) step = step ≡ told.Shared (alternatives_at ids r)
   IsToldBy request (Rule (Limit parent v None)) step = (line : ℕ) × (step ≡ told.Limit (place_at catalogue parent) line) × IsFirst request (place_at catalogue parent) (Limits (spec_at ids v)) line
@@ -134,8 +145,7 @@ module _ (catalogue : List Line) (ids : Ids) where
 
 -- ---- reports
 
--- Over a provider of the catalogue, with what a request asks, the steps are a proof without conditions, and end with the
--- empty clause.
+-- Over a provider of the catalogue, with what a request asks, the steps are a proof, and end with the empty clause.
 pub record Refutes (catalogue : List Line) (said : Said) (provider : Provider) (steps : List (ProofStep NameId SolvableId)) : Type 0 where
   pub over : IsOver catalogue provider
   pub ids : RequestIds

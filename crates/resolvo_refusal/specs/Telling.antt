@@ -1,11 +1,13 @@
--- By which line a need without a condition, a limit and a bar are told, and by which literals a derived clause.
-use Rattle.std.specs.Prelude.{◌≡◌, ◌⊎◌, ℕ, ⊤, IsTrue, List, [], map, Option, Some, None, unwrap_or, slice_get}
+-- By which line and case a need is told, by which line a limit and a bar, and by which literals a derived clause.
+use Rattle.std.specs.Prelude.{◌≡◌, ◌⊎◌, ℕ, ⊤, IsTrue, IfSome, List, map, Option, Some, None, unwrap_or, slice_get}
 use Rattle.std.specs.Option.{option_map}
 use Rattle.resolvo_text.specs.Line.{Version, Line}
 use Rattle.resolvo_text.specs.Line as says
 use Rattle.resolvo_text.specs.Spelling.{IsNumber}
 use Rattle.resolvo_catalogue.specs.Listed.{listed}
 use Rattle.resolvo_catalogue.specs.declared.rule.VersionNo.{VersionNo}
+use Rattle.resolvo_pool.specs.declared.id.VersionSetId.{VersionSetId}
+use Rattle.resolvo_pool.specs.declared.requirement.Requirement.{Requirement}
 use Rattle.resolvo_proof.specs.declared.step.ProofStep.{ProofStep}
 use Rattle.resolvo_proof.specs.declared.step.ProofStep.TheVariants.{Rule, Derived}
 use Rattle.resolvo_proof.specs.declared.step.ProofRule.TheVariants.{Needs, GateOf, Shared, Limit, Outside, Locked, Excluded, Digit, AtLeastOne}
@@ -15,7 +17,8 @@ use Rattle.resolvo_report.specs.Value.{Literal, Step}
 use Rattle.resolvo_report.specs.Value as told
 use Rattle.resolvo_report.specs.Text.{are_rising, literal_text}
 use Rattle.resolvo_refusal.specs.Writing.{version_at, place_at, number_of}
-use Rattle.resolvo_refusal.specs.Lines.{IsLeast, text_of, IsLineOf, SaysAt, IsFree, IsUnknownLine}
+use Rattle.resolvo_refusal.specs.declared.lines.NeedLine.{NeedLine}
+use Rattle.resolvo_refusal.specs.Lines.{IsLeast, text_of, IsLineOf, SaysAt, IsNeedLine, IsFree, IsUnknownLine}
 use Rattle.resolvo_refusal.specs.Refusal.{AreLiterals, HaveForm, IsBarredBy}
 
 -- the version of a solvable by its number
@@ -26,14 +29,22 @@ version_no s = record { 0 = s.raw }
 abbrev pub IsFirstLine : List Line → List Line → Option VersionNo → Line → ℕ → Type 0
 IsFirstLine catalogue request place said line = (found : Option ℕ) × (line ≡ unwrap_or found 0) × IsLeast found (λ n. IsLineOf catalogue request place n × SaysAt (text_of catalogue request place) said n)
 
+-- The line is the first of the parent's that needs the requirement in this case, with its first such case; or none does.
+abbrev pub IsNeedLineOf : List Line → List Line → Ids → Option SolvableId → Requirement → List VersionSetId → Option NeedLine → Type 0
+IsNeedLineOf catalogue request ids parent r case found = IsNeedLine (IsLineOf catalogue request (option_map version_no parent)) (text_of catalogue request (option_map version_no parent)) (alternatives_at ids r) (map (spec_at ids) case) found
+
+-- The step tells the need by that line and case, where there is one.
+abbrev pub TellsNeed : List Line → List Line → Ids → Option SolvableId → Requirement → List VersionSetId → Step → Type 0
+TellsNeed catalogue request ids parent r case step = (found : Option NeedLine) × IsNeedLineOf catalogue request ids parent r case found × IfSome found (λ l. IsNumber l.case × (step ≡ told.Need (place_at catalogue parent) l.line l.case))
+
 -- The step bars the solvable's version by a line that does; or none does.
 abbrev pub TellsBar : List Line → SolvableId → Step → Type 0
 TellsBar catalogue s step = (v : Version) → slice_get (listed catalogue) s.raw ≡ Some v → IsBarredBy catalogue v step ⊎ (IsFree catalogue v × IsUnknownLine catalogue v None)
 
--- What a step tells beside `IsWritten`: a need without a condition and a limit by the first line that states it, a bar by a line
--- that is one, a place by a number that has a text, and a derived clause by its literals in the order of their texts.
+-- What a step tells beside `IsWritten`: a need and a limit by the first line that states it, a bar by a line that is one,
+-- a place by a number that has a text, and a derived clause by its literals in the order of their texts.
 abbrev pub Tells : List Line → List Line → Ids → ProofStep NameId SolvableId → Step → Type 0
-Tells catalogue request ids (Rule (Needs parent r case)) step = case.items ≡ [] → (line : ℕ) × (step ≡ told.Need (place_at catalogue parent) line 1) × IsFirstLine catalogue request (option_map version_no parent) (says.Needs (alternatives_at ids r) None) line
+Tells catalogue request ids (Rule (Needs parent r case)) step = TellsNeed catalogue request ids parent r case.items step
 Tells catalogue request ids (Rule (GateOf s r)) step = (line : ℕ) × (step ≡ told.Gate (version_at catalogue s) line) × IsFirstLine catalogue request (Some (version_no s)) (says.Needs (alternatives_at ids r) None) line
 Tells catalogue request ids (Rule (Shared r)) step = ⊤
 Tells catalogue request ids (Rule (Limit parent v None)) step = (line : ℕ) × (step ≡ told.Limit (place_at catalogue parent) line) × IsFirstLine catalogue request (option_map version_no parent) (says.Limits (spec_at ids v)) line

@@ -1,18 +1,17 @@
 //! The first line of a text that states a rule. The lines of a place are looked through in order, those of the request
 //! or those of a version; where several state the rule, the first one is found.
 
-ghost use Rattle.std.specs.Prelude.{◌≡◌, ◌<◌, ◌≤◌, ℕ, List, IfOk, IfSome, IfNone, Option, Some, None, true, false, Contains, slice_get};
+ghost use Rattle.std.specs.Prelude.{◌≡◌, ◌<◌, ℕ, List, IfOk, IfSome, IfNone, Option, Some, None, true, false, Contains, slice_get};
 ghost use Rattle.std.specs.Bool.{Decides};
-ghost use Rattle.std.specs.List.Sorted.{IsStrictlyIncreasing};
 ghost use Rattle.resolvo_text.specs.Line as says;
-ghost use Rattle.resolvo_text.specs.View.{spec_of, specs_of};
+ghost use Rattle.resolvo_text.specs.View.{spec_of, specs_of, cases_of};
 ghost use Rattle.resolvo_catalogue.specs.Grammar.{line_at};
 ghost use Rattle.resolvo_catalogue.specs.Listed.{listed};
-ghost use Rattle.resolvo_catalogue.specs.Questions.{AreAll, States, is_rule};
-ghost use Rattle.resolvo_refusal.specs.Lines.{IsLeast, text_of, IsLineOf, SaysAt, locks, marks_unknown, IsUnknownLine, IsBarringLine};
+ghost use Rattle.resolvo_catalogue.specs.Questions.{States, is_rule};
+ghost use Rattle.resolvo_refusal.specs.Lines.{count_of, number_at, AreLines, IsLeast, text_of, IsLineOf, SaysAt, IsCaseOf, IsCaseAt, IsNeedLine, locks, marks_unknown, IsUnknownLine, IsBarringLine};
 
 use resolvo_catalogue::{Catalogue, Request, Rule, Spec, VersionNo};
-use resolvo_pool::want::R;
+use resolvo_pool::want::{R, Want};
 use std::alloc::Global;
 
 /// A catalogue, and a request over it.
@@ -37,6 +36,35 @@ pub(crate) enum BarringLine {
     Unknown(u32),
 }
 
+/// The numbers of the lines of a place, rising: all up to this one, or these.
+#[derive(Clone, Copy)]
+enum PlaceLines<'a> {
+    UpTo(u32),
+    These(&'a [u32]),
+}
+
+impl PlaceLines<'_> {
+    fn count(self) -> usize
+        ensures { result ≡ count_of self.entry }
+    {
+        match self {
+            PlaceLines::UpTo(last) => last as usize,
+            PlaceLines::These(lines) => lines.len(),
+        }
+    }
+
+    /// The number of the line at this place, from 0.
+    fn number(self, place: usize) -> u32
+        requires { place < count_of self }
+        ensures { result ≡ number_at self.entry place }
+    {
+        match self {
+            PlaceLines::UpTo(_) => place as u32 + 1,
+            PlaceLines::These(lines) => lines[place],
+        }
+    }
+}
+
 impl<'a> Texts<'a> {
     /// What line `line` of a place states, if it states a rule. The place is a version, or none for the request.
     fn rule(self, place: Option<VersionNo>, line: u32) -> Option<&'a Rule>
@@ -49,43 +77,25 @@ impl<'a> Texts<'a> {
         }
     }
 
-    /// The numbers of the lines of a place, rising.
-    fn lines_of(self, alloc: Global, place: Option<VersionNo>) -> R<Vec<u32>>
-        ensures { IfOk result (λ v. AreAll v.items (IsLineOf self.entry.catalogue.now self.entry.request.now.lines place)) }
+    /// The lines of a place.
+    fn lines_of(self, place: Option<VersionNo>) -> PlaceLines<'a>
+        ensures { AreLines result (IsLineOf self.entry.catalogue.now self.entry.request.now.lines place) }
     {
         match place {
-            None => numbers_up_to(alloc, self.request.line_count()),
-            Some(version) => Ok(Vec::from_slice(alloc, self.catalogue.lines_of(version))?),
+            None => PlaceLines::UpTo(self.request.line_count()),
+            Some(version) => PlaceLines::These(self.catalogue.lines_of(version)),
         }
     }
 
     /// The first line of a place that needs these alternatives without a condition.
-    pub fn plain_need_line(
-        self,
-        alloc: Global,
-        place: Option<VersionNo>,
-        alternatives: &[Spec],
-    ) -> R<Option<u32>>
-        ensures { IfOk result (λ found. IsLeast found (λ n. IsLineOf self.entry.catalogue.now self.entry.request.now.lines place n × SaysAt (text_of self.entry.catalogue.now self.entry.request.now.lines place) (says.Needs (specs_of alternatives.now) None) n)) }
+    pub fn plain_need_line(self, place: Option<VersionNo>, alternatives: &[Spec]) -> Option<u32>
+        ensures { IsLeast result (λ n. IsLineOf self.entry.catalogue.now self.entry.request.now.lines place n × SaysAt (text_of self.entry.catalogue.now self.entry.request.now.lines place) (says.Needs (specs_of alternatives.now) None) n) }
     {
-        let lines = self.lines_of(alloc, place)?;
-        let found = self.first_plain_need(place, lines.as_slice(), alternatives);
-        Ok(found)
-    }
-
-    /// The first of these lines that needs these alternatives without a condition. The lines rise.
-    fn first_plain_need(
-        self,
-        place: Option<VersionNo>,
-        lines: &[u32],
-        alternatives: &[Spec],
-    ) -> Option<u32>
-        requires { IsStrictlyIncreasing lines.now }
-        ensures { IsLeast result (λ n. Contains lines.now n × SaysAt (text_of self.entry.catalogue.now self.entry.request.now.lines place) (says.Needs (specs_of alternatives.now) None) n) }
-    {
-        for line in lines {
-            if self.needs_plainly(place, *line, alternatives) {
-                return Some(*line);
+        let lines = self.lines_of(place);
+        for at in 0..lines.count() {
+            let line = lines.number(at);
+            if self.needs_plainly(place, line, alternatives) {
+                return Some(line);
             }
         }
         None
@@ -108,35 +118,45 @@ impl<'a> Texts<'a> {
         place: Option<VersionNo>,
         alternatives: &[Spec],
         case: &[Spec],
-    ) -> R<Option<NeedLine>> {
-        let lines = self.lines_of(alloc, place)?;
-        for line in lines.as_slice() {
-            if let Some(rule) = self.rule(place, *line) {
-                if let Some(case) = need_case(alloc, rule, alternatives, case)? {
-                    return Ok(Some(NeedLine { line: *line, case }));
-                }
+    ) -> R<Option<NeedLine>>
+        ensures { IfOk result (IsNeedLine (IsLineOf self.entry.catalogue.now self.entry.request.now.lines place) (text_of self.entry.catalogue.now self.entry.request.now.lines place) (specs_of alternatives.now) (specs_of case.now)) }
+    {
+        let lines = self.lines_of(place);
+        for at in 0..lines.count() {
+            let line = lines.number(at);
+            if let Some(case) = self.case_number(alloc, place, line, alternatives, case)? {
+                return Ok(Some(NeedLine { line, case }));
             }
         }
         Ok(None)
     }
 
-    /// The first line of a place that limits its set to this SPEC.
-    pub fn limit_line(self, alloc: Global, place: Option<VersionNo>, spec: &Spec) -> R<Option<u32>>
-        ensures { IfOk result (λ found. IsLeast found (λ n. IsLineOf self.entry.catalogue.now self.entry.request.now.lines place n × SaysAt (text_of self.entry.catalogue.now self.entry.request.now.lines place) (says.Limits (spec_of spec.now)) n)) }
+    /// The number of the first case of line `line` of a place that is this one, if the line needs these alternatives.
+    fn case_number(
+        self,
+        alloc: Global,
+        place: Option<VersionNo>,
+        line: u32,
+        alternatives: &[Spec],
+        case: &[Spec],
+    ) -> R<Option<u32>>
+        ensures { IfOk result (IsCaseAt (text_of self.entry.catalogue.now self.entry.request.now.lines place) (specs_of alternatives.now) (specs_of case.now) line) }
     {
-        let lines = self.lines_of(alloc, place)?;
-        let found = self.first_limit(place, lines.as_slice(), spec);
-        Ok(found)
+        match self.rule(place, line) {
+            Some(rule) => need_case(alloc, rule, alternatives, case),
+            None => Ok(None),
+        }
     }
 
-    /// The first of these lines that limits its set to this SPEC. The lines rise.
-    fn first_limit(self, place: Option<VersionNo>, lines: &[u32], spec: &Spec) -> Option<u32>
-        requires { IsStrictlyIncreasing lines.now }
-        ensures { IsLeast result (λ n. Contains lines.now n × SaysAt (text_of self.entry.catalogue.now self.entry.request.now.lines place) (says.Limits (spec_of spec.now)) n) }
+    /// The first line of a place that limits its set to this SPEC.
+    pub fn limit_line(self, place: Option<VersionNo>, spec: &Spec) -> Option<u32>
+        ensures { IsLeast result (λ n. IsLineOf self.entry.catalogue.now self.entry.request.now.lines place n × SaysAt (text_of self.entry.catalogue.now self.entry.request.now.lines place) (says.Limits (spec_of spec.now)) n) }
     {
-        for line in lines {
-            if self.limits_to(place, *line, spec) {
-                return Some(*line);
+        let lines = self.lines_of(place);
+        for at in 0..lines.count() {
+            let line = lines.number(at);
+            if self.limits_to(place, line, spec) {
+                return Some(line);
             }
         }
         None
@@ -213,31 +233,34 @@ impl<'a> Texts<'a> {
     }
 }
 
-/// The numbers from 1 up to this one.
-fn numbers_up_to(alloc: Global, count: u32) -> R<Vec<u32>>
-    ensures { IfOk result (λ v. AreAll v.items (λ n. (1 ≤ n) × (n ≤ count))) }
+/// The number of the first case of a need, from 1, that is this one, if the need has these alternatives. `Ids` where there
+/// are more cases than numbers.
+fn need_case(alloc: Global, rule: &Rule, alternatives: &[Spec], case: &[Spec]) -> R<Option<u32>>
+    ensures { IfOk result (λ found. (versions : List says.Version) (owner : Option says.Version) (line : says.Line) → States versions rule.now owner line → IsCaseOf (specs_of alternatives.now) (specs_of case.now) line found) }
 {
-    let mut numbers = Vec::new(alloc);
-    for place in 0..count {
-        numbers.push(place + 1)?;
-    }
-    Ok(numbers)
-}
-
-/// The first case of a need, from 1, that is this one, if the need has these alternatives.
-fn need_case(alloc: Global, rule: &Rule, alternatives: &[Spec], case: &[Spec]) -> R<Option<u32>> {
     if !needs(rule, alternatives) {
         return Ok(None);
     }
     let cases = rule.cases(alloc)?;
-    let mut number: u32 = 0;
-    for one in cases.iter() {
-        number = number.saturating_add(1);
+    let Some(place) = place_of(cases.as_slice(), case) else {
+        return Ok(None);
+    };
+    if place >= 4_294_967_295 {
+        return Err(Want::Ids);
+    }
+    Ok(Some(place as u32 + 1))
+}
+
+/// The place of the first of these cases that is this one.
+fn place_of(cases: &[Vec<Spec>], case: &[Spec]) -> Option<usize>
+    ensures { IsLeast result (λ k. slice_get (cases_of cases.now) k ≡ Some (specs_of case.now)) }
+{
+    for (place, one) in cases.iter().enumerate() {
         if same_specs(one.as_slice(), case) {
-            return Ok(Some(number));
+            return Some(place);
         }
     }
-    Ok(None)
+    None
 }
 
 /// Whether the rule needs these alternatives without a condition.
@@ -285,7 +308,9 @@ fn marks_unknown(rule: &Rule) -> bool
 }
 
 /// Whether the rule needs these alternatives, under whatever condition.
-fn needs(rule: &Rule, alternatives: &[Spec]) -> bool {
+fn needs(rule: &Rule, alternatives: &[Spec]) -> bool
+    ensures { (versions : List says.Version) (owner : Option says.Version) (line : says.Line) → States versions rule.now owner line → Decides result ((condition : Option says.Cond) × (line ≡ says.Needs (specs_of alternatives.now) condition)) }
+{
     match rule {
         Rule::Needs {
             alternatives: stated,

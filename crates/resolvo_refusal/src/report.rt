@@ -18,8 +18,8 @@ use resolvo_provider::provider::CatalogueProvider;
 use resolvo_report::{Report, Step};
 use std::alloc::Global;
 
-/// The report of a proof over the provider of a catalogue: each rule by the first line that states it.
-/// `Ids` where there are more steps than numbers.
+/// The report of a proof over the provider of a catalogue: each rule by the first line that states it, a need also by the
+/// first of its cases. `Ids` where there are more steps, or more cases of a line, than numbers.
 pub fn refused_report(
     alloc: Global,
     catalogue: &Catalogue,

@@ -3,14 +3,15 @@
 ghost use Rattle.std.specs.Prelude.{◌≡◌, ℕ, [], Some, None, IfOk, map};
 ghost use Rattle.std.specs.Option.{option_map};
 ghost use Rattle.resolvo_text.specs.Line as says;
-ghost use Rattle.resolvo_text.specs.View.{version_of};
+ghost use Rattle.resolvo_text.specs.View.{version_of, specs_of};
 ghost use Rattle.resolvo_report.specs.Value as told;
 ghost use Rattle.resolvo_report.specs.View.{step_of, place_of};
 ghost use Rattle.resolvo_proof.specs.declared.step.ProofStep.TheVariants.{Rule as RuleStep};
 ghost use Rattle.resolvo_proof.specs.declared.step.ProofRule.TheVariants.{Limit};
 ghost use Rattle.resolvo_provider.specs.Known.{spec_at, alternatives_at};
 ghost use Rattle.resolvo_refusal.specs.Writing.{version_at, place_at, number_of, IsBar, IsWritten};
-ghost use Rattle.resolvo_refusal.specs.Telling.{version_no, IsFirstLine, TellsBar, Tells};
+ghost use Rattle.resolvo_refusal.specs.Lines.{IsLeast, text_of, IsLineOf, SaysAt};
+ghost use Rattle.resolvo_refusal.specs.Telling.{version_no, IsFirstLine, IsNeedLineOf, TellsNeed, TellsBar, Tells};
 
 use crate::lines::{BarringLine, NeedLine, Texts};
 use crate::literals::{sorted_literals, version_of};
@@ -99,28 +100,21 @@ impl Writing<'_> {
         }
     }
 
-    /// The step of a need, by the first line that states it.
+    /// The step of a need, by the first line that states it, and its first such case.
     fn need(
         self,
         parent: Option<SolvableId>,
         requirement: Requirement,
         case: &[VersionSetId],
     ) -> R<Step>
-        ensures tells { IfOk result (λ w. case.now ≡ [] → (line : ℕ) × (step_of w ≡ told.Need (place_at self.entry.texts.catalogue.now parent) line 1) × IsFirstLine self.entry.texts.catalogue.now self.entry.texts.request.now.lines (option_map version_no parent) (says.Needs (alternatives_at self.entry.provider.now.ids requirement) None) line) }
+        ensures tells { IfOk result (λ w. TellsNeed self.entry.texts.catalogue.now self.entry.texts.request.now.lines self.entry.provider.now.ids parent requirement case.now (step_of w)) }
         ensures written { IfOk result (λ w. (line k : ℕ) × (step_of w ≡ told.Need (place_at self.entry.texts.catalogue.now parent) line k)) }
     {
-        if case.is_empty() {
-            return self.plain_need(parent, requirement);
-        }
-        let alternatives = self.provider.alternatives_of(requirement)?;
-        let case = self.specs(case)?;
-        let place = self.place_number(parent);
-        let found = self.texts.need_line(
-            self.alloc,
-            place,
-            alternatives.as_slice(),
-            case.as_slice(),
-        )?;
+        let found = if case.is_empty() {
+            self.plain_need(parent, requirement)?
+        } else {
+            self.need_in_case(parent, requirement, case)?
+        };
         let NeedLine { line, case } = found.unwrap_or(NeedLine { line: 0, case: 0 });
         Ok(Step::Need {
             place: self.place(parent)?,
@@ -129,35 +123,45 @@ impl Writing<'_> {
         })
     }
 
-    /// The step of a need without a condition, by the first line that states it.
-    fn plain_need(self, parent: Option<SolvableId>, requirement: Requirement) -> R<Step>
-        ensures { IfOk result (λ w. (line : ℕ) × (step_of w ≡ told.Need (place_at self.entry.texts.catalogue.now parent) line 1) × IsFirstLine self.entry.texts.catalogue.now self.entry.texts.request.now.lines (option_map version_no parent) (says.Needs (alternatives_at self.entry.provider.now.ids requirement) None) line) }
+    /// The first line of a parent that needs the requirement without a condition, and its one case.
+    fn plain_need(self, parent: Option<SolvableId>, requirement: Requirement) -> R<Option<NeedLine>>
+        ensures { IfOk result (IsNeedLineOf self.entry.texts.catalogue.now self.entry.texts.request.now.lines self.entry.provider.now.ids parent requirement []) }
     {
-        let line = self.plain_line(parent, requirement)?;
-        Ok(Step::Need {
-            place: self.place(parent)?,
-            line,
-            case: 1,
-        })
+        let Some(line) = self.plain_line(parent, requirement)? else {
+            return Ok(None);
+        };
+        Ok(Some(NeedLine { line, case: 1 }))
+    }
+
+    /// The first line of a parent that needs the requirement in this case, and the first such case of it.
+    fn need_in_case(
+        self,
+        parent: Option<SolvableId>,
+        requirement: Requirement,
+        case: &[VersionSetId],
+    ) -> R<Option<NeedLine>>
+        ensures { IfOk result (IsNeedLineOf self.entry.texts.catalogue.now self.entry.texts.request.now.lines self.entry.provider.now.ids parent requirement case.now) }
+    {
+        let alternatives = self.provider.alternatives_of(requirement)?;
+        let case = self.specs(case)?;
+        let place = self.place_number(parent);
+        self.texts.need_line(self.alloc, place, alternatives.as_slice(), case.as_slice())
     }
 
     /// The first line of a parent that needs the requirement without a condition.
-    fn plain_line(self, parent: Option<SolvableId>, requirement: Requirement) -> R<u32>
-        ensures { IfOk result (λ line. IsFirstLine self.entry.texts.catalogue.now self.entry.texts.request.now.lines (option_map version_no parent) (says.Needs (alternatives_at self.entry.provider.now.ids requirement) None) line) }
+    fn plain_line(self, parent: Option<SolvableId>, requirement: Requirement) -> R<Option<u32>>
+        ensures { IfOk result (λ found. IsLeast found (λ n. IsLineOf self.entry.texts.catalogue.now self.entry.texts.request.now.lines (option_map version_no parent) n × SaysAt (text_of self.entry.texts.catalogue.now self.entry.texts.request.now.lines (option_map version_no parent)) (says.Needs (alternatives_at self.entry.provider.now.ids requirement) None) n)) }
     {
         let alternatives = self.provider.alternatives_of(requirement)?;
         let place = self.place_number(parent);
-        let found = self
-            .texts
-            .plain_need_line(self.alloc, place, alternatives.as_slice())?;
-        Ok(found.unwrap_or(0))
+        Ok(self.texts.plain_need_line(place, alternatives.as_slice()))
     }
 
     /// The step of a gate, by the first line that states the need without condition.
     fn gate(self, parent: SolvableId, requirement: Requirement) -> R<Step>
         ensures { IfOk result (λ w. (line : ℕ) × (step_of w ≡ told.Gate (version_at self.entry.texts.catalogue.now parent) line) × IsFirstLine self.entry.texts.catalogue.now self.entry.texts.request.now.lines (Some (version_no parent)) (says.Needs (alternatives_at self.entry.provider.now.ids requirement) None) line) }
     {
-        let line = self.plain_line(Some(parent), requirement)?;
+        let line = self.plain_line(Some(parent), requirement)?.unwrap_or(0);
         Ok(Step::Gate {
             version: self.version(parent)?,
             line,
@@ -192,8 +196,7 @@ impl Writing<'_> {
     {
         let spec = self.provider.spec_of(version_set)?;
         let place = self.place_number(parent);
-        let found = self.texts.limit_line(self.alloc, place, &spec)?;
-        Ok(found.unwrap_or(0))
+        Ok(self.texts.limit_line(place, &spec).unwrap_or(0))
     }
 
     /// The step that bars a version: by a line that locks another version of its package, else by one that excludes it,
@@ -236,7 +239,10 @@ impl Writing<'_> {
         version_of(self.alloc, self.texts.catalogue, solvable)
     }
 
-    fn specs(self, version_sets: &[VersionSetId]) -> R<Vec<Spec>> {
+    /// The SPECs of version sets, in order.
+    fn specs(self, version_sets: &[VersionSetId]) -> R<Vec<Spec>>
+        ensures { IfOk result (λ v. specs_of v.items ≡ map (spec_at self.entry.provider.now.ids) version_sets.now) }
+    {
         let mut specs = Vec::new(self.alloc);
         for version_set in version_sets {
             specs.push(self.provider.spec_of(*version_set)?)?;
