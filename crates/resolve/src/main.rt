@@ -2,21 +2,12 @@
 //! `resolve judge CATALOGUE REQUEST REPORT`: writes whether the report holds, or where it doesn't.
 #![tactic(auto)]
 
-mod check;
-mod endings;
-mod input;
-mod outcome;
-mod report;
-mod run;
-#[cfg(test)]
-mod tests;
-
-use check::check;
-use endings::{check_ending, run_ending};
-use input::{INPUT_LIMIT, read_input, split_input};
-use outcome::{Checked, Outcome, RunFault};
 use resolvo_catalogue::Counted;
-use run::run;
+use resolvo_commands::check::check;
+use resolvo_commands::endings::{check_ending, run_ending};
+use resolvo_commands::input::{INPUT_LIMIT, read_input, split_input};
+use resolvo_commands::outcome::{Checked, Outcome, RunFault};
+use resolvo_commands::run::run;
 use std::fs::File;
 use std::process::ExitCode;
 use std::{env, io};

@@ -1,5 +1,5 @@
 -- A test that tells apart the atoms over the ids of a catalogue's provider.
-use Rattle.std.proofs.Common.{◌≡◌, ℕ, Bool, true, false, ◌&&◌, refl, ap}
+use Rattle.std.proofs.Common.{◌≡◌, Bool, true, false, ◌&&◌, refl, ap}
 use Rattle.std.specs.Prelude.{◌==◌}
 use Rattle.std.proofs.lemmas.Bool.{eqb-true, eq-eqb, and_parts, and_from, false≢true}
 use Rattle.resolvo_pool.specs.declared.requirement.Requirement.{Requirement}

@@ -1,34 +1,30 @@
 -- What the steps of a search over a catalogue's provider name is known: versions, names, SPECs and alternatives that lines spell.
-use Rattle.std.proofs.Common.{◌≡◌, ◌⊎◌, inl, inr, ℕ, zero, suc, ◌+◌, ◌<◌, Bool, true, false, ◌&&◌, ◌||◌, List, [], ◌∷◌, ◌++◌, map, length, Option, Some, None, Vec, Global, refl, sym, ap, subst, ◌∙◌, arith}
-use Rattle.std.specs.Prelude.{not, Contains, slice_get, slice_index_or, unwrap_or, option_map, option_to_list, filter}
-use Rattle.std.specs.List.{flat_map, list_any}
-use Rattle.std.proofs.lemmas.Bool.{and_parts, or_cases, both_ways, eqb-true}
-use Rattle.std.proofs.lemmas.Option.{slice_get-get_or, slice_get_within, unwrap_or-slice_get}
-use Rattle.resolvo_text.specs.Line.{Version, Spec, Line, Listed}
-use Rattle.resolvo_text.specs.Spelling.{HasForm}
+use Rattle.std.proofs.Common.{◌≡◌, inl, inr, ℕ, zero, suc, ◌<◌, Bool, true, ◌&&◌, List, [], ◌∷◌, ◌++◌, length, Option, Some, None, refl, sym, ap, subst, ◌∙◌, arith}
+use Rattle.std.specs.Prelude.{not, Contains, slice_get, slice_index_or, option_to_list, filter}
+use Rattle.std.specs.List.{flat_map}
+use Rattle.std.proofs.lemmas.Bool.{and_parts, eqb-true}
+use Rattle.std.proofs.lemmas.Option.{slice_get-get_or, slice_get_within, get_or_from_slice_get}
+use Rattle.resolvo_text.specs.Line.{Line, Listed}
+use Rattle.resolvo_text.specs.Spelling.{HasForm, Spells, SaysLine}
 use Rattle.resolvo_catalogue.specs.Grammar.{AreRequestLines, line_at}
 use Rattle.resolvo_catalogue.specs.Listed.{listed}
 use Rattle.resolvo_catalogue.specs.Questions.{Said}
 use Rattle.resolvo_catalogue.proofs.Placing.{at_from_contains, contains_from_line}
 use Rattle.resolvo_catalogue.proofs.TableLemmas.{listed_from}
 use Rattle.resolvo_pool.specs.declared.id.VersionSetId.{VersionSetId}
-use Rattle.resolvo_pool.specs.declared.id.StringId.{StringId}
 use Rattle.resolvo_pool.specs.declared.id.ConditionId.{ConditionId}
 use Rattle.resolvo_pool.specs.declared.requirement.ConditionalRequirement.{ConditionalRequirement}
 use Rattle.resolvo_pool.specs.declared.requirement.Requirement.{Requirement}
 use Rattle.resolvo_pool.specs.OnePass.{Literal}
 use Rattle.resolvo_pool.specs.Provider as pool
-use Rattle.resolvo_pool.specs.RuleKeeping.{Packages, rules_of, rules_for, is_unknown, is_in, is_outside}
+use Rattle.resolvo_pool.specs.RuleKeeping.{Packages, rules_of, rules_for, is_in, is_outside}
 use Rattle.resolvo_pool.specs.Text.{alternatives_of}
 use Rattle.resolvo_store.specs.AtMostOne.{digit}
-use Rattle.resolvo_rules.specs.Encoding as Encoding
-use Rattle.resolvo_rules.specs.Encoding.{Atom, IsExact, plus, minus, is_kept_out, IsRule, asks, has_condition, same_requirement, cases_under, parent_literals, candidate_literals, literals_of}
-use Rattle.resolvo_rules.proofs.Lists.{contains_none, contains_cases, contains_one, contains_parts, map_contains, filter_contains, any_contained, contains_map}
+use Rattle.resolvo_rules.specs.Encoding.{Atom, IsExact, plus, minus, solvables, IsRule, asks, has_condition, same_requirement, cases_under, parent_literals, case_literals, candidate_literals, literals_of}
+use Rattle.resolvo_rules.proofs.Lists.{contains_none, contains_cases, contains_first, contains_later, contains_parts, map_contains, filter_contains, any_contained, contains_map}
 use Rattle.resolvo_coding.specs.declared.atom.ProofAtom.{ProofAtom}
 use Rattle.resolvo_coding.specs.declared.atom.ProofAtom.TheVariants as atom
 use Rattle.resolvo_coding.specs.Atoms.{atom_of}
-use Rattle.resolvo_encoding.specs.Encoded.{IsUnconditional}
-use Rattle.resolvo_proof.specs.declared.step.ProofLiteral.{ProofLiteral}
 use Rattle.resolvo_proof.specs.declared.step.ProofRule.{ProofRule}
 use Rattle.resolvo_proof.specs.declared.step.ProofRule.TheVariants.{Needs, GateOf, Shared, Limit, Outside, Locked, Excluded, Digit, AtLeastOne}
 use Rattle.resolvo_proof.specs.declared.step.ProofStep.{ProofStep}
@@ -37,23 +33,32 @@ use Rattle.resolvo_proof.specs.Steps.{literal_in, rule_under, clause_of, clause_
 use Rattle.resolvo_proof.specs.Proof.{IsProof}
 use Rattle.resolvo_proof.specs.Drawn.{AreDrawn}
 use Rattle.resolvo_proof.specs.Trimmed.{IsTrimmed, IsRenumbered}
-use Rattle.resolvo_provider.specs.Ids.{NameId, SolvableId, solvables_of, AreEach, IsNeed, IsSpec}
-use Rattle.resolvo_provider.specs.Known.{name_of, set_at, members_of}
+use Rattle.resolvo_provider.specs.Ids.{NameId, SolvableId, AreEach, IsNeed, IsSpec, IsPackage}
+use Rattle.resolvo_provider.specs.Known.{name_of, set_at, members_of, condition_at}
 use Rattle.resolvo_provider.specs.Told.{Told, need_in, limit_in, lines_at}
-use Rattle.resolvo_provider.specs.Provider.{Provider, packages_of, candidates_of, listing_if_any, exclusion_of, marks_at, dependencies_of, matches, needs_of, told_at, no_lines}
+use Rattle.resolvo_provider.specs.Provider.{Provider, packages_of, candidates_of, dependencies_of, matches, told_at, no_lines}
 use Rattle.resolvo_provider.specs.Over.{IsOver, AreAsked}
 use Rattle.resolvo_provider.specs.Keeping.{TellsApart, root_of}
 use Rattle.resolvo_provider.specs.declared.provider.RequestIds.{RequestIds}
-use Rattle.resolvo_provider.proofs.Alike.{is_package, candidate, listed_is, in_to}
+use Rattle.resolvo_provider.specs.declared.id_table.Numbers.{Numbers}
+use Rattle.resolvo_provider.proofs.Alike.{is_package, candidate, in_to}
 use Rattle.resolvo_provider.proofs.Elements.{flat_from, option_from, each_from_left, need_from, limit_from}
 use Rattle.resolvo_provider.proofs.Marking.{one_some}
 use Rattle.resolvo_provider.proofs.RulesKept.{req_from, con_from}
 use Rattle.resolvo_refusal.specs.Refusal.{IsVersion, IsSpelledName, IsSpelledSet, IsSpelledRequirement, IsKnownAtom, IsKnownStep}
+use Rattle.resolvo_refusal.proofs.Barring.{told_version, barred_version}
+use Rattle.resolvo_refusal.proofs.Cases.{case_said}
 use Rattle.resolvo_refusal.proofs.Clauses.{candidate_of}
-use Rattle.resolvo_reporting.proofs.Unconditional.{or_all}
+use Rattle.resolvo_reporting.proofs.CaseForms.{case_fits}
 use Rattle.resolvo_reporting.proofs.Atoms.{one_requirement}
 
 -- ---- places of a list
+
+-- what holds of each element, and of what stands where there is none
+or_all : {X : Type 0} (P : X → Type 0) (xs : List X) (d : X) → ((k : ℕ) (x : X) → slice_get xs k ≡ Some x → P x) → P d → (i : ℕ) → P (slice_index_or xs i d)
+or_all P [] d h own i = own
+or_all P (x ∷ xs) d h own zero = h 0 x refl
+or_all P (x ∷ xs) d h own (suc i) = or_all P xs d (λ k y e. h (suc k) y e) own i
 
 -- the clause of a step, by its place
 clause_is : (same : SolvableId → SolvableId → Bool) (p : Packages NameId SolvableId) (steps : List (ProofStep NameId SolvableId)) (n : ℕ) (s : ProofStep NameId SolvableId) → slice_get steps n ≡ Some s → clause_at same p steps n ≡ clause_of same p s
@@ -75,54 +80,58 @@ module _ (catalogue : List Line) (said : Said) (provider : Provider) (over : IsO
 
   -- ---- lines have their forms
 
+  -- some text says each line
   abbrev Fit : List Line → Type 0
-  Fit lines = (l : Line) → Contains lines l → HasForm l
+  Fit lines = (l : Line) → Contains lines l → (text : List ℕ) × SaysLine text l
 
   catalogue_fits : Fit catalogue
   catalogue_fits l h =
       let (k, at) = at_from_contains catalogue l h in
       let (text, line) = over.grammatical k l at in
-      line.says.form
+      (text, line.says)
 
   request_fits : Fit said.lines
   request_fits l h =
       let (k, at) = at_from_contains said.lines l h in
       let (text, line) = asks_rightly k l at in
-      line.says.form
+      (text, line.says)
 
   lines_fit : (numbers : List ℕ) → Fit (lines_at catalogue numbers)
   lines_fit numbers l c =
       let f = flat_from (λ n. option_to_list (line_at catalogue n)) numbers l c in
       catalogue_fits l (contains_from_line catalogue f.0 l (option_from (line_at catalogue f.0) l f.2))
 
-  need_spelled : (lines : List Line) → Fit lines → (needs : List ConditionalRequirement) → AreEach (IsNeed provider.ids) needs (flat_map need_in lines) → (need : ConditionalRequirement) → Contains needs need → IsSpelledRequirement catalogue provider.ids need.requirement
+  -- each of the version sets is a SPEC that a line can spell
+  abbrev AreSpelledSets : List VersionSetId → Type 0
+  AreSpelledSets vs = (v : VersionSetId) → Contains vs v → IsSpelledSet catalogue provider.ids v
+
+  -- the alternatives can be spelled, and so can the SPECs of each case
+  abbrev IsSpelledNeed : ConditionalRequirement → Type 0
+  IsSpelledNeed need = IsSpelledRequirement catalogue provider.ids need.requirement × ((case : List VersionSetId) → Contains (cases_under (condition_at provider.ids) need.condition) case → AreSpelledSets case)
+
+  need_spelled : (lines : List Line) → Fit lines → (needs : List ConditionalRequirement) → AreEach (IsNeed provider.ids) needs (flat_map need_in lines) → (need : ConditionalRequirement) → Contains needs need → IsSpelledNeed need
   need_spelled lines fit needs each need h =
-      let x = each_from_left (IsNeed provider.ids) needs (flat_map need_in lines) each need h in
-      let f = flat_from need_in lines x.0 x.1 in
-      (x.0.0, x.2.0, subst HasForm (need_from f.0 x.0 f.2) (fit f.0 f.1))
+      let (x, among, (alternatives, condition)) = each_from_left (IsNeed provider.ids) needs (flat_map need_in lines) each need h in
+      let (l, stands, says) = flat_from need_in lines x among in
+      let (text, line) = fit l stands in (
+        (x.0, alternatives, subst HasForm (need_from l x says) line.form),
+        λ case has v in_case. (
+            let (specs, of, sets) = case_said provider.ids over.once.below need.condition x.1 condition case has in
+            let (s, there, is) = each_from_left (IsSpec provider.ids) case specs sets v in_case in
+            (s, is, case_fits text x.0 x.1 (subst (Spells text) (need_from l x says) line.spelled) specs of s there)
+            ),
+      )
 
   limit_spelled : (lines : List Line) → Fit lines → (sets : List VersionSetId) → AreEach (IsSpec provider.ids) sets (flat_map limit_in lines) → (v : VersionSetId) → Contains sets v → IsSpelledSet catalogue provider.ids v
   limit_spelled lines fit sets each v h =
       let x = each_from_left (IsSpec provider.ids) sets (flat_map limit_in lines) each v h in
       let f = flat_from limit_in lines x.0 x.1 in
-      (x.0, x.2, subst HasForm (limit_from f.0 x.0 f.2) (fit f.0 f.1))
+      (x.0, x.2, subst HasForm (limit_from f.0 x.0 f.2) (fit f.0 f.1).1.form)
 
   -- ---- what is told of a solvable
 
-  -- a solvable of which something is told is a version
-  told_version : (s : SolvableId) → (told_at provider s ≡ no_lines → ⊥) → IsVersion catalogue provider.ids s
-  told_version s there = go (slice_get provider.told s.raw) refl
-    where
-      go : (o : Option Told) → slice_get provider.told s.raw ≡ o → IsVersion catalogue provider.ids s
-      go None e = absurd (there (sym (unwrap_or-slice_get provider.told s.raw no_lines) ∙ ap (λ (x : Option Told). unwrap_or x no_lines) e))
-      go (Some t) e =
-          let below : s.raw < length provider.told = slice_get_within provider.told s.raw t e in
-          let long : length provider.told ≡ length (listed catalogue) = over.told.as_many in
-          let none : Version = record { name = []; number = 0 } in
-          (_, slice_get-get_or (listed catalogue) s.raw none (omega (arith, below, long)))
-
-  needs_told : (s : SolvableId) (need : ConditionalRequirement) → Contains (told_at provider s).requirements need → IsSpelledRequirement catalogue provider.ids need.requirement
-  needs_told s need = or_all (λ (t : Told). Contains t.requirements need → IsSpelledRequirement catalogue provider.ids need.requirement) provider.told no_lines
+  needs_told : (s : SolvableId) (need : ConditionalRequirement) → Contains (told_at provider s).requirements need → IsSpelledNeed need
+  needs_told s need = or_all (λ (t : Told). Contains t.requirements need → IsSpelledNeed need) provider.told no_lines
       (λ k t e. let tells = over.told.each k t e in need_spelled (lines_at catalogue tells.0) (lines_fit tells.0) t.requirements tells.2.requirements need)
       (λ c. absurd (contains_none need c)) s.raw
 
@@ -136,18 +145,18 @@ module _ (catalogue : List Line) (said : Said) (provider : Provider) (over : IsO
   abbrev IsParentKnown : Option SolvableId → Type 0
   IsParentKnown parent = (s : SolvableId) → parent ≡ Some s → IsVersion catalogue provider.ids s
 
-  need_known : (parent : Option SolvableId) (need : ConditionalRequirement) → Contains (rules_for same p (root_of ids) parent).requirements need → IsParentKnown parent × IsSpelledRequirement catalogue provider.ids need.requirement
+  need_known : (parent : Option SolvableId) (need : ConditionalRequirement) → Contains (rules_for same p (root_of ids) parent).requirements need → IsParentKnown parent × IsSpelledNeed need
   need_known None need h = (λ s e. absurd cc, need_spelled said.lines request_fits ids.requirements.items asked.requirements need h)
   need_known (Some s) need h =
       let c = req_from (told_at provider s) (told_at provider s).unknown need h in
-      let v = told_version s (λ e. contains_none need (subst (λ (t : Told). Contains t.requirements need) e c)) in
+      let v = told_version catalogue provider over same exact s (λ e. contains_none need (subst (λ (t : Told). Contains t.requirements need) e c)) in
       (λ t e. subst (λ (x : SolvableId). IsVersion catalogue provider.ids x) (one_some e) v, needs_told s need c)
 
   limit_known : (parent : Option SolvableId) (v : VersionSetId) → Contains (rules_for same p (root_of ids) parent).constraints v → IsParentKnown parent × IsSpelledSet catalogue provider.ids v
   limit_known None v h = (λ s e. absurd cc, limit_spelled said.lines request_fits ids.constraints.items asked.constraints v h)
   limit_known (Some s) v h =
       let c = con_from (told_at provider s) (told_at provider s).unknown v h in
-      let w = told_version s (λ e. contains_none v (subst (λ (t : Told). Contains t.constrains v) e c)) in
+      let w = told_version catalogue provider over same exact s (λ e. contains_none v (subst (λ (t : Told). Contains t.constrains v) e c)) in
       (λ t e. subst (λ (x : SolvableId). IsVersion catalogue provider.ids x) (one_some e) w, limits_told s v c)
 
   gate_known : (s : SolvableId) (r : Requirement) → asks (rules_of (dependencies_of provider s)).requirements r ≡ true → IsVersion catalogue provider.ids s × IsSpelledRequirement catalogue provider.ids r
@@ -155,7 +164,7 @@ module _ (catalogue : List Line) (said : Said) (provider : Provider) (over : IsO
       let x = any_contained (λ (n : ConditionalRequirement). not (has_condition n.condition) && same_requirement r n.requirement) _ h in
       let is : r ≡ x.0.requirement = one_requirement r x.0.requirement (and_parts (not (has_condition x.0.condition)) _ x.2).1 in
       let known = need_known (Some s) x.0 x.1 in
-      (known.0 s refl, subst (λ (q : Requirement). IsSpelledRequirement catalogue provider.ids q) (sym is) known.1)
+      (known.0 s refl, subst (λ (q : Requirement). IsSpelledRequirement catalogue provider.ids q) (sym is) known.1.0)
 
   -- ---- candidates
 
@@ -170,7 +179,7 @@ module _ (catalogue : List Line) (said : Said) (provider : Provider) (over : IsO
 
   -- a version's package has a name
   name_spelled : (s : SolvableId) → IsVersion catalogue provider.ids s → IsSpelledName catalogue provider.ids (name_of provider.ids s)
-  name_spelled s (v, e) = (v.name, is_package provider (listed catalogue) over.versions over.once same apart s v e, (catalogue_fits (Listed v) (listed_from catalogue v s.raw e)).name)
+  name_spelled s (v, e) = (v.name, is_package provider (listed catalogue) over.versions over.once same apart s v e, (catalogue_fits (Listed v) (listed_from catalogue v s.raw e)).1.form.name)
 
   candidate_name : (n : NameId) (s : SolvableId) → is_in same p (pool.listed (candidates_of provider n)) s ≡ true → IsSpelledName catalogue provider.ids n
   candidate_name n s h =
@@ -178,31 +187,11 @@ module _ (catalogue : List Line) (said : Said) (provider : Provider) (over : IsO
       let one : (name_of provider.ids s).raw ≡ n.raw = eqb-true _ _ (sym (candidate provider (listed catalogue) over.versions over.once same apart n s v e) ∙ h) in
       subst (λ (m : NameId). IsSpelledName catalogue provider.ids m) (ap (λ k. record { raw = k; tag = record {} }) one) (name_spelled s (v, e))
 
-  -- what is excluded is a candidate
-  excluded_in : (ss : List SolvableId) (e : SolvableId × StringId) → Contains (pool.listing_or_empty (listing_if_any provider ss)).excluded e → Contains ss e.0
-  excluded_in [] e h = absurd (contains_none e h)
-  excluded_in (x ∷ xs) e h =
-      let f = flat_from (exclusion_of provider) (x ∷ xs) e h in
-      subst (λ (y : SolvableId). Contains (x ∷ xs) y) (marked f.0 (marks_at provider f.0).excluded (option_from _ e f.2)) f.1
-    where
-      marked : (y : SolvableId) (o : Option StringId) → option_map (λ w. (y, w)) o ≡ Some e → y ≡ e.0
-      marked y None is = absurd cc
-      marked y (Some w) is = ap (λ (d : SolvableId × StringId). d.0) (one_some is)
-
-  -- what is barred is a version
-  barred_version : (s : SolvableId) → (is_kept_out same p s || is_unknown (dependencies_of provider s)) ≡ true → IsVersion catalogue provider.ids s
-  barred_version s h = elim (or_cases _ _ h) [
-    | inl a ↦ elim (or_cases _ _ a) [
-      | inl c ↦ candidate_version (name_of provider.ids s) s (subst (λ xs. is_in same p xs s ≡ true) (all_listed (solvables_of provider.ids (name_of provider.ids s).raw)) (and_parts _ _ c).0)
-      | inr c ↦ (let x = any_contained (λ (e : SolvableId × StringId). same e.0 s) _ c in
-          candidate_listed (name_of provider.ids s) s (subst (λ xs. Contains xs s) (sym (listed_is provider _)) (subst (λ y. Contains (solvables_of provider.ids (name_of provider.ids s).raw) y) (exact.one x.0.0 s x.2) (excluded_in _ x.0 x.1))))
-    ]
-    | inr b ↦ told_version s (λ e. both_ways _ (ap (λ (t : Told). is_unknown (needs_of t t.unknown)) e) b)
-  ]
-    where
-      all_listed : (ss : List SolvableId) → (pool.listing_or_empty (listing_if_any provider ss)).candidates ≡ pool.listed (listing_if_any provider ss)
-      all_listed [] = refl
-      all_listed (x ∷ xs) = refl
+  -- a version set's package has a name
+  set_name : (v : VersionSetId) → IsSpelledSet catalogue provider.ids v → IsSpelledName catalogue provider.ids (set_at provider.ids v).0
+  set_name v (s, (n, at, named), fits) =
+      let set : (set_at provider.ids v).0 ≡ n = ap (λ (x : NameId × Numbers). x.0) (get_or_from_slice_get provider.ids.version_sets v.0 _ _ at) in
+      (s.name, subst (λ (m : NameId). IsPackage provider.ids m s.name) (sym set) named, fits.name)
 
   -- ---- atoms
 
@@ -239,93 +228,92 @@ module _ (catalogue : List Line) (said : Said) (provider : Provider) (over : IsO
   parent_known None known = known_none
   parent_known (Some s) known = known_more (minus (Atom.solvable s)) [] (known s refl) known_none
 
-  matches_known : (v : VersionSetId) → AreKnown (map (λ s. record { atom = Atom.solvable s; positive = true }) (filter (matches provider v) (pool.listed (candidates_of provider (set_at provider.ids v).0))))
-  matches_known v l h =
-      let x = map_contains (λ (s : SolvableId). let m : Literal (Atom NameId SolvableId) = record { atom = Atom.solvable s; positive = true } in m) l _ h in
-      subst (λ (m : Literal (Atom NameId SolvableId)). IsKnown m.atom) (sym x.2) (candidate_listed (set_at provider.ids v).0 x.0 (filter_contains (matches provider v) x.0 _ x.1).0)
+  tested_known : (test : SolvableId → Bool) (v : VersionSetId) → AreKnown (solvables (filter test (pool.listed (candidates_of provider (set_at provider.ids v).0))))
+  tested_known test v l h =
+      let x = map_contains (λ (s : SolvableId). let m : Literal (Atom NameId SolvableId) = plus (Atom.solvable s) in m) l _ h in
+      subst (λ (m : Literal (Atom NameId SolvableId)). IsKnown m.atom) (sym x.2) (candidate_listed (set_at provider.ids v).0 x.0 (filter_contains test x.0 _ x.1).0)
 
   candidates_known : (vs : List VersionSetId) → AreKnown (candidate_literals same p vs)
   candidates_known [] = known_none
-  candidates_known (v ∷ vs) = known_append _ _ (matches_known v) (candidates_known vs)
+  candidates_known (v ∷ vs) = known_append _ _ (tested_known (matches provider v) v) (candidates_known vs)
+
+  case_known : (vs : List VersionSetId) → AreSpelledSets vs → AreKnown (case_literals same p vs)
+  case_known [] spelled = known_none
+  case_known (v ∷ vs) spelled =
+      known_more (minus (Atom.any_of (set_at provider.ids v).0)) _ (set_name v (spelled v (contains_first v v vs refl)))
+      (known_append _ _ (tested_known (λ s. not (matches provider v s)) v) (case_known vs (λ w h. spelled w (contains_later w v vs h))))
 
   -- ---- clauses of rules
 
-  module _ (free : IsUnconditional same p (root_of ids)) where
-    -- a need without a condition has one case, which asks for nothing
-    no_case : (condition : Option ConditionId) (parent : Option SolvableId) (r : Requirement) (case : List VersionSetId) → IsRule same p (root_of ids) (Encoding.Rule.needs parent (record { condition = condition; requirement = r }) case) → case ≡ []
-    no_case condition parent r case (stated, among) =
-        contains_one case [] (subst (λ (c : Option ConditionId). Contains (cases_under p.condition_of c) case) (free.unconditional parent (record { condition = condition; requirement = r }) stated) among)
+  rule_known : (condition : Option ConditionId) (r : ProofRule NameId SolvableId) → IsRule same p (root_of ids) (rule_under condition r) → AreKnown (literals_of same p (rule_under None r))
+  rule_known condition (Needs parent r case) is =
+      let known = need_known parent (record { condition = condition; requirement = r }) is.0 in
+      known_append _ _ (parent_known parent known.0) (known_append _ _ (case_known case.items (known.1.1 case.items is.1)) (candidates_known (alternatives_of (members_of provider.ids) r)))
+  rule_known condition (GateOf s r) is =
+      let known = gate_known s r is in
+      known_more (minus (Atom.solvable s)) (plus (Atom.gate r) ∷ []) known.0 (known_more (plus (Atom.gate r)) [] known.1 known_none)
+  rule_known condition (Shared r) (s, is) =
+      known_more (minus (Atom.gate r)) (candidate_literals same p (alternatives_of (members_of provider.ids) r)) (gate_known s r is).1 (candidates_known (alternatives_of (members_of provider.ids) r))
+  rule_known condition (Limit parent v None) is =
+      let known = limit_known parent v is in
+      known_append (parent_literals parent) (minus (Atom.outside v) ∷ []) (parent_known parent known.0) (known_more (minus (Atom.outside v)) [] known.1 known_none)
+  rule_known condition (Limit parent v (Some s)) is =
+      known_append (parent_literals parent) (minus (Atom.solvable s) ∷ []) (parent_known parent (limit_known parent v is.0).0) (known_more (minus (Atom.solvable s)) [] (outside_version v s is.1) known_none)
+  rule_known condition (Outside v s) (parent, stated, out) =
+      known_more (minus (Atom.solvable s)) (plus (Atom.outside v) ∷ []) (outside_version v s out) (known_more (plus (Atom.outside v)) [] (limit_known parent v stated).1 known_none)
+  rule_known condition (Locked locked s) is = known_more (minus (Atom.solvable s)) [] (barred_version catalogue provider over same exact s is) known_none
+  rule_known condition (Excluded s reason) is = known_more (minus (Atom.solvable s)) [] (barred_version catalogue provider over same exact s is) known_none
+  rule_known condition (Digit s place bit) (among, below) =
+      let known = candidate_version (name_of provider.ids s) s among in
+      let told : Literal (Atom NameId SolvableId) = record { atom = Atom.digit (name_of provider.ids s) bit; positive = digit place bit } in
+      let named : IsKnown told.atom = (name_spelled s known, below) in
+      known_more (minus (Atom.solvable s)) (told ∷ []) known (known_more told [] named known_none)
+  rule_known condition (AtLeastOne n s) is =
+      known_more (minus (Atom.solvable s)) (plus (Atom.any_of n) ∷ []) (candidate_version n s is) (known_more (plus (Atom.any_of n)) [] (candidate_name n s is) known_none)
 
-    rule_known : (condition : Option ConditionId) (r : ProofRule NameId SolvableId) → IsRule same p (root_of ids) (rule_under condition r) → AreKnown (literals_of same p (rule_under None r))
-    rule_known condition (Needs parent r case) is =
-        let known = need_known parent (record { condition = condition; requirement = r }) is.0 in
-        subst (λ (vs : List VersionSetId). AreKnown (literals_of same p (Encoding.Rule.needs parent (record { condition = None; requirement = r }) vs))) (sym (no_case condition parent r case.items is))
-        (known_append _ _ (parent_known parent known.0) (candidates_known (alternatives_of (members_of provider.ids) r)))
-    rule_known condition (GateOf s r) is =
-        let known = gate_known s r is in
-        known_more (minus (Atom.solvable s)) (plus (Atom.gate r) ∷ []) known.0 (known_more (plus (Atom.gate r)) [] known.1 known_none)
-    rule_known condition (Shared r) (s, is) =
-        known_more (minus (Atom.gate r)) (candidate_literals same p (alternatives_of (members_of provider.ids) r)) (gate_known s r is).1 (candidates_known (alternatives_of (members_of provider.ids) r))
-    rule_known condition (Limit parent v None) is =
-        let known = limit_known parent v is in
-        known_append (parent_literals parent) (minus (Atom.outside v) ∷ []) (parent_known parent known.0) (known_more (minus (Atom.outside v)) [] known.1 known_none)
-    rule_known condition (Limit parent v (Some s)) is =
-        known_append (parent_literals parent) (minus (Atom.solvable s) ∷ []) (parent_known parent (limit_known parent v is.0).0) (known_more (minus (Atom.solvable s)) [] (outside_version v s is.1) known_none)
-    rule_known condition (Outside v s) (parent, stated, out) =
-        known_more (minus (Atom.solvable s)) (plus (Atom.outside v) ∷ []) (outside_version v s out) (known_more (plus (Atom.outside v)) [] (limit_known parent v stated).1 known_none)
-    rule_known condition (Locked locked s) is = known_more (minus (Atom.solvable s)) [] (barred_version s is) known_none
-    rule_known condition (Excluded s reason) is = known_more (minus (Atom.solvable s)) [] (barred_version s is) known_none
-    rule_known condition (Digit s place bit) (among, below) =
-        let known = candidate_version (name_of provider.ids s) s among in
-        let told : Literal (Atom NameId SolvableId) = record { atom = Atom.digit (name_of provider.ids s) bit; positive = digit place bit } in
-        let named : IsKnown told.atom = (name_spelled s known, below) in
-        known_more (minus (Atom.solvable s)) (told ∷ []) known (known_more told [] named known_none)
-    rule_known condition (AtLeastOne n s) is =
-        known_more (minus (Atom.solvable s)) (plus (Atom.any_of n) ∷ []) (candidate_version n s is) (known_more (plus (Atom.any_of n)) [] (candidate_name n s is) known_none)
+  -- ---- steps
 
-    -- ---- steps
+  module _ (same_atom : Atom NameId SolvableId → Atom NameId SolvableId → Bool) (steps : List (ProofStep NameId SolvableId)) (proof : IsProof same_atom same p (root_of ids) steps) (drawn : AreDrawn same p steps) where
+    -- a step's clause is known where those of earlier steps are
+    step_known : (n : ℕ) → ((m : ℕ) → m < n → AreKnown (clause_at same p steps m)) → (o : Option (ProofStep NameId SolvableId)) → slice_get steps n ≡ o → AreKnown (clause_at same p steps n)
+    step_known n earlier None e = subst AreKnown (sym (no_clause same p steps n e)) known_none
+    step_known n earlier (Some (Rule r)) e = (let is = proof n (Rule r) e in subst AreKnown (sym (clause_is same p steps n (Rule r) e)) (rule_known is.0 r is.1))
+    step_known n earlier (Some (Derived literals causes)) e = subst AreKnown (sym (clause_is same p steps n (Derived literals causes) e)) (λ l h.
+        let x = map_contains literal_in l literals.items h in
+        let from = drawn n literals causes e x.0 x.1 in
+        subst (λ (m : Literal (Atom NameId SolvableId)). IsKnown m.atom) (sym x.2) (earlier from.0 from.1 (literal_in x.0) from.2))
 
-    module _ (same_atom : Atom NameId SolvableId → Atom NameId SolvableId → Bool) (steps : List (ProofStep NameId SolvableId)) (proof : IsProof same_atom same p (root_of ids) steps) (drawn : AreDrawn same p steps) where
-      -- a step's clause is known where those of earlier steps are
-      step_known : (n : ℕ) → ((m : ℕ) → m < n → AreKnown (clause_at same p steps m)) → (o : Option (ProofStep NameId SolvableId)) → slice_get steps n ≡ o → AreKnown (clause_at same p steps n)
-      step_known n earlier None e = subst AreKnown (sym (no_clause same p steps n e)) known_none
-      step_known n earlier (Some (Rule r)) e = (let is = proof n (Rule r) e in subst AreKnown (sym (clause_is same p steps n (Rule r) e)) (rule_known is.0 r is.1))
-      step_known n earlier (Some (Derived literals causes)) e = subst AreKnown (sym (clause_is same p steps n (Derived literals causes) e)) (λ l h.
-          let x = map_contains literal_in l literals.items h in
-          let from = drawn n literals causes e x.0 x.1 in
-          subst (λ (m : Literal (Atom NameId SolvableId)). IsKnown m.atom) (sym x.2) (earlier from.0 from.1 (literal_in x.0) from.2))
+    known_below : (bound n : ℕ) → n < bound → AreKnown (clause_at same p steps n)
+    known_below zero n below = absurd (omega (arith, below))
+    known_below (suc bound) n below = step_known n (λ m before. known_below bound m (omega (arith, below, before))) (slice_get steps n) refl
 
-      known_below : (bound n : ℕ) → n < bound → AreKnown (clause_at same p steps n)
-      known_below zero n below = absurd (omega (arith, below))
-      known_below (suc bound) n below = step_known n (λ m before. known_below bound m (omega (arith, below, before))) (slice_get steps n) refl
+    rule_step : (condition : Option ConditionId) (r : ProofRule NameId SolvableId) → IsRule same p (root_of ids) (rule_under condition r) → IsKnownStep catalogue provider.ids (Rule r)
+    rule_step condition (Needs parent r case) is = tt
+    rule_step condition (GateOf s r) is = tt
+    rule_step condition (Shared r) is = tt
+    rule_step condition (Limit parent v barred) is = tt
+    rule_step condition (Outside v s) (parent, stated, out) = (limit_known parent v stated).1
+    rule_step condition (Locked locked s) is = tt
+    rule_step condition (Excluded s reason) is = tt
+    rule_step condition (Digit s place bit) is = tt
+    rule_step condition (AtLeastOne n s) is = tt
 
-      rule_step : (condition : Option ConditionId) (r : ProofRule NameId SolvableId) → IsRule same p (root_of ids) (rule_under condition r) → IsKnownStep catalogue provider.ids (Rule r)
-      rule_step condition (Needs parent r case) is = no_case condition parent r case.items is
-      rule_step condition (GateOf s r) is = tt
-      rule_step condition (Shared r) (s, is) = (gate_known s r is).1
-      rule_step condition (Limit parent v barred) is = tt
-      rule_step condition (Outside v s) (parent, stated, out) = (limit_known parent v stated).1
-      rule_step condition (Locked locked s) is = barred_version s is
-      rule_step condition (Excluded s reason) is = barred_version s is
-      rule_step condition (Digit s place bit) (among, below) = (candidate_version _ s among, below)
-      rule_step condition (AtLeastOne n s) is = tt
+    -- what each step names is known
+    pub known_step : (n : ℕ) (s : ProofStep NameId SolvableId) → slice_get steps n ≡ Some s → IsKnownStep catalogue provider.ids s
+    known_step n (Rule r) e = (let is = proof n (Rule r) e in rule_step is.0 r is.1)
+    known_step n (Derived literals causes) e = λ l h.
+        let known = subst AreKnown (clause_is same p steps n (Derived literals causes) e) (known_below (suc n) n (omega arith)) in
+        known_atom l.atom (known (literal_in l) (contains_map literal_in l literals.items h))
 
-      -- what each step names is known
-      pub known_step : (n : ℕ) (s : ProofStep NameId SolvableId) → slice_get steps n ≡ Some s → IsKnownStep catalogue provider.ids s
-      known_step n (Rule r) e = (let is = proof n (Rule r) e in rule_step is.0 r is.1)
-      known_step n (Derived literals causes) e = λ l h.
-          let known = subst AreKnown (clause_is same p steps n (Derived literals causes) e) (known_below (suc n) n (omega arith)) in
-          known_atom l.atom (known (literal_in l) (contains_map literal_in l literals.items h))
-
-      -- and so where some steps were left out
-      pub known_kept : (kept : List (ProofStep NameId SolvableId)) → IsTrimmed steps kept → (k : ℕ) (s : ProofStep NameId SolvableId) → slice_get kept k ≡ Some s → IsKnownStep catalogue provider.ids s
-      known_kept kept trimmed k s e =
-          let below : k < length kept = slice_get_within kept k s e in
-          let long : length kept ≡ length trimmed.from = trimmed.count in
-          let at = slice_get-get_or trimmed.from k 0 (omega (arith, below, long)) in
-          let old = trimmed.each k _ s at e in
-          renumbered _ old.0 s old.2 (known_step _ old.0 old.1)
-        where
-          renumbered : (place : ℕ) (old new : ProofStep NameId SolvableId) → IsRenumbered trimmed.from place old new → IsKnownStep catalogue provider.ids old → IsKnownStep catalogue provider.ids new
-          renumbered place (Rule r) new is known = subst (λ (x : ProofStep NameId SolvableId). IsKnownStep catalogue provider.ids x) (sym is) known
-          renumbered place (Derived literals causes) new (causes_now, is, same_steps) known = subst (λ (x : ProofStep NameId SolvableId). IsKnownStep catalogue provider.ids x) (sym is) known
+    -- and so where some steps were left out
+    pub known_kept : (kept : List (ProofStep NameId SolvableId)) → IsTrimmed steps kept → (k : ℕ) (s : ProofStep NameId SolvableId) → slice_get kept k ≡ Some s → IsKnownStep catalogue provider.ids s
+    known_kept kept trimmed k s e =
+        let below : k < length kept = slice_get_within kept k s e in
+        let long : length kept ≡ length trimmed.from = trimmed.count in
+        let at = slice_get-get_or trimmed.from k 0 (omega (arith, below, long)) in
+        let old = trimmed.each k _ s at e in
+        renumbered _ old.0 s old.2 (known_step _ old.0 old.1)
+      where
+        renumbered : (place : ℕ) (old new : ProofStep NameId SolvableId) → IsRenumbered trimmed.from place old new → IsKnownStep catalogue provider.ids old → IsKnownStep catalogue provider.ids new
+        renumbered place (Rule r) new is known = subst (λ (x : ProofStep NameId SolvableId). IsKnownStep catalogue provider.ids x) (sym is) known
+        renumbered place (Derived literals causes) new (causes_now, is, same_steps) known = subst (λ (x : ProofStep NameId SolvableId). IsKnownStep catalogue provider.ids x) (sym is) known

@@ -1,5 +1,5 @@
 pub mod ServedLines
-pub mod Unconditional
+pub mod CaseForms
 pub mod FirstMatches
 pub mod FirstTried
 pub mod FirstNeeds

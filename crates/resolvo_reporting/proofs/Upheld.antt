@@ -2,7 +2,7 @@
 use Rattle.std.proofs.Common.{◌≡◌, ℕ, zero, suc, ◌<◌, Bool, true, List, [], ◌∷◌, map, length, Some, Result, Ok, Err, Vec, Global, refl, sym, ap, subst, ◌∙◌, arith}
 use Rattle.std.specs.Prelude.{Contains, IfOk, slice_get}
 use Rattle.std.specs.List.{AllZip}
-use Rattle.std.proofs.lemmas.Bool.{and_parts, false≢true}
+use Rattle.std.proofs.lemmas.Bool.{false≢true}
 use Rattle.resolvo_text.specs.Line.{Version, Line, Wish}
 use Rattle.resolvo_text.specs.Matching.{Set}
 use Rattle.resolvo_catalogue.specs.Answers.{entries_of}
@@ -16,7 +16,6 @@ use Rattle.resolvo_pool.specs.declared.requirement.ConditionalRequirement.{Condi
 use Rattle.resolvo_pool.specs.RuleKeeping.{Rules}
 use Rattle.resolvo_rules.specs.Encoding.{IsExact}
 use Rattle.resolvo_rules.specs.First.{ArePreferred}
-use Rattle.resolvo_encoding.specs.Encoded.{IsUnconditional}
 use Rattle.resolvo_provider.specs.Ids.{Ids, NameId, SolvableId}
 use Rattle.resolvo_provider.specs.Keeping.{StandsFor, TellsApart, root_of}
 use Rattle.resolvo_provider.specs.Provider.{Provider, packages_of}
@@ -41,11 +40,10 @@ use Rattle.resolvo.specs.declared.search.Found.{Found}
 use Rattle.resolvo.specs.declared.search.Found.TheVariants.{Chosen, Clash}
 use Rattle.resolvo.specs.Encoder.{IsRoot}
 use Rattle.resolvo.specs.Solving.{IsSolution, Holds, IsPreferred, IsSolved, EndsSo}
-use Rattle.resolvo_reporting.specs.Served.{is_served_listing, is_served_need, wishes_nothing, AllServed}
+use Rattle.resolvo_reporting.specs.Served.{wishes_nothing, AllServed}
 use Rattle.resolvo_reporting.specs.First.{orders_of, AreFirstChosen}
 use Rattle.resolvo_reporting.specs.Solved.{IsSolvedOver}
 use Rattle.resolvo_reporting.specs.Reported.{AreListed, AreNamed, IsAnswer, IsReportOf}
-use Rattle.resolvo_reporting.proofs.Unconditional.{served_unconditional}
 use Rattle.resolvo_reporting.proofs.FirstChosen.{first_chosen}
 use Rattle.resolvo_reporting.proofs.Atoms.{same_atom, exact_atom}
 use Rattle.resolvo_reporting.proofs.Knowing.{known_kept}
@@ -119,17 +117,9 @@ refusal_reported catalogue request ids steps r i named = record {
 -- ---- what was found
 
 module _ (catalogue : List Line) (said : Said) (provider : Provider) (solved : Solved NameId SolvableId) (is : IsSolvedOver catalogue said provider solved) (asks_rightly : AreRequestLines catalogue said.lines)
-    (listing_served : AllServed is_served_listing catalogue) (request_served : AllServed is_served_need said.lines) where
-  need_served : (l : Line) → Contains said.lines l → is_served_need l ≡ true
-  need_served l c = let at = at_from_contains said.lines l c in request_served (suc at.0) l at.1
-
-  free : IsUnconditional is.same (packages_of provider) (root_of is.ids)
-  free = served_unconditional provider catalogue said is.ids is.over is.asked
-      (λ l c. let at = at_from_contains catalogue l c in listing_served (suc at.0) l at.1)
-      (λ l c. (and_parts (is_served_listing l) (wishes_nothing l) (need_served l c)).0) is.same
-
+    (nothing : AllServed wishes_nothing said.lines) where
   nothing_wished : WishesNothing said.lines
-  nothing_wished v c = absurd (false≢true (need_served (Wish v) c))
+  nothing_wished v c = (let at = at_from_contains said.lines (Wish v) c in absurd (false≢true (nothing (suc at.0) (Wish v) at.1)))
 
   apart : TellsApart is.same
   apart s t = (is.exact.one s t, λ e. subst (λ x. is.same s x ≡ true) e (is.exact.own s))
@@ -137,7 +127,7 @@ module _ (catalogue : List Line) (said : Said) (provider : Provider) (solved : S
   -- the install report of what was chosen
   pub chosen_reported : (chosen : Vec SolvableId Global) → solved.found ≡ Chosen chosen → (r : Report) → (AreRequestLines catalogue said.lines → WishesNothing said.lines → Serve catalogue said chosen.items → IsInstallOf catalogue said.lines chosen.items r) → IsReportOf catalogue said.lines r
   chosen_reported chosen found r reports =
-      let all = is.solves free in
+      let all = is.solves in
       let solution : IsSolution is.same (packages_of provider) (root_of is.ids) chosen.items = subst (λ (f : Found SolvableId). Holds is.same (packages_of provider) (root_of is.ids) f) found all.found in
       let preferred : ArePreferred is.same (packages_of provider) (orders_of is.same provider) (root_of is.ids) chosen.items = subst (λ (f : Found SolvableId). IsPreferred is.same (packages_of provider) (orders_of is.same provider) (root_of is.ids) f) found all.preferred in
       let serve : Serve catalogue said chosen.items = record { provider = provider; over = is.over; ids = is.ids; asked = is.asked; same = is.same; apart = apart; keeping = solution.keeping; reached = solution.reached } in
@@ -148,7 +138,7 @@ module _ (catalogue : List Line) (said : Said) (provider : Provider) (solved : S
   pub clash_reported : (clash : Refusal) → solved.found ≡ Clash clash → (kept : List (ProofStep NameId SolvableId)) → IsTrimmed solved.proof.items kept → proof.AreNamed kept → StaysProof solved.proof.items kept → (EndsEmpty solved.proof.items → EndsEmpty kept)
       → (HaveOnePlace solved.proof.items → HaveOnePlace kept) → (HaveOneSigns solved.proof.items → HaveOneSigns kept) → (r : Report) → (Refutes catalogue said provider kept → IsRefusalOf catalogue said.lines provider.ids kept r) → IsReportOf catalogue said.lines r
   clash_reported clash found kept trimmed named stays ends places signs r reports =
-      let all = is.solves free in
+      let all = is.solves in
       let proved = all.proof same_atom exact_atom in
       let whole : EndsEmpty solved.proof.items = subst (λ (f : Found SolvableId). EndsSo f solved.proof.items) found is.ends in
       let refutes : Refutes catalogue said provider kept = record {
@@ -161,7 +151,7 @@ module _ (catalogue : List Line) (said : Said) (provider : Provider) (solved : S
         exact = is.exact;
         proof = stays same_atom is.same (packages_of provider) (root_of is.ids) proved;
         empty = ends whole;
-        known = known_kept catalogue said provider is.over asks_rightly is.ids is.asked is.same is.exact free same_atom solved.proof.items proved all.drawn kept trimmed;
+        known = known_kept catalogue said provider is.over asks_rightly is.ids is.asked is.same is.exact same_atom solved.proof.items proved all.drawn kept trimmed;
         one_sign = signs all.signs;
         one_place = places all.one_place;
       } in
@@ -170,7 +160,7 @@ module _ (catalogue : List Line) (said : Said) (provider : Provider) (solved : S
 -- a search over a provider of the catalogue, which interned the request
 pub solved_over : (catalogue : List Line) (said : Said) (interned kept provider : Provider) (ids : RequestIds) (requirements : List ConditionalRequirement) (constraints : List VersionSetId) (same : SolvableId → SolvableId → Bool) (solved : Solved NameId SolvableId)
     → kept ≡ interned → provider ≡ kept → IsOver catalogue interned → AreAsked interned.ids said ids → requirements ≡ ids.requirements.items → constraints ≡ ids.constraints.items → IsExact same
-    → ((root : Rules) → IsRoot requirements constraints root → IsUnconditional same (packages_of kept) root → IsSolved same (packages_of kept) (orders_of same kept) root solved) → EndsSo solved.found solved.proof.items → IsSolvedOver catalogue said provider solved
+    → ((root : Rules) → IsRoot requirements constraints root → IsSolved same (packages_of kept) (orders_of same kept) root solved) → EndsSo solved.found solved.proof.items → IsSolvedOver catalogue said provider solved
 solved_over catalogue said interned kept provider ids requirements constraints same solved was stays over asked needs limits exact solves ends =
     subst (λ (q : Provider). IsSolvedOver catalogue said q solved) (sym stays) (record {
       over = subst (λ (q : Provider). IsOver catalogue q) (sym was) over;
@@ -178,6 +168,6 @@ solved_over catalogue said interned kept provider ids requirements constraints s
       asked = subst (λ (q : Provider). AreAsked q.ids said ids) (sym was) asked;
       same = same;
       exact = exact;
-      solves = λ free. solves (root_of ids) (sym needs, sym limits) free;
+      solves = solves (root_of ids) (sym needs, sym limits);
       ends = ends;
     })

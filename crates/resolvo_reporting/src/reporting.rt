@@ -3,7 +3,7 @@
 ghost use Rattle.std.specs.Prelude.{◌≡◌, IfOk};
 ghost use Rattle.resolvo_catalogue.specs.Grammar.{AreRequestLines};
 ghost use Rattle.resolvo_report.specs.View.{report_of};
-ghost use Rattle.resolvo_reporting.specs.Served.{is_served_listing, is_served_need, AllServed};
+ghost use Rattle.resolvo_reporting.specs.Served.{wishes_nothing, AllServed};
 ghost use Rattle.resolvo_reporting.specs.Solved.{IsSolvedOver};
 ghost use Rattle.resolvo_reporting.specs.Reported.{IsReportOf};
 
@@ -31,7 +31,7 @@ fn told(
     provider: &CatalogueProvider,
     solved: Solved<NameId, SolvableId>,
 ) -> R<Report>
-    ensures { IfOk result (λ r. AreRequestLines catalogue.now request.now.lines → AllServed is_served_listing catalogue.now → AllServed is_served_need request.now.lines → IsSolvedOver catalogue.now request.now provider.now solved → IsReportOf catalogue.now request.now.lines (report_of r)) }
+    ensures { IfOk result (λ r. AreRequestLines catalogue.now request.now.lines → AllServed wishes_nothing request.now.lines → IsSolvedOver catalogue.now request.now provider.now solved → IsReportOf catalogue.now request.now.lines (report_of r)) }
 {
     let Solved { found, proof, .. } = solved;
     match found {
@@ -55,9 +55,9 @@ fn stopped(fault: CacheFault<Never>) -> Want
     }
 }
 
-/// The report of a catalogue and a request over it, all of whose lines are served: the solver's answer.
+/// The report of a catalogue and a request over it, which wishes nothing: the solver's answer.
 pub fn report_for(alloc: Global, catalogue: &Catalogue, request: &Request) -> R<Report>
-    ensures { IfOk result (λ r. AreRequestLines catalogue.now request.now.lines → AllServed is_served_listing catalogue.now → AllServed is_served_need request.now.lines → IsReportOf catalogue.now request.now.lines (report_of r)) }
+    ensures { IfOk result (λ r. AreRequestLines catalogue.now request.now.lines → AllServed wishes_nothing request.now.lines → IsReportOf catalogue.now request.now.lines (report_of r)) }
 {
     let mut provider = CatalogueProvider::new(alloc, catalogue, Hint::All)?;
     let asked = provider.intern_request(request)?;

@@ -4,7 +4,7 @@ use Rattle.resolvo_reporting.proofs.Upheld.{if_ok, solved_over}
 use Rattle.resolvo_reporting.proofs.reporting.report_for.Goals as goal
 
 pub returns-in-Ok : goal.returns-in-Ok
-returns-in-Ok c = if_ok c.told.result (λ r reports asks listing request. reports asks listing request
+returns-in-Ok c = if_ok c.told.result (λ r reports asks request. reports asks request
     (solved_over c.args.catalogue.now c.args.request.now c.intern_request.new.self c.new-answers.result c.provider-in-Ok.result.now c.in_ok-asked.asked _ _ _ c.in-Ok.solved c.new-answers.ensures
     (c.provider-in-Ok.ensures ∙ c.solve-solved.ensures.same) (c.in_ok-asked.ensures.over c.args.catalogue.now c.in_ok-provider.ensures.over) c.in_ok-asked.ensures.asked c.as_slice.ensures.value c.as_slice-2.ensures.value
     (record { one = λ x y h. ap (λ k. record { raw = k; tag = record {} }) (eqb-true _ _ (and_parts _ _ h).0); own = λ x. and_from _ _ (eq-eqb x.raw x.raw refl) refl })

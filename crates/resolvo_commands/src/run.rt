@@ -1,0 +1,113 @@
+//! From the bytes of a catalogue and a request to the bytes of a report. `main` and the tests call `run`.
+
+ghost use Rattle.std.specs.Prelude.{◌≡◌, List, codes, IfOk, IfErr, MatchResult, ⊤};
+ghost use Rattle.resolvo_text.specs.Device.{DeviceFailed, WriterFailed};
+ghost use Rattle.resolvo_catalogue.specs.Grammar.{AreRequestLines};
+ghost use Rattle.resolvo_report.specs.View.{report_of};
+ghost use Rattle.resolvo_commands.specs.Texts.{fault_text};
+ghost use Rattle.resolvo_commands.specs.Answer.{IsAnswerOfLines, outcome_of};
+ghost use Rattle.resolvo_commands.specs.Running.{reader_of, writer_of, AnswersTexts, IsLack, StopsBefore, StopsRun, Writes, TellsFault};
+
+use crate::outcome::{Outcome, RunFault};
+use crate::report::{fault_text, report_text};
+use resolvo_catalogue::{Catalogue, ReadFault, Request, Sink, Source, write_all};
+use resolvo_report::Report;
+use resolvo_reporting::reporting::report_for;
+use resolvo_reporting::serving::first_unserved;
+use std::alloc::Global;
+
+/// What is written: how the run ends, and the text.
+#[derive(Drop)]
+pub struct Written {
+    pub outcome: Outcome,
+    pub text: Vec<u8>,
+}
+
+/// The first faulty line of a text.
+fn faulty(alloc: Global, which: &str, line: u32) -> Result<Written, RunFault>
+    ensures ok { IfOk result (λ answer. (answer.outcome ≡ Outcome.Faulty) × (answer.text.items ≡ fault_text which.now line)) }
+    ensures err { IfErr result (λ e. e ≡ RunFault.Memory) }
+{
+    Ok(Written {
+        outcome: Outcome::Faulty,
+        text: fault_text(alloc, which, line)?,
+    })
+}
+
+/// What is written where a text was not read: its faulty line, or nothing.
+pub fn not_read(alloc: Global, which: &str, fault: ReadFault) -> Result<Written, RunFault>
+    ensures { TellsFault fault which.now result }
+{
+    match fault {
+        ReadFault::Fault(line) => faulty(alloc, which, line),
+        ReadFault::Reader => Err(RunFault::Reader),
+        ReadFault::TooLong => Err(RunFault::TooLong),
+        ReadFault::Memory => Err(RunFault::Memory),
+        ReadFault::Ids => Err(RunFault::Ids),
+    }
+}
+
+/// How a run ends that writes this report.
+fn outcome_of(report: &Report) -> Outcome
+    ensures { result ≡ outcome_of (report_of report.now) }
+{
+    match report {
+        Report::Install { .. } => Outcome::Installed,
+        Report::Refused { .. } => Outcome::Refused,
+    }
+}
+
+/// The report of grammatical texts, or the first line that isn't served.
+fn report(alloc: Global, catalogue: &Catalogue, request: &Request) -> Result<Written, RunFault>
+    ensures ok { IfOk result (λ answer. AreRequestLines catalogue.now request.now.lines → IsAnswerOfLines catalogue.now request.now.lines answer.outcome answer.text.items) }
+    ensures err { IfErr result IsLack }
+{
+    if let Some(line) = first_unserved(request) {
+        return faulty(alloc, "request", line);
+    }
+    let report = report_for(alloc, catalogue, request)?;
+    Ok(Written {
+        outcome: outcome_of(&report),
+        text: report_text(alloc, &report)?,
+    })
+}
+
+/// What is written for two texts. The catalogue is read to its end first; where it is refused the request isn't read.
+fn answer<C: Source, R: Source>(
+    alloc: Global,
+    catalogue: &mut C,
+    request: &mut R,
+) -> Result<Written, RunFault>
+    ensures ok { IfOk result (λ answer. AnswersTexts (C.left catalogue.old) (R.left request.old) answer.outcome answer.text.items) }
+    ensures err { IfErr result (λ e. StopsBefore e (reader_of (C.left catalogue.old) (C.left catalogue.new) (DeviceFailed (C.failures catalogue.old) (C.failures catalogue.new) (C.interruptions catalogue.new))) (reader_of (R.left request.old) (R.left request.new) (DeviceFailed (R.failures request.old) (R.failures request.new) (R.interruptions request.new)))) }
+{
+    let catalogue = match Catalogue::read(alloc, catalogue) {
+        Ok(catalogue) => catalogue,
+        Err(fault) => return not_read(alloc, "catalogue", fault),
+    };
+    let request = match Request::read(alloc, request, &catalogue) {
+        Ok(request) => request,
+        Err(fault) => return not_read(alloc, "request", fault),
+    };
+    report(alloc, &catalogue, &request)
+}
+
+/// Reads the catalogue to its end, then the request, and writes the report, or the first faulty line. The text is whole
+/// before its first byte is written.
+pub fn run<C: Source, R: Source, W: Sink>(
+    alloc: Global,
+    catalogue: &mut C,
+    request: &mut R,
+    writer: &mut W,
+) -> Result<Outcome, RunFault>
+    ensures written { IfOk result (λ outcome. Writes (reader_of (C.left catalogue.old) (C.left catalogue.new) (DeviceFailed (C.failures catalogue.old) (C.failures catalogue.new) (C.interruptions catalogue.new))) (reader_of (R.left request.old) (R.left request.new) (DeviceFailed (R.failures request.old) (R.failures request.new) (R.interruptions request.new))) (writer_of (W.contents writer.old) (W.contents writer.new) (WriterFailed (W.failures writer.old) (W.failures writer.new) (W.interruptions writer.new) (W.empty_writes writer.old) (W.empty_writes writer.new))) outcome) }
+    ensures stopped { IfErr result (λ e. StopsRun e (reader_of (C.left catalogue.old) (C.left catalogue.new) (DeviceFailed (C.failures catalogue.old) (C.failures catalogue.new) (C.interruptions catalogue.new))) (reader_of (R.left request.old) (R.left request.new) (DeviceFailed (R.failures request.old) (R.failures request.new) (R.interruptions request.new))) (writer_of (W.contents writer.old) (W.contents writer.new) (WriterFailed (W.failures writer.old) (W.failures writer.new) (W.interruptions writer.new) (W.empty_writes writer.old) (W.empty_writes writer.new)))) }
+{
+    match answer(alloc, catalogue, request) {
+        Ok(answer) => match write_all(writer, answer.text.as_slice()) {
+            Ok(()) => Ok(answer.outcome),
+            Err(_) => Err(RunFault::Writer),
+        },
+        Err(fault) => Err(fault),
+    }
+}

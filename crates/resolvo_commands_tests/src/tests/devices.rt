@@ -1,0 +1,178 @@
+//! Readers and writers that fail, stop or are interrupted.
+
+use resolvo_catalogue::{MemorySink, MemorySource};
+use resolvo_commands::input::{read_input, split_input};
+use resolvo_commands::outcome::{Outcome, RunFault};
+use resolvo_commands::run::run;
+use std::alloc::{AllocError, Global};
+use std::test::Fail;
+
+const CATALOGUE: &str = "version a 1\nversion a 2\n";
+
+const REQUEST: &str = "needs a\n";
+
+const REPORT: &str = "install\na=2 for request line 1\n";
+
+/// How a run over these devices ends; what the writer took stays in it.
+fn ended(
+    alloc: Global,
+    catalogue: MemorySource,
+    request: MemorySource,
+    writer: &mut MemorySink,
+) -> Result<Outcome, RunFault> {
+    let mut catalogue = catalogue;
+    let mut request = request;
+    run(alloc, &mut catalogue, &mut request, writer)
+}
+
+/// How a run ends over good texts.
+fn ended_well_read(alloc: Global, writer: &mut MemorySink) -> Result<Outcome, RunFault> {
+    let catalogue = MemorySource::new(CATALOGUE.as_bytes(), 4096);
+    ended(
+        alloc,
+        catalogue,
+        MemorySource::new(REQUEST.as_bytes(), 4096),
+        writer,
+    )
+}
+
+/// How a run ends, and what it writes, where the writer takes so many bytes a call and fails after so many calls.
+fn written(
+    alloc: Global,
+    per_call: usize,
+    calls: u64,
+) -> Result<(Result<Outcome, RunFault>, Vec<u8>), AllocError> {
+    let mut writer = MemorySink::new(alloc, 100, per_call.max(1))?.failing_after(calls);
+    let ended = ended_well_read(alloc, &mut writer);
+    Ok((ended, Vec::from_slice(alloc, writer.bytes())?))
+}
+
+/// Whether such a run fails, and writes this front of the report.
+fn writes_front(
+    alloc: Global,
+    per_call: usize,
+    calls: u64,
+    bytes: usize,
+) -> Result<bool, AllocError> {
+    let (ended, written) = written(alloc, per_call, calls)?;
+    Ok(ended == Err(RunFault::Writer) && Some(written.as_slice()) == REPORT.as_bytes().get(..bytes))
+}
+
+#[test]
+fn a_writer_that_takes_five_bytes_and_then_fails(rt: HostRuntime) -> Result<(), Fail> {
+    assert!(rt; writes_front(rt.alloc(), 5, 1, 5)?);
+    Ok(())
+}
+
+#[test]
+fn each_write_failing(rt: HostRuntime) -> Result<(), Fail> {
+    for calls in 0..31usize {
+        assert!(rt;
+            writes_front(rt.alloc(), 1, calls as u64, calls)?,
+            "{calls}"
+        );
+    }
+    Ok(())
+}
+
+/// How a run over these devices ends, and how many bytes it writes, one a call.
+fn read(
+    alloc: Global,
+    catalogue: MemorySource,
+    request: MemorySource,
+) -> Result<(Result<Outcome, RunFault>, usize), AllocError> {
+    let mut writer = MemorySink::new(alloc, 100, 1)?;
+    let ended = ended(alloc, catalogue, request, &mut writer);
+    Ok((ended, writer.bytes().len()))
+}
+
+#[test]
+fn each_read_failing(rt: HostRuntime) -> Result<(), Fail> {
+    for calls in 0..24u64 {
+        let catalogue = MemorySource::new(CATALOGUE.as_bytes(), 1).failing_after(calls);
+        let request = MemorySource::new(REQUEST.as_bytes(), 1);
+        let found = read(rt.alloc(), catalogue, request)?;
+        assert_eq!(rt; found, (Err(RunFault::Reader), 0), "{calls}");
+    }
+    for calls in 0..8u64 {
+        let catalogue = MemorySource::new(CATALOGUE.as_bytes(), 1);
+        let request = MemorySource::new(REQUEST.as_bytes(), 1).failing_after(calls);
+        let found = read(rt.alloc(), catalogue, request)?;
+        assert_eq!(rt; found, (Err(RunFault::Reader), 0), "{calls}");
+    }
+    Ok(())
+}
+
+/// A whole line that came is judged before the read that fails; an unfinished one isn't.
+#[test]
+fn faults_before_failures(rt: HostRuntime) -> Result<(), Fail> {
+    for (text, calls, wanted) in &[
+        ("version a 1\nvers", 16u64, Err(RunFault::Reader)),
+        ("vers\nversion", 5, Ok(Outcome::Faulty)),
+        ("vers", 4, Err(RunFault::Reader)),
+    ] {
+        let catalogue = MemorySource::new(text.as_bytes(), 1).failing_after(*calls);
+        let request = MemorySource::new(REQUEST.as_bytes(), 1);
+        let (ended, _bytes) = read(rt.alloc(), catalogue, request)?;
+        assert_eq!(rt; ended, *wanted, "{text}");
+    }
+    Ok(())
+}
+
+/// How a run ends whose catalogue and whose writer are interrupted so often in a row.
+fn interrupted(
+    alloc: Global,
+    reader_calls: u32,
+    writer_calls: u32,
+) -> Result<Result<Outcome, RunFault>, AllocError> {
+    let catalogue = MemorySource::new(CATALOGUE.as_bytes(), 7).interrupted(reader_calls);
+    let request = MemorySource::new(REQUEST.as_bytes(), 7);
+    let mut writer = MemorySink::new(alloc, 100, 7)?.interrupted(writer_calls);
+    Ok(ended(alloc, catalogue, request, &mut writer))
+}
+
+#[test]
+fn interruptions_in_a_row(rt: HostRuntime) -> Result<(), Fail> {
+    for (reader_calls, writer_calls, wanted) in &[
+        (1000u32, 0u32, Ok(Outcome::Installed)),
+        (1001, 0, Err(RunFault::Reader)),
+        (0, 1000, Ok(Outcome::Installed)),
+        (0, 1001, Err(RunFault::Writer)),
+    ] {
+        let ended = interrupted(rt.alloc(), *reader_calls, *writer_calls)?;
+        assert_eq!(rt; ended, *wanted, "{reader_calls} {writer_calls}");
+    }
+    Ok(())
+}
+
+#[test]
+fn input_is_parted(rt: HostRuntime) -> Result<(), Fail> {
+    for (input, catalogue, request) in [
+        ("a\n---\nb\n", "a\n", "b\n"),
+        ("---\n---\n", "", "---\n"),
+        ("a\n---", "a\n", ""),
+        ("a\n --- \nb", "a\n --- \nb", ""),
+        ("a---\n", "a---\n", ""),
+        ("", "", ""),
+    ] {
+        let parted = split_input(input.as_bytes());
+        assert_eq!(rt; parted.0, catalogue.as_bytes(), "{input}");
+        assert_eq!(rt; parted.1, request.as_bytes(), "{input}");
+    }
+    Ok(())
+}
+
+/// Whether the input is read whole under this limit; else it is told to be too long.
+fn is_read(alloc: Global, limit: usize) -> Option<bool> {
+    let mut source = MemorySource::new(REQUEST.as_bytes(), 3);
+    match read_input(alloc, &mut source, limit) {
+        Ok(bytes) => (bytes.as_slice() == REQUEST.as_bytes()).then_some(true),
+        Err(fault) => (fault == RunFault::TooLong).then_some(false),
+    }
+}
+
+#[test]
+fn input_has_a_limit(rt: HostRuntime) {
+    assert_eq!(rt; is_read(rt.alloc(), 8), Some(true));
+    assert_eq!(rt; is_read(rt.alloc(), 7), Some(false));
+}
