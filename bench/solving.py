@@ -21,13 +21,21 @@ LIMIT = 600  # seconds for one run
 class Problem:
     def __init__(self):
         self.catalogue, self.request, self.needs, self.asked, self.versions = [], [], [], [], {}
+        self.under, self.limits = [], []
 
-    def version(self, name, number, needs=()):
+    def version(self, name, number, needs=(), under=(), limits=()):
+        """`under` has alternatives with the one SPEC of their condition."""
         self.catalogue.append(f"version {name} {number}")
         self.versions.setdefault(name, []).append(number)
         for alternatives in needs:
             self.catalogue.append("needs " + spelled(alternatives))
             self.needs.append(((name, number), alternatives))
+        for alternatives, condition in under:
+            self.catalogue.append(f"needs {spelled(alternatives)} if {spelled([condition])}")
+            self.under.append(((name, number), alternatives, condition))
+        for spec in limits:
+            self.catalogue.append("limits " + spelled([spec]))
+            self.limits.append(((name, number), spec))
 
     def ask(self, *alternatives):
         self.request.append("needs " + spelled(alternatives))
@@ -52,6 +60,13 @@ class Problem:
             count += digits
         for owner, alternatives in self.needs:
             lines.append(" ".join(["-%d" % number[owner]] + self.matches(number, alternatives)) + " 0")
+        for owner, alternatives, condition in self.under:
+            for met in self.matches(number, [condition]):
+                lines.append(" ".join(["-%d" % number[owner], "-" + met] + self.matches(number, alternatives)) + " 0")
+        for owner, (name, low, high) in self.limits:
+            for v in self.versions.get(name, []):
+                if not low <= v < high:
+                    lines.append(f"-{number[owner]} -{number[name, v]} 0")
         for alternatives in self.asked:
             lines.append(" ".join(self.matches(number, alternatives)) + " 0")
         return f"p cnf {count} {len(lines)}\n" + "\n".join(lines) + "\n"
@@ -100,6 +115,31 @@ def wide(versions):
         p.version("a", v, [[any_of("b")]] if v % 10 == 0 else [])
     p.version("b", 1)
     p.ask(any_of("a"))
+    return p
+
+
+def conditional(count):
+    """Packages that need one more, each under the condition that the next one of them is there."""
+    p = Problem()
+    for k in range(count):
+        p.version(f"p{k}", 1, under=[([any_of("q")], any_of(f"p{(k + 1) % count}"))])
+    p.version("q", 1)
+    p.version("q", 2)
+    for k in range(count):
+        p.ask(any_of(f"p{k}"))
+    return p
+
+
+def limited(count):
+    """One package with as many versions as there are others that limit it, each to one version fewer."""
+    p = Problem()
+    for v in range(count):
+        p.version("c", v)
+    for k in range(count):
+        p.version(f"p{k}", 1, limits=[("c", 0, count - k)])
+    p.ask(any_of("c"))
+    for k in range(count):
+        p.ask(any_of(f"p{k}"))
     return p
 
 
@@ -157,6 +197,8 @@ def main():
         ("2,000 pairs, installed", pairs(2_000 // scale, False)), ("20,000 pairs, installed", pairs(20_000 // scale, False)),
         ("2,000 pairs, refused", pairs(2_000 // scale, True)), ("20,000 pairs, refused", pairs(20_000 // scale, True)),
         ("10,000 versions", wide(10_000 // scale)), ("100,000 versions", wide(100_000 // scale)),
+        ("500 needs under conditions", conditional(500 // scale)), ("5,000", conditional(5_000 // scale)),
+        ("300 limits of 300 versions", limited(300 // scale)), ("1,000 of 1,000", limited(1_000 // scale)),
         ("6 pigeon holes", pigeons(6)), ("7", pigeons(7)), ("8", pigeons(8)), ("9", pigeons(9)),
         ("300 packages by 10 versions", random_catalogue(300 // scale, 10, random.Random(1))), ("3,000 by 10", random_catalogue(3_000 // scale, 10, random.Random(2))),
     ]

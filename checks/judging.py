@@ -49,10 +49,10 @@ def some_need(rng):
     return text + (" if " + some_condition(rng) if rng.random() < 0.3 else "")
 
 
-def some_texts(rng):
+def some_texts(rng, most=3):
     lines, listed = [], []
     for package in PACKAGES:
-        for number in range(1, rng.randint(1, 3) + 1):
+        for number in range(1, rng.randint(1, most) + 1):
             lines.append(f"version {package} {number}")
             listed.append((package, number))
             lines += [some_need(rng) for _ in range(rng.choice([0, 1, 1, 2]))]

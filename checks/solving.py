@@ -1,5 +1,5 @@
 #!/usr/bin/env python3
-"""Compares `resolve solve` with a plain slow solver, which tries all sets, over generated texts without conditions and wishes.
+"""Compares `resolve solve` with a plain slow solver, which tries all sets, over generated texts without wishes.
 
 Usage: checks/solving.py [PAIRS] [PATH OF THE PROGRAM]
 Defaults: 1000 pairs, crates/resolve/out/resolve (which `rt run` leaves).
@@ -13,18 +13,19 @@ import sys
 import tempfile
 
 from judging import Prover, some_texts
-from plain_judge import judge, matches, obeys
+from plain_judge import cases, holds, judge, matches, obeys
 
 HERE = os.path.dirname(os.path.abspath(__file__))
 
 
-def plain_texts(rng):
-    """Texts whose needs lose their conditions, and which wish nothing."""
-    catalogue, request = some_texts(rng)
-    catalogue, request = (
-        "".join(line.split(" if ")[0] + "\n" for line in text.splitlines() if not line.startswith("wish")) for text in (catalogue, request)
-    )
+def served_texts(rng):
+    """Texts which wish nothing; some lose their conditions, some all rules of the catalogue."""
+    most = 6 if rng.random() < 0.3 else 3
+    catalogue, request = some_texts(rng, most)
+    request = "".join(line + "\n" for line in request.splitlines() if not line.startswith("wish"))
     if rng.random() < 0.3:
+        catalogue, request = ("".join(line.split(" if ")[0] + "\n" for line in text.splitlines()) for text in (catalogue, request))
+    if rng.random() < 0.2:
         catalogue = "".join(line + "\n" for line in catalogue.splitlines() if line.startswith("version"))
     return catalogue, request
 
@@ -37,10 +38,13 @@ def first_match(catalogue, listed, spec):
 
 
 def first_choices(catalogue, request, listed):
-    """The least set that holds the first match of each line that asks in it; None where a line has alternatives."""
+    """The least set that holds the first match of each line that asks in it and whose condition holds; None where such a line has
+    alternatives."""
     chosen = []
     while True:
         for line in [line for line in request if line["kind"] == "needs"] + [line for line in catalogue if line["kind"] == "needs" and line["owner"] in chosen]:
+            if not holds(line["condition"], chosen):
+                continue
             if len(line["alternatives"]) > 1:
                 return None
             v = first_match(catalogue, listed, line["alternatives"][0])
@@ -53,7 +57,9 @@ def first_choices(catalogue, request, listed):
 
 def newest(catalogue, request, listed):
     """Of flat texts the newest version of each needed package that fits each need of it; None of other texts."""
-    if any(line["kind"] != "version" for line in catalogue) or any(line["kind"] != "needs" or len(line["alternatives"]) > 1 for line in request):
+    if any(line["kind"] != "version" for line in catalogue) or any(
+        line["kind"] != "needs" or len(line["alternatives"]) > 1 or cases(line["condition"]) != [[]] for line in request
+    ):
         return None
     needs = [line["alternatives"][0] for line in request]
     fits = lambda v: all(matches(s, v) for s in needs if s[0] == v[0])
@@ -88,7 +94,7 @@ def main():
     with tempfile.TemporaryDirectory() as folder:
         paths = [os.path.join(folder, part) for part in ("catalogue", "request")]
         for k in range(pairs):
-            texts = plain_texts(rng)
+            texts = served_texts(rng)
             for path, text in zip(paths, texts):
                 open(path, "w").write(text)
             run = subprocess.run([program, "solve", *paths], capture_output=True, text=True)
