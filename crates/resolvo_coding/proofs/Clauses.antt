@@ -1,18 +1,22 @@
 -- A clause more.
 use Rattle.std.proofs.Common.{◌≡◌, ℕ, ◌+◌, ◌<◌, ◌⊎◌, inl, inr, true, false, List, [], ◌∷◌, ◌++◌, length, map, Some, Vec, Global, HashSet, BuildHasherDefault, FoldHasher, refl, sym, ◌∙◌, ap, subst, arith}
-use Rattle.std.specs.Prelude.{slice_get, IsSome}
+use Rattle.std.specs.Prelude.{not, slice_get, IsSome}
 use Rattle.std.proofs.lemmas.List.{length-append}
 use Rattle.std.proofs.lemmas.Bool.{both_ways}
 use Rattle.std.proofs.lemmas.Option.{slice_get_within}
 use Rattle.resolvo_pool.specs.declared.id.ClauseId.{ClauseId}
-use Rattle.resolvo_store.specs.Signed.{Signed, has}
+use Rattle.resolvo_store.specs.Signed.{Signed, negation, has}
 use Rattle.resolvo_search.specs.declared.state.HeldClause.{HeldClause}
 use Rattle.resolvo_search.specs.declared.state.VariableKind.{VariableKind}
 use Rattle.resolvo_search.specs.declared.state.VariableKind.TheVariants as Kinds
 use Rattle.resolvo_search.specs.declared.advancing.Progress.{Progress}
 use Rattle.resolvo_search.specs.Known.{clause_at}
-use Rattle.resolvo_search.specs.State.{AreApart, lists, clauses_of}
-use Rattle.resolvo_search.specs.Analysis.{AreFromClauses}
+use Rattle.resolvo_search.specs.State.{AreApart, IsState, lists, clauses_of, count_of}
+use Rattle.resolvo_search.specs.Analysis.{AreFromClauses, IsBar}
+use Rattle.resolvo_search.specs.Steps.{AreInRange}
+use Rattle.resolvo_search.specs.declared.state.SearchState.{SearchState}
+use Rattle.resolvo_search.proofs.Literals.{has-cons}
+use Rattle.resolvo_store.specs.Clauses.{no, root as root_variable}
 use Rattle.resolvo_search.specs.Propagation.{IsReady, AreCovered}
 use Rattle.resolvo_search.specs.Adding.{Comes}
 use Rattle.resolvo_search.specs.Advancing.{Improves}
@@ -27,7 +31,7 @@ use Rattle.resolvo_coding.specs.declared.atom.ProofAtom.{ProofAtom}
 use Rattle.resolvo_coding.specs.Atoms.{kind_of}
 use Rattle.resolvo_coding.specs.Keys.{AreOnce}
 use Rattle.resolvo_coding.specs.Statements.{rule_of, stated_at}
-use Rattle.resolvo_coding.specs.Coding.{IsCoding, States, Advances}
+use Rattle.resolvo_coding.specs.Coding.{IsCoding, States, Bars, Advances}
 use Rattle.resolvo_coding.proofs.Positions.{get_front, get_old, get_last, get_push, front_equal}
 
 -- a literal of one of the first clauses stands in it among more
@@ -128,4 +132,32 @@ learnt_is {N} {S} old new id coding improves atoms stated = record {
   atoms = atoms;
   stated = stated;
   grows = record { atoms = front_equal old.atoms.keys new.atoms.keys (ap (λ (a : HashSet (ProofAtom N S) (BuildHasherDefault FoldHasher)). a.keys) atoms); clauses = (improves.clause ∷ [], improves.added); stated = (Learnt ∷ [], stated); floor = improves.floor };
+}
+
+-- a literal of a clause is of one of the variables
+pub bar_in_range : (s : SearchState) (literals : List Signed) (causes : List ClauseId) → IsState s → IsBar s literals causes → AreInRange (count_of s) literals
+bar_in_range s literals causes state bar l h = let (n, stands) = bar.from l h in state.in_range n l stands
+
+-- literals that only deny stand apart
+negative_apart : (literals : List Signed) → ((l : Signed) → has literals l ≡ true → l.positive ≡ false) → AreApart literals
+negative_apart literals negative l a b = both_ways (not l.positive) (falls (negation l) b) (ap not (falls l a))
+  where
+    falls : (k : Signed) → has (no root_variable ∷ literals) k ≡ true → k.positive ≡ false
+    falls k h = elim (has-cons (no root_variable) literals k h) [ inl e ↦ ap (λ (x : Signed). x.positive) (sym e) | inr e ↦ negative k e ]
+
+-- a clause that only denies came
+pub bar_is : {N S : Type 0} (old new : Coding N S) (clause : HeldClause) (id : ClauseId) → IsCoding old → IsBar old.search clause.literals.items clause.causes.items → Comes clause id old.search old.watching new.search new.watching
+    → new.atoms ≡ old.atoms → new.stated.items ≡ old.stated.items ++ Learnt ∷ [] → Bars clause.literals.items clause.causes.items id old new
+bar_is {N} {S} old new clause id coding bar comes atoms stated = record {
+  coding = one_more old new Learnt clause coding comes.ready comes.covered atoms comes.adds.variables comes.adds.added stated (λ e. absurd cc) (λ e. bar.caused) (λ e. negative_apart clause.literals.items bar.negative) (λ e. bar.from);
+  atoms = atoms;
+  variables = comes.adds.variables;
+  clause = clause;
+  literals = refl;
+  causes = refl;
+  number = comes.adds.number;
+  added = comes.adds.added;
+  stated = stated;
+  grows = record { atoms = front_equal old.atoms.keys new.atoms.keys (ap (λ (a : HashSet (ProofAtom N S) (BuildHasherDefault FoldHasher)). a.keys) atoms); clauses = (clause ∷ [], comes.adds.added); stated = (Learnt ∷ [], stated); floor = comes.adds.floor };
+  trail = record { tracker = comes.adds.tracker };
 }

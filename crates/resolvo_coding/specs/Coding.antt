@@ -81,6 +81,20 @@ pub record States {N S : Type 0} (x : Stated N S) (spelled : List Signed) (id : 
   pub grows : Grows old new
   pub trail : SameTrail old new
 
+-- A clause came behind the others that follows from its causes.
+pub record Bars {N S : Type 0} (denies : List Signed) (by : List ClauseId) (id : ClauseId) (old new : Coding N S) : Type 0 where
+  pub coding : IsCoding new
+  pub atoms : new.atoms ≡ old.atoms
+  pub variables : new.search.variables ≡ old.search.variables
+  pub clause : HeldClause
+  pub literals : clause.literals.items ≡ denies
+  pub causes : clause.causes.items ≡ by
+  pub number : id.0 ≡ length old.search.clauses
+  pub added : new.search.clauses ≡ old.search.clauses ++ clause ∷ []
+  pub stated : new.stated.items ≡ old.stated.items ++ Learnt ∷ []
+  pub grows : Grows old new
+  pub trail : SameTrail old new
+
 -- what a step adds to what is stated
 abbrev pub learnt_by : {N S : Type 0} → Progress → List (Stated N S)
 learnt_by Progress.Complete = []

@@ -1,16 +1,18 @@
-//! A clause comes that states a rule.
+//! A clause comes that states a rule, or one that bars what can't stand together.
 ghost use Rattle.std.specs.Prelude.{◌≡◌, ◌<◌, length, IfOk, IsErrOf, IsSome};
 ghost use Rattle.resolvo_pool.specs.declared.want.Want.TheVariants.{Ids};
 ghost use Rattle.resolvo_search.specs.State.{count_of};
 ghost use Rattle.resolvo_search.specs.Steps.{AreInRange};
+ghost use Rattle.resolvo_search.specs.Analysis.{IsBar};
 ghost use Rattle.resolvo_coding.specs.Statements.{rule_of};
-ghost use Rattle.resolvo_coding.specs.Coding.{IsCoding, States};
+ghost use Rattle.resolvo_coding.specs.Coding.{IsCoding, States, Bars};
 
 use crate::coding::Coding;
 use crate::stated::Stated;
 use resolvo_pool::id::ClauseId;
 use resolvo_pool::solver_id::SolverId;
 use resolvo_pool::want::R;
+use resolvo_search::analysis::Refusal;
 use resolvo_search::learning::pair_with;
 use resolvo_search::state::HeldClause;
 use resolvo_store::literal::Literal;
@@ -34,6 +36,26 @@ impl<N: SolverId, S: SolverId> Coding<N, S> {
             watched,
         )?;
         self.stated.push(stated)?;
+        Ok(clause)
+    }
+
+    /// Adds a clause that follows from others, and only denies. It watches its first literal and the first other one, or
+    /// nothing where it has no other.
+    pub fn bar(&mut self, refusal: Refusal) -> R<ClauseId>
+        requires coding { IsCoding self.old }
+        requires some { 0 < length refusal.literals.items }
+        requires bar { IsBar self.old.search refusal.literals.items refusal.causes.items }
+        ensures barred { IfOk result (λ id. Bars refusal.literals.items refusal.causes.items id self.old self.new) }
+        ensures ids { IsErrOf result Ids → length self.old.search.clauses ≡ 4294967295 }
+    {
+        let Refusal { literals, causes } = refusal;
+        let watched = pair_with(literals.as_slice(), literals[0]);
+        let clause = self.search.add_clause(
+            &mut self.watching,
+            HeldClause { literals, causes },
+            watched,
+        )?;
+        self.stated.push(Stated::Learnt)?;
         Ok(clause)
     }
 }

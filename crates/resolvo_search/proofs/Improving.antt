@@ -1,5 +1,5 @@
 -- The search improves: the trail grows heavier, and its weight is bounded.
-use Rattle.std.proofs.Common.{◌≡◌, ℕ, ◌+◌, ◌-◌, ◌*◌, ◌^◌, ◌<◌, ◌≤◌, inl, inr, true, List, [], ◌∷◌, ◌++◌, reverse, length, Vec, Global, sym, ◌∙◌, ap, subst, arith}
+use Rattle.std.proofs.Common.{◌≡◌, ℕ, ◌+◌, ◌-◌, ◌*◌, ◌^◌, ◌<◌, ◌≤◌, inl, inr, true, List, [], ◌∷◌, ◌++◌, reverse, length, Vec, Global, sym, ◌∙◌, ap, subst, arith, append_assoc}
 use Rattle.std.proofs.lemmas.List.{reverse-append}
 use Rattle.std.proofs.Math.Nat.{one-le-pow}
 use Rattle.resolvo_pool.specs.declared.id.ClauseId.{ClauseId}
@@ -12,14 +12,14 @@ use Rattle.resolvo_search.specs.declared.state.VariableKind.{VariableKind}
 use Rattle.resolvo_search.specs.declared.analysis.Learnt.{Learnt}
 use Rattle.resolvo_search.specs.declared.watching.Watching.{Watching}
 use Rattle.resolvo_search.specs.Known.{clause_at}
-use Rattle.resolvo_search.specs.Entries.{weight, made_true}
+use Rattle.resolvo_search.specs.Entries.{weight, made_true, top_level, EndsWith, IsUndone}
 use Rattle.resolvo_search.specs.State.{count_of, history, clauses_of, IsDerived, IsState, AreApart}
 use Rattle.resolvo_search.specs.Analysis.{IsLearnt}
-use Rattle.resolvo_search.specs.Steps.{SameBut, Chooses, choice_entry}
+use Rattle.resolvo_search.specs.Steps.{SameBut, Chooses, Undoes, choice_entry, forced_entry}
 use Rattle.resolvo_search.specs.Propagation.{Extends}
 use Rattle.resolvo_search.specs.Adding.{Learns}
 use Rattle.resolvo_search.specs.Advancing.{Improves, weight_left}
-use Rattle.resolvo_search.proofs.Trails.{known_from_stands}
+use Rattle.resolvo_search.proofs.Trails.{known_from_stands, undone_ends}
 use Rattle.resolvo_search.proofs.Apart.{false_apart}
 use Rattle.resolvo_search.proofs.Weights.{weight_bounded}
 use Rattle.resolvo_search.proofs.StepLemmas.{reverse_push}
@@ -47,6 +47,17 @@ learnt_apart s x state learnt = false_apart s x.literals.items state (λ l h. el
   | inr (level, low, stands) ↦ known_from_stands (history s) (negation l) level stands
 ])
 
+-- what stood up to the turn's first level stands under what was set behind it
+pub extends_earlier : (s t : SearchState) (base : List Entry) → Extends s t → EndsWith base (history s) → EndsWith base (history t)
+extends_earlier s t base e (p, is) = (reverse e.more ++ p, (ap reverse e.added ∙ reverse-append s.tracker.trail e.more) ∙ ap (λ (h : List Entry). reverse e.more ++ h) is ∙ sym (append_assoc (reverse e.more) p base))
+
+-- a jump does not go below it
+learns_earlier : (m b : SearchState) (w : Watching) (x : Learnt) (id : ClauseId) → IsLearnt m x → Learns x id m b w → (base : List Entry) → top_level base ≤ m.floor → EndsWith base (history m) → EndsWith base (history b)
+learns_earlier m b w x id learnt l base low (p, is) =
+    let under : m.floor ≤ x.level = learnt.low in
+    let (q, ends) = undone_ends x.level (count_of m) (clauses_of m) p base l.base (subst (λ (h : List Entry). IsUndone x.level h l.base) is l.undone) (omega arith) in
+    (forced_entry id x.asserted l.base ∷ q, l.pushed ∙ ap (λ (h : List Entry). forced_entry id x.asserted l.base ∷ h) ends)
+
 pub learning_improves : (s m b : SearchState) (w : Watching) (x : Learnt) (id : ClauseId) → Extends s m → IsLearnt m x → Learns x id m b w → Improves id s b w
 learning_improves s m b w x id e learnt l =
     let count : count_of m ≡ count_of s = same_count s m e.same in
@@ -66,7 +77,18 @@ learning_improves s m b w x id e learnt l =
       apart = learnt_apart m x e.state learnt;
       heavier = omega arith;
       choices = λ d older stands choice. e.choices d older (learns_choices m b w x id l d older stands choice) choice;
+      earlier = λ base low ends. learns_earlier m b w x id learnt l base (subst (λ (n : ℕ). top_level base ≤ n) (sym e.same.floor) low) (extends_earlier s m base e ends);
     }
+
+-- what stood stands under a choice
+pub choice_earlier : (s t : SearchState) (v : VariableId) (c : ClauseId) (base : List Entry) → Chooses v c s t → EndsWith base (history s) → EndsWith base (history t)
+choice_earlier s t v c base chosen (p, is) =
+    let d : Entry = choice_entry v c (history s) in
+    (d ∷ p, (ap reverse chosen.pushed ∙ reverse_push s.tracker.trail d) ∙ ap (λ (h : List Entry). d ∷ h) is)
+
+-- what stood up to the level stands after entries above it are taken away
+pub undo_earlier : (s t : SearchState) (level : ℕ) (base : List Entry) → Undoes level s t → top_level base ≤ level → EndsWith base (history s) → EndsWith base (history t)
+undo_earlier s t level base undoes low (p, is) = undone_ends level (count_of s) (clauses_of s) p base (history t) (subst (λ (h : List Entry). IsUndone level h (history t)) is undoes.undone) low
 
 -- a choice makes the trail heavier
 pub choice_heavier : (s t : SearchState) (v : VariableId) (c : ClauseId) → Chooses v c s t → weight (count_of s) (history s) < weight (count_of s) (history t)

@@ -13,10 +13,10 @@ use Rattle.resolvo_search.specs.Known.{holds, Satisfies, SatisfiesAll}
 use Rattle.resolvo_search.specs.Refuting.{said, said_all, Refutes}
 use Rattle.resolvo_search.proofs.Literals.{has-cons, has_here, has_later}
 
-exact : (a b : ℕ) → nat_eq a b ≡ true → a ≡ b
+pub exact : (a b : ℕ) → nat_eq a b ≡ true → a ≡ b
 exact a b h = eqb-true a b h
 
-own : (a : ℕ) → nat_eq a a ≡ true
+pub own : (a : ℕ) → nat_eq a a ≡ true
 own a = eq-eqb a a refl
 
 -- the literal of an atom and a sign

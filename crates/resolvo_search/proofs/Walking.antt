@@ -1,10 +1,11 @@
 -- The walk back along the trail from a broken clause.
-use Rattle.std.proofs.Common.{◌≡◌, ℕ, zero, suc, ◌+◌, ◌<◌, ◌≤◌, ◌⊎◌, inl, inr, Bool, true, false, cond, List, [], ◌∷◌, ◌++◌, reverse, drop, length, refl, sym, ◌∙◌, ap, subst, arith, append_assoc}
-use Rattle.std.specs.Prelude.{slice_index_or, nat_lt, max, IfOk, Result, Ok, Err}
+use Rattle.std.proofs.Common.{◌≡◌, ℕ, zero, suc, ◌+◌, ◌-◌, ◌<◌, ◌≤◌, ◌⊎◌, inl, inr, Bool, true, false, cond, List, [], ◌∷◌, ◌++◌, reverse, drop, length, refl, sym, ◌∙◌, ap, subst, arith, append_assoc}
+use Rattle.std.specs.Prelude.{slice_index_or, nat_eq, nat_lt, max, IfOk, Result, Ok, Err}
 use Rattle.std.proofs.lemmas.Bool.{both_ways, cases_Bool}
 use Rattle.std.proofs.lemmas.Bool.Decides.{nat_tests}
 use Rattle.std.proofs.lemmas.List.{reverse-append, length-reverse}
 use Rattle.resolvo_pool.specs.declared.id.ClauseId.{ClauseId}
+use Rattle.resolvo_pool.specs.declared.id.VariableId.{VariableId}
 use Rattle.resolvo_store.specs.Signed.{Signed, negation, has}
 use Rattle.resolvo_store.specs.Clauses.{yes, no, root}
 use Rattle.resolvo_store.specs.declared.decision.Entry.{Entry}
@@ -14,10 +15,10 @@ use Rattle.resolvo_search.specs.declared.analysis.Learnt.{Learnt}
 use Rattle.resolvo_search.specs.Known.{IsFalseUnder, IsUndecided, IsForced, clause_at}
 use Rattle.resolvo_search.specs.Entries.{literal_of, reason_of, made_true, before, top_level, IsChoice, IsPropagated, IsReasoned, Follows, IsTrail, StandsAt, StandsOn, IsRooted}
 use Rattle.resolvo_search.specs.State.{count_of, history, clauses_of, named, IsDerived, IsState}
-use Rattle.resolvo_search.specs.Analysis.{is_marked, denied, Marks, IsMarkedLevel, IsSolvable, IsKept, IsKeptOrForced, AreFromClauses, IsLearnt, IsLearntOf, IsAnalysis, IsRefusal, Walks}
+use Rattle.resolvo_search.specs.Analysis.{is_marked, denied, Marks, IsMarkedLevel, IsSolvable, IsKept, IsKeptOrForced, AreFromClauses, IsLearnt, IsLearntOf, IsAnalysis, IsRefusal, IsReason, DenyKept, DenyKeptBut, Walks}
 use Rattle.resolvo_search.proofs.Literals.{negation-negation, has-cons, has_here, has_later, has-append, has_left, has_right}
-use Rattle.resolvo_search.proofs.Refutations.{refutes_more, refutes_broken, refutes_step}
-use Rattle.resolvo_search.proofs.Trails.{before_all, whole_trail, trail_before, consistent, same_or_negated, known_from_stands, stands_from_entry, root_known, rooted_rest}
+use Rattle.resolvo_search.proofs.Refutations.{exact, own, refutes_more, refutes_broken, refutes_step}
+use Rattle.resolvo_search.proofs.Trails.{before_all, whole_trail, trail_before, consistent, same_or_negated, known_from_stands, level_le_last, stands_from_entry, root_known, rooted_rest}
 use Rattle.resolvo_search.proofs.Marking.{denied_cases, denied_later, denied_stands, denied_has, denied_more, denied_marked}
 
 pub in_range_from : (cs : List (List Signed)) (n : ℕ) (l : Signed) → has (clause_at cs n) l ≡ true → n < length cs
@@ -67,8 +68,8 @@ meets s p d state h e =
 denied_next : (s : SearchState) (p : ℕ) (d : Entry) (marks : List Bool) → Meets s p d → denied marks (before s.tracker.trail (p + 1)) ≡ denied marks (d ∷ before s.tracker.trail p)
 denied_next s p d marks m = ap (denied marks) m.next
 
-pub walk_skips : (s : SearchState) (p : ℕ) (d : Entry) (marks : List Bool) (kept : List Signed) (causes : List ClauseId) → Meets s p d → is_marked marks d ≡ false → Walks s (p + 1) marks kept causes → Walks s p marks kept causes
-walk_skips s p d marks kept causes m unmarked w =
+pub walk_skips : (s : SearchState) (begun : List Signed) (p : ℕ) (d : Entry) (marks : List Bool) (kept : List Signed) (causes : List ClauseId) → Meets s p d → is_marked marks d ≡ false → Walks s begun (p + 1) marks kept causes → Walks s begun p marks kept causes
+walk_skips s begun p d marks kept causes m unmarked w =
     let bound : p < length s.tracker.trail = m.in_range in
     let same : denied marks (before s.tracker.trail (p + 1)) ≡ denied marks (before s.tracker.trail p) =
     denied_next s p d marks m ∙ ap (λ b. cond b (negation (literal_of d) ∷ denied marks (before s.tracker.trail p)) (denied marks (before s.tracker.trail p))) unmarked in
@@ -109,14 +110,14 @@ kept_back marks d older kept l m h = elim (has-append (denied marks older) (kept
   ]
 ]
 
-pub walk_keeps : (s : SearchState) (p : ℕ) (d : Entry) (marks : List Bool) (kept more : List Signed) (causes : List ClauseId) → Meets s p d → is_marked marks d ≡ true → IsKept s d (before s.tracker.trail p)
-    → more ≡ kept ++ negation (literal_of d) ∷ [] → Walks s (p + 1) marks kept causes → Walks s p marks more causes
-walk_keeps s p d marks kept more causes m marked is_kept push w =
+pub walk_keeps : (s : SearchState) (begun : List Signed) (p : ℕ) (d : Entry) (marks : List Bool) (kept more : List Signed) (causes : List ClauseId) → Meets s p d → is_marked marks d ≡ true → IsKept s d (before s.tracker.trail p)
+    → more ≡ kept ++ negation (literal_of d) ∷ [] → Walks s begun (p + 1) marks kept causes → Walks s begun p marks more causes
+walk_keeps s begun p d marks kept more causes m marked is_kept push w =
     let older : List Entry = before s.tracker.trail p in
     let bound : p < length s.tracker.trail = m.in_range in
     let derived' : IsDerived (clauses_of s) (denied marks (d ∷ older) ++ kept) (reverse causes) = subst (λ (ls : List Signed). IsDerived (clauses_of s) (ls ++ kept) (reverse causes)) (denied_next s p d marks m) w.derived in
     let from' : AreFromClauses s (denied marks (d ∷ older) ++ kept) = subst (λ (ls : List Signed). AreFromClauses s (ls ++ kept)) (denied_next s p d marks m) w.from in
-    subst (λ (k : List Signed). Walks s p marks k causes) (sym push) (record {
+    subst (λ (k : List Signed). Walks s begun p marks k causes) (sym push) (record {
       in_range = omega arith;
       derived = record {
         in_range = derived'.in_range;
@@ -129,12 +130,16 @@ walk_keeps s p d marks kept more causes m marked is_kept push w =
       denies = λ l h. elim (has-append kept (negation (literal_of d) ∷ []) l h) [
         | inl a ↦ w.denies l a
         | inr a ↦ elim (has-cons (negation (literal_of d)) [] l a) [
-          | inl e ↦ (d, older, inside_on s.tracker.trail (p + 1) d older (subst (λ (x : List Entry). StandsOn x d older) (sym m.next) (inl (refl, refl))), sym (negation-negation (literal_of d)) ∙ ap negation e, is_kept)
+          | inl e ↦ inr (d, older, inside_on s.tracker.trail (p + 1) d older (subst (λ (x : List Entry). StandsOn x d older) (sym m.next) (inl (refl, refl))), sym (negation-negation (literal_of d)) ∙ ap negation e, is_kept)
           | inr e ↦ absurd (both_ways false refl e)
         ]
       ];
       rootless = w.rootless;
     })
+
+-- the walk at the place that was read
+pub walk_at : (s : SearchState) (begun : List Signed) (n : ℕ) (marks : List Bool) (kept : List Signed) (causes : List ClauseId) → 0 < n → Walks s begun n marks kept causes → Walks s begun (n - 1 + 1) marks kept causes
+walk_at s begun n marks kept causes some w = let same : n ≡ n - 1 + 1 = omega arith in subst (λ (m : ℕ). Walks s begun m marks kept causes) same w
 
 reverse_push : {X : Type 0} (xs : List X) (y : X) → reverse (xs ++ y ∷ []) ≡ y ∷ reverse xs
 reverse_push xs y = reverse-append xs (y ∷ [])
@@ -195,9 +200,9 @@ rooted_before s p d marks state m rootless marked =
         absurd (both_ways (is_marked marks d) (ap (λ n. slice_index_or marks n false) zero_is ∙ rootless) marked)
     go (e ∷ older) r = root_known (e ∷ older) r
 
-pub walk_resolves : (s : SearchState) (p : ℕ) (d : Entry) (old new : List Bool) (kept : List Signed) (causes more : List ClauseId) → Meets s p d → has (made_true (before s.tracker.trail p)) (yes root) ≡ true
-    → IsPropagated (clauses_of s) d (before s.tracker.trail p) → Marks (clause_at (clauses_of s) (reason_of d)) old new → more ≡ causes ++ d.decision.derived_from ∷ [] → Walks s (p + 1) old kept causes → Walks s p new kept more
-walk_resolves s p d old new kept causes more m rooted propagated marked push w =
+pub walk_resolves : (s : SearchState) (begun : List Signed) (p : ℕ) (d : Entry) (old new : List Bool) (kept : List Signed) (causes more : List ClauseId) → Meets s p d → has (made_true (before s.tracker.trail p)) (yes root) ≡ true
+    → IsPropagated (clauses_of s) d (before s.tracker.trail p) → Marks (clause_at (clauses_of s) (reason_of d)) old new → more ≡ causes ++ d.decision.derived_from ∷ [] → Walks s begun (p + 1) old kept causes → Walks s begun p new kept more
+walk_resolves s begun p d old new kept causes more m rooted propagated marked push w =
     let older : List Entry = before s.tracker.trail p in
     let c : List Signed = clause_at (clauses_of s) (reason_of d) in
     let forced : IsForced c (literal_of d) (made_true older) = propagated.forced in
@@ -246,7 +251,7 @@ walk_resolves s p d old new kept causes more m rooted propagated marked push w =
     some_pushed (x ∷ xs) y = omega arith
 
 pub walk_starts : (s : SearchState) (broken : ClauseId) (none marks : List Bool) → IsState s → broken.0 < length (clauses_of s) → IsFalseUnder (made_true (history s)) (clause_at (clauses_of s) broken.0) → none ≡ [] → Marks (clause_at (clauses_of s) broken.0) none marks
-    → Walks s (length s.tracker.trail) marks [] (broken ∷ [])
+    → Walks s [] (length s.tracker.trail) marks [] (broken ∷ [])
 walk_starts s broken none marks state bound falls empty marked =
     let all : before s.tracker.trail (length s.tracker.trail) ≡ history s = before_all s.tracker.trail in
     let c : List Signed = clause_at (clauses_of s) broken.0 in
@@ -277,9 +282,13 @@ walk_starts s broken none marks state bound falls empty marked =
               (broken.0, subst (λ (y : Signed). has (clause_at (clauses_of s) broken.0) y ≡ true) (false_same (count_of s) (clauses_of s) (history s) x l state.trail (falls x stands) (known_from_stands (history s) (negation l) k at) same) stands)
         ]
 
+-- a walk from a broken clause keeps nothing but choices
+kept_alone : (s : SearchState) (kept : List Signed) → DenyKeptBut s [] kept → DenyKept s kept
+kept_alone s kept denies l h = elim (denies l h) [ inl e ↦ absurd (both_ways false refl e) | inr k ↦ k ]
+
 pub walk_learns : (s : SearchState) (p : ℕ) (d : Entry) (marks : List Bool) (kept : List Signed) (causes : List ClauseId) (below : ℕ) (x : Learnt) → Meets s p d → is_marked marks d ≡ true → IsMarkedLevel marks (before s.tracker.trail p) below
     → x.level < d.level → below ≤ x.level → s.floor ≤ x.level → x.literals.items ≡ (denied marks (before s.tracker.trail p) ++ kept) ++ negation (literal_of d) ∷ [] → x.causes.items ≡ reverse causes → x.asserted ≡ negation (literal_of d)
-    → Walks s (p + 1) marks kept causes → IsLearnt s x
+    → Walks s [] (p + 1) marks kept causes → IsLearnt s x
 walk_learns s p d marks kept causes below x m marked level above low floor is_literals is_causes is_asserted w =
     let older : List Entry = before s.tracker.trail p in
     let derived' : IsDerived (clauses_of s) (denied marks (d ∷ older) ++ kept) (reverse causes) = subst (λ (ls : List Signed). IsDerived (clauses_of s) (ls ++ kept) (reverse causes)) (denied_next s p d marks m) w.derived in
@@ -300,7 +309,7 @@ walk_learns s p d marks kept causes below x m marked level above low floor is_li
         | inl a ↦ let (k, le, stands) = level.bounds l a in inr (k, omega arith, inside s.tracker.trail p (negation l) k stands)
         | inr a ↦ elim (has-append kept (negation (literal_of d) ∷ []) l a) [
           | inl b ↦
-              let (e, before_e, on, is, kept_e) = w.denies l b in
+              let (e, before_e, on, is, kept_e) = kept_alone s kept w.denies l b in
               let under : e.level ≤ s.floor = kept_e.low in
               inr (e.level, omega arith, subst (λ (y : Signed). StandsAt (history s) y e.level) is (stands_from_entry (history s) e before_e on))
           | inr b ↦ elim (has-cons (negation (literal_of d)) [] l b) [
@@ -314,12 +323,88 @@ walk_learns s p d marks kept causes below x m marked level above low floor is_li
     }
 
 -- at the trail's front only the kept literals are left
-pub walk_ends : (s : SearchState) (marks : List Bool) (kept : List Signed) (causes : List ClauseId) → Walks s 0 marks kept causes → IsRefusal s kept (reverse causes)
+pub walk_ends : (s : SearchState) (marks : List Bool) (kept : List Signed) (causes : List ClauseId) → Walks s [] 0 marks kept causes → IsRefusal s kept (reverse causes)
 walk_ends s marks kept causes w = record {
   derived = w.derived;
   caused = (let same : length (reverse causes) ≡ length causes = length-reverse causes in let some : 0 < length causes = w.caused in omega arith);
+  from = w.from;
+  denies = kept_alone s kept w.denies;
+}
+
+-- a walk that begins at the reason of a literal that an entry made true
+pub walk_begins : (s : SearchState) (p : ℕ) (d : Entry) (none marks : List Bool) → Meets s p d → has (made_true (before s.tracker.trail p)) (yes root) ≡ true → IsPropagated (clauses_of s) d (before s.tracker.trail p)
+    → none ≡ [] → Marks (clause_at (clauses_of s) (reason_of d)) none marks → Walks s (literal_of d ∷ []) p marks (literal_of d ∷ []) (d.decision.derived_from ∷ [])
+walk_begins s p d none marks m rooted propagated empty marked =
+    let older : List Entry = before s.tracker.trail p in
+    let c : List Signed = clause_at (clauses_of s) (reason_of d) in
+    let forced : IsForced c (literal_of d) (made_true older) = propagated.forced in
+    let bound : p < length s.tracker.trail = m.in_range in
+    record {
+      in_range = omega arith;
+      derived = record {
+        in_range = (in_range_from (clauses_of s) (reason_of d) (literal_of d) forced.stands, tt);
+        refuted = refutes_broken c (no root ∷ (denied marks older ++ literal_of d ∷ [])) (λ l h. elim (reason_marked s p d c none marks m rooted forced marked l h) [
+          | inl e ↦ has_later (no root) (denied marks older ++ literal_of d ∷ []) l (has_right (denied marks older) (literal_of d ∷ []) l (has_here (literal_of d) [] l (sym e)))
+          | inr r ↦ elim r [
+            | inl z ↦ has_here (no root) (denied marks older ++ literal_of d ∷ []) l (sym z)
+            | inr k ↦ has_later (no root) (denied marks older ++ literal_of d ∷ []) l (has_left (denied marks older) (literal_of d ∷ []) l k)
+          ]
+        ]);
+      };
+      caused = omega arith;
+      from = λ l h. elim (has-append (denied marks older) (literal_of d ∷ []) l h) [
+        | inl a ↦ elim (from_reason s p d c none marks m forced marked l a) [
+          | inl o ↦ absurd (both_ways false refl (subst (λ (xs : List Bool). slice_index_or xs l.variable.0 false ≡ true) empty (denied_marked none older l o)))
+          | inr o ↦ (reason_of d, o)
+        ]
+        | inr a ↦ elim (has-cons (literal_of d) [] l a) [
+          | inl e ↦ (reason_of d, subst (λ (y : Signed). has c y ≡ true) e forced.stands)
+          | inr e ↦ absurd (both_ways false refl e)
+        ]
+      ];
+      denies = λ l h. inl h;
+      rootless = still_rootless c none marks marked (ap (λ (xs : List Bool). slice_index_or xs 0 false) empty);
+    }
+
+-- at the trail's front only the kept literals are left, and that from which the walk began
+pub walk_explains : (s : SearchState) (x : Signed) (marks : List Bool) (kept : List Signed) (causes : List ClauseId) → Walks s (x ∷ []) 0 marks kept causes → IsReason s x kept (reverse causes)
+walk_explains s x marks kept causes w = record {
+  derived = w.derived;
+  caused = (let same : length (reverse causes) ≡ length causes = length-reverse causes in let some : 0 < length causes = w.caused in omega arith);
+  from = w.from;
   denies = w.denies;
 }
+
+-- the root is true before an entry that makes a variable false
+pub rooted_before_false : (s : SearchState) (p : ℕ) (d : Entry) → IsState s → Meets s p d → d.decision.value ≡ false → has (made_true (before s.tracker.trail p)) (yes root) ≡ true
+rooted_before_false s p d state m fell =
+    let whole : history s ≡ reverse (drop (p + 1) s.tracker.trail) ++ (d ∷ before s.tracker.trail p) = whole_trail s.tracker.trail (p + 1) ∙ ap (λ (h : List Entry). reverse (drop (p + 1) s.tracker.trail) ++ h) m.next in
+    go (before s.tracker.trail p) (rooted_rest (reverse (drop (p + 1) s.tracker.trail)) d (before s.tracker.trail p) (subst IsRooted whole state.rooted))
+  where
+    go : (older : List Entry) → IsRooted (d ∷ older) → has (made_true older) (yes root) ≡ true
+    go [] r = absurd (both_ways d.decision.value fell (ap (λ (l : Signed). l.positive) r.0))
+    go (e ∷ older) r = root_known (e ∷ older) r
+
+-- an entry that makes a variable false was forced
+pub false_forced : (s : SearchState) (p : ℕ) (d : Entry) → Meets s p d → d.decision.value ≡ false → IsPropagated (clauses_of s) d (before s.tracker.trail p)
+false_forced s p d m fell = elim m.follows.reasoned [ inl choice ↦ absurd (both_ways d.decision.value fell choice.positive) | inr forced ↦ forced ]
+
+-- an entry that makes this variable false makes its denial true
+pub denial_of : (d : Entry) (v : VariableId) → nat_eq d.decision.variable.0 v.0 ≡ true → d.decision.value ≡ false → literal_of d ≡ no v
+denial_of d v is fell = let both : literal_of d ≡ no v = λ i. record { variable = record { 0 = exact d.decision.variable.0 v.0 is i }; positive = fell i } in both
+
+-- an entry of another variable, or one that makes it true, does not
+pub no_denial : (d : Entry) (v : VariableId) → (nat_eq d.decision.variable.0 v.0 ≡ false) ⊎ (d.decision.value ≡ true) → literal_of d ≡ no v → ⊥
+no_denial d v (inl other) is = both_ways (nat_eq d.decision.variable.0 v.0) other (subst (λ (x : ℕ). nat_eq d.decision.variable.0 x ≡ true) (ap (λ (l : Signed). l.variable.0) is) (own d.decision.variable.0))
+no_denial d v (inr rose) is = both_ways d.decision.value (ap (λ (l : Signed). l.positive) is) rose
+
+-- what is true before an entry is no other literal, or stands before it
+pub true_before : (s : SearchState) (p : ℕ) (d : Entry) (l : Signed) → before s.tracker.trail (p + 1) ≡ d ∷ before s.tracker.trail p → (literal_of d ≡ l → ⊥) → has (made_true (before s.tracker.trail (p + 1))) l ≡ true → has (made_true (before s.tracker.trail p)) l ≡ true
+true_before s p d l next other h = elim (has-cons (literal_of d) (made_true (before s.tracker.trail p)) l (subst (λ (x : List Entry). has (made_true x) l ≡ true) next h)) [ inl e ↦ absurd (other e) | inr r ↦ r ]
+
+-- what an entry makes true is true
+pub entry_true : (s : SearchState) (p : ℕ) (d : Entry) → Meets s p d → has (made_true (history s)) (literal_of d) ≡ true
+entry_true s p d m = known_from_stands (history s) (literal_of d) d.level (stands_from_entry (history s) d (before s.tracker.trail p) (inside_on s.tracker.trail (p + 1) d (before s.tracker.trail p) (subst (λ (x : List Entry). StandsOn x d (before s.tracker.trail p)) (sym m.next) (inl (refl, refl)))))
 
 -- an entry is a choice exactly where it stands above the one before
 pub kept_or_forced : (s : SearchState) (p : ℕ) (d : Entry) (level : ℕ) → Meets s p d → level ≡ top_level (before s.tracker.trail p) → IsKeptOrForced s d (before s.tracker.trail p) (nat_lt level d.level)
@@ -345,9 +430,16 @@ kept_low s p d below low not_stopped k = record { chosen = k.0; low = go k.1; be
         let under : below < d.level = omega arith in
         not_above s.floor d.level (λ above. not_stopped above under)
 
+-- where the turn's first level is above the trail's, each entry is below it
+pub below_turn : (s : SearchState) (p : ℕ) (d : Entry) → IsState s → Meets s p d → top_level (history s) < s.floor → d.level < s.floor
+below_turn s p d state m above =
+    let stands : StandsOn (history s) d (before s.tracker.trail p) = inside_on s.tracker.trail (p + 1) d (before s.tracker.trail p) (subst (λ (x : List Entry). StandsOn x d (before s.tracker.trail p)) (sym m.next) (inl (refl, refl))) in
+    let low : d.level ≤ top_level (history s) = level_le_last (count_of s) (clauses_of s) (history s) (literal_of d) d.level state.trail (stands_from_entry (history s) d (before s.tracker.trail p) stands) in
+    omega arith
+
 -- what was learnt at an entry that is the last of its level, as an analysis
 pub learnt_analysis : (s : SearchState) (p : ℕ) (d : Entry) (marks : List Bool) (kept : List Signed) (causes : List ClauseId) (below : ℕ) (literals : List Signed) (x : Analysis) → Meets s p d → is_marked marks d ≡ true → IsMarkedLevel marks (before s.tracker.trail p) below
-    → s.floor < d.level → below < d.level → literals ≡ denied marks (before s.tracker.trail p) → Walks s (p + 1) marks kept causes → IsLearntOf literals kept causes d (max s.floor below) x → IsAnalysis s x
+    → s.floor < d.level → below < d.level → literals ≡ denied marks (before s.tracker.trail p) → Walks s [] (p + 1) marks kept causes → IsLearntOf literals kept causes d (max s.floor below) x → IsAnalysis s x
 learnt_analysis s p d marks kept causes below literals (Analysis.Refused x) m marked level above under same w of = absurd of
 learnt_analysis s p d marks kept causes below literals (Analysis.Learnt x) m marked level above under same w of =
     let is_level : x.level ≡ max s.floor below = of.3 in

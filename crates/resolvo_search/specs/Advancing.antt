@@ -1,11 +1,12 @@
 -- One step of the search.
-use Rattle.std.specs.Prelude.{◌≡◌, ℕ, ◌+◌, ◌*◌, ◌-◌, ◌^◌, ◌<◌, [], ◌∷◌, ◌++◌, length}
+use Rattle.std.specs.Prelude.{◌≡◌, ℕ, ◌+◌, ◌*◌, ◌-◌, ◌^◌, ◌<◌, ◌≤◌, List, [], ◌∷◌, ◌++◌, length}
 use Rattle.resolvo_pool.specs.declared.id.ClauseId.{ClauseId}
 use Rattle.resolvo_search.specs.declared.state.HeldClause.{HeldClause}
 use Rattle.resolvo_search.specs.declared.state.SearchState.{SearchState}
 use Rattle.resolvo_search.specs.declared.watching.Watching.{Watching}
 use Rattle.resolvo_search.specs.declared.advancing.Progress.{Progress}
-use Rattle.resolvo_search.specs.Entries.{weight}
+use Rattle.resolvo_store.specs.declared.decision.Entry.{Entry}
+use Rattle.resolvo_search.specs.Entries.{weight, top_level, EndsWith}
 use Rattle.resolvo_search.specs.State.{count_of, history, clauses_of, IsDerived, AreApart}
 use Rattle.resolvo_search.specs.Analysis.{AreFromClauses, IsRefusal}
 use Rattle.resolvo_search.specs.Steps.{KeepsChoices}
@@ -20,8 +21,12 @@ pub record Completes (old new : SearchState) (w : Watching) : Type 0 where
   pub extends : Extends old new
   pub quiet : (n : ℕ) → n < length new.clauses → IsQuiet (made_true (history new)) (clause_at (clauses_of new) n)
 
+-- what stood up to the level is the older part still
+abbrev pub KeepsUpTo : ℕ → SearchState → SearchState → Type 0
+KeepsUpTo level old new = (base : List Entry) → top_level base ≤ level → EndsWith base (history old) → EndsWith base (history new)
+
 -- A clause came that follows from earlier ones, whose literals stand in them, and none beside its opposite; the trail is
--- heavier than before, and each of its choices was there.
+-- heavier than before, each of its choices was there, and what stood before the turn stands still.
 pub record Improves (id : ClauseId) (old new : SearchState) (w : Watching) : Type 0 where
   pub ready : IsReady new w
   pub covered : AreCovered new w
@@ -36,6 +41,7 @@ pub record Improves (id : ClauseId) (old new : SearchState) (w : Watching) : Typ
   pub apart : AreApart clause.literals.items
   pub heavier : weight (count_of old) (history old) < weight (count_of old) (history new)
   pub choices : KeepsChoices (history old) (history new)
+  pub earlier : KeepsUpTo old.floor old new
 
 abbrev pub IsProgress : SearchState → Watching → SearchState → Watching → Progress → Type 0
 IsProgress old v new w Progress.Complete = Completes old new w

@@ -1,14 +1,17 @@
 -- What is learnt from a broken clause.
-use Rattle.std.specs.Prelude.{◌≡◌, ℕ, ◌<◌, ◌≤◌, ◌⊎◌, Bool, true, false, List, [], ◌∷◌, ◌++◌, reverse, length, cond, slice_index_or, Some, slice_get}
+use Rattle.std.specs.Prelude.{◌≡◌, ℕ, ◌<◌, ◌≤◌, ◌⊎◌, Bool, true, false, List, [], ◌∷◌, ◌++◌, reverse, length, cond, slice_index_or, Option, Some, None, slice_get}
 use Rattle.resolvo_pool.specs.declared.id.ClauseId.{ClauseId}
+use Rattle.resolvo_pool.specs.declared.id.VariableId.{VariableId}
 use Rattle.resolvo_store.specs.Signed.{Signed, negation, has}
+use Rattle.resolvo_store.specs.Clauses.{no}
 use Rattle.resolvo_store.specs.declared.decision.Entry.{Entry}
 use Rattle.resolvo_search.specs.declared.state.VariableKind.TheVariants.{Solvable}
 use Rattle.resolvo_search.specs.declared.state.SearchState.{SearchState}
 use Rattle.resolvo_search.specs.declared.analysis.Analysis.{Analysis}
 use Rattle.resolvo_search.specs.declared.analysis.Learnt.{Learnt}
+use Rattle.resolvo_search.specs.declared.analysis.Refusal.{Refusal}
 use Rattle.resolvo_search.specs.Known.{clause_at}
-use Rattle.resolvo_search.specs.Entries.{literal_of, before, top_level, IsChoice, IsPropagated, StandsAt, StandsOn}
+use Rattle.resolvo_search.specs.Entries.{literal_of, made_true, before, top_level, IsChoice, IsPropagated, StandsAt, StandsOn}
 use Rattle.resolvo_search.specs.State.{history, clauses_of, IsDerived}
 
 -- the entry's variable is marked
@@ -41,9 +44,17 @@ pub record IsKept (s : SearchState) (e : Entry) (older : List Entry) : Type 0 wh
   pub low : e.level ≤ s.floor
   pub begins : ((e.level < s.floor) × IsSolvable s e.decision.variable.0) ⊎ IsChoice e older
 
+-- the literal denies a kept choice
+abbrev pub DeniesKept : SearchState → Signed → Type 0
+DeniesKept s l = (e : Entry) × (older : List Entry) × StandsOn (history s) e older × (literal_of e ≡ negation l) × IsKept s e older
+
 -- each literal denies a kept choice
 abbrev pub DenyKept : SearchState → List Signed → Type 0
-DenyKept s literals = (l : Signed) → has literals l ≡ true → (e : Entry) × (older : List Entry) × StandsOn (history s) e older × (literal_of e ≡ negation l) × IsKept s e older
+DenyKept s literals = (l : Signed) → has literals l ≡ true → DeniesKept s l
+
+-- each literal denies a kept choice, or is one of these
+abbrev pub DenyKeptBut : SearchState → List Signed → List Signed → Type 0
+DenyKeptBut s these literals = (l : Signed) → has literals l ≡ true → (has these l ≡ true) ⊎ DeniesKept s l
 
 -- each literal stands in some clause
 abbrev pub AreFromClauses : SearchState → List Signed → Type 0
@@ -63,11 +74,31 @@ pub record IsLearnt (s : SearchState) (x : Learnt) : Type 0 where
   pub fell : (k : ℕ) × (x.level < k) × StandsAt (history s) (negation x.asserted) k
   pub low : s.floor ≤ x.level
 
--- the clause follows from its causes, and denies kept choices alone
+-- the clause follows from its causes, in which its literals stand, and denies kept choices alone
 pub record IsRefusal (s : SearchState) (literals : List Signed) (causes : List ClauseId) : Type 0 where
   pub derived : IsDerived (clauses_of s) literals causes
   pub caused : 0 < length causes
+  pub from : AreFromClauses s literals
   pub denies : DenyKept s literals
+
+-- why a literal holds: the clause follows from its causes, in which its literals stand, and denies kept choices but for this literal
+pub record IsReason (s : SearchState) (l : Signed) (literals : List Signed) (causes : List ClauseId) : Type 0 where
+  pub derived : IsDerived (clauses_of s) literals causes
+  pub caused : 0 < length causes
+  pub from : AreFromClauses s literals
+  pub denies : DenyKeptBut s (l ∷ []) literals
+
+-- the clause follows from its causes, in which its literals stand, and it only denies
+pub record IsBar (s : SearchState) (literals : List Signed) (causes : List ClauseId) : Type 0 where
+  pub derived : IsDerived (clauses_of s) literals causes
+  pub caused : 0 < length causes
+  pub from : AreFromClauses s literals
+  pub negative : (l : Signed) → has literals l ≡ true → l.positive ≡ false
+
+-- the variable is false, by this reason; or it isn't false
+abbrev pub IsRefuted : SearchState → VariableId → Option Refusal → Type 0
+IsRefuted s v None = has (made_true (history s)) (no v) ≡ true → ⊥
+IsRefuted s v (Some r) = (has (made_true (history s)) (no v) ≡ true) × IsReason s (no v) r.literals.items r.causes.items
 
 abbrev pub IsAnalysis : SearchState → Analysis → Type 0
 IsAnalysis s (Analysis.Refused x) = IsRefusal s x.literals.items x.causes.items
@@ -84,11 +115,12 @@ IsKeptOrForced s e older true = (e.decision.value ≡ true) × (((e.level < s.fl
 IsKeptOrForced s e older false = IsPropagated (clauses_of s) e older
 
 -- The walk back along the trail has come to this place: one pass over the causes, the newest first,
--- refutes whatever denies the marked entries before it and makes the kept literals false.
-pub record Walks (s : SearchState) (place : ℕ) (marks : List Bool) (kept : List Signed) (causes : List ClauseId) : Type 0 where
+-- refutes whatever denies the marked entries before it and makes the kept literals false. These deny kept choices, but for
+-- the literals from which the walk began.
+pub record Walks (s : SearchState) (begun : List Signed) (place : ℕ) (marks : List Bool) (kept : List Signed) (causes : List ClauseId) : Type 0 where
   pub in_range : place ≤ length s.tracker.trail
   pub derived : IsDerived (clauses_of s) (denied marks (before s.tracker.trail place) ++ kept) (reverse causes)
   pub caused : 0 < length causes
   pub from : AreFromClauses s (denied marks (before s.tracker.trail place) ++ kept)
-  pub denies : DenyKept s kept
+  pub denies : DenyKeptBut s begun kept
   pub rootless : slice_index_or marks 0 false ≡ false

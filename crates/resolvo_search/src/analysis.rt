@@ -42,7 +42,7 @@ pub struct Learnt {
 }
 
 /// Marks the variables of the literals, but the root's.
-fn mark(marks: &mut IndexedSet<VariableId>, literals: &[Literal]) -> R<()>
+pub(crate) fn mark(marks: &mut IndexedSet<VariableId>, literals: &[Literal]) -> R<()>
     ensures marked { IfOk result (λ _. Marks literals.now marks.old marks.new) }
     ensures refusal { IsOkUnless result Memory }
 {
@@ -124,7 +124,7 @@ impl SearchState {
     }
 
     /// Whether an entry is a choice that the search does not go behind.
-    fn is_kept(&self, place: usize, entry: Entry) -> bool
+    pub(crate) fn is_kept(&self, place: usize, entry: Entry) -> bool
         requires state { IsState self.now }
         requires in_range { place < length self.now.tracker.trail }
         requires next { before self.now.tracker.trail (place + 1) ≡ entry ∷ before self.now.tracker.trail place }

@@ -8,6 +8,7 @@ pub mod analysis;
 pub mod beginning;
 pub mod learning;
 pub mod propagation;
+pub mod reasoning;
 pub mod state;
 pub mod steps;
 pub mod watching;

@@ -1,4 +1,4 @@
-use Rattle.std.proofs.Common.{◌≡◌, ◌-◌, ◌+◌, ◌<◌, ◌≤◌, ℕ, List, ◌∷◌, [], ◌++◌, true, false, length, is_ok, sym, ◌∙◌, ap, subst, arith, refl}
+use Rattle.std.proofs.Common.{◌≡◌, ◌-◌, ◌<◌, ◌≤◌, ℕ, List, ◌∷◌, [], ◌++◌, true, length, is_ok, sym, ◌∙◌, ap, subst, arith}
 use Rattle.std.proofs.ResultArms.{chosen}
 use Rattle.resolvo_pool.specs.declared.id.ClauseId.{ClauseId}
 use Rattle.resolvo_store.specs.Signed.{Signed}
@@ -9,7 +9,7 @@ use Rattle.resolvo_search.specs.State.{clauses_of}
 use Rattle.resolvo_search.specs.Known.{clause_at}
 use Rattle.resolvo_search.specs.Analysis.{Walks, Marks, IsKeptOrForced, is_marked}
 use Rattle.resolvo_search.proofs.Clauses.{length-lists}
-use Rattle.resolvo_search.proofs.Walking.{Meets, meets, walk_starts, walk_keeps, walk_resolves, rooted_before, kept_low, in_range_from, learnt_analysis, if_ok_more}
+use Rattle.resolvo_search.proofs.Walking.{Meets, meets, walk_starts, walk_keeps, walk_resolves, walk_at, rooted_before, kept_low, in_range_from, learnt_analysis, if_ok_more}
 use Rattle.resolvo_search.proofs.state.SearchState.analyze.Goals as goal
 use Rattle.resolvo_search.proofs.state.SearchState.analyze.Goals.{else-self-entry-via-then-self-entry+else-below-entry, else-self-entry-via-else-self-entry}
 
@@ -21,14 +21,10 @@ loop-place-init c =
     let whole : length c.stack-place.result.now ≡ length s.tracker.trail = ap length c.stack-place.ensures.trail in
     let bound : c.args.broken.0 < length (clauses_of s) = omega (arith, length-lists s.clauses, c.requires.in_range) in
     let marked : Marks (clause_at (clauses_of s) c.args.broken.0) c.new-marks.result c.mark.new.marks = subst (λ (l : List Signed). Marks l c.new-marks.result c.mark.new.marks) c.literals.ensures c.in_ok-mark.ensures.marked in
-    subst (λ (n : ℕ). Walks s n c.mark.new.marks c.new-kept.result.items c.push.new.self.items) (sym whole)
-    (subst (λ (k : List Signed). Walks s (length s.tracker.trail) c.mark.new.marks k c.push.new.self.items) (sym c.new-kept.ensures.items)
-    (subst (λ (r : List ClauseId). Walks s (length s.tracker.trail) c.mark.new.marks [] r) (sym pushed)
+    subst (λ (n : ℕ). Walks s [] n c.mark.new.marks c.new-kept.result.items c.push.new.self.items) (sym whole)
+    (subst (λ (k : List Signed). Walks s [] (length s.tracker.trail) c.mark.new.marks k c.push.new.self.items) (sym c.new-kept.ensures.items)
+    (subst (λ (r : List ClauseId). Walks s [] (length s.tracker.trail) c.mark.new.marks [] r) (sym pushed)
     (walk_starts s c.args.broken c.new-marks.result c.mark.new.marks c.requires.state bound c.requires.falls c.new-marks.ensures marked)))
-
--- the walk at the place that was read
-at_place : (s : SearchState) (n : ℕ) (marks : List Rattle.std.proofs.Common.Bool) (kept : List Signed) (causes : List ClauseId) → 0 < n → Walks s n marks kept causes → Walks s (n - 1 + 1) marks kept causes
-at_place s n marks kept causes some w = let same : n ≡ n - 1 + 1 = omega arith in subst (λ (m : ℕ). Walks s m marks kept causes) same w
 
 pub returns-then-below-entry-clause-analysis : goal.returns-then-below-entry-clause-analysis
 returns-then-below-entry-clause-analysis c =
@@ -41,7 +37,7 @@ returns-then-below-entry-clause-analysis c =
     let marked : is_marked c.loop-place.marks d ≡ true = sym c.contains.ensures ∙ c.if-contains.true in
     if_ok_more c.learnt.result
     (λ x of. learnt_analysis s p d c.loop-place.marks c.loop-place.kept.items c.loop-place.causes.items c.marked_level-below.result c.in_ok-literals.literals.items x m marked c.marked_level-below.ensures c.if-self-entry.true c.if-below-entry.true c.in_ok-literals.ensures.literals
-    (at_place s c.loop-place.place c.loop-place.marks c.loop-place.kept.items c.loop-place.causes.items c.loop-place-test.true c.loop-place.invariant) of)
+    (walk_at s [] c.loop-place.place c.loop-place.marks c.loop-place.kept.items c.loop-place.causes.items c.loop-place-test.true c.loop-place.invariant) of)
     c.learnt.ensures.learnt
 
 pub loop-place-preserved-in-Continue-branch-4 : goal.loop-place-preserved-in-Continue-branch-4
@@ -54,14 +50,14 @@ loop-place-preserved-in-Continue-branch-4 c =
     let m : Meets s p d = meets s p d c.requires.state within c.entry-entry.ensures.next in
     let marked : is_marked c.loop-place.marks d ≡ true = sym c.contains.ensures ∙ c.if-contains.true in
     let pushed = chosen _ _ _ _ c.push-then-is_kept.ensures.items (ap is_ok c.in_ok-push-2.was) ∙ ap (λ (l : Signed). c.loop-place.kept.items ++ l ∷ []) (c.negate.ensures ∙ ap Rattle.resolvo_store.specs.Signed.negation c.literal_made_true.ensures) in
-    walk_keeps s p d c.loop-place.marks c.loop-place.kept.items c.push-then-is_kept.new.self.items c.loop-place.causes.items m marked
+    walk_keeps s [] p d c.loop-place.marks c.loop-place.kept.items c.push-then-is_kept.new.self.items c.loop-place.causes.items m marked
     (kept_low s p d c.marked_level-below.result c.marked_level-below.ensures.low
     (λ above under. elim c.else-self-entry.branch [
       | else-self-entry-via-then-self-entry+else-below-entry w ↦ (let f : d.level ≤ c.marked_level-below.result = w.if-below-entry.false in absurd (omega arith))
       | else-self-entry-via-else-self-entry w ↦ (let f : d.level ≤ s.floor = w.if-self-entry.false in absurd (omega arith))
     ])
     (subst (IsKeptOrForced s d (before s.tracker.trail p)) c.if-is_kept.true c.is_kept.ensures))
-    pushed (at_place s c.loop-place.place c.loop-place.marks c.loop-place.kept.items c.loop-place.causes.items c.loop-place-test.true c.loop-place.invariant)
+    pushed (walk_at s [] c.loop-place.place c.loop-place.marks c.loop-place.kept.items c.loop-place.causes.items c.loop-place-test.true c.loop-place.invariant)
 
 pub literals-requires-else-is_kept : goal.literals-requires-else-is_kept
 literals-requires-else-is_kept c =
@@ -83,6 +79,6 @@ loop-place-preserved-in-Continue-branch-6 c =
     let forced : IsPropagated (clauses_of s) d (before s.tracker.trail p) = subst (IsKeptOrForced s d (before s.tracker.trail p)) c.if-is_kept.false c.is_kept.ensures in
     let marked : Marks (clause_at (clauses_of s) (reason_of d)) c.loop-place.marks c.mark-else-is_kept.new.marks = subst (λ (l : List Signed). Marks l c.loop-place.marks c.mark-else-is_kept.new.marks) c.literals-else-is_kept.ensures c.in_ok-mark-2.ensures.marked in
     let pushed = chosen _ _ _ _ c.push-else-is_kept.ensures.items (ap is_ok c.in_ok-push-3.was) in
-    walk_resolves s p d c.loop-place.marks c.mark-else-is_kept.new.marks c.loop-place.kept.items c.loop-place.causes.items c.push-else-is_kept.new.self.items m
+    walk_resolves s [] p d c.loop-place.marks c.mark-else-is_kept.new.marks c.loop-place.kept.items c.loop-place.causes.items c.push-else-is_kept.new.self.items m
     (rooted_before s p d c.loop-place.marks c.requires.state m c.loop-place.invariant.rootless is_marked_d) forced marked pushed
-    (at_place s c.loop-place.place c.loop-place.marks c.loop-place.kept.items c.loop-place.causes.items c.loop-place-test.true c.loop-place.invariant)
+    (walk_at s [] c.loop-place.place c.loop-place.marks c.loop-place.kept.items c.loop-place.causes.items c.loop-place-test.true c.loop-place.invariant)
