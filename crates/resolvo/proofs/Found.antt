@@ -1,5 +1,5 @@
 -- What a search found is true.
-use Rattle.std.proofs.Common.{◌≡◌, Bool, List, Option, Some, None, refl, sym, ap, subst}
+use Rattle.std.proofs.Common.{◌≡◌, Bool, List, Option, Some, None, refl, sym, ap, subst, []}
 use Rattle.std.specs.Prelude.{slice_get, is_some}
 use Rattle.std.proofs.lemmas.Bool.{both_ways}
 use Rattle.resolvo_pool.specs.declared.requirement.Requirement.{Requirement}
@@ -31,15 +31,15 @@ begun_in_order same p orders root e begun holds = record { encoding = holds; ord
 
 module _ {N S : Type 0} (same_name : N → N → Bool) (names : IsExact same_name) (same : S → S → Bool) (exact : IsExact same) (p : Packages N S) (orders : Requirement → List S → Type 0) (root : Rules) (lawful : IsLawful p) (e : Encoding N S) where
   -- what the end of the root's turn tells
-  pub turn_found : IsInOrder same p orders root e → e.coding.search.floor ≡ 1 → (turn : Option Refusal) → IsTurn same e turn → (f : Found S) → IsFoundBy e turn f → IsFound same p root e f × IsPreferred same p orders root f
-  turn_found holds first None (settled, whole, spent) (Chosen v) chosen =
-      let (keeping, reached, inside) = turn_keeps same exact p root lawful e same_name names holds.encoding spent settled.values settled.score settled.agree settled.quiet settled.decided v.items chosen (whole v.items chosen) in (
+  pub turn_found : IsInOrder same p orders root e → e.coding.search.floor ≡ 1 → e.noted.wishes.keys ≡ [] → (turn : Option Refusal) → IsTurn same e turn → (f : Found S) → IsFoundBy e turn f → IsFound same p root e f × IsPreferred same p orders root f
+  turn_found holds first alone None (settled, whole, spent) (Chosen v) chosen =
+      let (keeping, reached, inside) = turn_keeps same exact p root lawful e same_name names holds.encoding spent settled.values settled.score settled.agree settled.quiet settled.decided v.items chosen (whole v.items chosen) alone in (
         record { keeping = keeping; reached = reached; inside = inside },
-        turn_preferred same exact p root lawful e same_name names holds.encoding spent orders holds.ordered settled.values settled.score settled.agree settled.quiet settled.decided v.items chosen (whole v.items chosen),
+        turn_preferred same exact p root lawful e same_name names holds.encoding spent orders holds.ordered settled.values settled.score settled.agree settled.quiet settled.decided v.items chosen (whole v.items chosen) alone,
       )
-  turn_found holds first None ended (Clash q) h = absurd h
-  turn_found holds first (Some r) refusal (Chosen v) h = absurd h
-  turn_found holds first (Some r) refusal (Clash q) is = (
+  turn_found holds first alone None ended (Clash q) h = absurd h
+  turn_found holds first alone (Some r) refusal (Chosen v) h = absurd h
+  turn_found holds first alone (Some r) refusal (Clash q) is = (
     (
       λ chosen keeping. refused same exact p root lawful e same_name names holds.encoding first r.literals.items r.causes.items refusal chosen keeping,
       subst (λ (x : Refusal). IsRefusal e.coding.search x.literals.items x.causes.items) (sym is) refusal,

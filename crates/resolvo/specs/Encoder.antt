@@ -1,5 +1,6 @@
 -- How the encoding of parents goes on.
-use Rattle.std.specs.Prelude.{◌≡◌, ◌≤◌, Bool, false, List, length, Option, Some, Contains}
+use Rattle.std.specs.Prelude.{◌≡◌, ◌≤◌, Bool, false, List, length, Option, Some, Contains, ◌-◌}
+use Rattle.resolvo_search.specs.Advancing.{KeepsUpTo}
 use Rattle.resolvo_pool.specs.declared.id.VersionSetId.{VersionSetId}
 use Rattle.resolvo_pool.specs.declared.requirement.ConditionalRequirement.{ConditionalRequirement}
 use Rattle.resolvo_pool.specs.declared.requirement.Requirement.{Requirement}
@@ -34,9 +35,12 @@ AreDeferred {N} {S} e parent need cases = (case : List VersionSetId) → Contain
 abbrev pub IsConditionalEncoded : {N S : Type 0} → (S → S → Bool) → Packages N S → Encoding N S → Option S → ConditionalRequirement → Type 0
 IsConditionalEncoded {N} {S} same p e parent need = (case : List VersionSetId) → Contains (cases_for same p need) case → IsCaseEncoded same p e parent need case
 
--- clauses, what they state, parents, and cases that wait or fired came behind the others; no parent more is encoded
+-- clauses, what they state, parents, and cases that wait or fired came behind the others; no parent more is encoded, no wish
+-- came, and what stood before the turn stands
 pub record AddsNeeds {N S : Type 0} (old new : Encoding N S) : Type 0 where
   pub grows : Grows old.coding new.coding
+  pub earlier : KeepsUpTo (old.coding.search.floor - 1) old.coding.search new.coding.search
+  pub wishes : new.noted.wishes.keys ≡ old.noted.wishes.keys
   pub parents : IsFrontOf old.parents.keys new.parents.keys
   pub encoded : new.encoded ≡ old.encoded
   pub deferred : IsFrontOf old.deferred.items new.deferred.items
@@ -45,6 +49,8 @@ pub record AddsNeeds {N S : Type 0} (old new : Encoding N S) : Type 0 where
 -- the same, and parents more may be encoded
 pub record AddsParents {N S : Type 0} (old new : Encoding N S) : Type 0 where
   pub grows : Grows old.coding new.coding
+  pub earlier : KeepsUpTo (old.coding.search.floor - 1) old.coding.search new.coding.search
+  pub wishes : new.noted.wishes.keys ≡ old.noted.wishes.keys
   pub parents : IsFrontOf old.parents.keys new.parents.keys
   pub encoded : old.encoded ≤ new.encoded
   pub deferred : IsFrontOf old.deferred.items new.deferred.items

@@ -24,9 +24,6 @@ use resolvo_search::analysis::Refusal;
 use resolvo_search::state::SearchState;
 use std::alloc::Global;
 
-/// The level of the root.
-const FIRST_LEVEL: u32 = 1;
-
 /// Lets the needs of each chosen solvable be encoded in its turn, in the order of the trail.
 fn add_chosen<N: SolverId, S: SolverId>(alloc: Global, encoding: &mut Encoding<N, S>) -> R<()>
     requires { IsBuilt encoding.old }
@@ -50,7 +47,7 @@ fn is_any_broken(search: &SearchState, from: usize) -> bool {
     })
 }
 
-/// Takes all choices away where one of the clauses from this number on is broken by them.
+/// Takes the turn's choices away where one of the clauses from this number on is broken.
 fn undo_broken<N: SolverId, S: SolverId>(encoding: &mut Encoding<N, S>, from: usize)
     requires { IsBuilt encoding.old }
     ensures stays { (p : Packages N S) (root : Rules) → IsLawful p → IsEncoding S.eq p root encoding.old → IsEncoding S.eq p root encoding.new }
@@ -58,7 +55,7 @@ fn undo_broken<N: SolverId, S: SolverId>(encoding: &mut Encoding<N, S>, from: us
     ensures built { IsBuilt encoding.new }
 {
     if is_any_broken(&encoding.coding.search, from) {
-        encoding.undo_until(FIRST_LEVEL);
+        encoding.undo_turn();
     }
 }
 

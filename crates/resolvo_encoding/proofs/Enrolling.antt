@@ -93,6 +93,7 @@ module _ {N S : Type 0} (same : S → S → Bool) (exact : IsExact same) (p : Pa
         gates = gates_keep same exact p root lawful old (enrolled old t c) e all.grows refl;
         bar = bar_keeps same exact p root lawful old (enrolled old t c) e all.coding all.grows none;
         noted = noted_grows same exact p root old (enrolled old t c) all.grows refl e.noted;
+        wishes = refl;
         cases = cases_keep same exact p root old (enrolled old t c) e.cases all.grows refl refl refl (cased_keeps same exact p root lawful old (enrolled old t c) e all.coding all.grows refl all.keeps none) helped;
         within = within_keeps same exact p root lawful old (enrolled old t c) e refl refl;
         encoded = encoded_keeps same exact p root lawful old (enrolled old t c) e all.grows refl refl refl;
@@ -126,6 +127,7 @@ module _ {N S : Type 0} (same : S → S → Bool) (exact : IsExact same) (p : Pa
         gates = e.gates;
         bar = e.bar;
         noted = noted_grows same exact p root old (relisted old ls) (grows_same old.coding) refl e.noted;
+        wishes = refl;
         cases = cases_keep same exact p root old (relisted old ls) e.cases (grows_same old.coding) refl refl refl e.cases.cased e.cases.helped;
         within = e.within;
         encoded = encoded_keeps same exact p root lawful old (relisted old ls) e (grows_same old.coding) refl refl refl;
@@ -209,7 +211,7 @@ module _ {N S : Type 0} (same : S → S → Bool) where
       → Enrols same offered given old (enrolled middle t c)
   enrols exact offered given old middle t c admits all = record {
     built = built_enrolls offered given middle t c admits.says.built all;
-    extends = extends_then old middle (enrolled middle t c) admits.says.extends (record { grows = all.grows; parents = refl; encoded = refl; deferred = refl; fired = refl });
+    extends = extends_then old middle (enrolled middle t c) admits.says.extends (record { grows = all.grows; trail = all.trail; wishes = refl; parents = refl; encoded = refl; deferred = refl; fired = refl });
     lists = admits.says.lists;
     helped = admits.says.helped;
     keeps = λ m u h. all.keeps m u (subst (λ (r : Registry N). IsTracked r m u) (sym admits.says.registry) h);
@@ -225,7 +227,7 @@ module _ {N S : Type 0} (same : S → S → Bool) where
   fixes_extend r offered old new f = elim f.fixed [
     | inl (has, is) ↦ subst (λ (x : Encoding N S). Extends old x) (sym is) (extends_same old)
     | inr (fresh, middle, given, enrols, fixes, is) ↦ subst (λ (x : Encoding N S). Extends old x) (sym is)
-        (extends_then old middle (relisted middle new.lists) enrols.extends (record { grows = grows_same middle.coding; parents = refl; encoded = refl; deferred = refl; fired = refl }))
+        (extends_then old middle (relisted middle new.lists) enrols.extends (record { grows = grows_same middle.coding; trail = trail_same middle.coding; wishes = refl; parents = refl; encoded = refl; deferred = refl; fired = refl }))
   ]
 
   -- what is offered for a requirement became its candidates, in its order, and then its candidates stayed

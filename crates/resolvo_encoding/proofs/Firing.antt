@@ -1,5 +1,6 @@
 -- Cases wait, and those that hold become clauses.
 use Rattle.std.proofs.Common.{◌≡◌, ℕ, suc, ◌+◌, ◌<◌, ◌≤◌, ◌⊎◌, inl, inr, Bool, true, false, List, [], ◌∷◌, ◌++◌, length, get_or, Option, Some, None, Vec, Global, is_some, refl, sym, ◌∙◌, ap, subst, arith, length-append}
+use Rattle.resolvo_encoding.specs.declared.encoding.Noted.{Noted}
 use Rattle.std.specs.Prelude.{Contains, slice_get}
 use Rattle.std.specs.List.{list_any}
 use Rattle.std.proofs.lemmas.Bool.{both_ways, cases_Bool}
@@ -109,6 +110,7 @@ module _ {N S : Type 0} (same : S → S → Bool) (exact : IsExact same) (p : Pa
     };
     within = e.within;
     encoded = λ i parent below at. parent_grows same exact p root old (record old { deferred = ds }) (solvable_of parent) (grows_same old.coding) (d ∷ [], is) (e.encoded i parent below at);
+    wished = e.wished;
     called = e.called;
   }
 
@@ -141,6 +143,7 @@ module _ {N S : Type 0} (same : S → S → Bool) (exact : IsExact same) (p : Pa
     };
     within = e.within;
     encoded = λ i parent low at. parent_grows same exact p root old (record old { fired = new.fired }) (solvable_of parent) (grows_same old.coding) (front_same old.deferred.items) (e.encoded i parent low at);
+    wished = e.wished;
     called = e.called;
   })
 
@@ -223,7 +226,7 @@ pub record StatesCase {N S : Type 0} (same : S → S → Bool) (parent : Option 
 
 module _ {N S : Type 0} (same : S → S → Bool) (exact : IsExact same) (parent : Option S) (need : ConditionalRequirement) (sets : List (CaseSet N S)) (offered : List (Offered N S)) (old new : Encoding N S) (h : StatesCase same parent need sets offered old new) where
   case_grown : Extends h.fixed new
-  case_grown = extends_then h.fixed h.named new h.tells.extends (extends_then h.named h.helped new h.helps.extends (record { grows = h.states.states.grows; parents = h.states.parents; encoded = h.states.encoded; deferred = h.states.deferred; fired = h.states.fired }))
+  case_grown = extends_then h.fixed h.named new h.tells.extends (extends_then h.named h.helped new h.helps.extends (record { grows = h.states.states.grows; trail = h.states.states.trail; wishes = ap (λ (x : Noted N S). x.wishes.keys) h.states.noted; parents = h.states.parents; encoded = h.states.encoded; deferred = h.states.deferred; fired = h.states.fired }))
 
   pub case_extends : Extends old new
   case_extends = extends_then old h.fixed new (fixes_extend same need.requirement offered old h.fixed h.fixes) case_grown

@@ -78,6 +78,7 @@ module _ {N S : Type 0} (same : S → S → Bool) (p : Packages N S) (root : Rul
     encoded = λ i parent below at. (let b : old.encoded ≤ length old.parents.keys = e.within in let (more, is) = added.front in
         let h = e.encoded i parent below (get_old old.parents.keys more i parent (omega arith) (subst (λ (ks : List (SolvableIdOrRoot S)). slice_get ks i ≡ Some parent) is at)) in
         record { needs = h.needs; limits = h.limits; guarded = h.guarded; unknown = h.unknown });
+    wished = e.wished;
     called = e.called;
   })
 
@@ -105,6 +106,7 @@ module _ {N S : Type 0} (same : S → S → Bool) (p : Packages N S) (root : Rul
       | inl before ↦ same_parent (solvable_of parent) (e.encoded i parent before at)
       | inr is ↦ same_parent (solvable_of parent) (next parent (subst (λ n. slice_get old.parents.keys n ≡ Some parent) is at))
     ];
+    wished = e.wished;
     called = e.called;
   }
     where

@@ -3,7 +3,7 @@ use Rattle.std.proofs.Common.{◌≡◌, inl, inr, Bool, true, false, cond, List
 use Rattle.std.specs.Prelude.{Contains}
 use Rattle.resolvo_pool.specs.declared.requirement.Requirement.{Requirement}
 use Rattle.resolvo_pool.specs.OnePass.{Literal}
-use Rattle.resolvo_pool.specs.RuleKeeping.{Packages}
+use Rattle.resolvo_pool.specs.RuleKeeping.{Packages, is_in}
 use Rattle.resolvo_store.specs.Lists.{has_candidates, candidates_in, items_or_none}
 use Rattle.resolvo_store.specs.declared.lists.Candidate.{Candidate}
 use Rattle.resolvo_rules.specs.Encoding.{Atom}
@@ -19,7 +19,7 @@ use Rattle.resolvo_coding.specs.Atoms.{StandsFor}
 use Rattle.resolvo_coding.specs.Coding.{Grows}
 use Rattle.resolvo_coding.proofs.Growth.{stands_grow, rules_grow}
 use Rattle.resolvo_coding.proofs.Origins.{solvable_stands}
-use Rattle.resolvo_encoding.specs.Encoded.{AreCandidates, HasOrder, AreOrdered}
+use Rattle.resolvo_encoding.specs.Encoded.{AreCandidates, HasOrder, AreOrdered, IsChosenFor}
 use Rattle.resolvo_encoding.specs.Encoded as E
 use Rattle.resolvo_encoding.specs.Steps.{KeepsLists, AddsCandidates}
 use Rattle.resolvo_encoding.specs.declared.encoding.Encoding.{Encoding}
@@ -93,6 +93,11 @@ module _ {N S : Type 0} (old new : Encoding N S) (grows : Grows old.coding new.c
   -- a first pick stays one
   pub taken_grows : (same : S → S → Bool) (p : Packages N S) (known : List (Literal (Atom N S))) (l : Literal (Atom N S)) → IsFirstPick same p (HasOrder old) (E.rules_of old) known l → IsFirstPick same p (HasOrder new) (E.rules_of new) known l
   taken_grows same p known l k = first_pick_grows same p (E.rules_of old) (E.rules_of new) (rules_grow old.coding new.coding grows) (HasOrder old) (HasOrder new) known l order_stays k
+
+  -- what was chosen for a wish, or as a first pick, was so still
+  pub chosen_grows : new.noted.wishes.keys ≡ old.noted.wishes.keys → (same : S → S → Bool) (p : Packages N S) (known : List (Literal (Atom N S))) (l : Literal (Atom N S)) → IsChosenFor same p old known l → IsChosenFor same p new known l
+  chosen_grows wishes same p known l (inl w) = inl (record { solvable = w.solvable; is = w.is; wished = subst (λ (ws : List S). is_in same p ws w.solvable ≡ true) (sym wishes) w.wished })
+  chosen_grows wishes same p known l (inr k) = inr (taken_grows same p known l k)
 
 module _ {N S : Type 0} (orders : Requirement → List S → Type 0) where
   -- what is offered in an order leaves all ordered

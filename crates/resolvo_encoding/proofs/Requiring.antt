@@ -25,7 +25,6 @@ use Rattle.resolvo_search.specs.Known.{clause_at}
 use Rattle.resolvo_search.specs.State.{clauses_of}
 use Rattle.resolvo_rules.specs.Encoding.{IsExact, Atom, Rule, plus, minus, IsRule, literals_of}
 use Rattle.resolvo_rules.specs.Ending.{IsNeedEncoded, HasClause}
-use Rattle.resolvo_rules.specs.First.{IsFirstPick}
 use Rattle.resolvo_rules.specs.Numbered.{meaning, Means, Spells}
 use Rattle.resolvo_rules.proofs.Lists.{contains_none, contains_cases, contains_one, contains_map, map_contains}
 use Rattle.resolvo_rules.proofs.Members.{candidate_named, in_contained, contained_in}
@@ -42,19 +41,19 @@ use Rattle.resolvo_coding.specs.Statements.{rule_of, stated_at, rule_at}
 use Rattle.resolvo_coding.specs.Coding.{IsCoding, Grows, SameTrail}
 use Rattle.resolvo_coding.specs.Registered.{AreTied, IsTracked, IsRegistered, IsDigitClause, digit_literals}
 use Rattle.resolvo_encoding.specs.Cases.{case_of, IsDeferred}
-use Rattle.resolvo_encoding.specs.Encoded.{IsCandidate, AreCandidates, HasOrder, IsQueuedFor, Asks, IsGuarded, IsLimitEncoded, IsNoted, IsCaseEncoded, IsParentEncoded, Registered, AreCased, IsEncoding}
+use Rattle.resolvo_encoding.specs.Encoded.{IsCandidate, AreCandidates, HasOrder, IsQueuedFor, Asks, IsGuarded, IsLimitEncoded, IsNoted, IsCaseEncoded, IsParentEncoded, Registered, AreCased, IsEncoding, IsChosenFor}
 use Rattle.resolvo_encoding.specs.Encoded as E
 use Rattle.resolvo_encoding.specs.Steps.{RegistersAll, KeepsLists, SameButCoding, Extends}
 use Rattle.resolvo_encoding.specs.declared.encoding.Deferred.{Deferred}
 use Rattle.resolvo_encoding.specs.declared.encoding.Encoding.{Encoding}
 use Rattle.resolvo_encoding.specs.declared.encoding.Noted.{Noted}
 use Rattle.resolvo_encoding.proofs.Conditions.{queued_grows}
-use Rattle.resolvo_encoding.proofs.Picking.{taken_grows}
+use Rattle.resolvo_encoding.proofs.Picking.{chosen_grows}
 use Rattle.resolvo_coding.proofs.Origins.{solvable_stands}
 use Rattle.resolvo_coding.proofs.Positions.{front_get, front_equal}
 use Rattle.resolvo_coding.proofs.Registering.{KeepsDigits, ties_grow}
 use Rattle.resolvo_coding.proofs.Rules.{rule_stated}
-use Rattle.resolvo_coding.proofs.Growth.{grows_same, grows_then, stands_grow, rules_grow, stated_grows, rule_split, rules_split, spelled_grows, registered_grows, called_grows_trail}
+use Rattle.resolvo_coding.proofs.Growth.{grows_same, grows_then, stands_grow, rules_grow, stated_grows, rule_split, rules_split, spelled_grows, registered_grows, called_grows_trail, trail_same, trail_then}
 
 module _ {N S : Type 0} (same : S → S → Bool) (exact : IsExact same) (p : Packages N S) (root : Rules) where
   -- what came with the clause of this number
@@ -84,6 +83,7 @@ module _ {N S : Type 0} (same : S → S → Bool) (exact : IsExact same) (p : Pa
     pub within : new.encoded ≤ length new.parents.keys
     pub bar : (r : Requirement) → HasClause same p (E.rules_of new) r → IsGuarded same p (E.rules_of new) r
     pub noted : IsNoted same p (E.rules_of new) new.noted
+    pub wishes : new.noted.wishes.keys ≡ old.noted.wishes.keys
     pub cases : AreCased same p root new
     pub encoded : (i : ℕ) (parent : SolvableIdOrRoot S) → i < new.encoded → slice_get new.parents.keys i ≡ Some parent → IsParentEncoded same p new root (solvable_of parent)
 
@@ -110,7 +110,8 @@ module _ {N S : Type 0} (same : S → S → Bool) (exact : IsExact same) (p : Pa
     cases = h.cases;
     within = h.within;
     encoded = h.encoded;
-    called = called_grows_trail (IsFirstPick same p (HasOrder old) (E.rules_of old)) (IsFirstPick same p (HasOrder new) (E.rules_of new)) (taken_grows old new h.grows h.lists same p) old.coding new.coding e.coding h.grows h.trail e.called;
+    wished = λ s a. stays s (e.wished s (subst (λ (ws : List S). Contains ws s) h.wishes a));
+    called = called_grows_trail (IsChosenFor same p old) (IsChosenFor same p new) (chosen_grows old new h.grows h.lists h.wishes same p) old.coding new.coding e.coding h.grows h.trail e.called;
   }
     where
       spelled_at : (n : ℕ) (r : Rule N S) → length old.coding.search.clauses ≤ n → n < length new.coding.search.clauses → rule_at new.coding.stated.items n ≡ Some r
@@ -354,6 +355,7 @@ module _ {N S : Type 0} (same : S → S → Bool) (exact : IsExact same) (p : Pa
     gates = gates_keep old new e grows rest.gates;
     bar = bar_keeps old new e coding grows none;
     noted = noted_grows same exact p root old new grows rest.noted e.noted;
+    wishes = ap (λ (x : Noted N S). x.wishes.keys) rest.noted;
     cases = cases_keep same exact p root old new e.cases grows rest.deferred rest.fired rest.noted (cased_keeps old new e coding grows rest.noted tracked none) (helped_keeps old new e.cases grows rest.noted back);
     within = within_keeps old new e rest.parents rest.encoded;
     encoded = encoded_keeps old new e grows rest.parents rest.encoded rest.deferred;
@@ -391,10 +393,10 @@ module _ {N S : Type 0} (same : S → S → Bool) (exact : IsExact same) (p : Pa
 
 -- what came in two steps came
 pub extends_then : {N S : Type 0} (a b c : Encoding N S) → Extends a b → Extends b c → Extends a c
-extends_then a b c f g = record { grows = grows_then a.coding b.coding c.coding f.grows g.grows; parents = g.parents ∙ f.parents; encoded = g.encoded ∙ f.encoded; deferred = g.deferred ∙ f.deferred; fired = g.fired ∙ f.fired }
+extends_then a b c f g = record { grows = grows_then a.coding b.coding c.coding f.grows g.grows; trail = trail_then a.coding b.coding c.coding f.trail g.trail; wishes = g.wishes ∙ f.wishes; parents = g.parents ∙ f.parents; encoded = g.encoded ∙ f.encoded; deferred = g.deferred ∙ f.deferred; fired = g.fired ∙ f.fired }
 
 pub extends_same : {N S : Type 0} (e : Encoding N S) → Extends e e
-extends_same e = record { grows = grows_same e.coding; parents = refl; encoded = refl; deferred = refl; fired = refl }
+extends_same e = record { grows = grows_same e.coding; trail = trail_same e.coding; wishes = refl; parents = refl; encoded = refl; deferred = refl; fired = refl }
 
 -- what is so of an answer that is none
 pub where_none : {X : Type 0} (o : Option X) (P : Type 0) (Q : X → Type 0) → MatchOption o P Q → is_some o ≡ false → P

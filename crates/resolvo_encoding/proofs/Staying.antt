@@ -15,17 +15,16 @@ use Rattle.resolvo_search.specs.declared.state.HeldClause.{HeldClause}
 use Rattle.resolvo_search.specs.declared.state.SearchState.{SearchState}
 use Rattle.resolvo_search.specs.declared.state.VariableKind.{VariableKind}
 use Rattle.resolvo_search.specs.declared.watching.Watching.{Watching}
-use Rattle.resolvo_search.specs.Advancing.{Completes, Improves, IsProgress, weight_left}
+use Rattle.resolvo_search.specs.Advancing.{Completes, Improves, IsProgress, KeepsUpTo, weight_left}
 use Rattle.resolvo_search.specs.Entries.{weight}
 use Rattle.resolvo_search.specs.Known.{clause_at}
 use Rattle.resolvo_search.specs.State.{lists, count_of, history, clauses_of}
 use Rattle.resolvo_search.specs.Steps.{Chooses, Undoes}
 use Rattle.resolvo_search.proofs.Clauses.{length-lists}
-use Rattle.resolvo_search.proofs.Improving.{extends_heavier, choice_heavier, weight_falls}
+use Rattle.resolvo_search.proofs.Improving.{extends_heavier, extends_earlier, choice_heavier, choice_earlier, undo_earlier, weight_falls}
 use Rattle.resolvo_search.proofs.StepLemmas.{lists-append, clause_at_end}
 use Rattle.resolvo_rules.specs.Encoding.{IsExact, Atom, Rule, plus}
 use Rattle.resolvo_rules.specs.Ending.{HasClause}
-use Rattle.resolvo_rules.specs.First.{IsFirstPick}
 use Rattle.resolvo_rules.specs.Numbered.{meaning, Means, known_of, AreCalledFor}
 use Rattle.resolvo_coding.specs.declared.atom.ProofAtom.{ProofAtom}
 use Rattle.resolvo_coding.specs.declared.atom.ProofAtom.TheVariants.{Solvable}
@@ -43,12 +42,13 @@ use Rattle.resolvo_coding.proofs.Positions.{front_equal, get_last}
 use Rattle.resolvo_coding.proofs.Registering.{KeepsDigits, ties_grow}
 use Rattle.resolvo_coding.proofs.Rules.{rule_stated}
 use Rattle.resolvo_encoding.specs.declared.encoding.Encoding.{Encoding}
-use Rattle.resolvo_encoding.specs.Encoded.{HasOrder, IsEncoding, Registered}
+use Rattle.resolvo_encoding.specs.Encoded.{IsChosenFor, IsEncoding, Registered}
 use Rattle.resolvo_encoding.specs.Encoded as E
+use Rattle.resolvo_encoding.specs.declared.encoding.Noted.{Noted}
 use Rattle.resolvo_encoding.specs.Going.{GoesOn}
 use Rattle.resolvo_encoding.specs.Steps.{SameButCoding}
 use Rattle.resolvo_encoding.proofs.Carrying.{split_at}
-use Rattle.resolvo_encoding.proofs.Picking.{taken_grows}
+use Rattle.resolvo_encoding.proofs.Picking.{chosen_grows}
 use Rattle.resolvo_encoding.proofs.Requiring.{candidate_grows, cases_keep, cased_stays, helped_keeps, front_lists, queued_keeps, gates_keep, within_keeps, encoded_keeps, guard_grows, noted_grows}
 
 -- what was learnt states no rule
@@ -65,7 +65,7 @@ digits_kept old new coding goes n name s place bit h = elim (stated_split old.co
 module _ {N S : Type 0} (same : S → S → Bool) (exact : IsExact same) (p : Packages N S) (root : Rules) (lawful : IsLawful p) where
   -- The encoding stays one of the packages where solvables that clauses may make true are registered, and choices are called for.
   stays : (old new : Encoding N S) → IsEncoding same p root old → GoesOn old new → AreRegistered (Registered same p root new) new.coding
-      → AreCalledFor (origin new.coding.atoms.keys) (IsFirstPick same p (HasOrder new) (E.rules_of new)) (history new.coding.search) → IsEncoding same p root new
+      → AreCalledFor (origin new.coding.atoms.keys) (IsChosenFor same p new) (history new.coding.search) → IsEncoding same p root new
   stays old new e goes positive called = record {
     coding = goes.coding;
     tied = subst (λ (t : Registry N). AreTied t new.coding) (sym goes.rest.registry) (ties_grow old.registry old.coding new.coding goes.grows (digits_kept old new e.coding goes) e.tied);
@@ -90,9 +90,13 @@ module _ {N S : Type 0} (same : S → S → Bool) (exact : IsExact same) (p : Pa
         (helped_keeps same exact p root lawful old new e.cases goes.grows goes.rest.noted registered_back);
     within = within_keeps same exact p root lawful old new e goes.rest.parents goes.rest.encoded;
     encoded = encoded_keeps same exact p root lawful old new e goes.grows goes.rest.parents goes.rest.encoded goes.rest.deferred;
+    wished = λ s a. registered_still s (e.wished s (subst (λ (x : Noted N S). Contains x.wishes.keys s) goes.rest.noted a));
     called = called;
   }
     where
+      registered_still : (s : S) → Registered same p root old s → Registered same p root new s
+      registered_still s (v, stands, there) = (v, subst (λ (a : HashSet (ProofAtom N S) (BuildHasherDefault FoldHasher)). StandsFor a.keys v (Solvable s)) (sym goes.atoms) stands, subst (λ (t : Registry N). IsTracked t (p.package_of s) v) (sym goes.rest.registry) there)
+
       tracked : (m : N) (u : VariableId) → IsTracked old.registry m u → IsTracked new.registry m u
       tracked m u h = subst (λ (t : Registry N). IsTracked t m u) (sym goes.rest.registry) h
 
@@ -129,6 +133,12 @@ same_variables old new v w Progress.Complete h = h.extends.same.variables
 same_variables old new v w (Progress.Learnt id) h = h.variables
 same_variables old new v w (Progress.Refused r) h = h.2.same.variables
 
+-- a step keeps what stood before the turn
+step_earlier : (old new : SearchState) (v w : Watching) (q : Progress) → IsProgress old v new w q → KeepsUpTo (old.floor - 1) old new
+step_earlier old new v w Progress.Complete h = λ base low ends. extends_earlier old new base h.extends ends
+step_earlier old new v w (Progress.Learnt id) h = λ base low ends. h.earlier base (omega arith) ends
+step_earlier old new v w (Progress.Refused r) h = λ base low ends. extends_earlier old new base h.2 ends
+
 module _ {N S : Type 0} (old : Encoding N S) (c : Coding N S) where
   abbrev pub went : Encoding N S
   went = record old { coding = c }
@@ -155,6 +165,7 @@ module _ {N S : Type 0} (old : Encoding N S) (c : Coding N S) where
     atoms = step.atoms;
     variables = same_variables old.coding.search c.search old.coding.watching c.watching q step.progress;
     grows = step.grows;
+    earlier = step_earlier old.coding.search c.search old.coding.watching c.watching q step.progress;
     learnt = step_learns q before step;
   }
 
@@ -172,8 +183,8 @@ module _ {N S : Type 0} (old : Encoding N S) (c : Coding N S) where
       h.from l (subst (λ (ls : List Signed). has ls l ≡ true) here stands)
 
   -- where clauses, variables, and what they stand for and state, are what they were
-  pub kept_goes : KeepsCode old.coding c → c.search.floor ≡ old.coding.search.floor → GoesOn old went
-  kept_goes kept floor = record {
+  pub kept_goes : KeepsCode old.coding c → c.search.floor ≡ old.coding.search.floor → KeepsUpTo (old.coding.search.floor - 1) old.coding.search c.search → GoesOn old went
+  kept_goes kept floor earlier = record {
     rest = step_rest;
     coding = kept.coding;
     atoms = kept.atoms;
@@ -184,35 +195,40 @@ module _ {N S : Type 0} (old : Encoding N S) (c : Coding N S) where
       stated = front_equal old.coding.stated.items c.stated.items (ap (λ (xs : Vec (Stated N S) Global). xs.items) kept.stated);
       floor = floor;
     };
+    earlier = earlier;
     learnt = λ n low high. (let long : length c.search.clauses ≡ length old.coding.search.clauses = ap (λ (cs : List HeldClause). length cs) kept.clauses in absurd (omega arith));
   }
 
   pub choice_goes : (v : VariableId) (clause : ClauseId) → Chooses v clause old.coding.search c.search → KeepsCode old.coding c → GoesOn old went
-  choice_goes v clause chosen kept = kept_goes kept chosen.same.floor
+  choice_goes v clause chosen kept = kept_goes kept chosen.same.floor (λ base low ends. choice_earlier old.coding.search c.search v clause base chosen ends)
+
+  -- entries that are taken away since the turn began leave what stood before it
+  pub undo_goes : (level : ℕ) → old.coding.search.floor - 1 ≤ level → Undoes level old.coding.search c.search → KeepsCode old.coding c → GoesOn old went
+  undo_goes level low undoes kept = kept_goes kept undoes.same.floor (λ base under ends. undo_earlier old.coding.search c.search level base undoes (omega arith) ends)
 
   module _ (same : S → S → Bool) (exact : IsExact same) (p : Packages N S) (root : Rules) (lawful : IsLawful p) where
     -- a step of the search leaves the encoding one of the packages
     pub step_keeps : (q : Progress) → Advances old.coding c q → IsEncoding same p root old → IsEncoding same p root went
     step_keeps q step e =
         let goes = step_goes q e.coding step in
-        stays same exact p root lawful old went e goes (positive_on same exact p root lawful old went e goes (step_from q step.progress)) (called_advances (IsFirstPick same p (HasOrder old) (E.rules_of old)) (IsFirstPick same p (HasOrder went) (E.rules_of went)) (taken_grows old went goes.grows (λ r h. refl) same p) old.coding c q step e.called)
+        stays same exact p root lawful old went e goes (positive_on same exact p root lawful old went e goes (step_from q step.progress)) (called_advances (IsChosenFor same p old) (IsChosenFor same p went) (chosen_grows old went goes.grows (λ r h. refl) refl same p) old.coding c q step e.called)
 
     -- so does a choice that is called for
     pub choice_keeps : (v : VariableId) (clause : ClauseId) → Chooses v clause old.coding.search c.search → KeepsCode old.coding c
-        → IsFirstPick same p (HasOrder old) (E.rules_of old) (known_of (origin old.coding.atoms.keys) (history old.coding.search)) (meaning (origin old.coding.atoms.keys) (yes v)) → IsEncoding same p root old → IsEncoding same p root went
+        → IsChosenFor same p old (known_of (origin old.coding.atoms.keys) (history old.coding.search)) (meaning (origin old.coding.atoms.keys) (yes v)) → IsEncoding same p root old → IsEncoding same p root went
     choice_keeps v clause chosen kept now e =
         let goes = choice_goes v clause chosen kept in
         stays same exact p root lawful old went e goes
         (positive_on same exact p root lawful old went e goes (λ n l low high stands. (let long : length c.search.clauses ≡ length old.coding.search.clauses = ap (λ (cs : List HeldClause). length cs) kept.clauses in absurd (omega arith))))
-        (called_chooses (IsFirstPick same p (HasOrder old) (E.rules_of old)) (IsFirstPick same p (HasOrder went) (E.rules_of went)) (taken_grows old went goes.grows (λ r h. refl) same p) old.coding c v clause chosen kept now e.called)
+        (called_chooses (IsChosenFor same p old) (IsChosenFor same p went) (chosen_grows old went goes.grows (λ r h. refl) refl same p) old.coding c v clause chosen kept now e.called)
 
     -- so do entries that are taken away
-    pub undo_keeps : (level : ℕ) → Undoes level old.coding.search c.search → KeepsCode old.coding c → IsEncoding same p root old → IsEncoding same p root went
-    undo_keeps level undoes kept e =
-        let goes = kept_goes kept undoes.same.floor in
+    pub undo_keeps : (level : ℕ) → old.coding.search.floor - 1 ≤ level → Undoes level old.coding.search c.search → KeepsCode old.coding c → IsEncoding same p root old → IsEncoding same p root went
+    undo_keeps level low undoes kept e =
+        let goes = undo_goes level low undoes kept in
         stays same exact p root lawful old went e goes
         (positive_on same exact p root lawful old went e goes (λ n l low high stands. (let long : length c.search.clauses ≡ length old.coding.search.clauses = ap (λ (cs : List HeldClause). length cs) kept.clauses in absurd (omega arith))))
-        (called_undoes (IsFirstPick same p (HasOrder old) (E.rules_of old)) (IsFirstPick same p (HasOrder went) (E.rules_of went)) (taken_grows old went goes.grows (λ r h. refl) same p) old.coding c level undoes kept e.called)
+        (called_undoes (IsChosenFor same p old) (IsChosenFor same p went) (chosen_grows old went goes.grows (λ r h. refl) refl same p) old.coding c level undoes kept e.called)
 
 -- ---- the trail gains weight
 
@@ -245,6 +261,7 @@ goes_none e coding = record {
   atoms = refl;
   variables = refl;
   grows = grows_same e.coding;
+  earlier = λ base low ends. ends;
   learnt = λ n low high. absurd (omega arith);
 }
 
@@ -255,6 +272,7 @@ goes_then a b c f g = record {
   atoms = g.atoms ∙ f.atoms;
   variables = g.variables ∙ f.variables;
   grows = grows_then a.coding b.coding c.coding f.grows g.grows;
+  earlier = λ base low ends. g.earlier base (let same : b.coding.search.floor ≡ a.coding.search.floor = f.grows.floor in omega arith) (f.earlier base low ends);
   learnt = λ n low high. elim (split_at n (length b.coding.search.clauses)) [
     | inl below ↦ stated_grows b.coding c.coding g.grows n Says.Learnt (f.learnt n low below)
     | inr past ↦ g.learnt n past high

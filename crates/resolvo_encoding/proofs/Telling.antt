@@ -1,5 +1,8 @@
 -- Rules become clauses that keep solvables out, one after another.
 use Rattle.std.proofs.Common.{◌≡◌, ◌<◌, ◌⊎◌, inl, inr, Bool, true, not, ◌&&◌, ◌||◌, List, [], ◌∷◌, ◌++◌, map, length, Option, Some, None, refl, sym, ◌∙◌, ap, subst, arith, ℕ}
+use Rattle.resolvo_search.specs.State.{history}
+use Rattle.resolvo_rules.specs.Ending.{IsWished}
+use Rattle.resolvo_rules.specs.First.{IsFirstPick}
 use Rattle.std.specs.Prelude.{Contains}
 use Rattle.std.specs.List.{list_any}
 use Rattle.std.proofs.lemmas.List.{map-append}
@@ -20,7 +23,7 @@ use Rattle.resolvo_answers.specs.declared.answering.Why.TheVariants.{Locked, Exc
 use Rattle.resolvo_answers.specs.Answering.{offered_solvables, AreOutside}
 use Rattle.resolvo_answers.specs.Barring.{KeepsOut, barred_solvables, AreBarred}
 use Rattle.resolvo_rules.specs.Encoding.{IsExact, Atom, Rule, plus, minus, is_kept_out, IsRule, IsBarredIn, literals_of, parent_literals}
-use Rattle.resolvo_rules.specs.Numbered.{Spells}
+use Rattle.resolvo_rules.specs.Numbered.{Spells, AreCalledFor}
 use Rattle.resolvo_rules.proofs.Lists.{contains_none, contains_only, contains_left, contains_right, contains_parts, contains_one, contains_map, map_contains, contained_any}
 use Rattle.resolvo_rules.proofs.Members.{in_contained, contained_in}
 use Rattle.resolvo_coding.specs.declared.atom.ProofAtom.{ProofAtom}
@@ -38,7 +41,7 @@ use Rattle.resolvo_coding.proofs.Positions.{front_same}
 use Rattle.resolvo_coding.proofs.Registering.{digits_same, digits_more}
 use Rattle.resolvo_encoding.specs.declared.encoding.Encoding.{Encoding}
 use Rattle.resolvo_encoding.specs.declared.encoding.Noted.{Noted}
-use Rattle.resolvo_encoding.specs.Encoded.{IsEncoding, IsNoted, IsParentVariable}
+use Rattle.resolvo_encoding.specs.Encoded.{IsEncoding, IsNoted, IsParentVariable, HasOrder}
 use Rattle.resolvo_encoding.specs.Encoded as E
 use Rattle.resolvo_encoding.specs.Steps.{IsBuilt, Extends}
 use Rattle.resolvo_encoding.specs.Telling.{IsRestraint, IsPair, StatesPair, Tells, bar_rules, limit_rules, out_rules}
@@ -102,7 +105,7 @@ module _ {N S : Type 0} (same : S → S → Bool) (exact : IsExact same) where
   pub gives_tells : (atom : ProofAtom N S) (v : VariableId) (old : Encoding N S) (c : Coding N S) → IsBuilt old → Gives atom v old.coding c → Tells same [] old (record old { coding = c })
   gives_tells atom v old c built gives = record {
     built = built_grows old (record old { coding = c }) built gives.coding gives.grows refl refl refl refl refl (digits_same old.coding c gives.stated);
-    extends = record { grows = gives.grows; parents = refl; encoded = refl; deferred = refl; fired = refl };
+    extends = record { grows = gives.grows; trail = gives.trail; wishes = refl; parents = refl; encoded = refl; deferred = refl; fired = refl };
     lists = refl;
     registry = refl;
     noted = refl;
@@ -117,7 +120,7 @@ module _ {N S : Type 0} (same : S → S → Bool) (exact : IsExact same) where
       → ((p : Packages N S) (literals : List Signed) → IsPair a b literals → Spells (origin old.coding.atoms.keys) literals (literals_of same p rule)) → StatesPair x a b old new → Tells same (rule ∷ []) old new
   pair_tells x rule a b old new built is denial spells came = record {
     built = built_rest old new built came.states.coding came.states.grows (digits_more x old.coding new.coding came.states.stated (not_digit x rule is denial)) came.rest;
-    extends = record { grows = came.states.grows; parents = came.rest.parents; encoded = came.rest.encoded; deferred = came.rest.deferred; fired = came.rest.fired };
+    extends = record { grows = came.states.grows; trail = came.states.trail; wishes = ap (λ (x : Noted N S). x.wishes.keys) came.rest.noted; parents = came.rest.parents; encoded = came.rest.encoded; deferred = came.rest.deferred; fired = came.rest.fired };
     lists = came.rest.lists;
     registry = came.rest.registry;
     noted = came.rest.noted;
@@ -204,8 +207,8 @@ module _ {N S : Type 0} (same : S → S → Bool) (exact : IsExact same) where
     -- What was stated is noted, of packages, version sets and solvables.
     pub noted_keeps : (old : Encoding N S) (x : Noted N S) → IsEncoding same p root old → IsNoted same p (E.rules_of old) x
         → ((n : N) → Contains old.noted.helped.keys n → Contains x.helped.keys n) → ((n : N) (s : S) → Contains x.helped.keys n → IsRegistered old.registry old.coding n s → E.rules_of old (Rule.is_there n s))
-        → ((s : S) → Contains x.there.keys s → E.rules_of old (Rule.is_there (p.package_of s) s)) → IsEncoding same p root (record old { noted = x })
-    noted_keeps old x e noted keeps helped there = record {
+        → ((s : S) → Contains x.there.keys s → E.rules_of old (Rule.is_there (p.package_of s) s)) → x.wishes.keys ≡ old.noted.wishes.keys → IsEncoding same p root (record old { noted = x })
+    noted_keeps old x e noted keeps helped there wishes = record {
       coding = e.coding;
       tied = e.tied;
       spelled = e.spelled;
@@ -231,7 +234,8 @@ module _ {N S : Type 0} (same : S → S → Bool) (exact : IsExact same) where
       };
       within = e.within;
       encoded = λ i parent below at. parent_grows same exact p root old (record old { noted = x }) (solvable_of parent) (grows_same old.coding) (front_same old.deferred.items) (e.encoded i parent below at);
-      called = e.called;
+      wished = λ s a. e.wished s (subst (λ (ws : List S). Contains ws s) wishes a);
+      called = subst (λ (ws : List S). AreCalledFor (origin old.coding.atoms.keys) (λ known l. IsWished same p (E.rules_of old) ws l ⊎ IsFirstPick same p (HasOrder old) (E.rules_of old) known l) (history old.coding.search)) (sym wishes) e.called;
     }
 
     pub package_noted : (old : Encoding N S) (x : Noted N S) (n : N) → IsEncoding same p root old → ((m : N) → Contains x.packages.keys m → Contains old.noted.packages.keys m ⊎ (m ≡ n)) → x ≡ record old.noted { packages = x.packages }
@@ -239,7 +243,7 @@ module _ {N S : Type 0} (same : S → S → Bool) (exact : IsExact same) where
     package_noted old x n e only others bars = subst (λ (y : Noted N S). IsEncoding same p root (record old { noted = y })) (sym others) (noted_keeps old (record old.noted { packages = x.packages }) e (record {
       packages = λ m s h barred. elim (only m h) [ inl a ↦ e.noted.packages m s a barred | inr is ↦ bars s (subst (λ y. IsBarredIn same p y s) is barred) ];
       version_sets = e.noted.version_sets;
-    }) (λ m h. h) e.cases.helped e.cases.there)
+    }) (λ m h. h) e.cases.helped e.cases.there refl)
 
     pub set_noted : (old : Encoding N S) (x : Noted N S) (v : VersionSetId) → IsEncoding same p root old → ((w : VersionSetId) → Contains x.version_sets.keys w → Contains old.noted.version_sets.keys w ⊎ (w ≡ v)) → x ≡ record old.noted { version_sets = x.version_sets }
         → ((s : S) → is_outside same p v s ≡ true → E.rules_of old (Rule.is_out v s)) → IsEncoding same p root (record old { noted = x })
@@ -249,19 +253,19 @@ module _ {N S : Type 0} (same : S → S → Bool) (exact : IsExact same) where
         | inl a ↦ e.noted.version_sets w s a out
         | inr is ↦ subst (λ y. E.rules_of old (Rule.is_out y s)) (sym is) (outside s (subst (λ y. is_outside same p y s ≡ true) is out))
       ];
-    }) (λ m h. h) e.cases.helped e.cases.there)
+    }) (λ m h. h) e.cases.helped e.cases.there refl)
 
     -- a package is noted of whose registered solvables clauses say that one is there
     pub helped_noted : (old : Encoding N S) (x : Noted N S) (n : N) → IsEncoding same p root old → ((m : N) → Contains x.helped.keys m → Contains old.noted.helped.keys m ⊎ (m ≡ n)) → ((m : N) → Contains old.noted.helped.keys m → Contains x.helped.keys m) → x ≡ record old.noted { helped = x.helped }
         → ((s : S) → IsRegistered old.registry old.coding n s → E.rules_of old (Rule.is_there n s)) → IsEncoding same p root (record old { noted = x })
     helped_noted old x n e only keeps others there = subst (λ (y : Noted N S). IsEncoding same p root (record old { noted = y })) (sym others) (noted_keeps old (record old.noted { helped = x.helped }) e (record { packages = e.noted.packages; version_sets = e.noted.version_sets }) keeps
-        (λ m s h a. elim (only m h) [ inl b ↦ e.cases.helped m s b a | inr is ↦ subst (λ y. E.rules_of old (Rule.is_there y s)) (sym is) (there s (subst (λ y. IsRegistered old.registry old.coding y s) is a)) ]) e.cases.there)
+        (λ m s h a. elim (only m h) [ inl b ↦ e.cases.helped m s b a | inr is ↦ subst (λ y. E.rules_of old (Rule.is_there y s)) (sym is) (there s (subst (λ y. IsRegistered old.registry old.coding y s) is a)) ]) e.cases.there refl)
 
     -- a solvable is noted of which a clause says so
     pub there_noted : (old : Encoding N S) (x : Noted N S) (s : S) → IsEncoding same p root old → ((t : S) → Contains x.there.keys t → Contains old.noted.there.keys t ⊎ (t ≡ s)) → x ≡ record old.noted { there = x.there }
         → E.rules_of old (Rule.is_there (p.package_of s) s) → IsEncoding same p root (record old { noted = x })
     there_noted old x s e only others stands = subst (λ (y : Noted N S). IsEncoding same p root (record old { noted = y })) (sym others) (noted_keeps old (record old.noted { there = x.there }) e (record { packages = e.noted.packages; version_sets = e.noted.version_sets }) (λ m h. h) e.cases.helped
-        (λ t h. elim (only t h) [ inl b ↦ e.cases.there t b | inr is ↦ subst (λ y. E.rules_of old (Rule.is_there (p.package_of y) y)) (sym is) stands ]))
+        (λ t h. elim (only t h) [ inl b ↦ e.cases.there t b | inr is ↦ subst (λ y. E.rules_of old (Rule.is_there (p.package_of y) y)) (sym is) stands ]) refl)
 
 pub built_noted : {N S : Type 0} (e : Encoding N S) (x : Noted N S) → IsBuilt e → IsBuilt (record e { noted = x })
 built_noted e x b = record { coding = b.coding; tied = b.tied; candidates = b.candidates; gates = b.gates; within = b.within }

@@ -30,7 +30,7 @@ use Rattle.resolvo_search.proofs.Trails.{consistent, known_in_range, level_steps
 use Rattle.resolvo_search.proofs.Literals.{negation-negation}
 use Rattle.resolvo_rules.specs.Encoding.{IsExact, Atom, Rule, plus, minus, case_holds, parent_literals, case_literals, candidate_literals, literals_of, AgreeWith}
 use Rattle.resolvo_rules.specs.Ending as Ending
-use Rattle.resolvo_rules.specs.First.{ArePreferred}
+use Rattle.resolvo_rules.specs.First.{ArePreferred, IsFirstPick}
 use Rattle.resolvo_rules.specs.Numbered.{meaning, Means, known_of, IsTurnEnd}
 use Rattle.resolvo_rules.proofs.Lists.{contains_none, contains_one, contains_only, contains_cases, contains_parts}
 use Rattle.resolvo_rules.proofs.Meanings.{found}
@@ -49,7 +49,7 @@ use Rattle.resolvo_coding.proofs.Origins.{count_is, coding_once, means_atom, mea
 use Rattle.resolvo_coding.proofs.Growth.{stands_once, stands_in_range, coding_coded}
 use Rattle.resolvo_coding.proofs.Registering.{told}
 use Rattle.resolvo_coding.specs.Registered.{IsRegistered}
-use Rattle.resolvo_encoding.specs.Encoded.{IsParentVariable, IsCandidate, AreOrdered, IsCondition, IsQueuedFor, Asks, IsParentEncoded, IsEncoding, Registered}
+use Rattle.resolvo_encoding.specs.Encoded.{IsParentVariable, IsCandidate, AreOrdered, IsCondition, IsQueuedFor, Asks, IsParentEncoded, IsEncoding, Registered, IsChosenFor, HasOrder}
 use Rattle.resolvo_encoding.specs.Cases.{IsDeferred}
 use Rattle.resolvo_encoding.specs.Casing.{AreSpent}
 use Rattle.resolvo_encoding.specs.Encoded as E
@@ -88,10 +88,10 @@ root_denied e coding first literals causes refusal l h =
 
 module _ {N S : Type 0} (same : S → S → Bool) (exact : IsExact same) (p : Packages N S) (root : Rules) (lawful : IsLawful p) (e : Encoding N S) where
   -- What holds of the clauses whatever stands on the trail.
-  pub register : IsEncoding same p root e → Ending.AreRegistered same p (E.rules_of e) root (Registered same p root e) []
+  pub register : IsEncoding same p root e → Ending.AreRegistered same p (E.rules_of e) root (Registered same p root e) e.noted.wishes.keys
   register holds = record {
     rule = holds.rule;
-    wish = λ s h. absurd (both_ways false refl h);
+    wish = λ s h. holds.wished s (in_contained same exact p e.noted.wishes.keys s h);
     candidate = λ r s has fits. (let (c, stands, is) = holds.offered r s (holds.fixed r has) fits in (c.literal.variable, is.stands, is.tracked));
     out = λ parent need case v s stands h outside. (holds.cases.cased parent need case v stands h).1 s outside;
     candidates = holds.candidates;
@@ -291,7 +291,7 @@ module _ {N S : Type 0} (same : S → S → Bool) (exact : IsExact same) (p : Pa
   pub turn_ended : IsEncoding same p root e → AreSpent same e → (values : ℕ → Option Bool) (score : N → ℕ) → AreValues values (made_true (history e.coding.search))
       → ((n : ℕ) → n < length e.coding.search.clauses → IsQuiet (made_true (history e.coding.search)) (clause_at (clauses_of e.coding.search) n)) → IsDecided e values score
       → (members : List S) → AreChosen e.coding.atoms.keys (made_true (history e.coding.search)) members → AreAmongEncoded e members
-      → IsTurnEnd (origin e.coding.atoms.keys) same p (E.rules_of e) root (Registered same p root e) [] (count_of e.coding.search) e.coding.search.clauses (history e.coding.search) members
+      → IsTurnEnd (origin e.coding.atoms.keys) same p (E.rules_of e) root (Registered same p root e) e.noted.wishes.keys (count_of e.coding.search) e.coding.search.clauses (history e.coding.search) members
   turn_ended holds spent values score agree quiet decided members chosen among = record {
     lawful = lawful;
     coded = coding_coded same p (Registered same p root e) e.coding holds.coding holds.spelled holds.positive;
@@ -306,23 +306,42 @@ module _ {N S : Type 0} (same : S → S → Bool) (exact : IsExact same) (p : Pa
     encoded = members_encoded holds spent members chosen among;
   }
 
-  -- The chosen solvables keep all rules, and are those that the root reaches.
+  -- The chosen solvables keep all rules, but that wishes may be barred whose packages nobody names, and they are what the root
+  -- and the wishes among them reach.
+  pub turn_accepts : (same_name : N → N → Bool) → IsExact same_name → IsEncoding same p root e → AreSpent same e → (values : ℕ → Option Bool) (score : N → ℕ) → AreValues values (made_true (history e.coding.search))
+      → ((n : ℕ) → n < length e.coding.search.clauses → IsQuiet (made_true (history e.coding.search)) (clause_at (clauses_of e.coding.search) n)) → IsDecided e values score
+      → (members : List S) → AreChosen e.coding.atoms.keys (made_true (history e.coding.search)) members → AreAmongEncoded e members → Ending.IsAccepted same p root e.noted.wishes.keys members
+  turn_accepts same_name names holds spent values score agree quiet decided members chosen among =
+      turn_accepted same exact same_name names p root (origin e.coding.atoms.keys) (E.rules_of e) (Registered same p root e) e.noted.wishes.keys (count_of e.coding.search) e.coding.search.clauses (history e.coding.search) members
+      (turn_ended holds spent values score agree quiet decided members chosen among)
+
+  -- the end of a turn before the first wish
+  ended_alone : (members : List S) → e.noted.wishes.keys ≡ [] → IsTurnEnd (origin e.coding.atoms.keys) same p (E.rules_of e) root (Registered same p root e) e.noted.wishes.keys (count_of e.coding.search) e.coding.search.clauses (history e.coding.search) members
+      → IsTurnEnd (origin e.coding.atoms.keys) same p (E.rules_of e) root (Registered same p root e) [] (count_of e.coding.search) e.coding.search.clauses (history e.coding.search) members
+  ended_alone members alone t = subst (λ (ws : List S). IsTurnEnd (origin e.coding.atoms.keys) same p (E.rules_of e) root (Registered same p root e) ws (count_of e.coding.search) e.coding.search.clauses (history e.coding.search) members) alone t
+
+  -- before the first wish each choice was a first pick
+  picked_alone : e.noted.wishes.keys ≡ [] → (known : List (Literal (Atom N S))) (l : Literal (Atom N S)) → IsChosenFor same p e known l → IsFirstPick same p (HasOrder e) (E.rules_of e) known l
+  picked_alone alone known l (inl w) = absurd (both_ways false refl (subst (λ (ws : List S). is_in same p ws w.solvable ≡ true) alone w.wished))
+  picked_alone alone known l (inr k) = k
+
+  -- Before the first wish the chosen solvables keep all rules, and are those that the root reaches.
   pub turn_keeps : (same_name : N → N → Bool) → IsExact same_name → IsEncoding same p root e → AreSpent same e → (values : ℕ → Option Bool) (score : N → ℕ) → AreValues values (made_true (history e.coding.search))
       → ((n : ℕ) → n < length e.coding.search.clauses → IsQuiet (made_true (history e.coding.search)) (clause_at (clauses_of e.coding.search) n)) → IsDecided e values score
-      → (members : List S) → AreChosen e.coding.atoms.keys (made_true (history e.coding.search)) members → AreAmongEncoded e members
+      → (members : List S) → AreChosen e.coding.atoms.keys (made_true (history e.coding.search)) members → AreAmongEncoded e members → e.noted.wishes.keys ≡ []
       → IsRuleKeeping same p root members × ((s : S) → is_in same p members s ≡ true → IsReached same p root [] members s) × ((s : S) → IsReached same p root [] members s → is_in same p members s ≡ true)
-  turn_keeps same_name names holds spent values score agree quiet decided members chosen among =
-      let ended = turn_ended holds spent values score agree quiet decided members chosen among in
+  turn_keeps same_name names holds spent values score agree quiet decided members chosen among alone =
+      let ended = ended_alone members alone (turn_ended holds spent values score agree quiet decided members chosen among) in
       let accepted = turn_accepted same exact same_name names p root (origin e.coding.atoms.keys) (E.rules_of e) (Registered same p root e) [] (count_of e.coding.search) e.coding.search.clauses (history e.coding.search) members ended in
       (turn_keeps_rules same exact same_name names p root (origin e.coding.atoms.keys) (E.rules_of e) (Registered same p root e) (count_of e.coding.search) e.coding.search.clauses (history e.coding.search) members ended, accepted.reached, accepted.inside)
 
-  -- They were chosen in the order in which they are tried.
+  -- Before the first wish they were chosen in the order in which they are tried.
   pub turn_preferred : (same_name : N → N → Bool) → IsExact same_name → IsEncoding same p root e → AreSpent same e → (orders : Requirement → List S → Type 0) → AreOrdered orders e → (values : ℕ → Option Bool) (score : N → ℕ) → AreValues values (made_true (history e.coding.search))
       → ((n : ℕ) → n < length e.coding.search.clauses → IsQuiet (made_true (history e.coding.search)) (clause_at (clauses_of e.coding.search) n)) → IsDecided e values score
-      → (members : List S) → AreChosen e.coding.atoms.keys (made_true (history e.coding.search)) members → AreAmongEncoded e members → ArePreferred same p orders root members
-  turn_preferred same_name names holds spent orders ordered values score agree quiet decided members chosen among =
+      → (members : List S) → AreChosen e.coding.atoms.keys (made_true (history e.coding.search)) members → AreAmongEncoded e members → e.noted.wishes.keys ≡ [] → ArePreferred same p orders root members
+  turn_preferred same_name names holds spent orders ordered values score agree quiet decided members chosen among alone =
       turn_prefers same exact same_name names p root (origin e.coding.atoms.keys) (E.rules_of e) (Registered same p root e) orders (digit_told same e.coding.stated.items) (count_of e.coding.search) e.coding.search.clauses (history e.coding.search) members
-      (turn_ended holds spent values score agree quiet decided members chosen among) (λ x older stands is other. taken_ordered orders e same p ordered _ _ (holds.called x older stands is other)) (digits_agree same exact p root e holds)
+      (ended_alone members alone (turn_ended holds spent values score agree quiet decided members chosen among)) (λ x older stands is other. taken_ordered orders e same p ordered _ _ (picked_alone alone _ _ (holds.called x older stands is other))) (digits_agree same exact p root e holds)
 
   -- A clause that denies choices of the first level alone, by clauses that digits of places agree with, leaves no
   -- rule-keeping set.

@@ -19,8 +19,9 @@ use Rattle.resolvo_store.specs.declared.lists.FixedLists.{FixedLists}
 use Rattle.resolvo_store.specs.Lists.{has_candidates, candidates_in, condition_in, HasDisjunction}
 use Rattle.resolvo_search.specs.State.{history}
 use Rattle.resolvo_search.specs.Steps.{AreInRange}
-use Rattle.resolvo_rules.specs.Encoding.{Rule, case_literals, cases_for, IsRule, IsBarredIn}
-use Rattle.resolvo_rules.specs.Ending.{IsNeedEncoded, HasClause}
+use Rattle.resolvo_pool.specs.OnePass.{Literal}
+use Rattle.resolvo_rules.specs.Encoding.{Atom, Rule, case_literals, cases_for, IsRule, IsBarredIn}
+use Rattle.resolvo_rules.specs.Ending.{IsNeedEncoded, HasClause, IsWished}
 use Rattle.resolvo_rules.specs.First.{IsFirstPick}
 use Rattle.resolvo_rules.specs.Numbered.{Spells, AreCalledFor}
 use Rattle.resolvo_coding.specs.declared.atom.ProofAtom.{ProofAtom}
@@ -66,6 +67,10 @@ HasOrder e r list = (has_candidates e.lists r ≡ true) × AreCandidates e.codin
 -- the candidates that requirements have got are in an order of theirs
 abbrev pub AreOrdered : {N S : Type 0} → (Requirement → List S → Type 0) → Encoding N S → Type 0
 AreOrdered {N} {S} orders e = (r : Requirement) → has_candidates e.lists r ≡ true → (list : List S) × orders r list × AreCandidates e.coding.atoms.keys (candidates_in e.lists r) list
+
+-- what a choice is made for: a wish; or a requirement that was asked for, whose first candidate it is that was not false
+abbrev pub IsChosenFor : {N S : Type 0} → (S → S → Bool) → Packages N S → Encoding N S → List (Literal (Atom N S)) → Literal (Atom N S) → Type 0
+IsChosenFor same p e known l = IsWished same p (rules_of e) e.noted.wishes.keys l ⊎ IsFirstPick same p (HasOrder e) (rules_of e) known l
 
 module _ {N S : Type 0} (same : S → S → Bool) (p : Packages N S) (lists : FixedLists N) where
   -- the literals of the condition are those of the case, of variables that are there
@@ -174,5 +179,6 @@ module _ {N S : Type 0} (same : S → S → Bool) (p : Packages N S) (root : Rul
     -- the needs and the limits of the first parents are clauses, but for cases that wait
     pub within : e.encoded ≤ length e.parents.keys
     pub encoded : (i : ℕ) (parent : SolvableIdOrRoot S) → i < e.encoded → slice_get e.parents.keys i ≡ Some parent → IsParentEncoded same p e root (solvable_of parent)
-    -- each choice is the first candidate that was not false, of a requirement that was asked for
-    pub called : AreCalledFor (origin e.coding.atoms.keys) (IsFirstPick same p (HasOrder e) (rules_of e)) (history e.coding.search)
+    -- each wish is registered; each choice is one, or the first candidate that was not false, of a requirement that was asked for
+    pub wished : (s : S) → Contains e.noted.wishes.keys s → Registered e s
+    pub called : AreCalledFor (origin e.coding.atoms.keys) (IsChosenFor same p e) (history e.coding.search)

@@ -1,10 +1,10 @@
 -- The search goes on over an encoding: what it learns, chooses and comes to.
-use Rattle.std.specs.Prelude.{◌≡◌, ℕ, ◌<◌, ◌≤◌, Bool, true, false, Option, Some, None, length}
+use Rattle.std.specs.Prelude.{◌≡◌, ℕ, ◌-◌, ◌<◌, ◌≤◌, Bool, true, false, Option, Some, None, length}
 use Rattle.resolvo_store.specs.Lists.{named_by}
 use Rattle.resolvo_store.specs.Pick.{pick_by}
 use Rattle.resolvo_store.specs.declared.decide_queue.NextDecision.{NextDecision}
 use Rattle.resolvo_search.specs.declared.analysis.Refusal.{Refusal}
-use Rattle.resolvo_search.specs.Advancing.{weight_left}
+use Rattle.resolvo_search.specs.Advancing.{weight_left, KeepsUpTo}
 use Rattle.resolvo_search.specs.Analysis.{IsRefusal}
 use Rattle.resolvo_search.specs.Entries.{made_true}
 use Rattle.resolvo_search.specs.Known.{clause_at}
@@ -24,13 +24,15 @@ pub record IsNext {N S : Type 0} (score : N → ℕ) (e : Encoding N S) (next : 
   pub agree : AreValues values (made_true (history e.coding.search))
   pub picked : pick_by (named_by e.lists) values score e.queue ≡ next
 
--- Literals were set, and each clause that came was learnt; what variables stand for, and all but the search, is what it was.
+-- Literals were set, and each clause that came was learnt; what variables stand for, and all but the search, is what it was, and
+-- so is what stood before the turn.
 pub record GoesOn {N S : Type 0} (old new : Encoding N S) : Type 0 where
   pub rest : SameButCoding old new
   pub coding : IsCoding new.coding
   pub atoms : new.coding.atoms ≡ old.coding.atoms
   pub variables : new.coding.search.variables ≡ old.coding.search.variables
   pub grows : Grows old.coding new.coding
+  pub earlier : KeepsUpTo (old.coding.search.floor - 1) old.coding.search new.coding.search
   pub learnt : (n : ℕ) → length old.coding.search.clauses ≤ n → n < length new.coding.search.clauses → stated_at new.coding.stated.items n ≡ Some Learnt
 
 -- each clause has a true literal, or two that are not false

@@ -44,9 +44,11 @@ pub record IsBuilt {N S : Type 0} (e : Encoding N S) : Type 0 where
   pub gates : (r : Requirement) (v : VariableId) → slot_of e.gates r ≡ Some v → StandsFor e.coding.atoms.keys v (Gate r)
   pub within : e.encoded ≤ length e.parents.keys
 
--- clauses and what they state came, and the parents stay, and so do the cases that wait
+-- clauses and what they state came, and the trail, the wishes and the parents stay, and so do the cases that wait
 pub record Extends {N S : Type 0} (old new : Encoding N S) : Type 0 where
   pub grows : Grows old.coding new.coding
+  pub trail : SameTrail old.coding new.coding
+  pub wishes : new.noted.wishes.keys ≡ old.noted.wishes.keys
   pub parents : new.parents ≡ old.parents
   pub encoded : new.encoded ≡ old.encoded
   pub deferred : new.deferred ≡ old.deferred
@@ -177,6 +179,7 @@ pub record IsBegunEncoding {N S : Type 0} (e : Encoding N S) : Type 0 where
   pub version_sets : e.noted.version_sets.keys ≡ []
   pub helped : e.noted.helped.keys ≡ []
   pub there : e.noted.there.keys ≡ []
+  pub wishes : e.noted.wishes.keys ≡ []
   pub parents : e.parents.keys ≡ Root ∷ []
   pub encoded : e.encoded ≡ 0
   pub deferred : e.deferred.items ≡ []

@@ -1,5 +1,5 @@
 //! The search goes on over what was encoded: it sets what follows, learns and chooses.
-ghost use Rattle.std.specs.Prelude.{◌≤◌, IfOk, OnOk};
+ghost use Rattle.std.specs.Prelude.{IfOk, OnOk};
 ghost use Rattle.resolvo_pool.specs.RuleKeeping.{Packages, Rules, IsLawful};
 ghost use Rattle.resolvo_coding.specs.Coding.{IsCoding};
 ghost use Rattle.resolvo_encoding.specs.Encoded.{IsEncoding};
@@ -55,15 +55,15 @@ impl<N: SolverId + Drop, S: SolverId> Encoding<N, S> {
         }
     }
 
-    /// Takes what was chosen above a level away, and what follows from it.
-    pub fn undo_until(&mut self, level: u32)
-        requires built { IsBuilt self.old }
-        requires one { 1 ≤ level }
+    /// Takes what was chosen since the turn began away, and what follows from it.
+    pub fn undo_turn(&mut self)
+        requires { IsBuilt self.old }
         ensures stays { (p : Packages N S) (root : Rules) → IsLawful p → IsEncoding S.eq p root self.old → IsEncoding S.eq p root self.new }
         ensures goes_on { GoesOn self.old self.new }
         ensures built { IsBuilt self.new }
     {
-        self.coding.undo_until(level);
+        let level = self.coding.search.floor.saturating_sub(1);
+        self.coding.undo_until(level.max(1));
     }
 
     /// Sets what follows; then learns where a clause is broken, and chooses where none is.

@@ -1,4 +1,4 @@
-use Rattle.std.proofs.Common.{◌∙◌}
+use Rattle.std.proofs.Common.{◌∙◌, inr}
 use Rattle.resolvo_store.specs.Lists.{named_by}
 use Rattle.resolvo_rules.specs.Encoding.{IsExact}
 use Rattle.resolvo_encoding.proofs.Deciding.{choice_taken, none_picked}
@@ -32,7 +32,7 @@ returns-in_ok-choose-in-Some-clause-stays g c = λ p root lawful e.
     let exact : IsExact g.S.PartialEq.eq = record { one = g.met.S.Exact.exact; own = g.met.S.Eq.laws.refl } in
     let next = c.next_decision.ensures in
     let taken = choice_taken g.S.PartialEq.eq p root c.args.self.now e next.values (g.N.Scores.ScoreMap.score_of c.args.scores.now) c.in-Some.next next.agree (next.picked ∙ c.in-Some.is) in
-    choice_keeps c.args.self.now c.choose.new.self g.S.PartialEq.eq exact p root lawful c.in-Some.next.candidate c.in-Some.next.clause_id c.in_ok-choose-in-Some.ensures.chosen c.in_ok-choose-in-Some.ensures.kept taken e
+    choice_keeps c.args.self.now c.choose.new.self g.S.PartialEq.eq exact p root lawful c.in-Some.next.candidate c.in-Some.next.clause_id c.in_ok-choose-in-Some.ensures.chosen c.in_ok-choose-in-Some.ensures.kept (inr taken) e
 
 pub returns-in_ok-choose-in-Some-clause-goes_on : goal.returns-in_ok-choose-in-Some-clause-goes_on
 returns-in_ok-choose-in-Some-clause-goes_on g c = choice_goes c.args.self.now c.choose.new.self c.in-Some.next.candidate c.in-Some.next.clause_id c.in_ok-choose-in-Some.ensures.chosen c.in_ok-choose-in-Some.ensures.kept

@@ -1,4 +1,5 @@
-use Rattle.std.proofs.Common.{inl, inr, Some, None, refl}
+use Rattle.std.proofs.Common.{inl, inr, Some, None, refl, ap}
+use Rattle.resolvo_encoding.specs.declared.encoding.Noted.{Noted}
 use Rattle.resolvo_rules.specs.Encoding.{IsExact, Rule}
 use Rattle.resolvo_coding.specs.declared.atom.ProofAtom.TheVariants.{Solvable, Gate}
 use Rattle.resolvo_coding.specs.declared.stated.Stated.TheVariants as Says
@@ -33,7 +34,7 @@ returns-then-count-lt-GATED-clause-encoded g c = λ p root lawful e has guarded 
 pub returns-then-count-lt-GATED-clause-kept : goal.returns-then-count-lt-GATED-clause-kept
 returns-then-count-lt-GATED-clause-kept g c =
     let middle : Encoding _ _ = record c.args.self.now { coding = c.variable.new.self } in
-    let first : Extends c.args.self.now middle = record { grows = c.in_ok-variable.ensures.given.grows; parents = refl; encoded = refl; deferred = refl; fired = refl } in
+    let first : Extends c.args.self.now middle = record { grows = c.in_ok-variable.ensures.given.grows; trail = c.in_ok-variable.ensures.given.trail; wishes = refl; parents = refl; encoded = refl; deferred = refl; fired = refl } in
     let needed = c.in_ok-need_directly.ensures.needed in
     extends_then c.args.self.now middle c.need_directly.new.self first (need_extends (Says.Needs (Some c.args.solvable) c.args.need needed.case) c.in_ok-variable.variable None c.args.need.requirement middle c.need_directly.new.self needed.states)
 
@@ -69,9 +70,9 @@ returns-clause-encoded g c = λ p root lawful e has guarded needs.
 pub returns-clause-kept : goal.returns-clause-kept
 returns-clause-kept g c =
     let middle : Encoding _ _ = record c.args.self.now { coding = c.variable.new.self } in
-    let first : Extends c.args.self.now middle = record { grows = c.in_ok-variable.ensures.given.grows; parents = refl; encoded = refl; deferred = refl; fired = refl } in
+    let first : Extends c.args.self.now middle = record { grows = c.in_ok-variable.ensures.given.grows; trail = c.in_ok-variable.ensures.given.trail; wishes = refl; parents = refl; encoded = refl; deferred = refl; fired = refl } in
     let opened = c.in_ok-open_gate.ensures.opened in
-    let last : Extends c.gate.new.self c.open_gate.new.self = record { grows = opened.states.grows; parents = opened.rest.parents; encoded = opened.rest.encoded; deferred = opened.rest.deferred; fired = opened.rest.fired } in
+    let last : Extends c.gate.new.self c.open_gate.new.self = record { grows = opened.states.grows; trail = opened.states.trail; wishes = ap (λ (x : Noted _ _). x.wishes.keys) opened.rest.noted; parents = opened.rest.parents; encoded = opened.rest.encoded; deferred = opened.rest.deferred; fired = opened.rest.fired } in
     extends_then c.args.self.now middle c.open_gate.new.self first (extends_then middle c.gate.new.self c.open_gate.new.self c.in_ok-gate.ensures.kept last)
 
 pub returns-clause-built : goal.returns-clause-built

@@ -24,6 +24,10 @@ returns-in-Learnt-clause-stays g c = λ p root lawful e.
     let exact : IsExact g.S.PartialEq.eq = record { one = g.met.S.Exact.exact; own = g.met.S.Eq.laws.refl } in
     step_keeps c.args.self.now c.advance.new.self g.S.PartialEq.eq exact p root lawful c.in_ok-refusal.field-0 c.in_ok-refusal.ensures.advanced e
 
+pub returns-in-Refused-clause-goes_on : goal.returns-in-Refused-clause-goes_on
+returns-in-Refused-clause-goes_on g c =
+    step_goes c.args.self.now c.advance.new.self c.in_ok-refusal.field-0 c.requires.coding c.in_ok-refusal.ensures.advanced
+
 pub returns-in-Learnt-clause-goes_on : goal.returns-in-Learnt-clause-goes_on
 returns-in-Learnt-clause-goes_on g c =
     step_goes c.args.self.now c.advance.new.self c.in_ok-refusal.field-0 c.requires.coding c.in_ok-refusal.ensures.advanced

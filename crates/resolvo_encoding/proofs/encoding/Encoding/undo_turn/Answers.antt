@@ -1,0 +1,25 @@
+use Rattle.std.proofs.Common.{◌≡◌, ℕ, ◌-◌, ◌≤◌, arith}
+use Rattle.std.specs.Prelude.{max}
+use Rattle.resolvo_rules.specs.Encoding.{IsExact}
+use Rattle.resolvo_encoding.proofs.Building.{built_rest}
+use Rattle.resolvo_encoding.proofs.Staying.{digits_kept, undo_goes, undo_keeps}
+use Rattle.resolvo_encoding.proofs.encoding.Encoding.undo_turn.Goals as goal
+
+-- what stood before the turn isn't above the level
+above_earlier : (floor below level : ℕ) → below ≡ floor - 1 → level ≡ max below 1 → floor - 1 ≤ level
+above_earlier floor below level is one = omega arith
+
+pub returns-clause-stays : goal.returns-clause-stays
+returns-clause-stays g c = λ p root lawful e.
+    let exact : IsExact g.S.PartialEq.eq = record { one = g.met.S.Exact.exact; own = g.met.S.Eq.laws.refl } in
+    undo_keeps c.args.self.now c.undo_until.new.self g.S.PartialEq.eq exact p root lawful c.max.result
+    (above_earlier c.args.self.now.coding.search.floor c.saturating_sub-level.result c.max.result c.saturating_sub-level.ensures c.max.ensures) c.undo_until.ensures.undone c.undo_until.ensures.kept e
+
+pub returns-clause-goes_on : goal.returns-clause-goes_on
+returns-clause-goes_on g c = undo_goes c.args.self.now c.undo_until.new.self c.max.result
+    (above_earlier c.args.self.now.coding.search.floor c.saturating_sub-level.result c.max.result c.saturating_sub-level.ensures c.max.ensures) c.undo_until.ensures.undone c.undo_until.ensures.kept
+
+pub returns-clause-built : goal.returns-clause-built
+returns-clause-built g c =
+    let goes = returns-clause-goes_on g c in
+    built_rest c.args.self.now _ c.requires goes.coding goes.grows (digits_kept c.args.self.now _ c.requires.coding goes) goes.rest
