@@ -8,6 +8,3 @@ mod places;
 
 pub use entry::{Entry, Reason, Turn};
 pub use listing::list;
-
-#[cfg(test)]
-mod tests;

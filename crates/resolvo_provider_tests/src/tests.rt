@@ -4,6 +4,7 @@
 mod pairs;
 
 use resolvo_catalogue::{Catalogue, MemorySource, Request};
+use resolvo_pool::want::R;
 use resolvo_provider::provider::{CatalogueProvider, Hint};
 use std::alloc::Global;
 use std::test::Fail;
@@ -18,6 +19,6 @@ fn request(alloc: Global, text: &str, catalogue: &Catalogue) -> Result<Request, 
 }
 
 /// The provider of a catalogue.
-fn provider(alloc: Global, catalogue: &Catalogue) -> Result<CatalogueProvider, Fail> {
-    Ok(CatalogueProvider::new(alloc, catalogue, Hint::All)?)
+fn provider(alloc: Global, catalogue: &Catalogue) -> R<CatalogueProvider> {
+    CatalogueProvider::new(alloc, catalogue, Hint::All)
 }

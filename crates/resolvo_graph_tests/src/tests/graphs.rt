@@ -1,13 +1,34 @@
 //! Graphs that are copied, and that lose their unresolved node.
 
-use super::sample::{Link, Place, drawn, message};
+use super::sample::{Link, Place, drawn, message, told};
 use resolvo_graph::graph::{
     ConflictCause, ConflictEdge, ConflictGraph, ConflictNode, EdgeIndex, NodeIndex,
 };
 use resolvo_pool::id::{SolvableId, StringId, VersionSetId};
+use resolvo_pool::want::R;
+use std::alloc::Global;
+use std::process::Abort;
 use std::test::Fail;
 
 const ROOT: Place = Place::Root;
+
+/// The message of the copy of a graph.
+fn message_of_copy(alloc: Global, graph: &ConflictGraph) -> R<String> {
+    message(alloc, &graph.clone(alloc)?)
+}
+
+/// What the copy of a drawing tells.
+fn told_by_copy(alloc: Global, links: &[Link]) -> R<String> {
+    message_of_copy(alloc, &drawn(alloc, links)?)
+}
+
+/// The drawing and its copy say the same.
+fn copies_say_the_same(rt: &impl Abort, alloc: Global, links: &[Link]) -> Result<(), Fail> {
+    let first = told(alloc, links)?;
+    let second = told_by_copy(alloc, links)?;
+    assert_eq!(rt; first.as_str(), second.as_str());
+    Ok(())
+}
 
 #[test]
 fn clone_says_the_same(rt: HostRuntime) -> Result<(), Fail> {
@@ -17,12 +38,7 @@ fn clone_says_the_same(rt: HostRuntime) -> Result<(), Fail> {
         Link::Needs(ROOT, 3_054_100, Place::Version(354)),
         Link::Forbids(Place::Version(354), Place::Version(353)),
     ];
-    let graph = drawn(rt.alloc(), &links)?;
-    let copy = graph.clone(rt.alloc())?;
-    let first = message(rt.alloc(), &graph)?;
-    let second = message(rt.alloc(), &copy)?;
-    assert_eq!(rt; first.as_str(), second.as_str());
-    Ok(())
+    copies_say_the_same(&rt, rt.alloc(), &links)
 }
 
 /// Where the first edge leads.
@@ -33,9 +49,7 @@ fn first_target(graph: &ConflictGraph) -> Option<NodeIndex> {
     }
 }
 
-#[test]
-fn nodes_are_added_once(rt: HostRuntime) -> Result<(), Fail> {
-    let mut graph: ConflictGraph = ConflictGraph::new(rt.alloc())?;
+fn adds_nodes_once(rt: &impl Abort, graph: &mut ConflictGraph) -> Result<(), Fail> {
     let version = ConflictNode::Solvable(SolvableId::from_raw(1));
     assert_eq!(rt; graph.add_node(ConflictNode::Root)?, graph.root_node());
     assert_eq!(rt; graph.add_node(version)?, NodeIndex(1));
@@ -47,15 +61,18 @@ fn nodes_are_added_once(rt: HostRuntime) -> Result<(), Fail> {
 }
 
 #[test]
-fn unused_unresolved_node(rt: HostRuntime) -> Result<(), Fail> {
-    let links = [
-        Link::Needs(Place::Version(5), 0, Place::Unresolved),
-        Link::Needs(ROOT, 0, Place::Version(1)),
-    ];
-    let mut graph = drawn(rt.alloc(), &links)?;
+fn nodes_are_added_once(rt: HostRuntime) -> Result<(), Fail> {
+    adds_nodes_once(&rt, &mut ConflictGraph::new(rt.alloc())?)
+}
+
+/// An unresolved node with an edge stays.
+fn keeps_unresolved(rt: &impl Abort, graph: &mut ConflictGraph) {
     graph.remove_unused_unresolved();
     assert_eq!(rt; graph.unresolved_node(), Some(NodeIndex(2)));
-    let mut graph: ConflictGraph = ConflictGraph::new(rt.alloc())?;
+}
+
+/// Adds an unresolved node without an edge, then a reason, then a version that the root bars.
+fn draw_unused(graph: &mut ConflictGraph) -> R<NodeIndex> {
     graph.add_node(ConflictNode::UnresolvedDependency)?;
     graph.add_node(ConflictNode::Excluded(StringId(0)))?;
     let version = graph.add_node(ConflictNode::Solvable(SolvableId::from_raw(1)))?;
@@ -64,11 +81,27 @@ fn unused_unresolved_node(rt: HostRuntime) -> Result<(), Fail> {
         let weight = ConflictEdge::Conflict(ConflictCause::Constrains(VersionSetId(0)));
         graph.add_edge(root, version, weight)?;
     }
+    Ok(version)
+}
+
+/// An unresolved node without an edge goes.
+fn loses_unresolved(rt: &impl Abort, graph: &mut ConflictGraph) -> Result<(), Fail> {
+    let version = draw_unused(graph)?;
     graph.remove_unused_unresolved();
-    assert_eq!(rt; first_target(&graph), Some(NodeIndex(1)));
+    assert_eq!(rt; first_target(graph), Some(NodeIndex(1)));
     assert_eq!(rt; graph.unresolved_node(), None);
     assert_eq!(rt; graph.nodes().len(), 3);
     assert!(rt; graph.node(NodeIndex(1)) == Some(ConflictNode::Solvable(SolvableId::from_raw(1))));
     assert!(rt; !graph.has_node(version));
     Ok(())
+}
+
+#[test]
+fn unused_unresolved_node(rt: HostRuntime) -> Result<(), Fail> {
+    let links = [
+        Link::Needs(Place::Version(5), 0, Place::Unresolved),
+        Link::Needs(ROOT, 0, Place::Version(1)),
+    ];
+    keeps_unresolved(&rt, &mut drawn(rt.alloc(), &links)?);
+    loses_unresolved(&rt, &mut ConflictGraph::new(rt.alloc())?)
 }

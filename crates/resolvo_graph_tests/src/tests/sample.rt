@@ -14,9 +14,9 @@ use resolvo_pool::id::{
 };
 use resolvo_pool::provider::Interner;
 use resolvo_pool::requirement::Requirement;
-use std::alloc::Global;
+use resolvo_pool::want::R;
+use std::alloc::{AllocError, Global};
 use std::fmt;
-use std::test::Fail;
 
 /// The meaning of the ids, with the version sets of the one union.
 #[derive(Drop)]
@@ -222,26 +222,48 @@ fn weight(link: Link) -> ConflictEdge {
     }
 }
 
-/// The graph of some links, whose nodes come as they are first named.
-pub fn drawn(alloc: Global, links: &[Link]) -> Result<ConflictGraph, Fail> {
-    let mut graph = ConflictGraph::new(alloc)?;
-    for link in links {
-        let (from, to) = ends(*link);
-        let source = graph.add_node(node(from))?;
-        let target = graph.add_node(node(to))?;
-        if graph.has_node(source) && graph.has_node(target) {
-            graph.add_edge(source, target, weight(*link))?;
-        }
+/// Adds a link and its ends, as far as they aren't there.
+fn draw(graph: &mut ConflictGraph, link: Link) -> R<()> {
+    let (from, to) = ends(link);
+    let source = graph.add_node(node(from))?;
+    let target = graph.add_node(node(to))?;
+    if graph.has_node(source) && graph.has_node(target) {
+        graph.add_edge(source, target, weight(link))?;
     }
+    Ok(())
+}
+
+fn draw_all(graph: &mut ConflictGraph, links: &[Link]) -> R<()> {
+    for link in links {
+        draw(graph, *link)?;
+    }
+    Ok(())
+}
+
+/// The graph of some links, whose nodes come as they are first named.
+pub fn drawn(alloc: Global, links: &[Link]) -> R<ConflictGraph> {
+    let mut graph = ConflictGraph::new(alloc)?;
+    draw_all(&mut graph, links)?;
     Ok(graph)
 }
 
-/// The message of a graph.
-pub fn message(alloc: Global, graph: &ConflictGraph) -> Result<String, Fail> {
-    let mut members = Vec::new(alloc);
-    members.push(VersionSetId(1_000_000))?;
-    members.push(VersionSetId(2_003_000))?;
-    let sample = Sample { members };
-    let shown = DisplayUnsat::new(alloc, graph, &sample)?;
+fn message_by(alloc: Global, graph: &ConflictGraph, sample: &Sample) -> R<String> {
+    let shown = DisplayUnsat::new(alloc, graph, sample)?;
     Ok(format!(in alloc; "{shown}")?)
+}
+
+fn make_sample(alloc: Global) -> Result<Sample, AllocError> {
+    Ok(Sample {
+        members: vec![in alloc; VersionSetId(1_000_000), VersionSetId(2_003_000)]?,
+    })
+}
+
+/// The message of a graph.
+pub fn message(alloc: Global, graph: &ConflictGraph) -> R<String> {
+    message_by(alloc, graph, &make_sample(alloc)?)
+}
+
+/// The message of the graph of some links.
+pub fn told(alloc: Global, links: &[Link]) -> R<String> {
+    message(alloc, &drawn(alloc, links)?)
 }

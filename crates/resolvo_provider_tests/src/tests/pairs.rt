@@ -5,11 +5,11 @@ use super::{catalogue, provider, request};
 use resolvo_catalogue::{Catalogue, Request, VersionNo};
 use resolvo_pool::condition::{Condition, LogicalOperator};
 use resolvo_pool::id::{ConditionId, SolvableId, VersionSetId};
-use resolvo_pool::provider::{Dependencies, DependencyProvider, Interner};
+use resolvo_pool::provider::{Candidates, Dependencies, DependencyProvider, Interner};
 use resolvo_pool::requirement::{ConditionalRequirement, Requirement};
 use resolvo_pool::want::R;
 use resolvo_provider::provider::{CatalogueProvider, RequestIds};
-use std::alloc::Global;
+use std::alloc::{AllocError, Global};
 use std::test::Fail;
 
 /// Whether some member matches the version set.
@@ -19,8 +19,57 @@ fn is_met(
     version_set: VersionSetId,
     chosen: &[SolvableId],
 ) -> R<bool> {
-    let found = provider.filter_candidates(alloc, chosen, version_set, false)?;
-    Ok(!found.is_empty())
+    Ok(
+        !provider
+            .filter_candidates(alloc, chosen, version_set, false)?
+            .is_empty(),
+    )
+}
+
+fn joined(operator: LogicalOperator, left: bool, right: bool) -> bool {
+    match operator {
+        LogicalOperator::And => left && right,
+        LogicalOperator::Or => left || right,
+    }
+}
+
+/// Whether a condition holds, where it is known of those before it.
+fn next_holds(
+    provider: &CatalogueProvider,
+    alloc: Global,
+    condition: ConditionId,
+    before: &[bool],
+    chosen: &[SolvableId],
+) -> R<bool> {
+    match provider.resolve_condition(condition) {
+        Condition::Requirement(version_set) => is_met(provider, alloc, version_set, chosen),
+        Condition::Binary(operator, left, right) => {
+            let left = before.get(left.as_u32() as usize) == Some(&true);
+            let right = before.get(right.as_u32() as usize) == Some(&true);
+            Ok(joined(operator, left, right))
+        }
+    }
+}
+
+/// Adds whether they hold, of the conditions up to a number.
+fn add_what_holds(
+    provider: &CatalogueProvider,
+    alloc: Global,
+    count: u32,
+    says: &mut Vec<bool>,
+    chosen: &[SolvableId],
+) -> R<()> {
+    for id in 0..count {
+        let value = next_holds(
+            provider,
+            alloc,
+            ConditionId::new(id),
+            says.as_slice(),
+            chosen,
+        )?;
+        says.push(value)?;
+    }
+    Ok(())
 }
 
 /// Whether a condition holds: what each id up to its own says, one after the other.
@@ -31,21 +80,9 @@ fn holds(
     chosen: &[SolvableId],
 ) -> R<bool> {
     let mut says = Vec::new(alloc);
-    for id in 0..condition.as_u32().saturating_add(1) {
-        let value = match provider.resolve_condition(ConditionId::new(id)) {
-            Condition::Requirement(version_set) => is_met(provider, alloc, version_set, chosen)?,
-            Condition::Binary(operator, left, right) => {
-                let left = says.get(left.as_u32() as usize) == Some(&true);
-                let right = says.get(right.as_u32() as usize) == Some(&true);
-                match operator {
-                    LogicalOperator::And => left && right,
-                    LogicalOperator::Or => left || right,
-                }
-            }
-        };
-        says.push(value)?;
-    }
-    Ok(says.pop() == Some(true))
+    let count = condition.as_u32().saturating_add(1);
+    add_what_holds(provider, alloc, count, &mut says, chosen)?;
+    Ok(says.last() == Some(&true))
 }
 
 fn is_met_by_one(
@@ -67,6 +104,36 @@ fn is_met_by_one(
     }
 }
 
+/// Whether the set meets a requirement, or its condition doesn't hold.
+fn meets(
+    provider: &CatalogueProvider,
+    alloc: Global,
+    need: &ConditionalRequirement,
+    chosen: &[SolvableId],
+) -> R<bool> {
+    let binds = match need.condition {
+        Some(condition) => holds(provider, alloc, condition, chosen)?,
+        None => true,
+    };
+    Ok(!binds || is_met_by_one(provider, alloc, need.requirement, chosen)?)
+}
+
+/// Whether each member of a package matches the version set, which is one of that package.
+fn keeps(
+    provider: &CatalogueProvider,
+    alloc: Global,
+    version_set: VersionSetId,
+    chosen: &[SolvableId],
+) -> R<bool> {
+    let name = provider.version_set_name(version_set);
+    Ok(
+        !provider
+            .filter_candidates(alloc, chosen, version_set, true)?
+            .iter()
+            .any(|outside| provider.solvable_name(*outside) == name),
+    )
+}
+
 /// Whether the set meets the requirements and keeps the constraints.
 fn obeys(
     provider: &CatalogueProvider,
@@ -76,45 +143,43 @@ fn obeys(
     chosen: &[SolvableId],
 ) -> R<bool> {
     for need in requirements {
-        let binds = match need.condition {
-            Some(condition) => holds(provider, alloc, condition, chosen)?,
-            None => true,
-        };
-        if binds && !is_met_by_one(provider, alloc, need.requirement, chosen)? {
+        if !meets(provider, alloc, need, chosen)? {
             return Ok(false);
         }
     }
     for version_set in constraints {
-        let name = provider.version_set_name(*version_set);
-        for outside in provider.filter_candidates(alloc, chosen, *version_set, true)? {
-            if provider.solvable_name(outside) == name {
-                return Ok(false);
-            }
+        if !keeps(provider, alloc, *version_set, chosen)? {
+            return Ok(false);
         }
     }
     Ok(true)
 }
 
-/// Whether no lock, exclusion or unknown mark keeps the version out, and its own rules are obeyed.
-fn is_fine(
-    provider: &CatalogueProvider,
-    alloc: Global,
-    solvable: SolvableId,
-    chosen: &[SolvableId],
-) -> R<bool> {
-    let name = provider.solvable_name(solvable);
-    let Some(list) = provider.get_candidates(alloc, name)? else {
-        return Ok(false);
-    };
+/// Whether a solvable is in the list, and no lock or exclusion keeps it out.
+fn is_offered(list: &Candidates, solvable: SolvableId) -> bool {
     let barred = list.excluded.iter().any(|e| e.0 == solvable);
     let locked_out = match list.locked {
         Some(locked) => locked != solvable,
         None => false,
     };
-    if barred || locked_out || !list.candidates.iter().any(|s| *s == solvable) {
-        return Ok(false);
+    !barred && !locked_out && list.candidates.iter().any(|s| *s == solvable)
+}
+
+fn is_candidate(provider: &CatalogueProvider, alloc: Global, solvable: SolvableId) -> R<bool> {
+    match provider.get_candidates(alloc, provider.solvable_name(solvable))? {
+        Some(list) => Ok(is_offered(&list, solvable)),
+        None => Ok(false),
     }
-    match provider.get_dependencies(alloc, solvable)? {
+}
+
+/// Whether the dependencies are known and obeyed.
+fn obeys_known(
+    provider: &CatalogueProvider,
+    alloc: Global,
+    dependencies: &Dependencies,
+    chosen: &[SolvableId],
+) -> R<bool> {
+    match dependencies {
         Dependencies::Unknown(_) => Ok(false),
         Dependencies::Known(known) => obeys(
             provider,
@@ -124,6 +189,29 @@ fn is_fine(
             chosen,
         ),
     }
+}
+
+fn obeys_its_own(
+    provider: &CatalogueProvider,
+    alloc: Global,
+    solvable: SolvableId,
+    chosen: &[SolvableId],
+) -> R<bool> {
+    let dependencies = provider.get_dependencies(alloc, solvable)?;
+    obeys_known(provider, alloc, &dependencies, chosen)
+}
+
+/// Whether no lock, exclusion or unknown mark keeps the version out, and its own rules are obeyed.
+fn is_fine(
+    provider: &CatalogueProvider,
+    alloc: Global,
+    solvable: SolvableId,
+    chosen: &[SolvableId],
+) -> R<bool> {
+    Ok(
+        is_candidate(provider, alloc, solvable)?
+            && obeys_its_own(provider, alloc, solvable, chosen)?,
+    )
 }
 
 /// Whether the set keeps the rules, by the provider's answers.
@@ -210,7 +298,7 @@ fn next(seed: u32) -> u32 {
 }
 
 /// Adds each line whose bit is drawn, where `rare` draws in turn must fail.
-fn draw(text: &mut String, lines: &[&str], seed: u32, rare: u32) -> Result<u32, Fail> {
+fn draw(text: &mut String, lines: &[&str], seed: u32, rare: u32) -> Result<u32, AllocError> {
     let mut seed = seed;
     for line in lines {
         seed = next(seed);
@@ -221,38 +309,79 @@ fn draw(text: &mut String, lines: &[&str], seed: u32, rare: u32) -> Result<u32, 
     Ok(seed)
 }
 
-/// The set that a number from 0 to 63 stands for: of each package none, or its first, second or third version.
-fn members(alloc: Global, number: u32) -> R<Vec<u32>> {
+/// Adds the members of the set that a number from 0 to 63 stands for: of each package none, or its first,
+/// second or third version.
+fn add_members(set: &mut Vec<VersionNo>, number: u32) -> R<()> {
     let places = [[0u32, 6, 3], [4, 8, 1], [5, 2, 7]];
-    let mut set = Vec::new(alloc);
     let mut rest = number;
     for package in places {
         let version = rest % 4;
         if let Some(place) = package.get((version as usize).wrapping_sub(1)) {
-            set.push(*place)?;
+            set.push(VersionNo(*place))?;
         }
         rest /= 4;
     }
+    Ok(())
+}
+
+fn members(alloc: Global, number: u32) -> R<Vec<VersionNo>> {
+    let mut set = Vec::new(alloc);
+    add_members(&mut set, number)?;
     Ok(set)
 }
 
-/// A generated catalogue.
-fn generated(alloc: Global, seed: u32) -> Result<String, Fail> {
-    let mut lines = String::new(alloc);
+/// Adds the solvables of the versions.
+fn add_solvables(
+    provider: &CatalogueProvider,
+    chosen: &mut Vec<SolvableId>,
+    set: &[VersionNo],
+) -> R<()> {
+    for version in set {
+        chosen.push(provider.solvable_of(*version))?;
+    }
+    Ok(())
+}
+
+fn solvables(alloc: Global, provider: &CatalogueProvider, set: &[VersionNo]) -> R<Vec<SolvableId>> {
+    let mut chosen = Vec::new(alloc);
+    add_solvables(provider, &mut chosen, set)?;
+    Ok(chosen)
+}
+
+/// Adds the lines of a generated catalogue.
+fn draw_catalogue(lines: &mut String, seed: u32) -> Result<(), AllocError> {
     let mut seed = seed;
     for version in VERSIONS {
         lines.push_str(version)?;
-        seed = draw(&mut lines, &OWNED, seed, 6)?;
+        seed = draw(lines, &OWNED, seed, 6)?;
     }
-    draw(&mut lines, &BELOW, seed, 4)?;
+    draw(lines, &BELOW, seed, 4)?;
+    Ok(())
+}
+
+/// A generated catalogue.
+fn generated(alloc: Global, seed: u32) -> Result<String, AllocError> {
+    let mut lines = String::new(alloc);
+    draw_catalogue(&mut lines, seed)?;
     Ok(lines)
 }
 
 /// A generated request.
-fn wanted(alloc: Global, seed: u32) -> Result<String, Fail> {
+fn wanted(alloc: Global, seed: u32) -> Result<String, AllocError> {
     let mut lines = String::new(alloc);
     draw(&mut lines, &ASKED, seed, 3)?;
     Ok(lines)
+}
+
+/// Whether the set keeps the rules, by the provider's answers.
+fn is_kept(
+    alloc: Global,
+    provider: &CatalogueProvider,
+    root: &RequestIds,
+    set: &[VersionNo],
+) -> R<bool> {
+    let chosen = solvables(alloc, provider, set)?;
+    keeps_by_provider(provider, alloc, root, &chosen)
 }
 
 /// Whether the lines and the provider agree on a set. Counts it if it keeps the rules.
@@ -262,18 +391,12 @@ fn agree(
     root: &RequestIds,
     catalogue: &Catalogue,
     request: &Request,
-    number: u32,
+    set: &[VersionNo],
     kept: &mut u32,
-) -> Result<bool, Fail> {
-    let mut set = Vec::new(alloc);
-    let mut chosen = Vec::new(alloc);
-    for place in members(alloc, number)? {
-        set.push(VersionNo(place))?;
-        chosen.push(provider.solvable_of(VersionNo(place)))?;
-    }
-    let told = keeps_by_provider(provider, alloc, root, chosen.as_slice())?;
+) -> R<bool> {
+    let told = is_kept(alloc, provider, root, set)?;
     *kept = kept.saturating_add(u32::from(told));
-    Ok(told == keeps_by_lines(catalogue, request, set.as_slice()))
+    Ok(told == keeps_by_lines(catalogue, request, set))
 }
 
 /// Whether they agree on every set.
@@ -284,12 +407,25 @@ fn agree_on_all(
     catalogue: &Catalogue,
     request: &Request,
     kept: &mut u32,
-) -> Result<bool, Fail> {
+) -> R<bool> {
     let mut all = true;
     for number in 0..64u32 {
-        all = agree(alloc, provider, root, catalogue, request, number, kept)? && all;
+        let set = members(alloc, number)?;
+        all = agree(alloc, provider, root, catalogue, request, &set, kept)? && all;
     }
     Ok(all)
+}
+
+/// Whether they agree on every set, a provider being given.
+fn provider_agrees(
+    alloc: Global,
+    provider: &mut CatalogueProvider,
+    catalogue: &Catalogue,
+    request: &Request,
+    kept: &mut u32,
+) -> R<bool> {
+    let root = provider.intern_request(request)?;
+    agree_on_all(alloc, provider, &root, catalogue, request, kept)
 }
 
 /// Whether they agree on every set, a request being given.
@@ -298,10 +434,9 @@ fn request_agrees(
     catalogue: &Catalogue,
     request: &Request,
     kept: &mut u32,
-) -> Result<bool, Fail> {
+) -> R<bool> {
     let mut provider = provider(alloc, catalogue)?;
-    let root = provider.intern_request(request)?;
-    agree_on_all(alloc, &provider, &root, catalogue, request, kept)
+    provider_agrees(alloc, &mut provider, catalogue, request, kept)
 }
 
 /// A generated request over the catalogue.
@@ -315,11 +450,21 @@ fn generated_catalogue(alloc: Global, seed: u32) -> Result<Catalogue, Fail> {
     catalogue(alloc, lines.as_str())
 }
 
+/// Whether they agree on every set, a catalogue being given.
+fn catalogue_agrees(
+    alloc: Global,
+    seed: u32,
+    catalogue: &Catalogue,
+    kept: &mut u32,
+) -> Result<bool, Fail> {
+    let request = wanted_request(alloc, catalogue, seed)?;
+    Ok(request_agrees(alloc, catalogue, &request, kept)?)
+}
+
 /// Whether they agree on every set of a generated pair.
 fn pair_agrees(alloc: Global, seed: u32, kept: &mut u32) -> Result<bool, Fail> {
     let catalogue = generated_catalogue(alloc, seed)?;
-    let request = wanted_request(alloc, &catalogue, seed)?;
-    request_agrees(alloc, &catalogue, &request, kept)
+    catalogue_agrees(alloc, seed, &catalogue, kept)
 }
 
 #[test]
