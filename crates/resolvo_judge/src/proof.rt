@@ -1,6 +1,6 @@
 //! Whole proofs: the steps in order, from all lines or from those that are named.
 
-ghost use Rattle.std.specs.Prelude.{◌≡◌, ◌+◌, ◌^◌, ◌<◌, ℕ, [], List, Some, IfOk, IfSome, IfNone, length, replicate, None, true, slice_get};
+ghost use Rattle.std.specs.Prelude.{◌≡◌, ◌+◌, ◌^◌, ◌<◌, ◌≤◌, ℕ, [], List, Some, IfOk, IfSome, IfNone, length, replicate, None, true, slice_get};
 ghost use Rattle.resolvo_text.specs.Line.{Version};
 ghost use Rattle.resolvo_text.specs.Matching.{Set};
 ghost use Rattle.resolvo_catalogue.specs.Listed.{listed};
@@ -66,7 +66,8 @@ pub fn causes_in(step: &Step) -> u64
 
 /// How many clauses the steps name, if that is a number of 64 bits.
 pub fn count_causes(steps: &[Step]) -> Option<u64>
-    ensures { IfSome result (λ n. n ≡ count_causes (steps_of steps.now)) }
+    ensures count { IfSome result (λ n. n ≡ count_causes (steps_of steps.now)) }
+    ensures none { IfNone result (2 ^ 64 ≤ count_causes (steps_of steps.now)) }
 {
     let mut count = 0u64;
     for step in steps {
