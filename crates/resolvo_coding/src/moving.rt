@@ -61,6 +61,7 @@ impl<N: SolverId, S: SolverId> Coding<N, S> {
         requires coding { IsCoding self.old }
         requires one { 1 ≤ level }
         ensures set { SetsFloor level self.old.search self.new.search }
+        ensures is { self.new ≡ record self.old { search = record self.old.search { floor = level } } }
         ensures kept { KeepsCode self.old self.new }
     {
         self.search.floor = level;

@@ -12,5 +12,6 @@ pub mod Building
 pub mod Digits
 pub mod Turning
 pub mod Staying
+pub mod WishLemmas
 pub mod Helps
 pub mod Firing

@@ -1,5 +1,6 @@
 -- The encoding stays one of the packages while the search goes on.
-use Rattle.std.proofs.Common.{◌≡◌, ℕ, ◌+◌, ◌*◌, ◌-◌, ◌^◌, ◌<◌, ◌≤◌, inl, inr, Bool, true, List, [], ◌∷◌, ◌++◌, length, Some, None, Vec, Global, HashSet, BuildHasherDefault, FoldHasher, refl, sym, ◌∙◌, ap, subst, arith}
+use Rattle.std.proofs.Common.{◌≡◌, ℕ, ◌+◌, ◌*◌, ◌-◌, ◌^◌, ◌<◌, ◌≤◌, inl, inr, Bool, true, List, [], ◌∷◌, ◌++◌, length, Some, None, Vec, Global, HashSet, BuildHasherDefault, FoldHasher, refl, sym, ◌∙◌, ap, subst, arith, reverse}
+use Rattle.resolvo_search.specs.Analysis.{AreFromClauses}
 use Rattle.std.specs.Prelude.{slice_get, Contains}
 use Rattle.std.proofs.lemmas.List.{length-append}
 use Rattle.resolvo_pool.specs.declared.id.ClauseId.{ClauseId}
@@ -16,7 +17,7 @@ use Rattle.resolvo_search.specs.declared.state.SearchState.{SearchState}
 use Rattle.resolvo_search.specs.declared.state.VariableKind.{VariableKind}
 use Rattle.resolvo_search.specs.declared.watching.Watching.{Watching}
 use Rattle.resolvo_search.specs.Advancing.{Completes, Improves, IsProgress, KeepsUpTo, weight_left}
-use Rattle.resolvo_search.specs.Entries.{weight}
+use Rattle.resolvo_search.specs.Entries.{weight, EndsWith}
 use Rattle.resolvo_search.specs.Known.{clause_at}
 use Rattle.resolvo_search.specs.State.{lists, count_of, history, clauses_of}
 use Rattle.resolvo_search.specs.Steps.{Chooses, Undoes}
@@ -33,11 +34,11 @@ use Rattle.resolvo_coding.specs.declared.registry.Registry.{Registry}
 use Rattle.resolvo_coding.specs.declared.stated.Stated.{Stated}
 use Rattle.resolvo_coding.specs.declared.stated.Stated.TheVariants as Says
 use Rattle.resolvo_coding.specs.Atoms.{origin, StandsFor}
-use Rattle.resolvo_coding.specs.Coding.{IsCoding, Advances, KeepsCode, learnt_by}
+use Rattle.resolvo_coding.specs.Coding.{IsCoding, Advances, KeepsCode, learnt_by, Bars}
 use Rattle.resolvo_coding.specs.Registered.{AreTied, IsTracked, IsRegistered}
 use Rattle.resolvo_coding.specs.Spelled.{AreRegistered}
 use Rattle.resolvo_coding.specs.Statements.{stated_at, rule_at}
-use Rattle.resolvo_coding.proofs.Growth.{grows_same, grows_then, stated_grows, stated_split, rule_split, rules_split, spelled_grows, registered_grows, called_advances, called_undoes, called_chooses}
+use Rattle.resolvo_coding.proofs.Growth.{grows_same, grows_then, stated_grows, stated_split, rule_split, rules_split, spelled_grows, registered_grows, called_grows_trail, called_advances, called_undoes, called_chooses}
 use Rattle.resolvo_coding.proofs.Positions.{front_equal, get_last}
 use Rattle.resolvo_coding.proofs.Registering.{KeepsDigits, ties_grow}
 use Rattle.resolvo_coding.proofs.Rules.{rule_stated}
@@ -199,6 +200,33 @@ module _ {N S : Type 0} (old : Encoding N S) (c : Coding N S) where
     learnt = λ n low high. (let long : length c.search.clauses ≡ length old.coding.search.clauses = ap (λ (cs : List HeldClause). length cs) kept.clauses in absurd (omega arith));
   }
 
+  -- a clause that only denies came
+  pub bar_goes : (denies : List Signed) (by : List ClauseId) (id : ClauseId) → IsCoding old.coding → Bars denies by id old.coding c → GoesOn old went
+  bar_goes denies by id before bars = record {
+    rest = step_rest;
+    coding = bars.coding;
+    atoms = bars.atoms;
+    variables = bars.variables;
+    grows = bars.grows;
+    earlier = λ base low ends. subst (λ t. EndsWith base (reverse t.trail)) (sym bars.trail.tracker) ends;
+    learnt = λ n low high.
+        let long : length c.search.clauses ≡ length old.coding.search.clauses + 1 = ap (λ (cs : List HeldClause). length cs) bars.added ∙ length-append old.coding.search.clauses (bars.clause ∷ []) in
+        let each : length old.coding.stated.items ≡ length old.coding.search.clauses = before.each in
+        let place : length old.coding.stated.items ≡ n = omega arith in
+        subst (λ (k : ℕ). slice_get c.stated.items k ≡ Some Says.Learnt) place (subst (λ (xs : List (Stated N S)). slice_get xs (length old.coding.stated.items) ≡ Some Says.Learnt) (sym bars.stated) (get_last old.coding.stated.items Says.Learnt));
+  }
+
+  -- each of its literals stood in an earlier clause
+  bar_from : (denies : List Signed) (by : List ClauseId) (id : ClauseId) → Bars denies by id old.coding c → AreFromClauses old.coding.search denies → (n : ℕ) (l : Signed) → length old.coding.search.clauses ≤ n → n < length c.search.clauses
+      → has (clause_at (clauses_of c.search) n) l ≡ true → (k : ℕ) × (has (clause_at (clauses_of old.coding.search) k) l ≡ true)
+  bar_from denies by id bars from n l low high stands =
+      let long : length c.search.clauses ≡ length old.coding.search.clauses + 1 = ap (λ (cs : List HeldClause). length cs) bars.added ∙ length-append old.coding.search.clauses (bars.clause ∷ []) in
+      let all : length (lists old.coding.search.clauses) ≡ length old.coding.search.clauses = length-lists old.coding.search.clauses in
+      let place : n ≡ length (lists old.coding.search.clauses) = omega arith in
+      let added : clauses_of c.search ≡ lists old.coding.search.clauses ++ bars.clause.literals.items ∷ [] = ap (λ (cs : List HeldClause). lists cs) bars.added ∙ lists-append old.coding.search.clauses (bars.clause ∷ []) in
+      let here : clause_at (clauses_of c.search) n ≡ bars.clause.literals.items = ap (λ (cs : List (List Signed)). clause_at cs n) added ∙ ap (λ (k : ℕ). clause_at (lists old.coding.search.clauses ++ bars.clause.literals.items ∷ []) k) place ∙ clause_at_end (lists old.coding.search.clauses) bars.clause.literals.items in
+      from l (subst (λ (ls : List Signed). has ls l ≡ true) (here ∙ bars.literals) stands)
+
   pub choice_goes : (v : VariableId) (clause : ClauseId) → Chooses v clause old.coding.search c.search → KeepsCode old.coding c → GoesOn old went
   choice_goes v clause chosen kept = kept_goes kept chosen.same.floor (λ base low ends. choice_earlier old.coding.search c.search v clause base chosen ends)
 
@@ -212,6 +240,13 @@ module _ {N S : Type 0} (old : Encoding N S) (c : Coding N S) where
     step_keeps q step e =
         let goes = step_goes q e.coding step in
         stays same exact p root lawful old went e goes (positive_on same exact p root lawful old went e goes (step_from q step.progress)) (called_advances (IsChosenFor same p old) (IsChosenFor same p went) (chosen_grows old went goes.grows (λ r h. refl) refl same p) old.coding c q step e.called)
+
+    -- so does a clause that only denies
+    pub bar_keeps : (denies : List Signed) (by : List ClauseId) (id : ClauseId) → Bars denies by id old.coding c → AreFromClauses old.coding.search denies → IsEncoding same p root old → IsEncoding same p root went
+    bar_keeps denies by id bars from e =
+        let goes = bar_goes denies by id e.coding bars in
+        stays same exact p root lawful old went e goes (positive_on same exact p root lawful old went e goes (bar_from denies by id bars from))
+        (called_grows_trail (IsChosenFor same p old) (IsChosenFor same p went) (chosen_grows old went goes.grows (λ r h. refl) refl same p) old.coding c e.coding goes.grows bars.trail e.called)
 
     -- so does a choice that is called for
     pub choice_keeps : (v : VariableId) (clause : ClauseId) → Chooses v clause old.coding.search c.search → KeepsCode old.coding c

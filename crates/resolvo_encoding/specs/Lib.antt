@@ -6,3 +6,4 @@ pub mod Helped
 pub mod Casing
 pub mod Turning
 pub mod Going
+pub mod Wishing

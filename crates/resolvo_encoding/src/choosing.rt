@@ -1,7 +1,8 @@
 //! The search goes on over what was encoded: it sets what follows, learns and chooses.
-ghost use Rattle.std.specs.Prelude.{IfOk, OnOk};
+ghost use Rattle.std.specs.Prelude.{◌-◌, max, IfOk, OnOk};
 ghost use Rattle.resolvo_pool.specs.RuleKeeping.{Packages, Rules, IsLawful};
 ghost use Rattle.resolvo_coding.specs.Coding.{IsCoding};
+ghost use Rattle.resolvo_search.specs.Steps.{Undoes};
 ghost use Rattle.resolvo_encoding.specs.Encoded.{IsEncoding};
 ghost use Rattle.resolvo_encoding.specs.Steps.{IsBuilt};
 ghost use Rattle.resolvo_encoding.specs.Going.{IsNext, GoesOn, IsStep, IsChoice};
@@ -61,6 +62,7 @@ impl<N: SolverId + Drop, S: SolverId> Encoding<N, S> {
         ensures stays { (p : Packages N S) (root : Rules) → IsLawful p → IsEncoding S.eq p root self.old → IsEncoding S.eq p root self.new }
         ensures goes_on { GoesOn self.old self.new }
         ensures built { IsBuilt self.new }
+        ensures undone { Undoes (max (self.old.coding.search.floor - 1) 1) self.old.coding.search self.new.coding.search }
     {
         let level = self.coding.search.floor.saturating_sub(1);
         self.coding.undo_until(level.max(1));

@@ -8,3 +8,4 @@ pub mod choosing;
 pub mod encoding;
 pub mod helping;
 pub mod registering;
+pub mod wishing;

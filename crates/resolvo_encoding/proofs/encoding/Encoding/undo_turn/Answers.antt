@@ -1,5 +1,6 @@
-use Rattle.std.proofs.Common.{◌≡◌, ℕ, ◌-◌, ◌≤◌, arith}
+use Rattle.std.proofs.Common.{◌≡◌, ℕ, ◌-◌, ◌≤◌, ◌∙◌, ap, subst, arith}
 use Rattle.std.specs.Prelude.{max}
+use Rattle.resolvo_search.specs.Steps.{Undoes}
 use Rattle.resolvo_rules.specs.Encoding.{IsExact}
 use Rattle.resolvo_encoding.proofs.Building.{built_rest}
 use Rattle.resolvo_encoding.proofs.Staying.{digits_kept, undo_goes, undo_keeps}
@@ -8,6 +9,9 @@ use Rattle.resolvo_encoding.proofs.encoding.Encoding.undo_turn.Goals as goal
 -- what stood before the turn isn't above the level
 above_earlier : (floor below level : ℕ) → below ≡ floor - 1 → level ≡ max below 1 → floor - 1 ≤ level
 above_earlier floor below level is one = omega arith
+
+the_level : (floor below level : ℕ) → below ≡ floor - 1 → level ≡ max below 1 → level ≡ max (floor - 1) 1
+the_level floor below level is one = one ∙ ap (λ n. max n 1) is
 
 pub returns-clause-stays : goal.returns-clause-stays
 returns-clause-stays g c = λ p root lawful e.
@@ -18,6 +22,11 @@ returns-clause-stays g c = λ p root lawful e.
 pub returns-clause-goes_on : goal.returns-clause-goes_on
 returns-clause-goes_on g c = undo_goes c.args.self.now c.undo_until.new.self c.max.result
     (above_earlier c.args.self.now.coding.search.floor c.saturating_sub-level.result c.max.result c.saturating_sub-level.ensures c.max.ensures) c.undo_until.ensures.undone c.undo_until.ensures.kept
+
+pub returns-clause-undone : goal.returns-clause-undone
+returns-clause-undone g c =
+    let is : c.max.result ≡ max (c.args.self.now.coding.search.floor - 1) 1 = the_level c.args.self.now.coding.search.floor c.saturating_sub-level.result c.max.result c.saturating_sub-level.ensures c.max.ensures in
+    subst (λ (level : ℕ). Undoes level c.args.self.now.coding.search c.undo_until.new.self.search) is c.undo_until.ensures.undone
 
 pub returns-clause-built : goal.returns-clause-built
 returns-clause-built g c =

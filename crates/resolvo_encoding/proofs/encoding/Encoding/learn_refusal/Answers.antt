@@ -1,0 +1,17 @@
+use Rattle.resolvo_rules.specs.Encoding.{IsExact}
+use Rattle.resolvo_encoding.proofs.Building.{built_rest}
+use Rattle.resolvo_encoding.proofs.Staying.{digits_kept, bar_goes, bar_keeps}
+use Rattle.resolvo_encoding.proofs.encoding.Encoding.learn_refusal.Goals as goal
+
+pub returns-clause-stays : goal.returns-clause-stays
+returns-clause-stays g c = λ p root lawful e.
+    let exact : IsExact g.S.PartialEq.eq = record { one = g.met.S.Exact.exact; own = g.met.S.Eq.laws.refl } in
+    bar_keeps c.args.self.now c.bar.new.self g.S.PartialEq.eq exact p root lawful _ _ c.in_ok-clause.clause c.in_ok-clause.ensures.barred c.requires.bar.from e
+
+pub returns-clause-goes_on : goal.returns-clause-goes_on
+returns-clause-goes_on g c = bar_goes c.args.self.now c.bar.new.self _ _ c.in_ok-clause.clause c.requires.built.coding c.in_ok-clause.ensures.barred
+
+pub returns-clause-built : goal.returns-clause-built
+returns-clause-built g c =
+    let goes = bar_goes c.args.self.now c.bar.new.self _ _ c.in_ok-clause.clause c.requires.built.coding c.in_ok-clause.ensures.barred in
+    built_rest c.args.self.now (record c.args.self.now { coding = c.bar.new.self }) c.requires.built goes.coding goes.grows (digits_kept c.args.self.now (record c.args.self.now { coding = c.bar.new.self }) c.requires.built.coding goes) goes.rest

@@ -1,0 +1,83 @@
+//! The turn of a wish: it is chosen at the turn's first level, or barred by a clause that tells why it can't stand beside what
+//! was chosen before.
+ghost use Rattle.std.specs.Prelude.{◌≡◌, ◌<◌, ◌≤◌, false, length, IfOk, OnOk};
+ghost use Rattle.resolvo_pool.specs.RuleKeeping.{Packages, Rules, IsLawful};
+ghost use Rattle.resolvo_store.specs.Clauses.{yes};
+ghost use Rattle.resolvo_store.specs.Signed.{has};
+ghost use Rattle.resolvo_search.specs.Analysis.{IsBar};
+ghost use Rattle.resolvo_search.specs.Entries.{made_true, top_level};
+ghost use Rattle.resolvo_search.specs.State.{history};
+ghost use Rattle.resolvo_encoding.specs.Encoded.{IsEncoding};
+ghost use Rattle.resolvo_encoding.specs.Steps.{IsBuilt};
+ghost use Rattle.resolvo_encoding.specs.Going.{GoesOn};
+ghost use Rattle.resolvo_encoding.specs.Wishing.{turn_of, IsWish, IsTried};
+
+use crate::encoding::Encoding;
+use resolvo_pool::id::{ClauseId, VariableId};
+use resolvo_pool::solver_id::SolverId;
+use resolvo_pool::want::R;
+use resolvo_search::analysis::Refusal;
+use resolvo_store::literal::Literal;
+use std::alloc::Global;
+
+impl<N: SolverId + Drop, S: SolverId> Encoding<N, S> {
+    /// Begins a turn: no jump goes below the next level.
+    pub fn begin_turn(&mut self)
+        requires { IsBuilt self.old }
+        ensures begun { self.new ≡ turn_of self.old }
+        ensures stays { (p : Packages N S) (root : Rules) → IsLawful p → IsEncoding S.eq p root self.old → IsEncoding S.eq p root self.new }
+        ensures built { IsBuilt self.new }
+    {
+        let level = self.coding.search.top_level() + 1;
+        self.coding.set_floor(level);
+    }
+
+    /// Chooses a wish at the first level of its turn, unless it is chosen. Where it is false before, this tells why.
+    pub fn choose_wish(&mut self, alloc: Global, variable: VariableId) -> R<Option<Refusal>>
+        requires built { IsBuilt self.old }
+        requires later { 2 ≤ self.old.coding.search.floor }
+        requires wish { IsWish self.old variable }
+        ensures stays { OnOk result ((p : Packages N S) (root : Rules) → IsLawful p → IsEncoding S.eq p root self.old → IsEncoding S.eq p root self.new) }
+        ensures goes_on { OnOk result (GoesOn self.old self.new) }
+        ensures built { OnOk result (IsBuilt self.new) }
+        ensures tried { IfOk result (IsTried self.new variable) }
+    {
+        if self.coding.search.is_true(Literal::new(variable, false)) {
+            return Ok(None);
+        }
+        self.undo_turn();
+        let refusal = self.choose_or_refute(alloc, variable)?;
+        Ok(refusal)
+    }
+
+    /// Chooses a wish that isn't true at the first level of its turn. Where it is false, this tells why.
+    fn choose_or_refute(&mut self, alloc: Global, variable: VariableId) -> R<Option<Refusal>>
+        requires built { IsBuilt self.old }
+        requires above { top_level (history self.old.coding.search) < self.old.coding.search.floor }
+        requires open { has (made_true (history self.old.coding.search)) (yes variable) ≡ false }
+        requires wish { IsWish self.old variable }
+        ensures stays { OnOk result ((p : Packages N S) (root : Rules) → IsLawful p → IsEncoding S.eq p root self.old → IsEncoding S.eq p root self.new) }
+        ensures goes_on { OnOk result (GoesOn self.old self.new) }
+        ensures built { OnOk result (IsBuilt self.new) }
+        ensures tried { IfOk result (IsTried self.new variable) }
+    {
+        if let Some(refusal) = self.coding.search.refute(alloc, variable)? {
+            return Ok(Some(refusal));
+        }
+        self.coding.choose(variable, ClauseId(0))?;
+        Ok(None)
+    }
+
+    /// Adds the clause of a refusal, which bars what can't stand together.
+    pub fn learn_refusal(&mut self, refusal: Refusal) -> R<ClauseId>
+        requires built { IsBuilt self.old }
+        requires some { 0 < length refusal.literals.items }
+        requires bar { IsBar self.old.coding.search refusal.literals.items refusal.causes.items }
+        ensures stays { OnOk result ((p : Packages N S) (root : Rules) → IsLawful p → IsEncoding S.eq p root self.old → IsEncoding S.eq p root self.new) }
+        ensures goes_on { OnOk result (GoesOn self.old self.new) }
+        ensures built { OnOk result (IsBuilt self.new) }
+    {
+        let clause = self.coding.bar(refusal)?;
+        Ok(clause)
+    }
+}
