@@ -13,5 +13,6 @@ pub mod Digits
 pub mod Turning
 pub mod Staying
 pub mod WishLemmas
+pub mod Bases
 pub mod Helps
 pub mod Firing
