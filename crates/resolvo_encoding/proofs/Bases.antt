@@ -72,7 +72,7 @@ undone_below level (e ∷ older) new (inl is) low =
 undone_below level (e ∷ older) new (inr (high, u)) low = undone_below level older new u low ∙ sym (below_further (level + 1) e older (omega arith))
 
 -- entries do not fall below a level that one before them reached
-above_choice : (count : ℕ) (cs : List (List Signed)) (level : ℕ) (q rest : List Entry) → IsTrail count cs (q ++ rest) → level ≤ top_level rest → level ≤ top_level (q ++ rest)
+pub above_choice : (count : ℕ) (cs : List (List Signed)) (level : ℕ) (q rest : List Entry) → IsTrail count cs (q ++ rest) → level ≤ top_level rest → level ≤ top_level (q ++ rest)
 above_choice count cs level [] rest t high = high
 above_choice count cs level (d ∷ q) rest t high =
     let before : level ≤ top_level (q ++ rest) = above_choice count cs level q rest t.1 high in

@@ -14,5 +14,6 @@ pub mod Turning
 pub mod Staying
 pub mod WishLemmas
 pub mod Bases
+pub mod Blaming
 pub mod Helps
 pub mod Firing
