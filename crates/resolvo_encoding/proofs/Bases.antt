@@ -1,16 +1,15 @@
 -- What stood before a turn.
-use Rattle.std.proofs.Common.{◌≡◌, ℕ, suc, ◌+◌, ◌-◌, ◌<◌, ◌≤◌, ◌⊎◌, inl, inr, Bool, true, false, List, [], ◌∷◌, ◌++◌, length, reverse, Option, Some, None, Vec, Global, refl, sym, ◌∙◌, ap, subst, arith, lt-ltb, le-ltb}
+use Rattle.std.proofs.Common.{◌≡◌, ℕ, ◌+◌, ◌-◌, ◌<◌, ◌≤◌, ◌⊎◌, inl, inr, Bool, true, false, List, [], ◌∷◌, ◌++◌, reverse, Option, Some, None, refl, sym, ◌∙◌, ap, subst, arith, lt-ltb, le-ltb}
 use Rattle.std.specs.Prelude.{max, nat_lt, cond, Contains}
-use Rattle.std.proofs.lemmas.Bool.{both_ways, cases_Bool}
+use Rattle.std.proofs.lemmas.Bool.{both_ways}
 use Rattle.resolvo_pool.specs.declared.id.ClauseId.{ClauseId}
 use Rattle.resolvo_pool.specs.declared.id.VariableId.{VariableId}
-use Rattle.resolvo_store.specs.Signed.{Signed, negation, has}
-use Rattle.resolvo_store.specs.Clauses.{yes, no}
+use Rattle.resolvo_store.specs.Signed.{Signed, has}
+use Rattle.resolvo_store.specs.Clauses.{yes}
 use Rattle.resolvo_store.specs.declared.decision.Entry.{Entry}
 use Rattle.resolvo_search.specs.declared.advancing.Progress.{Progress}
-use Rattle.resolvo_search.specs.declared.state.SearchState.{SearchState}
 use Rattle.resolvo_search.specs.Advancing.{IsProgress}
-use Rattle.resolvo_search.specs.Entries.{literal_of, made_true, top_level, StandsOn, IsTrail, IsUndone, EndsWith}
+use Rattle.resolvo_search.specs.Entries.{made_true, top_level, StandsOn, IsTrail, IsUndone, EndsWith}
 use Rattle.resolvo_search.specs.State.{count_of, history, clauses_of}
 use Rattle.resolvo_search.specs.Steps.{Chooses, Undoes, choice_entry}
 use Rattle.resolvo_search.proofs.Improving.{extends_earlier, choice_earlier}
@@ -23,7 +22,6 @@ use Rattle.resolvo_encoding.specs.declared.encoding.Encoding.{Encoding}
 use Rattle.resolvo_encoding.specs.declared.encoding.Noted.{Noted}
 use Rattle.resolvo_encoding.specs.Base.{below, base_of, IsFirst, IsOpen, HasTurn, KeepsTurn, KeepsTurns, KeepsFirst}
 use Rattle.resolvo_encoding.specs.Going.{GoesOn}
-use Rattle.resolvo_encoding.specs.Steps.{IsBuilt, Extends}
 use Rattle.resolvo_encoding.specs.Wishing.{turn_of, IsWish}
 
 -- ---- the part of a trail below a level

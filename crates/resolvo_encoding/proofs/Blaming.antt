@@ -1,22 +1,22 @@
 -- What a refused wish is blamed on, and that no rule-keeping set holds it with what was chosen before.
-use Rattle.std.proofs.Common.{◌≡◌, ℕ, zero, suc, ◌+◌, ◌<◌, ◌≤◌, ◌⊎◌, inl, inr, Bool, true, false, List, [], ◌∷◌, ◌++◌, length, map, Option, Some, None, refl, sym, ◌∙◌, ap, subst, arith}
+use Rattle.std.proofs.Common.{◌≡◌, ℕ, zero, suc, ◌+◌, ◌<◌, ◌≤◌, ◌⊎◌, inl, inr, Bool, true, false, List, [], ◌∷◌, ◌++◌, length, map, Some, refl, sym, ◌∙◌, ap, subst, arith}
 use Rattle.std.specs.Prelude.{slice_get}
 use Rattle.std.proofs.lemmas.Bool.{both_ways}
 use Rattle.resolvo_pool.specs.declared.id.ClauseId.{ClauseId}
 use Rattle.resolvo_pool.specs.declared.id.VariableId.{VariableId}
-use Rattle.resolvo_pool.specs.RuleKeeping.{Packages, Rules, IsLawful, is_in, IsRuleKeeping}
+use Rattle.resolvo_pool.specs.RuleKeeping.{Packages, Rules, is_in, IsRuleKeeping}
 use Rattle.resolvo_store.specs.Signed.{Signed, negation, has}
 use Rattle.resolvo_store.specs.Clauses.{yes, no, root as root_variable}
 use Rattle.resolvo_store.specs.declared.decision.Entry.{Entry}
 use Rattle.resolvo_search.specs.declared.state.VariableKind.{VariableKind}
 use Rattle.resolvo_search.specs.declared.state.VariableKind.TheVariants as Kinds
-use Rattle.resolvo_search.specs.Analysis.{IsBar, IsKept, DeniesKept, IsReason, IsRefusal, IsSolvable}
+use Rattle.resolvo_search.specs.Analysis.{IsBar, IsKept, IsReason, IsRefusal}
 use Rattle.resolvo_search.specs.Entries.{literal_of, made_true, top_level, IsChoice, StandsOn, IsTrail}
 use Rattle.resolvo_search.specs.State.{count_of, history, clauses_of}
 use Rattle.resolvo_search.specs.Steps.{choice_entry}
 use Rattle.resolvo_search.proofs.Literals.{negation-negation, has-cons}
 use Rattle.resolvo_search.proofs.Trails.{known_from_stands, level_le_last, stands_from_entry}
-use Rattle.resolvo_rules.specs.Encoding.{IsExact, Atom, plus, minus, AgreeWith}
+use Rattle.resolvo_rules.specs.Encoding.{IsExact, Atom, minus}
 use Rattle.resolvo_rules.specs.Numbered.{Means, Denies}
 use Rattle.resolvo_rules.proofs.Turns.{turn_refused}
 use Rattle.resolvo_coding.specs.declared.atom.ProofAtom.{ProofAtom}
