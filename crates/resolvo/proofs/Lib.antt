@@ -5,3 +5,4 @@ pub mod Solved
 pub mod Answered
 pub mod CaseStated
 pub mod Passing
+pub mod Wishes

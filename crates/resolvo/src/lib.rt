@@ -11,3 +11,4 @@ pub mod proving;
 pub mod search;
 pub mod solver;
 pub mod turn;
+pub mod wishing;
