@@ -1,20 +1,36 @@
 -- The turns of wishes.
-use Rattle.std.proofs.Common.{◌≡◌, ℕ, ◌+◌, ◌<◌, ◌≤◌, inl, inr, Bool, true, false, List, [], ◌∷◌, ◌++◌, length, Option, Some, None, refl, sym, ◌∙◌, ap, subst, arith}
+use Rattle.std.proofs.Common.{◌≡◌, ℕ, suc, ◌+◌, ◌<◌, ◌≤◌, inl, inr, Bool, true, false, List, [], ◌∷◌, ◌++◌, length, Option, Some, None, refl, sym, ◌∙◌, ap, subst, arith}
+use Rattle.std.specs.Prelude.{not}
 use Rattle.resolvo_pool.specs.declared.id.VariableId.{VariableId}
 use Rattle.resolvo_pool.specs.declared.requirement.Requirement.{Requirement}
-use Rattle.resolvo_pool.specs.RuleKeeping.{Packages, Rules}
-use Rattle.resolvo_store.specs.Clauses.{yes, root as root_variable}
-use Rattle.resolvo_store.specs.Signed.{has}
+use Rattle.std.proofs.lemmas.Bool.{both_ways}
+use Rattle.resolvo_pool.specs.RuleKeeping.{Packages, Rules, is_in, IsRuleKeeping}
+use Rattle.resolvo_store.specs.AtMostOne.{IsFrontOf}
+use Rattle.resolvo_store.specs.declared.decision.Entry.{Entry}
+use Rattle.resolvo_store.specs.Clauses.{yes, no, root as root_variable}
+use Rattle.resolvo_store.specs.Signed.{Signed, negation, has}
+use Rattle.resolvo_search.specs.declared.analysis.Refusal.{Refusal}
+use Rattle.resolvo_search.specs.declared.state.SearchState.{SearchState}
+use Rattle.resolvo_search.specs.Analysis.{DeniesKept, IsBar, IsRefusal}
+use Rattle.resolvo_search.proofs.Literals.{has-cons, negation-negation}
 use Rattle.resolvo_search.specs.Entries.{made_true, top_level}
 use Rattle.resolvo_search.specs.State.{count_of, history, clauses_of}
-use Rattle.resolvo_search.proofs.Trails.{level_le_last, root_stands}
+use Rattle.resolvo_search.proofs.Trails.{known_in_range, level_le_last, root_stands}
+use Rattle.resolvo_rules.specs.Encoding.{IsExact}
+use Rattle.resolvo_coding.specs.declared.atom.ProofAtom.TheVariants.{Solvable}
+use Rattle.resolvo_coding.specs.Atoms.{StandsFor}
+use Rattle.resolvo_coding.specs.Coding.{IsCoding}
+use Rattle.resolvo_coding.proofs.Origins.{count_is, stands_front, stands_other, stands_same, stands_some}
 use Rattle.resolvo_encoding.specs.declared.encoding.Encoding.{Encoding}
-use Rattle.resolvo_encoding.specs.Base.{base_of, IsOpen}
+use Rattle.resolvo_encoding.specs.Base.{base_of, IsBlamed, IsOpen, IsTaken}
 use Rattle.resolvo_encoding.specs.Encoded.{IsEncoding}
 use Rattle.resolvo_encoding.specs.Steps.{IsBuilt, AddsParent}
 use Rattle.resolvo_encoding.specs.Wishing.{turn_of, IsWish}
 use Rattle.resolvo_encoding.proofs.Bases.{turn_begun}
+use Rattle.resolvo_encoding.proofs.Blaming.{blame_refuses, empty_refuses, reason_blames, refusal_blames}
 use Rattle.resolvo.specs.Encoder.{IsInOrder, AddsParents}
+use Rattle.resolvo.specs.Turn.{IsRefusedBy}
+use Rattle.resolvo.specs.Wished.{IsDenied, IsTrue}
 use Rattle.resolvo.proofs.Adding.{all_then, needs_parents, parents_in_order, parents_needs}
 
 -- the root stands at the first level
@@ -35,3 +51,49 @@ module _ {N S : Type 0} (e begun first : Encoding N S) (is : begun ≡ turn_of e
   pub begun_in_turn : (same : S → S → Bool) (p : Packages N S) (orders : Requirement → List S → Type 0) (root : Rules) → IsEncoding same p root begun → IsInOrder same p orders root e → IsInOrder same p orders root first
   begun_in_turn same p orders root holds order = parents_in_order same p orders root begun first
       (subst (λ (x : Encoding N S). IsInOrder same p orders root x) (sym is) (record { encoding = subst (λ (x : Encoding N S). IsEncoding same p root x) is holds; ordered = order.ordered })) added
+
+-- ---- what a refused turn tells
+
+-- a literal that denies a kept choice is negative
+denial_negative : (s : SearchState) (l : Signed) → DeniesKept s l → l.positive ≡ false
+denial_negative s l (d, older, stands, is, kept) = ap (λ (x : Signed). x.positive) (sym (negation-negation l) ∙ ap negation (sym is)) ∙ ap not kept.chosen
+
+module _ {N S : Type 0} (e : Encoding N S) (v : VariableId) where
+  -- a refused turn has a clause that only denies
+  pub refused_bars : (r : Refusal) → IsRefusedBy (Some v) e r → IsBar e.coding.search r.literals.items r.causes.items
+  refused_bars r (inl (refusal, has)) = record { derived = refusal.derived; caused = refusal.caused; from = refusal.from; negative = λ l h. denial_negative e.coding.search l (refusal.denies l h) }
+  refused_bars r (inr (reason, low)) = record { derived = reason.derived; caused = reason.caused; from = reason.from; negative = λ l h. elim (reason.denies l h) [
+    | inl itself ↦ elim (has-cons (no v) [] l itself) [ inl is ↦ ap (λ (x : Signed). x.positive) (sym is) | inr none ↦ absurd (both_ways false refl none) ]
+    | inr kept ↦ denial_negative e.coding.search l kept
+  ] }
+
+  -- and without literals it is a refusal of the root's turn
+  pub refused_empty : (r : Refusal) → IsRefusedBy (Some v) e r → r.literals.items ≡ [] → IsRefusal e.coding.search r.literals.items r.causes.items
+  refused_empty r (inl (refusal, has)) none = refusal
+  refused_empty r (inr (reason, low)) none = record { derived = reason.derived; caused = reason.caused; from = reason.from; denies = λ l h. absurd (both_ways false refl (subst (λ (ls : List Signed). has ls l ≡ true) none h)) }
+
+  module _ (same : S → S → Bool) (exact : IsExact same) (p : Packages N S) (root : Rules) (holds : IsEncoding same p root e) (same_name : N → N → Bool) (names : IsExact same_name) (o : IsOpen e v) where
+    -- the wish is blamed on what was chosen before its turn
+    pub refused_blamed : (r : Refusal) → IsRefusedBy (Some v) e r → IsBlamed e v r.literals.items r.causes.items
+    refused_blamed r (inl (refusal, has)) = refusal_blames same exact p root e holds v r.literals.items r.causes.items o has refusal
+    refused_blamed r (inr (reason, low)) = reason_blames same exact p root e holds v r.literals.items r.causes.items low reason
+
+    -- where there are no literals, no solvables keep all rules
+    pub refused_all : (r : Refusal) → IsRefusedBy (Some v) e r → r.literals.items ≡ [] → (set : List S) → IsRuleKeeping same p root set → ⊥
+    refused_all r refused none set keeping = empty_refuses same exact p root e holds same_name names v r.literals.items r.causes.items (refused_blamed r refused) (ap (λ ls. length ls) none) set keeping
+
+    -- what was chosen before the turn is what the trail chose then
+    taken_true : (before : Encoding N S) → IsCoding before.coding → IsFrontOf before.coding.atoms.keys e.coding.atoms.keys → base_of e ≡ history before.coding.search → (t : S) → IsTaken e t → IsTrue before t
+    taken_true before coding front base t (u, stands, truth) =
+        let known : has (made_true (history before.coding.search)) (yes u) ≡ true = subst (λ (h : List Entry). has (made_true h) (yes u) ≡ true) base truth in
+        let range : u.0 < count_of before.coding.search = known_in_range (count_of before.coding.search) (clauses_of before.coding.search) (history before.coding.search) (yes u) coding.ready.state.trail known in
+        let count : count_of before.coding.search ≡ suc (length before.coding.atoms.keys) = count_is before.coding coding in
+        let (k, a, place, at) = stands_some before.coding.atoms.keys u.0 (stands_other e.coding.atoms.keys u (Solvable t) stands) (omega arith) in
+        let is : a ≡ Solvable t = stands_same e.coding.atoms.keys u a (Solvable t) (stands_front before.coding.atoms.keys e.coding.atoms.keys u a front (k, place, at)) stands in
+        (u, subst (λ x. StandsFor before.coding.atoms.keys u x) is (k, place, at), known)
+
+    -- no rule-keeping set holds the wish with what was chosen before
+    pub refused_denied : (before : Encoding N S) → IsCoding before.coding → IsFrontOf before.coding.atoms.keys e.coding.atoms.keys → base_of e ≡ history before.coding.search → (s : S) → StandsFor e.coding.atoms.keys v (Solvable s)
+        → (r : Refusal) → IsRefusedBy (Some v) e r → IsDenied same p root before s
+    refused_denied before coding front base s stands r refused = λ set keeping holds_all held.
+        blame_refuses same exact p root e holds same_name names v s r.literals.items r.causes.items (refused_blamed r refused) stands set keeping (λ t taken. holds_all t (taken_true before coding front base t taken)) held

@@ -11,10 +11,13 @@ use Rattle.resolvo_search.specs.Entries.{made_true, EndsWith}
 use Rattle.resolvo_search.specs.State.{history}
 use Rattle.resolvo_coding.specs.declared.atom.ProofAtom.TheVariants.{Solvable}
 use Rattle.resolvo_coding.specs.Atoms.{StandsFor}
+use Rattle.resolvo_coding.specs.Coding.{Grows}
+use Rattle.resolvo_search.specs.declared.analysis.Refusal.{Refusal}
+use Rattle.resolvo_encoding.specs.Base.{base_of, IsOpen}
 use Rattle.resolvo_encoding.specs.declared.encoding.Encoding.{Encoding}
 use Rattle.resolvo.specs.declared.wishing.Wished.{Wished}
 use Rattle.resolvo.specs.declared.wishing.Wished.TheVariants.{Stood, Chosen, Refused, Clash}
-use Rattle.resolvo.specs.Turn.{IsRooted, IsTurn}
+use Rattle.resolvo.specs.Turn.{IsRefusedBy, IsRooted, IsTurn}
 
 -- the solvable is a candidate of its package
 abbrev pub IsCandidate : {N S : Type 0} → (S → S → Bool) → Packages N S → S → Type 0
@@ -37,6 +40,27 @@ IsOutcome same s old new Stood = (new.noted.wishes.keys ≡ old.noted.wishes.key
 IsOutcome same s old new Chosen = (new.noted.wishes.keys ≡ old.noted.wishes.keys ++ s ∷ []) × ((v : VariableId) × StandsFor new.coding.atoms.keys v (Solvable s) × IsTurn same (Some v) new None)
 IsOutcome same s old new (Refused clause) = (new.noted.wishes.keys ≡ old.noted.wishes.keys) × (history new.coding.search ≡ history old.coding.search)
 IsOutcome same s old new (Clash r) = IsRefusal new.coding.search r.literals.items r.causes.items × (r.literals.items ≡ [])
+
+-- the variable is that of the last wish
+abbrev pub IsLast : {N S : Type 0} → Encoding N S → VariableId → Type 0
+IsLast {N} {S} e v = (front : List S) × (s : S) × (e.noted.wishes.keys ≡ front ++ s ∷ []) × StandsFor e.coding.atoms.keys v (Solvable s)
+
+-- the turn is that of the last wish, and is refused
+abbrev pub IsRefusable : {N S : Type 0} → Encoding N S → Refusal → Type 0
+IsRefusable e r = (v : VariableId) × IsOpen e v × IsLast e v × IsRefusedBy (Some v) e r
+
+-- Where the refusal has literals, the trail is what it was before the turn, and the wish is noted no more. Else nothing changed.
+abbrev pub IsTurnedDown : {N S : Type 0} → Refusal → Encoding N S → Encoding N S → Wished → Type 0
+IsTurnedDown refusal old new Stood = ⊥
+IsTurnedDown refusal old new Chosen = ⊥
+IsTurnedDown {N} {S} refusal old new (Refused clause) = (history new.coding.search ≡ base_of old) × ((front : List S) (s : S) → old.noted.wishes.keys ≡ front ++ s ∷ [] → new.noted.wishes.keys ≡ front)
+IsTurnedDown refusal old new (Clash r) = (r ≡ refusal) × (r.literals.items ≡ []) × (new ≡ old)
+
+-- clauses may have come, and what variables stand for, candidates and parents are what they were
+pub record KeepsRest {N S : Type 0} (old new : Encoding N S) : Type 0 where
+  pub grows : Grows old.coding new.coding
+  pub lists : new.lists ≡ old.lists
+  pub parents : new.parents ≡ old.parents
 
 module _ {N S : Type 0} (same : S → S → Bool) (p : Packages N S) (root : Rules) where
   -- no rule-keeping set holds the solvable with all that the trail chooses

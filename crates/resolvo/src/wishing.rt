@@ -8,20 +8,25 @@ ghost use Rattle.resolvo_store.specs.Signed.{has};
 ghost use Rattle.resolvo_search.specs.Entries.{made_true};
 ghost use Rattle.resolvo_search.specs.State.{history};
 ghost use Rattle.resolvo_encoding.specs.Base.{base_of, IsOpen};
+ghost use Rattle.resolvo_encoding.specs.Encoded.{IsEncoding};
 ghost use Rattle.resolvo_encoding.specs.Steps.{IsBuilt};
 ghost use Rattle.resolvo_encoding.specs.Wishing.{turn_of, IsWish};
 ghost use Rattle.resolvo.specs.Encoder.{IsInOrder, IsRoot, AddsParents};
 ghost use Rattle.resolvo.specs.Turn.{IsRooted, IsTurn};
+ghost use Rattle.resolvo.specs.Wished.{IsCandidate, IsOutcome, IsRefusable, IsTold, IsTurnedDown, KeepsRest, KeepsTrail};
+ghost use Rattle.resolvo.specs.declared.wishing.Wished.TheVariants.{Refused};
 
 use crate::deciding::Activity;
 use crate::turn::run_turn;
-use resolvo_answers::answering::Answering;
+use resolvo_answers::answering::{Answering, Offered};
 use resolvo_encoding::encoding::Encoding;
 use resolvo_pool::cache::CacheFault;
 use resolvo_pool::id::{ClauseId, VariableId, VersionSetId};
 use resolvo_pool::requirement::ConditionalRequirement;
 use resolvo_pool::solver_id::SolverId;
+use resolvo_pool::want::R;
 use resolvo_search::analysis::Refusal;
+use resolvo_store::literal::Literal;
 use std::alloc::Global;
 
 /// What the turn of a wish came to.
