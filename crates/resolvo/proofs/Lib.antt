@@ -6,3 +6,5 @@ pub mod Answered
 pub mod CaseStated
 pub mod Passing
 pub mod Wishes
+pub mod Listing
+pub mod Next

@@ -52,6 +52,15 @@ module _ {N S : Type 0} (e begun first : Encoding N S) (is : begun ≡ turn_of e
   begun_in_turn same p orders root holds order = parents_in_order same p orders root begun first
       (subst (λ (x : Encoding N S). IsInOrder same p orders root x) (sym is) (record { encoding = subst (λ (x : Encoding N S). IsEncoding same p root x) is holds; ordered = order.ordered })) added
 
+-- a variable that was true stood for what it stands for
+pub true_before : {N S : Type 0} (a b : Encoding N S) → IsCoding a.coding → IsFrontOf a.coding.atoms.keys b.coding.atoms.keys → (s : S) (u : VariableId) → StandsFor b.coding.atoms.keys u (Solvable s) → has (made_true (history a.coding.search)) (yes u) ≡ true → IsTrue a s
+true_before a b coding front s u stands known =
+    let range : u.0 < count_of a.coding.search = known_in_range (count_of a.coding.search) (clauses_of a.coding.search) (history a.coding.search) (yes u) coding.ready.state.trail known in
+    let count : count_of a.coding.search ≡ suc (length a.coding.atoms.keys) = count_is a.coding coding in
+    let (k, x, place, at) = stands_some a.coding.atoms.keys u.0 (stands_other b.coding.atoms.keys u (Solvable s) stands) (omega arith) in
+    let is : x ≡ Solvable s = stands_same b.coding.atoms.keys u x (Solvable s) (stands_front a.coding.atoms.keys b.coding.atoms.keys u x front (k, place, at)) stands in
+    (u, subst (λ y. StandsFor a.coding.atoms.keys u y) is (k, place, at), known)
+
 -- ---- what a refused turn tells
 
 -- a literal that denies a kept choice is negative
@@ -84,13 +93,7 @@ module _ {N S : Type 0} (e : Encoding N S) (v : VariableId) where
 
     -- what was chosen before the turn is what the trail chose then
     taken_true : (before : Encoding N S) → IsCoding before.coding → IsFrontOf before.coding.atoms.keys e.coding.atoms.keys → base_of e ≡ history before.coding.search → (t : S) → IsTaken e t → IsTrue before t
-    taken_true before coding front base t (u, stands, truth) =
-        let known : has (made_true (history before.coding.search)) (yes u) ≡ true = subst (λ (h : List Entry). has (made_true h) (yes u) ≡ true) base truth in
-        let range : u.0 < count_of before.coding.search = known_in_range (count_of before.coding.search) (clauses_of before.coding.search) (history before.coding.search) (yes u) coding.ready.state.trail known in
-        let count : count_of before.coding.search ≡ suc (length before.coding.atoms.keys) = count_is before.coding coding in
-        let (k, a, place, at) = stands_some before.coding.atoms.keys u.0 (stands_other e.coding.atoms.keys u (Solvable t) stands) (omega arith) in
-        let is : a ≡ Solvable t = stands_same e.coding.atoms.keys u a (Solvable t) (stands_front before.coding.atoms.keys e.coding.atoms.keys u a front (k, place, at)) stands in
-        (u, subst (λ x. StandsFor before.coding.atoms.keys u x) is (k, place, at), known)
+    taken_true before coding front base t (u, stands, truth) = true_before before e coding front t u stands (subst (λ (h : List Entry). has (made_true h) (yes u) ≡ true) base truth)
 
     -- no rule-keeping set holds the wish with what was chosen before
     pub refused_denied : (before : Encoding N S) → IsCoding before.coding → IsFrontOf before.coding.atoms.keys e.coding.atoms.keys → base_of e ≡ history before.coding.search → (s : S) → StandsFor e.coding.atoms.keys v (Solvable s)

@@ -1,5 +1,5 @@
 -- What the turn of a wish comes to.
-use Rattle.std.specs.Prelude.{◌≡◌, Bool, true, ⊤, List, [], ◌∷◌, ◌++◌, Option, Some, None}
+use Rattle.std.specs.Prelude.{◌≡◌, Bool, true, ⊤, List, [], ◌∷◌, ◌++◌, Option, Some, None, Contains}
 use Rattle.resolvo_pool.specs.declared.id.VariableId.{VariableId}
 use Rattle.resolvo_pool.specs.Provider.{listed}
 use Rattle.resolvo_pool.specs.RuleKeeping.{Packages, Rules, is_in, IsRuleKeeping}
@@ -17,11 +17,16 @@ use Rattle.resolvo_encoding.specs.Base.{base_of, IsOpen}
 use Rattle.resolvo_encoding.specs.declared.encoding.Encoding.{Encoding}
 use Rattle.resolvo.specs.declared.wishing.Wished.{Wished}
 use Rattle.resolvo.specs.declared.wishing.Wished.TheVariants.{Stood, Chosen, Refused, Clash}
+use Rattle.resolvo.specs.Solution.{IsUnsolvable}
 use Rattle.resolvo.specs.Turn.{IsRefusedBy, IsRooted, IsTurn}
 
 -- the solvable is a candidate of its package
 abbrev pub IsCandidate : {N S : Type 0} → (S → S → Bool) → Packages N S → S → Type 0
 IsCandidate same p s = is_in same p (listed (p.candidates_of (p.package_of s))) s ≡ true
+
+-- each of them is
+abbrev pub AreCandidates : {N S : Type 0} → (S → S → Bool) → Packages N S → List S → Type 0
+AreCandidates {N} {S} same p list = (s : S) → Contains list s → IsCandidate same p s
 
 -- the trail chooses the solvable
 abbrev pub IsTrue : {N S : Type 0} → Encoding N S → S → Type 0
@@ -38,7 +43,7 @@ pub record KeepsTrail {N S : Type 0} (old new : Encoding N S) : Type 0 where
 abbrev pub IsOutcome : {N S : Type 0} → (S → S → Bool) → S → Encoding N S → Encoding N S → Wished → Type 0
 IsOutcome same s old new Stood = (new.noted.wishes.keys ≡ old.noted.wishes.keys ++ s ∷ []) × (history new.coding.search ≡ history old.coding.search) × IsTrue new s
 IsOutcome same s old new Chosen = (new.noted.wishes.keys ≡ old.noted.wishes.keys ++ s ∷ []) × ((v : VariableId) × StandsFor new.coding.atoms.keys v (Solvable s) × IsTurn same (Some v) new None)
-IsOutcome same s old new (Refused clause) = (new.noted.wishes.keys ≡ old.noted.wishes.keys) × (history new.coding.search ≡ history old.coding.search)
+IsOutcome same s old new (Refused clause) = (new.noted.wishes.keys ≡ old.noted.wishes.keys) × (history new.coding.search ≡ history old.coding.search) × (IsTrue new s → ⊥)
 IsOutcome same s old new (Clash r) = IsRefusal new.coding.search r.literals.items r.causes.items × (r.literals.items ≡ [])
 
 -- the variable is that of the last wish
@@ -72,4 +77,4 @@ module _ {N S : Type 0} (same : S → S → Bool) (p : Packages N S) (root : Rul
   IsTold old s Stood = ⊤
   IsTold old s Chosen = ⊤
   IsTold old s (Refused clause) = IsDenied old s
-  IsTold old s (Clash r) = (set : List S) → IsRuleKeeping same p root set → ⊥
+  IsTold old s (Clash r) = IsUnsolvable same p root
