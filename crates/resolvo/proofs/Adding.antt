@@ -119,7 +119,7 @@ pub parents_needs : {N S : Type 0} (a b : Encoding N S) → AddsParent a b → A
 parents_needs {N} {S} a b f = record {
   grows = subst (λ (x : Coding N S). Grows a.coding x) (sym (parents_coding a b f)) (grows_same a.coding);
   earlier = tracker_earlier a b (a.coding.search.floor - 1) (ap (λ (x : Encoding N S). x.coding.search.tracker) f.rest);
-  wishes = ap (λ (x : Encoding N S). x.noted.wishes.keys) f.rest;
+  wishes = ap (λ (x : Encoding N S). x.noted.wishes.items) f.rest;
   parents = f.front;
   encoded = parents_encoded a b f;
   deferred = front_equal a.deferred.items b.deferred.items (ap (λ (x : Encoding N S). x.deferred.items) f.rest);
@@ -131,7 +131,7 @@ pub defers_needs : {N S : Type 0} (a b : Encoding N S) → Defers a b → AddsNe
 defers_needs {N} {S} a b f = record {
   grows = subst (λ (x : Coding N S). Grows a.coding x) (sym (ap (λ (x : Encoding N S). x.coding) f.rest)) (grows_same a.coding);
   earlier = tracker_earlier a b (a.coding.search.floor - 1) (ap (λ (x : Encoding N S). x.coding.search.tracker) f.rest);
-  wishes = ap (λ (x : Encoding N S). x.noted.wishes.keys) f.rest;
+  wishes = ap (λ (x : Encoding N S). x.noted.wishes.items) f.rest;
   parents = front_equal a.parents.keys b.parents.keys (ap (λ (x : Encoding N S). x.parents.keys) f.rest);
   encoded = ap (λ (x : Encoding N S). x.encoded) f.rest;
   deferred = f.front;
@@ -143,7 +143,7 @@ pub fires_needs : {N S : Type 0} (index : ℕ) (a b : Encoding N S) → Fires in
 fires_needs {N} {S} index a b f = record {
   grows = subst (λ (x : Coding N S). Grows a.coding x) (sym (ap (λ (x : Encoding N S). x.coding) f.rest)) (grows_same a.coding);
   earlier = tracker_earlier a b (a.coding.search.floor - 1) (ap (λ (x : Encoding N S). x.coding.search.tracker) f.rest);
-  wishes = ap (λ (x : Encoding N S). x.noted.wishes.keys) f.rest;
+  wishes = ap (λ (x : Encoding N S). x.noted.wishes.items) f.rest;
   parents = front_equal a.parents.keys b.parents.keys (ap (λ (x : Encoding N S). x.parents.keys) f.rest);
   encoded = ap (λ (x : Encoding N S). x.encoded) f.rest;
   deferred = front_equal a.deferred.items b.deferred.items (ap (λ (x : Encoding N S). x.deferred.items) f.rest);
@@ -155,7 +155,7 @@ pub goes_needs : {N S : Type 0} (a b : Encoding N S) → GoesOn a b → AddsNeed
 goes_needs {N} {S} a b f = record {
   grows = f.grows;
   earlier = f.earlier;
-  wishes = ap (λ (y : Noted N S). y.wishes.keys) f.rest.noted;
+  wishes = ap (λ (y : Noted N S). y.wishes.items) f.rest.noted;
   parents = front_equal a.parents.keys b.parents.keys (ap (λ ks. ks.keys) f.rest.parents);
   encoded = f.rest.encoded;
   deferred = front_equal a.deferred.items b.deferred.items (ap (λ ds. ds.items) f.rest.deferred);
