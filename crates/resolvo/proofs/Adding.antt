@@ -83,7 +83,7 @@ module _ {N S : Type 0} (same : S → S → Bool) (p : Packages N S) (orders : R
 -- ---- needs
 
 -- where the trail is the same, so is the turn
-coding_turns : {N S : Type 0} (a b : Encoding N S) → b.coding ≡ a.coding → b.noted.wishes.keys ≡ a.noted.wishes.keys → KeepsTurns a b
+coding_turns : {N S : Type 0} (a b : Encoding N S) → b.coding ≡ a.coding → b.noted.wishes.items ≡ a.noted.wishes.items → KeepsTurns a b
 coding_turns {N} {S} a b same wishes = same_turns a b (subst (λ (x : Coding N S). Grows a.coding x) (sym same) (grows_same a.coding)) (record { tracker = ap (λ (x : Coding N S). x.search.tracker) same }) wishes
 
 pub needs_none : {N S : Type 0} (e : Encoding N S) → AddsNeeds e e
@@ -114,8 +114,8 @@ extends_needs a b f = record {
 pub parents_needs : {N S : Type 0} (a b : Encoding N S) → AddsParent a b → AddsNeeds a b
 parents_needs {N} {S} a b f = record {
   grows = subst (λ (x : Coding N S). Grows a.coding x) (sym (parents_coding a b f)) (grows_same a.coding);
-  turn = coding_turns a b (ap (λ (x : Encoding N S). x.coding) f.rest) (ap (λ (x : Encoding N S). x.noted.wishes.keys) f.rest);
-  wishes = ap (λ (x : Encoding N S). x.noted.wishes.keys) f.rest;
+  turn = coding_turns a b (ap (λ (x : Encoding N S). x.coding) f.rest) (ap (λ (x : Encoding N S). x.noted.wishes.items) f.rest);
+  wishes = ap (λ (x : Encoding N S). x.noted.wishes.items) f.rest;
   parents = f.front;
   encoded = parents_encoded a b f;
   deferred = front_equal a.deferred.items b.deferred.items (ap (λ (x : Encoding N S). x.deferred.items) f.rest);
@@ -126,8 +126,8 @@ parents_needs {N} {S} a b f = record {
 pub defers_needs : {N S : Type 0} (a b : Encoding N S) → Defers a b → AddsNeeds a b
 defers_needs {N} {S} a b f = record {
   grows = subst (λ (x : Coding N S). Grows a.coding x) (sym (ap (λ (x : Encoding N S). x.coding) f.rest)) (grows_same a.coding);
-  turn = coding_turns a b (ap (λ (x : Encoding N S). x.coding) f.rest) (ap (λ (x : Encoding N S). x.noted.wishes.keys) f.rest);
-  wishes = ap (λ (x : Encoding N S). x.noted.wishes.keys) f.rest;
+  turn = coding_turns a b (ap (λ (x : Encoding N S). x.coding) f.rest) (ap (λ (x : Encoding N S). x.noted.wishes.items) f.rest);
+  wishes = ap (λ (x : Encoding N S). x.noted.wishes.items) f.rest;
   parents = front_equal a.parents.keys b.parents.keys (ap (λ (x : Encoding N S). x.parents.keys) f.rest);
   encoded = ap (λ (x : Encoding N S). x.encoded) f.rest;
   deferred = f.front;
@@ -138,8 +138,8 @@ defers_needs {N} {S} a b f = record {
 pub fires_needs : {N S : Type 0} (index : ℕ) (a b : Encoding N S) → Fires index a b → AddsNeeds a b
 fires_needs {N} {S} index a b f = record {
   grows = subst (λ (x : Coding N S). Grows a.coding x) (sym (ap (λ (x : Encoding N S). x.coding) f.rest)) (grows_same a.coding);
-  turn = coding_turns a b (ap (λ (x : Encoding N S). x.coding) f.rest) (ap (λ (x : Encoding N S). x.noted.wishes.keys) f.rest);
-  wishes = ap (λ (x : Encoding N S). x.noted.wishes.keys) f.rest;
+  turn = coding_turns a b (ap (λ (x : Encoding N S). x.coding) f.rest) (ap (λ (x : Encoding N S). x.noted.wishes.items) f.rest);
+  wishes = ap (λ (x : Encoding N S). x.noted.wishes.items) f.rest;
   parents = front_equal a.parents.keys b.parents.keys (ap (λ (x : Encoding N S). x.parents.keys) f.rest);
   encoded = ap (λ (x : Encoding N S). x.encoded) f.rest;
   deferred = front_equal a.deferred.items b.deferred.items (ap (λ (x : Encoding N S). x.deferred.items) f.rest);
@@ -151,7 +151,7 @@ pub goes_needs : {N S : Type 0} (a b : Encoding N S) → GoesOn a b → KeepsTur
 goes_needs {N} {S} a b f turn = record {
   grows = f.grows;
   turn = turn;
-  wishes = ap (λ (y : Noted N S). y.wishes.keys) f.rest.noted;
+  wishes = ap (λ (y : Noted N S). y.wishes.items) f.rest.noted;
   parents = front_equal a.parents.keys b.parents.keys (ap (λ ks. ks.keys) f.rest.parents);
   encoded = f.rest.encoded;
   deferred = front_equal a.deferred.items b.deferred.items (ap (λ ds. ds.items) f.rest.deferred);
@@ -281,13 +281,13 @@ needs_parents a b f = record { grows = f.grows; wishes = f.wishes; parents = f.p
 
 -- the end of a parent leaves the turn
 pub next_turns : {N S : Type 0} (a b : Encoding N S) → b ≡ record a { encoded = a.encoded + 1 } → KeepsTurns a b
-next_turns {N} {S} a b is = coding_turns a b (ap (λ (x : Encoding N S). x.coding) is) (ap (λ (x : Encoding N S). x.noted.wishes.keys) is)
+next_turns {N} {S} a b is = coding_turns a b (ap (λ (x : Encoding N S). x.coding) is) (ap (λ (x : Encoding N S). x.noted.wishes.items) is)
 
 -- the search going on adds no parent
 pub goes_parents : {N S : Type 0} (a b : Encoding N S) → GoesOn a b → AddsParents a b
 goes_parents {N} {S} a b f = record {
   grows = f.grows;
-  wishes = ap (λ (y : Noted N S). y.wishes.keys) f.rest.noted;
+  wishes = ap (λ (y : Noted N S). y.wishes.items) f.rest.noted;
   parents = front_equal a.parents.keys b.parents.keys (ap (λ ks. ks.keys) f.rest.parents);
   encoded = (let x : b.encoded ≡ a.encoded = f.rest.encoded in omega arith);
   deferred = front_equal a.deferred.items b.deferred.items (ap (λ ds. ds.items) f.rest.deferred);

@@ -31,7 +31,7 @@ begun_in_order same p orders root e begun holds = record { encoding = holds; ord
 
 module _ {N S : Type 0} (same_name : N → N → Bool) (names : IsExact same_name) (same : S → S → Bool) (exact : IsExact same) (p : Packages N S) (orders : Requirement → List S → Type 0) (root : Rules) (lawful : IsLawful p) (e : Encoding N S) where
   -- what the end of the root's turn tells
-  pub turn_found : IsInOrder same p orders root e → e.coding.search.floor ≡ 1 → e.noted.wishes.keys ≡ [] → (turn : Option Refusal) → IsTurn same None e turn → (f : Found S) → IsFoundBy e turn f → IsFound same p root e f × IsPreferred same p orders root f
+  pub turn_found : IsInOrder same p orders root e → e.coding.search.floor ≡ 1 → e.noted.wishes.items ≡ [] → (turn : Option Refusal) → IsTurn same None e turn → (f : Found S) → IsFoundBy e turn f → IsFound same p root e f × IsPreferred same p orders root f
   turn_found holds first alone None (settled, whole, spent, wish) (Chosen v) chosen =
       let (keeping, reached, inside) = turn_keeps same exact p root lawful e same_name names holds.encoding spent settled.values settled.score settled.agree settled.quiet settled.decided v.items chosen (whole v.items chosen) alone in (
         record { keeping = keeping; reached = reached; inside = inside },

@@ -93,25 +93,25 @@ module _ {N S : Type 0} where
   -- ---- the turn is told
 
   pub next_at : (a b : Encoding N S) (t m u : Turns S) (s : S) (begin : ℕ) (w : Wished) → AreAt a t → AreChosen b.coding.atoms.keys (made_true (history b.coding.search)) m.chosen.keys → m.turns ≡ t.turns → Records s begin w m u
-      → b.noted.wishes.keys ≡ cond (was_accepted w) (a.noted.wishes.keys ++ s ∷ []) a.noted.wishes.keys → AreAt b u
+      → b.noted.wishes.items ≡ cond (was_accepted w) (a.noted.wishes.items ++ s ∷ []) a.noted.wishes.items → AreAt b u
   next_at a b t m u s begin w at are turns told wishes =
       let all : reverse u.turns.items ≡ told.turn ∷ reverse t.turns.items = ap reverse (told.turns ∙ ap (λ (ts : Vec (Turn S) Global). ts.items ++ told.turn ∷ []) turns) ∙ reverse_push t.turns.items told.turn in
       record {
         chosen = subst (λ (c : HashSet S (BuildHasherDefault FoldHasher)). AreChosen b.coding.atoms.keys (made_true (history b.coding.search)) c.keys) (sym told.chosen) are;
-        wishes = wishes ∙ wishes_told a.noted.wishes.keys s told.turn (reverse t.turns.items) (was_accepted w) told.tells.accepted told.tells.solvable at.wishes ∙ ap accepted_of (sym all);
+        wishes = wishes ∙ wishes_told a.noted.wishes.items s told.turn (reverse t.turns.items) (was_accepted w) told.tells.accepted told.tells.solvable at.wishes ∙ ap accepted_of (sym all);
       }
 
   module _ (same : S → S → Bool) (exact : IsExact same) (p : Packages N S) (root : Rules) where
     -- what was told of it is right
     pub next_told : (a b : Encoding N S) (t m u : Turns S) (first : ℕ) (done : List S) (s : S) (w : Wished) → AreAt a t → AreRight same p root first done t → IsFrontOf t.chosen.keys m.chosen.keys → m.turns ≡ t.turns → Records s (length t.chosen.keys) w m u
-        → b.noted.wishes.keys ≡ cond (was_accepted w) (a.noted.wishes.keys ++ s ∷ []) a.noted.wishes.keys → IsAccepted same p root b.noted.wishes.keys m.chosen.keys → was_accepted w ≡ is_in same p m.chosen.keys s
+        → b.noted.wishes.items ≡ cond (was_accepted w) (a.noted.wishes.items ++ s ∷ []) a.noted.wishes.items → IsAccepted same p root b.noted.wishes.items m.chosen.keys → was_accepted w ≡ is_in same p m.chosen.keys s
         → (was_accepted w ≡ false → IsDenied same p root a s) → AreRight same p root first (done ++ s ∷ []) u
     next_told a b t m u first done s w at right front turns told wishes accepted is denied =
         let keys : u.chosen.keys ≡ m.chosen.keys = ap (λ (c : HashSet S (BuildHasherDefault FoldHasher)). c.keys) told.chosen in
         next_right same p root first done s t u told.turn right (subst (λ (xs : List S). IsFrontOf t.chosen.keys xs) (sym keys) front) (told.turns ∙ ap (λ (ts : Vec (Turn S) Global). ts.items ++ told.turn ∷ []) turns)
         told.tells.begin_is (told.tells.end_is ∙ ap (λ (xs : List S). length xs) (sym keys)) told.tells.solvable
         (subst (λ (xs : List S). IsAccepted same p root (accepted_of (told.turn ∷ reverse t.turns.items)) xs) (sym keys)
-        (subst (λ (ws : List S). IsAccepted same p root ws m.chosen.keys) (wishes ∙ wishes_told a.noted.wishes.keys s told.turn (reverse t.turns.items) (was_accepted w) told.tells.accepted told.tells.solvable at.wishes) accepted))
+        (subst (λ (ws : List S). IsAccepted same p root ws m.chosen.keys) (wishes ∙ wishes_told a.noted.wishes.items s told.turn (reverse t.turns.items) (was_accepted w) told.tells.accepted told.tells.solvable at.wishes) accepted))
         (told.tells.accepted ∙ is ∙ ap (λ (xs : List S). is_in same p xs s) (sym keys))
         (λ so set keeping all held. denied (sym told.tells.accepted ∙ so) set keeping (λ r truth. all r (contained_in same exact p t.chosen.keys r (true_chosen a t.chosen.keys at.chosen r truth))) held)
 
@@ -127,6 +127,6 @@ module _ {N S : Type 0} where
 
     -- the end of the turn of a wish that was chosen
     pub chosen_accepted : (same_name : N → N → Bool) → IsExact same_name → IsLawful p → (orders : Requirement → List S → Type 0) (b : Encoding N S) (wish : Option VariableId) (members : List S) → IsInOrder same p orders root b → IsTurn same wish b None
-        → AreChosen b.coding.atoms.keys (made_true (history b.coding.search)) members → IsAccepted same p root b.noted.wishes.keys members
+        → AreChosen b.coding.atoms.keys (made_true (history b.coding.search)) members → IsAccepted same p root b.noted.wishes.items members
     chosen_accepted same_name names lawful orders b wish members holds (settled, whole, spent, has) are =
         turn_accepts same exact p root lawful b same_name names holds.encoding spent settled.values settled.score settled.agree settled.quiet settled.decided members are (whole members are)

@@ -40,7 +40,7 @@ IsConditionalEncoded {N} {S} same p e parent need = (case : List VersionSetId) �
 pub record AddsNeeds {N S : Type 0} (old new : Encoding N S) : Type 0 where
   pub grows : Grows old.coding new.coding
   pub turn : KeepsTurns old new
-  pub wishes : new.noted.wishes.keys ≡ old.noted.wishes.keys
+  pub wishes : new.noted.wishes.items ≡ old.noted.wishes.items
   pub parents : IsFrontOf old.parents.keys new.parents.keys
   pub encoded : new.encoded ≡ old.encoded
   pub deferred : IsFrontOf old.deferred.items new.deferred.items
@@ -49,7 +49,7 @@ pub record AddsNeeds {N S : Type 0} (old new : Encoding N S) : Type 0 where
 -- the same, and parents more may be encoded
 pub record AddsParents {N S : Type 0} (old new : Encoding N S) : Type 0 where
   pub grows : Grows old.coding new.coding
-  pub wishes : new.noted.wishes.keys ≡ old.noted.wishes.keys
+  pub wishes : new.noted.wishes.items ≡ old.noted.wishes.items
   pub parents : IsFrontOf old.parents.keys new.parents.keys
   pub encoded : old.encoded ≤ new.encoded
   pub deferred : IsFrontOf old.deferred.items new.deferred.items

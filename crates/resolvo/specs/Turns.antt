@@ -70,7 +70,7 @@ pub record Lists {N S : Type 0} (e : Encoding N S) (old new : List S) : Type 0 w
 -- these are what the trail chooses, and the noted wishes are the accepted ones
 pub record AreAt {N S : Type 0} (e : Encoding N S) (t : Turns S) : Type 0 where
   pub chosen : AreChosen e.coding.atoms.keys (made_true (history e.coding.search)) t.chosen.keys
-  pub wishes : e.noted.wishes.keys ≡ accepted_of (reverse t.turns.items)
+  pub wishes : e.noted.wishes.items ≡ accepted_of (reverse t.turns.items)
 
 -- what was chosen is right, turn by turn
 pub record AreRight {N S : Type 0} (same : S → S → Bool) (p : Packages N S) (root : Rules) (first : ℕ) (wishes : List S) (t : Turns S) : Type 0 where

@@ -41,14 +41,14 @@ pub record KeepsTrail {N S : Type 0} (old new : Encoding N S) : Type 0 where
 -- Where the wish was chosen, it is noted behind the accepted ones, and its turn has ended. Where it was refused, the trail and the
 -- accepted ones are what they were.
 abbrev pub IsOutcome : {N S : Type 0} → (S → S → Bool) → S → Encoding N S → Encoding N S → Wished → Type 0
-IsOutcome same s old new Stood = (new.noted.wishes.keys ≡ old.noted.wishes.keys ++ s ∷ []) × (history new.coding.search ≡ history old.coding.search) × IsTrue new s
-IsOutcome same s old new Chosen = (new.noted.wishes.keys ≡ old.noted.wishes.keys ++ s ∷ []) × ((v : VariableId) × StandsFor new.coding.atoms.keys v (Solvable s) × IsTurn same (Some v) new None)
-IsOutcome same s old new (Refused clause) = (new.noted.wishes.keys ≡ old.noted.wishes.keys) × (history new.coding.search ≡ history old.coding.search) × (IsTrue new s → ⊥)
+IsOutcome same s old new Stood = (new.noted.wishes.items ≡ old.noted.wishes.items ++ s ∷ []) × (history new.coding.search ≡ history old.coding.search) × IsTrue new s
+IsOutcome same s old new Chosen = (new.noted.wishes.items ≡ old.noted.wishes.items ++ s ∷ []) × ((v : VariableId) × StandsFor new.coding.atoms.keys v (Solvable s) × IsTurn same (Some v) new None)
+IsOutcome same s old new (Refused clause) = (new.noted.wishes.items ≡ old.noted.wishes.items) × (history new.coding.search ≡ history old.coding.search) × (IsTrue new s → ⊥)
 IsOutcome same s old new (Clash r) = IsRefusal new.coding.search r.literals.items r.causes.items × (r.literals.items ≡ [])
 
 -- the variable is that of the last wish
 abbrev pub IsLast : {N S : Type 0} → Encoding N S → VariableId → Type 0
-IsLast {N} {S} e v = (front : List S) × (s : S) × (e.noted.wishes.keys ≡ front ++ s ∷ []) × StandsFor e.coding.atoms.keys v (Solvable s)
+IsLast {N} {S} e v = (front : List S) × (s : S) × (e.noted.wishes.items ≡ front ++ s ∷ []) × StandsFor e.coding.atoms.keys v (Solvable s)
 
 -- the turn is that of the last wish, and is refused
 abbrev pub IsRefusable : {N S : Type 0} → Encoding N S → Refusal → Type 0
@@ -58,7 +58,7 @@ IsRefusable e r = (v : VariableId) × IsOpen e v × IsLast e v × IsRefusedBy (S
 abbrev pub IsTurnedDown : {N S : Type 0} → Refusal → Encoding N S → Encoding N S → Wished → Type 0
 IsTurnedDown refusal old new Stood = ⊥
 IsTurnedDown refusal old new Chosen = ⊥
-IsTurnedDown {N} {S} refusal old new (Refused clause) = (history new.coding.search ≡ base_of old) × ((front : List S) (s : S) → old.noted.wishes.keys ≡ front ++ s ∷ [] → new.noted.wishes.keys ≡ front)
+IsTurnedDown {N} {S} refusal old new (Refused clause) = (history new.coding.search ≡ base_of old) × ((front : List S) (s : S) → old.noted.wishes.items ≡ front ++ s ∷ [] → new.noted.wishes.items ≡ front)
 IsTurnedDown refusal old new (Clash r) = (r ≡ refusal) × (r.literals.items ≡ []) × (new ≡ old)
 
 -- clauses may have come, and what variables stand for, candidates and parents are what they were

@@ -114,7 +114,7 @@ module _ {N S : Type 0} where
   first_kept : (old new : Encoding N S) (v : VariableId) (c : ClauseId) → base_of new ≡ base_of old → EndsWith (choice_entry v c (base_of old) ∷ base_of old) (history new.coding.search) → IsFirst new v
   first_kept old new v c base ends = (c, subst (λ (h : List Entry). EndsWith (choice_entry v c h ∷ h) (history new.coding.search)) (sym base) ends)
 
-  wish_grows : (old new : Encoding N S) (v : VariableId) → Grows old.coding new.coding → new.noted.wishes.keys ≡ old.noted.wishes.keys → IsWish old v → IsWish new v
+  wish_grows : (old new : Encoding N S) (v : VariableId) → Grows old.coding new.coding → new.noted.wishes.items ≡ old.noted.wishes.items → IsWish old v → IsWish new v
   wish_grows old new v grows wishes w = record {
     solvable = w.solvable;
     stands = stands_grow old.coding new.coding v _ grows w.stands;
@@ -122,7 +122,7 @@ module _ {N S : Type 0} where
   }
 
   -- where the trail stays
-  pub same_turns : (old new : Encoding N S) → Grows old.coding new.coding → SameTrail old.coding new.coding → new.noted.wishes.keys ≡ old.noted.wishes.keys → KeepsTurns old new
+  pub same_turns : (old new : Encoding N S) → Grows old.coding new.coding → SameTrail old.coding new.coding → new.noted.wishes.items ≡ old.noted.wishes.items → KeepsTurns old new
   same_turns old new grows trail wishes None = λ first. grows.floor ∙ first
   same_turns old new grows trail wishes (Some v) = λ o.
       let same : history new.coding.search ≡ history old.coding.search = ap (λ t. reverse t.trail) trail.tracker in
@@ -155,7 +155,7 @@ module _ {N S : Type 0} where
       let left : history new.coding.search ≡ base_of old = undone_below (max (old.coding.search.floor - 1) 1) (history old.coding.search) (history new.coding.search) undoes.undone undoes.low ∙ ap (λ n. below n (history old.coding.search)) level in
       let low : top_level (history new.coding.search) < new.coding.search.floor = (let floor : new.coding.search.floor ≡ old.coding.search.floor = goes.grows.floor in let ends : top_level (history new.coding.search) ≤ max (old.coding.search.floor - 1) 1 = undoes.low in omega arith) in
       let base : base_of new ≡ base_of old = below_all new.coding.search.floor (history new.coding.search) low ∙ left in (
-        open_kept old new v o (wish_grows old new v goes.grows (ap (λ (n : Noted N S). n.wishes.keys) goes.rest.noted) o.wish) goes.grows.floor base
+        open_kept old new v o (wish_grows old new v goes.grows (ap (λ (n : Noted N S). n.wishes.items) goes.rest.noted) o.wish) goes.grows.floor base
           (λ known. absurd (both_ways _ o.before (subst (λ (h : List Entry). has (made_true h) (yes v) ≡ true) left known))),
         base,
       )
@@ -168,7 +168,7 @@ module _ {N S : Type 0} where
       let floor : new.coding.search.floor ≡ old.coding.search.floor = goes.grows.floor in
       let begun : top_level (base_of old) + 1 ≡ old.coding.search.floor = o.begun in
       let base : base_of new ≡ base_of old = ap (λ (h : List Entry). below new.coding.search.floor h) pushed ∙ below_further new.coding.search.floor (choice_entry v c (base_of old)) (base_of old) (omega arith) ∙ below_all new.coding.search.floor (base_of old) (omega arith) in (
-        open_kept old new v o (wish_grows old new v goes.grows (ap (λ (n : Noted N S). n.wishes.keys) goes.rest.noted) o.wish) floor base (λ known. first_kept old new v c base ([], pushed)),
+        open_kept old new v o (wish_grows old new v goes.grows (ap (λ (n : Noted N S). n.wishes.items) goes.rest.noted) o.wish) floor base (λ known. first_kept old new v c base ([], pushed)),
         base,
       )
 
@@ -181,7 +181,7 @@ module _ {N S : Type 0} where
       let (q, is) = first (choice_entry v c (base_of old) ∷ base_of old) (omega arith) ends in
       let trail : IsTrail (count_of new.coding.search) (clauses_of new.coding.search) (q ++ choice_entry v c (base_of old) ∷ base_of old) = subst (λ (h : List Entry). IsTrail (count_of new.coding.search) (clauses_of new.coding.search) h) is goes.coding.ready.state.trail in
       let base : base_of new ≡ base_of old = ap (λ (h : List Entry). below new.coding.search.floor h) is ∙ below_choice (count_of new.coding.search) (clauses_of new.coding.search) new.coding.search.floor q (choice_entry v c (base_of old)) (base_of old) trail (omega arith) (omega arith) in (
-        open_kept old new v o (wish_grows old new v goes.grows (ap (λ (n : Noted N S). n.wishes.keys) goes.rest.noted) o.wish) floor base (λ now. first_kept old new v c base (q, is)),
+        open_kept old new v o (wish_grows old new v goes.grows (ap (λ (n : Noted N S). n.wishes.items) goes.rest.noted) o.wish) floor base (λ now. first_kept old new v c base (q, is)),
         base,
       )
 

@@ -15,4 +15,4 @@ turn_of e = record e { coding = record e.coding { search = record e.coding.searc
 pub record IsWish {N S : Type 0} (e : Encoding N S) (v : VariableId) : Type 0 where
   pub solvable : S
   pub stands : StandsFor e.coding.atoms.keys v (Solvable solvable)
-  pub wished : Contains e.noted.wishes.keys solvable
+  pub wished : Contains e.noted.wishes.items solvable
