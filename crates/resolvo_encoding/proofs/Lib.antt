@@ -15,3 +15,4 @@ pub mod Staying
 pub mod WishLemmas
 pub mod Helps
 pub mod Firing
+pub mod Noting
