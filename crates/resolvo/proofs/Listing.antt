@@ -1,5 +1,5 @@
 -- What is chosen turn by turn.
-use Rattle.std.proofs.Common.{◌≡◌, ℕ, zero, suc, cond, ◌+◌, ◌≤◌, ◌⊎◌, inl, inr, Bool, true, false, take, reverse, List, [], ◌∷◌, ◌++◌, length, refl, sym, ◌∙◌, ap, subst, arith}
+use Rattle.std.proofs.Common.{◌≡◌, ℕ, zero, suc, cond, get_or, ◌+◌, ◌<◌, ◌≤◌, ◌⊎◌, inl, inr, Bool, true, false, take, reverse, List, [], ◌∷◌, ◌++◌, length, refl, sym, ◌∙◌, ap, subst, arith}
 use Rattle.std.specs.Prelude.{Contains}
 use Rattle.std.proofs.lemmas.Bool.{both_ways, cases_Bool}
 use Rattle.std.proofs.lemmas.List.{take_all}
@@ -19,6 +19,10 @@ use Rattle.resolvo.proofs.Ending.{contains_longer}
 
 pub adds_none : {S : Type 0} (xs : List S) → AddsEach [] xs xs
 adds_none xs = record { front = front_same xs; only = λ s h. inl h; all = λ s h. absurd (contains_none s h) }
+
+-- an item stands in its list
+pub item_contained : {S : Type 0} (xs : List S) (i : ℕ) (x : S) → i < length xs → x ≡ get_or xs i x → Contains xs x
+item_contained xs i x low is = (i, low, sym is)
 
 -- and one more
 pub adds_more : {S : Type 0} (members xs ys zs : List S) (x : S) → AddsEach members xs ys → IsFrontOf ys zs → Contains zs x → ((s : S) → Contains zs s → Contains ys s ⊎ (s ≡ x)) → AddsEach (members ++ x ∷ []) xs zs
@@ -120,8 +124,8 @@ module _ {N S : Type 0} (same : S → S → Bool) (p : Packages N S) (root : Rul
           solution = subst (λ zs. IsSolution same p root zs) (sym (take_front first t.chosen.keys u.chosen.keys low front)) right.wished.solution;
           within = omega arith;
           turns = subst (λ ts. AreTurns same p root u.chosen.keys first (reverse (done ++ s ∷ [])) ts) (sym turns)
-            (subst (λ ws. AreTurns same p root u.chosen.keys first ws (turn ∷ reverse t.turns.items)) (sym (reverse_push done s))
-            (begin ∙ sym before, one, turns_stay t.chosen.keys u.chosen.keys first (reverse done) (reverse t.turns.items) front right.wished.turns));
+              (subst (λ ws. AreTurns same p root u.chosen.keys first ws (turn ∷ reverse t.turns.items)) (sym (reverse_push done s))
+              (begin ∙ sym before, one, turns_stay t.chosen.keys u.chosen.keys first (reverse done) (reverse t.turns.items) front right.wished.turns));
           whole = ap (λ ts. end_of first ts) turns ∙ end_;
         };
         accepted = subst (λ ts. IsAccepted same p root (accepted_of ts) u.chosen.keys) (sym turns) accepted;

@@ -1,5 +1,5 @@
 -- One wish more: what its turn came to is told, and what is chosen is listed.
-use Rattle.std.proofs.Common.{◌≡◌, ℕ, cond, inl, inr, Bool, true, false, reverse, List, [], ◌∷◌, ◌++◌, length, Option, None, Vec, Global, HashSet, BuildHasherDefault, FoldHasher, refl, sym, ◌∙◌, ap, subst, arith}
+use Rattle.std.proofs.Common.{◌≡◌, ℕ, cond, inl, inr, Bool, true, false, reverse, List, [], ◌∷◌, ◌++◌, length, Option, Some, None, Vec, Global, HashSet, BuildHasherDefault, FoldHasher, refl, sym, ◌∙◌, ap, subst, arith}
 use Rattle.std.specs.Prelude.{Contains}
 use Rattle.std.proofs.lemmas.Bool.{both_ways, cases_Bool}
 use Rattle.resolvo_pool.specs.declared.id.ClauseId.{ClauseId}
@@ -30,10 +30,12 @@ use Rattle.resolvo.specs.Encoder.{IsInOrder}
 use Rattle.resolvo.specs.Turn.{IsTurn}
 use Rattle.resolvo.specs.Turns.{AreAt, AreRight, Lists, Records, accepted_of, was_accepted}
 use Rattle.resolvo.specs.declared.wishing.Wished.{Wished}
-use Rattle.resolvo.specs.Wished.{IsDenied, IsTrue, KeepsTrail}
+use Rattle.resolvo.specs.Wished.{IsDenied, IsOutcome, IsTrue, KeepsTrail}
+use Rattle.resolvo.specs.declared.wishing.Wished.TheVariants as Wishes
 use Rattle.resolvo.specs.declared.turns.Turn.{Turn}
 use Rattle.resolvo.specs.declared.turns.Turns.{Turns}
-use Rattle.resolvo.proofs.Listing.{accepted_next, next_right, refused_next}
+use Rattle.resolvo_coding.proofs.Positions.{front_same}
+use Rattle.resolvo.proofs.Listing.{accepted_more, accepted_next, next_right, refused_next}
 use Rattle.resolvo.proofs.Wishes.{true_before}
 
 -- ---- what the trail chooses
@@ -130,3 +132,41 @@ module _ {N S : Type 0} where
         → AreChosen b.coding.atoms.keys (made_true (history b.coding.search)) members → IsAccepted same p root b.noted.wishes.items members
     chosen_accepted same_name names lawful orders b wish members holds (settled, whole, spent, has) are =
         turn_accepts same exact p root lawful b same_name names holds.encoding spent settled.values settled.score settled.agree settled.quiet settled.decided members are (whole members are)
+
+  -- ---- what each turn comes to
+
+  module _ (same : S → S → Bool) (a b : Encoding N S) (t u : Turns S) (s : S) (coding : IsCoding a.coding) (at : AreAt a t) (keeps : KeepsTrail a b) where
+    stays_chosen : history b.coding.search ≡ history a.coding.search → AreChosen b.coding.atoms.keys (made_true (history b.coding.search)) t.chosen.keys
+    stays_chosen trail = same_chosen a b t.chosen.keys coding keeps trail at.chosen
+
+    pub stood_at : IsOutcome same s a b Wishes.Stood → (begin : ℕ) → Records s begin Wishes.Stood t u → AreAt b u
+    stood_at (wishes, trail, known) begin told = next_at a b t t u s begin Wishes.Stood at (stays_chosen trail) refl told wishes
+
+    pub refused_at : (clause : ClauseId) → IsOutcome same s a b (Wishes.Refused clause) → (begin : ℕ) → Records s begin (Wishes.Refused clause) t u → AreAt b u
+    refused_at clause (wishes, trail, untrue) begin told = next_at a b t t u s begin (Wishes.Refused clause) at (stays_chosen trail) refl told wishes
+
+    pub chosen_at : (m : Turns S) → IsOutcome same s a b Wishes.Chosen → Lists b t.chosen.keys m.chosen.keys → m.turns ≡ t.turns → (begin : ℕ) → Records s begin Wishes.Chosen m u → AreAt b u
+    chosen_at m (wishes, turn) lists turns begin told = next_at a b t m u s begin Wishes.Chosen at (listed_chosen a b t.chosen.keys m.chosen.keys keeps at.chosen lists) turns told wishes
+
+    module _ (exact : IsExact same) (p : Packages N S) (root : Rules) (first : ℕ) (done : List S) (right : AreRight same p root first done t) where
+      still_accepted : IsAccepted same p root a.noted.wishes.items t.chosen.keys
+      still_accepted = subst (λ (ws : List S). IsAccepted same p root ws t.chosen.keys) (sym at.wishes) right.accepted
+
+      pub stood_told : IsOutcome same s a b Wishes.Stood → (begin : ℕ) → begin ≡ length t.chosen.keys → Records s begin Wishes.Stood t u → AreRight same p root first (done ++ s ∷ []) u
+      stood_told (wishes, trail, known) begin is told =
+          let truth : true ≡ is_in same p t.chosen.keys s = told_true same exact p root b t.chosen.keys s (stays_chosen trail) known in
+          next_told same exact p root a b t t u first done s Wishes.Stood at right (front_same t.chosen.keys) refl (subst (λ n. Records s n Wishes.Stood t u) is told) wishes
+          (subst (λ (ws : List S). IsAccepted same p root ws t.chosen.keys) (sym wishes) (accepted_more same exact p root a.noted.wishes.items t.chosen.keys s still_accepted (sym truth))) truth (λ so. absurd (both_ways true so refl))
+
+      pub refused_told : (clause : ClauseId) → IsOutcome same s a b (Wishes.Refused clause) → IsDenied same p root a s → (begin : ℕ) → begin ≡ length t.chosen.keys → Records s begin (Wishes.Refused clause) t u → AreRight same p root first (done ++ s ∷ []) u
+      refused_told clause (wishes, trail, untrue) denied begin is told =
+          next_told same exact p root a b t t u first done s (Wishes.Refused clause) at right (front_same t.chosen.keys) refl (subst (λ n. Records s n (Wishes.Refused clause) t u) is told) wishes
+          (subst (λ (ws : List S). IsAccepted same p root ws t.chosen.keys) (sym wishes) still_accepted) (told_false same exact p root b t.chosen.keys s (stays_chosen trail) untrue) (λ so. denied)
+
+      pub chosen_told : (same_name : N → N → Bool) → IsExact same_name → IsLawful p → (orders : Requirement → List S → Type 0) → IsInOrder same p orders root b → (m : Turns S) → IsOutcome same s a b Wishes.Chosen → Lists b t.chosen.keys m.chosen.keys → m.turns ≡ t.turns
+          → (begin : ℕ) → begin ≡ length t.chosen.keys → Records s begin Wishes.Chosen m u → AreRight same p root first (done ++ s ∷ []) u
+      chosen_told same_name names lawful orders order m (wishes, (v, stands, ended)) lists turns begin is told =
+          let are : AreChosen b.coding.atoms.keys (made_true (history b.coding.search)) m.chosen.keys = listed_chosen a b t.chosen.keys m.chosen.keys keeps at.chosen lists in
+          let (settled, whole, spent, has_it) = ended in
+          next_told same exact p root a b t m u first done s Wishes.Chosen at right lists.adds.front turns (subst (λ n. Records s n Wishes.Chosen m u) is told) wishes
+          (chosen_accepted same exact p root same_name names lawful orders b (Some v) m.chosen.keys order ended are) (told_true same exact p root b m.chosen.keys s are (v, stands, has_it)) (λ so. absurd (both_ways true so refl))

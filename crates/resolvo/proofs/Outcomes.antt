@@ -186,7 +186,7 @@ module _ {N S : Type 0} (same : S → S → Bool) (a b : Encoding N S) (one : Of
               both_ways _ unchosen (subst (λ (h : List Entry). has (made_true h) (yes v) ≡ true) (trail ∙ base) (subst (λ (w : VariableId). has (made_true (history d.coding.search)) (yes w) ≡ true) is known))
       down_outcome built unchosen (Wished.Clash q) (is, none, unchanged) = (
         subst (λ (x : Encoding N S). IsRefusal x.coding.search q.literals.items q.causes.items) (sym unchanged)
-        (subst (λ (x : Refusal). IsRefusal c.coding.search x.literals.items x.causes.items) (sym is) (refused_empty c v r ended (ap (λ (x : Refusal). x.literals.items) (sym is) ∙ none))),
+            (subst (λ (x : Refusal). IsRefusal c.coding.search x.literals.items x.causes.items) (sym is) (refused_empty c v r ended (ap (λ (x : Refusal). x.literals.items) (sym is) ∙ none))),
         none,
       )
 

@@ -71,10 +71,15 @@ module _ {N S : Type 0} (e : Encoding N S) (v : VariableId) where
   -- a refused turn has a clause that only denies
   pub refused_bars : (r : Refusal) → IsRefusedBy (Some v) e r → IsBar e.coding.search r.literals.items r.causes.items
   refused_bars r (inl (refusal, has)) = record { derived = refusal.derived; caused = refusal.caused; from = refusal.from; negative = λ l h. denial_negative e.coding.search l (refusal.denies l h) }
-  refused_bars r (inr (reason, low)) = record { derived = reason.derived; caused = reason.caused; from = reason.from; negative = λ l h. elim (reason.denies l h) [
-    | inl itself ↦ elim (has-cons (no v) [] l itself) [ inl is ↦ ap (λ (x : Signed). x.positive) (sym is) | inr none ↦ absurd (both_ways false refl none) ]
-    | inr kept ↦ denial_negative e.coding.search l kept
-  ] }
+  refused_bars r (inr (reason, low)) = record {
+    derived = reason.derived;
+    caused = reason.caused;
+    from = reason.from;
+    negative = λ l h. elim (reason.denies l h) [
+      | inl itself ↦ elim (has-cons (no v) [] l itself) [ inl is ↦ ap (λ (x : Signed). x.positive) (sym is) | inr none ↦ absurd (both_ways false refl none) ]
+      | inr kept ↦ denial_negative e.coding.search l kept
+    ];
+  }
 
   -- and without literals it is a refusal of the root's turn
   pub refused_empty : (r : Refusal) → IsRefusedBy (Some v) e r → r.literals.items ≡ [] → IsRefusal e.coding.search r.literals.items r.causes.items

@@ -84,10 +84,7 @@ fn run_open<A: Answering>(
 }
 
 /// Takes the refused turn of the last wish back, and adds the clause that tells why.
-fn refuse<N: SolverId, S: SolverId>(
-    encoding: &mut Encoding<N, S>,
-    refusal: Refusal,
-) -> R<ClauseId>
+fn refuse<N: SolverId, S: SolverId>(encoding: &mut Encoding<N, S>, refusal: Refusal) -> R<ClauseId>
     requires built { IsBuilt encoding.old }
     requires refused { IsRefusable encoding.old refusal }
     requires some { 0 < length refusal.literals.items }
@@ -103,10 +100,7 @@ fn refuse<N: SolverId, S: SolverId>(
 }
 
 /// What the refused turn of the last wish came to: without literals the refusal is one of the whole problem.
-fn turn_down<N: SolverId, S: SolverId>(
-    encoding: &mut Encoding<N, S>,
-    refusal: Refusal,
-) -> R<Wished>
+fn turn_down<N: SolverId, S: SolverId>(encoding: &mut Encoding<N, S>, refusal: Refusal) -> R<Wished>
     requires built { IsBuilt encoding.old }
     requires refused { IsRefusable encoding.old refusal }
     ensures stays { OnOk result ((p : Packages N S) (root : Rules) → IsLawful p → IsEncoding S.eq p root encoding.old → IsEncoding S.eq p root encoding.new) }
@@ -147,7 +141,11 @@ pub fn run_wish<A: Answering>(
         name,
     };
     let variable = encoding.note_wish(alloc, offered)?;
-    if encoding.coding.search.is_true(Literal::new(variable, false)) {
+    if encoding
+        .coding
+        .search
+        .is_true(Literal::new(variable, false))
+    {
         return Ok(Wished::Stood);
     }
     let turn = run_open(

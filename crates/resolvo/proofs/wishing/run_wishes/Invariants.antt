@@ -1,0 +1,20 @@
+use Rattle.std.proofs.Common.{◌≡◌, ℕ, [], take}
+use Rattle.resolvo_pool.specs.RuleKeeping.{Rules}
+use Rattle.resolvo_encoding.specs.Steps.{IsBuilt}
+use Rattle.resolvo.specs.Encoder.{IsInOrder, IsRoot}
+use Rattle.resolvo.specs.Turn.{IsRooted}
+use Rattle.resolvo.specs.Turns.{AreAt, AreRight}
+use Rattle.resolvo.specs.Wished.{AreCandidates}
+use Rattle.resolvo.proofs.wishing.run_wishes.Given as goal
+
+-- the turns of the first wishes are told, and what is told of them is right
+abbrev pub invariant-loop-wish : goal.invariant-loop-wish
+invariant-loop-wish g l = record {
+  same : l.answers ≡ l.initial.answers;
+  right : (root : Rules) (first : ℕ) → IsRoot l.requirements l.constraints root → AreCandidates g.A.SolvableId.PartialEq.eq (g.A.Answering.packages l.initial.answers) l.wishes
+      → IsInOrder g.A.SolvableId.PartialEq.eq (g.A.Answering.packages l.initial.answers) (g.A.Answering.orders l.initial.answers) root l.initial.encoding → AreRight g.A.SolvableId.PartialEq.eq (g.A.Answering.packages l.initial.answers) root first [] l.initial.turns
+      → IsInOrder g.A.SolvableId.PartialEq.eq (g.A.Answering.packages l.initial.answers) (g.A.Answering.orders l.initial.answers) root l.encoding × AreRight g.A.SolvableId.PartialEq.eq (g.A.Answering.packages l.initial.answers) root first (take l.wish-index l.wishes) l.turns;
+  at : AreAt l.encoding l.turns;
+  rooted : IsRooted l.encoding;
+  built : IsBuilt l.encoding;
+}
