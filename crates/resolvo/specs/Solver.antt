@@ -7,8 +7,8 @@ use Rattle.resolvo_rules.specs.First.{ArePreferred}
 use Rattle.resolvo_proof.specs.Proof.{EndsEmpty}
 use Rattle.resolvo_proof.specs.declared.step.ProofStep.{ProofStep}
 use Rattle.resolvo.specs.Solving.{IsSolution, IsUnsolvable, AreProved}
-use Rattle.resolvo_pool.specs.declared.cache.CacheFault.{CacheFault}
-use Rattle.resolvo_pool.specs.declared.cache.CacheFault.TheVariants as fault
+use Rattle.resolvo_cache.specs.declared.cache.CacheFault.{CacheFault}
+use Rattle.resolvo_cache.specs.declared.cache.CacheFault.TheVariants as fault
 use Rattle.resolvo.specs.declared.search.Found.{Found}
 use Rattle.resolvo.specs.declared.search.Found.TheVariants.{Chosen, Clash}
 use Rattle.resolvo.specs.declared.problem.Problem.{Problem}
