@@ -1,9 +1,9 @@
 -- What a solver answers and leaves, by what was found or by what stopped it.
 use Rattle.std.proofs.Common.{Bool, List, length, Result, Err, Vec, Global, sym, subst}
 use Rattle.resolvo_pool.specs.declared.requirement.Requirement.{Requirement}
-use Rattle.resolvo_pool.specs.declared.cache.CacheFault.{CacheFault}
-use Rattle.resolvo_pool.specs.declared.cache.CacheFault.TheVariants as fault
-use Rattle.resolvo_pool.specs.Cached.{IsCancelledBy}
+use Rattle.resolvo_cache.specs.declared.cache.CacheFault.{CacheFault}
+use Rattle.resolvo_cache.specs.declared.cache.CacheFault.TheVariants as fault
+use Rattle.resolvo_cache.specs.Cached.{IsCancelledBy}
 use Rattle.resolvo_pool.specs.RuleKeeping.{Packages, Rules}
 use Rattle.resolvo.specs.declared.search.Found.{Found}
 use Rattle.resolvo.specs.declared.search.Found.TheVariants.{Chosen, Clash}

@@ -8,8 +8,8 @@ use Rattle.resolvo_proof.specs.Proof.{EndsEmpty}
 use Rattle.resolvo_proof.specs.declared.step.ProofStep.{ProofStep}
 use Rattle.resolvo.specs.Solution.{IsSolution, IsUnsolvable}
 use Rattle.resolvo.specs.Solving.{AreProved}
-use Rattle.resolvo_pool.specs.declared.cache.CacheFault.{CacheFault}
-use Rattle.resolvo_pool.specs.declared.cache.CacheFault.TheVariants as fault
+use Rattle.resolvo_cache.specs.declared.cache.CacheFault.{CacheFault}
+use Rattle.resolvo_cache.specs.declared.cache.CacheFault.TheVariants as fault
 use Rattle.resolvo.specs.declared.search.Found.{Found}
 use Rattle.resolvo.specs.declared.search.Found.TheVariants.{Chosen, Clash}
 use Rattle.resolvo.specs.declared.problem.Problem.{Problem}

@@ -1,7 +1,7 @@
 //! The search between two encodings: it sets what follows, learns and chooses, until nothing is left to choose or
 //! choices can't stand together.
 ghost use Rattle.std.specs.Prelude.{◌≡◌, ◌<◌, ◌≤◌, length, IfOk, IfErr, OnOk};
-ghost use Rattle.resolvo_pool.specs.Cached.{IsCancelledBy};
+ghost use Rattle.resolvo_cache.specs.Cached.{IsCancelledBy};
 ghost use Rattle.resolvo_pool.specs.RuleKeeping.{Rules};
 ghost use Rattle.resolvo_encoding.specs.Base.{KeepsFirst};
 ghost use Rattle.resolvo_encoding.specs.Steps.{IsBuilt};
@@ -9,10 +9,10 @@ ghost use Rattle.resolvo_encoding.specs.Going.{GoesOn, IsDecision};
 ghost use Rattle.resolvo.specs.Encoder.{IsInOrder};
 
 use resolvo_answers::answering::Answering;
+use resolvo_cache::cache::CacheFault;
 use resolvo_coding::coding::Coding;
 use resolvo_encoding::choosing::Step;
 use resolvo_encoding::encoding::Encoding;
-use resolvo_pool::cache::CacheFault;
 use resolvo_pool::id::ClauseId;
 use resolvo_pool::id_map::ScoreMap;
 use resolvo_pool::solver_id::SolverId;

@@ -1,6 +1,6 @@
 //! Cases of conditions that wait: each until every version set of its own has a chosen match.
 ghost use Rattle.std.specs.Prelude.{◌≡◌, List, Some, IfOk, IfErr, OnOk, Contains};
-ghost use Rattle.resolvo_pool.specs.Cached.{IsCancelledBy};
+ghost use Rattle.resolvo_cache.specs.Cached.{IsCancelledBy};
 ghost use Rattle.resolvo_pool.specs.RuleKeeping.{Rules, rules_for, is_in, is_match};
 ghost use Rattle.resolvo_pool.specs.declared.id.VersionSetId.{VersionSetId};
 ghost use Rattle.resolvo_store.specs.Cases.{cases_of};
@@ -12,8 +12,8 @@ ghost use Rattle.resolvo_encoding.specs.Steps.{IsBuilt};
 ghost use Rattle.resolvo.specs.Encoder.{IsInOrder, AddsNeeds, AreDeferred};
 
 use resolvo_answers::answering::{Answering, Offered};
+use resolvo_cache::cache::CacheFault;
 use resolvo_encoding::encoding::Encoding;
-use resolvo_pool::cache::CacheFault;
 use resolvo_pool::id::{ConditionId, VersionSetId};
 use resolvo_pool::requirement::{ConditionalRequirement, Requirement};
 use resolvo_pool::want::R;

@@ -1,7 +1,7 @@
 //! What parents need and limit becomes clauses, in the order in which the parents came. Each question to the packages is asked
 //! as its turn comes.
 ghost use Rattle.std.specs.Prelude.{◌≡◌, ◌≤◌, [], length, IfErr, OnOk, Contains};
-ghost use Rattle.resolvo_pool.specs.Cached.{IsCancelledBy};
+ghost use Rattle.resolvo_cache.specs.Cached.{IsCancelledBy};
 ghost use Rattle.resolvo_pool.specs.RuleKeeping.{Rules, rules_for};
 ghost use Rattle.resolvo_pool.specs.Text.{solvable_of};
 ghost use Rattle.resolvo_pool.specs.declared.requirement.ConditionalRequirement.{ConditionalRequirement};
@@ -15,8 +15,8 @@ ghost use Rattle.resolvo.specs.Encoder.{IsRoot, AreRulesOf, IsInOrder, AddsNeeds
 
 use crate::deferring::defer_need;
 use resolvo_answers::answering::{Answering, Offered};
+use resolvo_cache::cache::CacheFault;
 use resolvo_encoding::encoding::Encoding;
-use resolvo_pool::cache::CacheFault;
 use resolvo_pool::id::VersionSetId;
 use resolvo_pool::provider::Dependencies;
 use resolvo_pool::requirement::{ConditionalRequirement, Requirement};

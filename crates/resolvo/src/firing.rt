@@ -1,6 +1,6 @@
 //! Cases of conditions that hold become clauses. Each was deferred until each of its version sets had a chosen match.
 ghost use Rattle.std.specs.Prelude.{◌≡◌, ◌<◌, ℕ, true, false, length, IfOk, IfErr, OnOk, Contains};
-ghost use Rattle.resolvo_pool.specs.Cached.{IsCancelledBy};
+ghost use Rattle.resolvo_cache.specs.Cached.{IsCancelledBy};
 ghost use Rattle.resolvo_pool.specs.RuleKeeping.{Rules, rules_for};
 ghost use Rattle.resolvo_rules.specs.Encoding.{cases_for};
 ghost use Rattle.resolvo_rules.specs.Ending.{IsNeedEncoded};
@@ -13,9 +13,9 @@ ghost use Rattle.resolvo.specs.Turn.{FiresMore};
 
 use crate::encoder::{add_available, guard};
 use resolvo_answers::answering::Answering;
+use resolvo_cache::cache::CacheFault;
 use resolvo_encoding::casing::{CaseSet, Waiting};
 use resolvo_encoding::encoding::Encoding;
-use resolvo_pool::cache::CacheFault;
 use resolvo_pool::id::VersionSetId;
 use resolvo_pool::requirement::ConditionalRequirement;
 use std::alloc::Global;

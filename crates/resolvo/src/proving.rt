@@ -1,6 +1,6 @@
 //! A search with its proof. `Solver` keeps what `solve` gives; a program that needs no solver may call it itself.
 ghost use Rattle.std.specs.Prelude.{◌≡◌, Bool, length, IfOk, IfErr};
-ghost use Rattle.resolvo_pool.specs.Cached.{IsCancelledBy};
+ghost use Rattle.resolvo_cache.specs.Cached.{IsCancelledBy};
 ghost use Rattle.resolvo_pool.specs.RuleKeeping.{Packages, Rules};
 ghost use Rattle.resolvo_coding.specs.declared.registry.Registry.{Registry};
 ghost use Rattle.resolvo_coding.specs.Coding.{IsCoding};
@@ -16,8 +16,8 @@ ghost use Rattle.resolvo.specs.Solving.{IsDenial, IsProvable, IsSolved, EndsSo, 
 use crate::deciding::Activity;
 use crate::search::{Found, Searched, search};
 use resolvo_answers::answering::Answering;
+use resolvo_cache::cache::CacheFault;
 use resolvo_coding::coding::Coding;
-use resolvo_pool::cache::CacheFault;
 use resolvo_pool::id::VersionSetId;
 use resolvo_pool::requirement::ConditionalRequirement;
 use resolvo_pool::solver_id::SolverId;

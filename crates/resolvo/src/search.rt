@@ -1,6 +1,6 @@
 //! A whole search for what a problem's root needs.
 ghost use Rattle.std.specs.Prelude.{◌≡◌, IfOk, IfErr, OnOk};
-ghost use Rattle.resolvo_pool.specs.Cached.{IsCancelledBy};
+ghost use Rattle.resolvo_cache.specs.Cached.{IsCancelledBy};
 ghost use Rattle.resolvo_pool.specs.RuleKeeping.{Rules};
 ghost use Rattle.resolvo_encoding.specs.Steps.{IsBegunEncoding, IsBuilt};
 ghost use Rattle.resolvo.specs.Encoder.{IsInOrder, IsRoot};
@@ -9,8 +9,8 @@ ghost use Rattle.resolvo.specs.Solving.{IsFound, IsFoundBy, IsPreferred, IsSearc
 use crate::deciding::Activity;
 use crate::turn::run_turn;
 use resolvo_answers::answering::Answering;
+use resolvo_cache::cache::CacheFault;
 use resolvo_encoding::encoding::Encoding;
-use resolvo_pool::cache::CacheFault;
 use resolvo_pool::id::VersionSetId;
 use resolvo_pool::id_map::ScoreMap;
 use resolvo_pool::requirement::ConditionalRequirement;

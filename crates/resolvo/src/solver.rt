@@ -1,6 +1,6 @@
 //! The solver: a provider with its answers, and what the last search left.
 ghost use Rattle.std.specs.Prelude.{◌≡◌, ◌≤◌, [], ◌+◌, ⊤, length};
-ghost use Rattle.resolvo_pool.specs.Cached.{IsCancelledBy};
+ghost use Rattle.resolvo_cache.specs.Cached.{IsCancelledBy};
 ghost use Rattle.resolvo_answers.specs.Answering.{packages_by, orders_by};
 ghost use Rattle.resolvo_proof.specs.Proof.{EndsEmpty};
 ghost use Rattle.resolvo.specs.Solver.{Kept, IsAnswer, Prefers, Leaves, root_of, AnswersSo, stopped_by};
@@ -10,7 +10,7 @@ use crate::problem::Problem;
 use crate::proving::{Solved, solve};
 use crate::search::Found;
 use resolvo_answers::answers::Answers;
-use resolvo_pool::cache::CacheFault;
+use resolvo_cache::cache::CacheFault;
 use resolvo_pool::id::ClauseId;
 use resolvo_pool::provider::DependencyProvider;
 use resolvo_proof::step::ProofStep;

@@ -1,7 +1,7 @@
 //! A turn, the root's or that of a wish: what was asked for is encoded, the wish is chosen, then decisions are made; what was
 //! chosen and isn't encoded yet is, in the order of the trail, then cases of conditions that hold, until nothing is left to encode.
 ghost use Rattle.std.specs.Prelude.{◌≡◌, true, false, IfOk, IfErr, OnOk};
-ghost use Rattle.resolvo_pool.specs.Cached.{IsCancelledBy};
+ghost use Rattle.resolvo_cache.specs.Cached.{IsCancelledBy};
 ghost use Rattle.resolvo_pool.specs.RuleKeeping.{Packages, Rules, IsLawful};
 ghost use Rattle.resolvo_encoding.specs.Base.{HasTurn, KeepsTurn, KeepsTurns};
 ghost use Rattle.resolvo_encoding.specs.Casing.{AreSpent};
@@ -16,7 +16,7 @@ use crate::encoder::encode_parents;
 use crate::firing::fire_cases;
 use resolvo_answers::answering::Answering;
 use resolvo_encoding::encoding::Encoding;
-use resolvo_pool::cache::CacheFault;
+use resolvo_cache::cache::CacheFault;
 use resolvo_pool::id::{VariableId, VersionSetId};
 use resolvo_pool::requirement::ConditionalRequirement;
 use resolvo_pool::solver_id::SolverId;

@@ -1,7 +1,7 @@
 //! The turns of wishes. Each wish is registered and noted; unless it is chosen already, it is chosen at the first level of its
 //! turn. Where it can't stand beside what was chosen before, a clause tells why, and what was chosen before stands as it did.
 ghost use Rattle.std.specs.Prelude.{◌≡◌, ◌<◌, ◌++◌, ◌∷◌, ℕ, List, [], false, length, Some, IfOk, IfErr, OnOk};
-ghost use Rattle.resolvo_pool.specs.Cached.{IsCancelledBy};
+ghost use Rattle.resolvo_cache.specs.Cached.{IsCancelledBy};
 ghost use Rattle.resolvo_pool.specs.RuleKeeping.{Packages, Rules, IsLawful};
 ghost use Rattle.resolvo_store.specs.Clauses.{yes};
 ghost use Rattle.resolvo_store.specs.Signed.{has};
@@ -22,7 +22,7 @@ use crate::turn::run_turn;
 use crate::turns::Turns;
 use resolvo_answers::answering::{Answering, Offered};
 use resolvo_encoding::encoding::Encoding;
-use resolvo_pool::cache::CacheFault;
+use resolvo_cache::cache::CacheFault;
 use resolvo_pool::id::{ClauseId, VariableId, VersionSetId};
 use resolvo_pool::requirement::ConditionalRequirement;
 use resolvo_pool::solver_id::SolverId;

@@ -1,7 +1,7 @@
 //! What a solver asks of packages, answered by value.
 ghost use Rattle.std.specs.Prelude.{◌≡◌, List, IfOk, IfErr, map};
 ghost use Rattle.resolvo_pool.specs.Provider.{needs_of};
-ghost use Rattle.resolvo_pool.specs.Cached.{IsCancelledBy};
+ghost use Rattle.resolvo_cache.specs.Cached.{IsCancelledBy};
 ghost use Rattle.resolvo_pool.specs.RuleKeeping.{Packages, IsLawful};
 ghost use Rattle.resolvo_pool.specs.declared.requirement.Requirement.{Requirement};
 ghost use Rattle.resolvo_pool.specs.Text.{alternatives_of};
@@ -9,7 +9,7 @@ ghost use Rattle.resolvo_store.specs.Cases.{cases, cases_of};
 ghost use Rattle.resolvo_answers.specs.Answering.{AreOffered, AreOutside, offered_solvables};
 ghost use Rattle.resolvo_answers.specs.Barring.{AreBarred};
 
-use resolvo_pool::cache::CacheFault;
+use resolvo_cache::cache::CacheFault;
 use resolvo_pool::id::{ConditionId, StringId, VersionSetId};
 use resolvo_pool::provider::Dependencies;
 use resolvo_pool::requirement::Requirement;

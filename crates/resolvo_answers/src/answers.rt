@@ -5,7 +5,7 @@ ghost use Rattle.resolvo_answers.specs.Answering.{packages_by, orders_by, offer_
 ghost use Rattle.resolvo_answers.specs.Barring.{excluded_by, locked_out, kept_out};
 
 use crate::answering::{Answering, Barred, Offered, Why};
-use resolvo_pool::cache::{CacheFault, SolverCache};
+use resolvo_cache::cache::{CacheFault, SolverCache};
 use resolvo_pool::id::{ConditionId, StringId, VersionSetId};
 use resolvo_pool::provider::{Candidates, Dependencies, DependencyProvider, KnownDependencies};
 use resolvo_pool::requirement::Requirement;

@@ -19,8 +19,8 @@ use Rattle.resolvo_listing.proofs.Elements.{no_element, first_element, later_ele
 use Rattle.resolvo_report.specs.Value.{Place, OfRequest, OfVersion, AnswerLine, Entry, Wished, LeftOut}
 use Rattle.resolvo_judge.specs.Entries.{entry_of, entries_of, left_out_of, left_out, may_enter, is_reason, gives, answer_fits}
 use Rattle.resolvo_judge.specs.Refusal.{answer_of, InstallEnds}
-use Rattle.resolvo_judge.proofs.Sets.{same_own, is_contained}
-use Rattle.resolvo_judge.proofs.ListedLemmas.{listed_in}
+use Rattle.resolvo_steps.proofs.Sets.{same_own, is_contained}
+use Rattle.resolvo_steps.proofs.ListedLemmas.{listed_in}
 use Rattle.resolvo_entries.specs.Install.{WishesNothing}
 
 -- ---- lines of needs

@@ -8,7 +8,7 @@ use Rattle.resolvo_catalogue.specs.Rules.{keeps, keeps_in_request}
 use Rattle.resolvo_catalogue.specs.Answers as answer
 use Rattle.resolvo_catalogue.specs.Answers.{Answer, Reason, entries_of, wish_line_of}
 use Rattle.resolvo_report.specs.Value.{Step}
-use Rattle.resolvo_judge.specs.StepClauses.{is_listed, is_owner}
+use Rattle.resolvo_steps.specs.StepClauses.{is_listed, is_owner}
 use Rattle.resolvo_judge.specs.Refusal.{step_bars}
 
 -- The line is a `needs` line, an alternative of which the version matches, and its condition holds among the entries.

@@ -9,7 +9,7 @@ use Rattle.resolvo_judge.specs.declared.judging.Judging.{Judging}
 use Rattle.resolvo_judge.specs.declared.log.Log.{Log}
 use Rattle.resolvo_judge.specs.declared.entries.Entries.{Entries}
 use Rattle.resolvo_judge.specs.Log.{LogStands, is_head}
-use Rattle.resolvo_judge.specs.Proof.{IsProof, every_line, ends_empty}
+use Rattle.resolvo_steps.specs.Proof.{IsProof, every_line, ends_empty}
 use Rattle.resolvo_judge.specs.Entries.{entries_of}
 use Rattle.resolvo_judge.specs.Refusal.{answers_in, steps_in, is_refusal, step_bars, ArePassed}
 use Rattle.resolvo_judge.specs.Ending.{KeepsAll}

@@ -12,13 +12,13 @@ use Rattle.resolvo_catalogue.specs.Rules.{keeps, keeps_in_request}
 use Rattle.resolvo_catalogue.specs.Answers as answer
 use Rattle.resolvo_catalogue.specs.Answers.{Answer}
 use Rattle.resolvo_report.specs.Value.{OfRequest, OfVersion, AnswerLine, Entry, Wished, LeftOut, Step}
-use Rattle.resolvo_judge.specs.StepClauses.{is_listed, is_owner, line_of}
+use Rattle.resolvo_steps.specs.StepClauses.{is_listed, is_owner, line_of}
 use Rattle.resolvo_judge.specs.Entries as said
 use Rattle.resolvo_judge.specs.Entries.{answer_fits, may_enter, gives, wishes, left_out, is_reason}
 use Rattle.resolvo_judge.specs.Refusal.{answer_of, step_bars, leaves_out, InstallEnds}
 use Rattle.resolvo_judge.proofs.AnswerTests as test
 use Rattle.resolvo_judge.proofs.AnswerTests.{answer_passes, is_needed, is_wish, is_left_out, rises, leaves_out_at, AnswersEnd}
-use Rattle.resolvo_judge.proofs.Sets.{same_own, same_is}
+use Rattle.resolvo_steps.proofs.Sets.{same_own, same_is}
 
 -- ---- what both say of the lines
 

@@ -30,16 +30,16 @@ use Rattle.resolvo_report.specs.Stream.{GivesLine, IsLineFault}
 use Rattle.resolvo_report.proofs.DraftLemmas.{push_answer, push_install_step, push_catalogue, push_request, push_refused_step, push_message, install_takes, no_install_head, no_refused_head, no_answer}
 use Rattle.resolvo_report.proofs.StreamLemmas.{ReadTo, first_newline, read_gives, read_whole}
 use Rattle.resolvo_report.proofs.WholeLines.{line_has_no_newline, same_line}
-use Rattle.resolvo_judge.specs.declared.clauses.Readings.{Readings}
+use Rattle.resolvo_steps.specs.declared.clauses.Readings.{Readings}
 use Rattle.resolvo_judge.specs.declared.judging.Judging.{Judging}
 use Rattle.resolvo_judge.specs.declared.judgement.Verdict.{Verdict}
 use Rattle.resolvo_judge.specs.declared.judgement.Verdict.TheVariants.{Yes, No}
-use Rattle.resolvo_judge.specs.Checking.{causes_in, count_causes}
+use Rattle.resolvo_steps.specs.Checking.{causes_in, count_causes}
 use Rattle.resolvo_judge.specs.Refusal.{answer_of, answer_in, answers_in, answers_claimed, step_in, steps_in, catalogue_line_in, catalogue_lines_in, request_line_in, request_lines_in, is_refusal, passes, Ends, ArePassed, IsAccepted}
 use Rattle.resolvo_judge.specs.Log.{is_head, causes_of_line}
 use Rattle.resolvo_judge.specs.Judging.{Stands, EndsSo}
 use Rattle.resolvo_judge.specs.Judgement.{IsClaimTrue, IsUpheld, causes_named, HoldsOn, IsRefusedAt, IsVerdict, ClaimsTruth, CountsReadings, CameRight, IsStop}
-use Rattle.resolvo_judge.proofs.WholeProofs.{take_front, count_push}
+use Rattle.resolvo_steps.proofs.WholeProofs.{take_front, count_push}
 use Rattle.resolvo_judge.proofs.LogLemmas.{one_more}
 use Rattle.resolvo_judge.proofs.Accepted.{install_true, refusal_true}
 

@@ -8,10 +8,10 @@ use Rattle.std.proofs.lemmas.List.Concat.{flat_map-append}
 use Rattle.resolvo_text.specs.Line.{Line}
 use Rattle.resolvo_report.specs.Value.{AnswerLine, ReportLine, InstallHead, RefusedHead, CatalogueLine, RequestLine, Numbered, Message, Step}
 use Rattle.resolvo_report.specs.Value as line
-use Rattle.resolvo_judge.specs.declared.literal.Literal.{Literal}
-use Rattle.resolvo_judge.specs.declared.checking.Scope.{Scope}
-use Rattle.resolvo_judge.specs.Proof.{may_stand, is_named, derives_empty, ends_empty}
-use Rattle.resolvo_judge.specs.Checking.{names_catalogue, names_request, StandFor}
+use Rattle.resolvo_steps.specs.declared.literal.Literal.{Literal}
+use Rattle.resolvo_steps.specs.declared.checking.Scope.{Scope}
+use Rattle.resolvo_steps.specs.Proof.{may_stand, is_named, derives_empty, ends_empty}
+use Rattle.resolvo_steps.specs.Checking.{names_catalogue, names_request, StandFor}
 use Rattle.resolvo_judge.specs.Refusal.{answer_in, answers_in, step_in, steps_in, catalogue_line_in, catalogue_lines_in, request_line_in, request_lines_in, is_refusal, may_rest, passes}
 use Rattle.resolvo_judge.specs.Log.{LogStands}
 

@@ -7,11 +7,11 @@ use Rattle.resolvo_text.specs.Matching.{Set}
 use Rattle.resolvo_catalogue.specs.Sets.{IsSingle, AreRefuted}
 use Rattle.resolvo_pool.specs.OnePass.{clause_true}
 use Rattle.resolvo_report.specs.Value.{Step}
-use Rattle.resolvo_judge.specs.StepClauses.{clause_of}
-use Rattle.resolvo_judge.specs.Helpers.{value_of}
-use Rattle.resolvo_judge.specs.Proof.{IsProof, is_named, ends_empty, ObeysLines, ObeysTested, IsTrueIn}
-use Rattle.resolvo_judge.proofs.Sets.{all_at}
-use Rattle.resolvo_judge.proofs.ProofTrue.{place_given, proof_true, proof_refutes}
+use Rattle.resolvo_steps.specs.StepClauses.{clause_of}
+use Rattle.resolvo_steps.specs.Helpers.{value_of}
+use Rattle.resolvo_steps.specs.Proof.{IsProof, is_named, ends_empty, ObeysLines, ObeysTested, IsTrueIn}
+use Rattle.resolvo_steps.proofs.Sets.{all_at}
+use Rattle.resolvo_steps.proofs.ProofTrue.{place_given, proof_true, proof_refutes}
 
 pub named_in : (lines : List ℕ) (n : ℕ) → is_named lines n ≡ true → Contains lines n
 named_in [] n h = absurd (false≢true h)

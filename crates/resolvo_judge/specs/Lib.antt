@@ -1,15 +1,3 @@
-pub mod Truth
-pub mod Pieces
-pub mod Literals
-pub mod Passing
-pub mod Numbers
-pub mod StepClauses
-pub mod Helpers
-pub mod Proof
-pub mod Built
-pub mod Keys
-pub mod Stated
-pub mod Checking
 pub mod Entries
 pub mod Chosen
 pub mod Refusal

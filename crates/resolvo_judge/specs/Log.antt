@@ -3,10 +3,10 @@ use Rattle.std.specs.Prelude.{◌≡◌, ℕ, Bool, true, false, List, Option}
 use Rattle.std.specs.Global.{Vec}
 use Rattle.resolvo_text.specs.Line.{Line}
 use Rattle.resolvo_report.specs.Value.{ReportLine, InstallHead, RefusedHead, Numbered}
-use Rattle.resolvo_judge.specs.declared.literal.Literal.{Literal}
-use Rattle.resolvo_judge.specs.declared.checking.Scope.{Scope}
-use Rattle.resolvo_judge.specs.Proof.{ends_empty}
-use Rattle.resolvo_judge.specs.Checking.{names_catalogue, names_request, causes_in, StandFor}
+use Rattle.resolvo_steps.specs.declared.literal.Literal.{Literal}
+use Rattle.resolvo_steps.specs.declared.checking.Scope.{Scope}
+use Rattle.resolvo_steps.specs.Proof.{ends_empty}
+use Rattle.resolvo_steps.specs.Checking.{names_catalogue, names_request, causes_in, StandFor}
 use Rattle.resolvo_judge.specs.Refusal.{steps_in, catalogue_lines_in, request_lines_in, may_rest}
 
 -- What is kept stands for these lines: their steps, the lines that steps may rest on, and whether the last step

@@ -11,9 +11,9 @@ use Rattle.resolvo_catalogue.specs.Answers as answer
 use Rattle.resolvo_catalogue.specs.Answers.{Answer}
 use Rattle.resolvo_report.specs.Value.{AnswerLine, Entry, Wished, LeftOut, OfRequest, OfVersion, ReportLine, InstallHead, RefusedHead, CatalogueLine, RequestLine, Numbered, Message, Step}
 use Rattle.resolvo_report.specs.Value as line
-use Rattle.resolvo_judge.specs.StepClauses.{clause_of}
+use Rattle.resolvo_steps.specs.StepClauses.{clause_of}
 use Rattle.resolvo_judge.specs.Entries.{entries_of, answer_fits}
-use Rattle.resolvo_judge.specs.Proof.{may_stand, is_named, ends_empty, bars}
+use Rattle.resolvo_steps.specs.Proof.{may_stand, is_named, ends_empty, bars}
 
 -- ---- what lines say
 

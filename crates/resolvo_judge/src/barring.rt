@@ -7,20 +7,20 @@ ghost use Rattle.resolvo_text.specs.Matching.{Set, same_version};
 ghost use Rattle.resolvo_text.specs.View.{version_of};
 ghost use Rattle.resolvo_catalogue.specs.Listed.{pair_version, pair_versions};
 ghost use Rattle.resolvo_report.specs.Value.{Step as SaidStep};
-ghost use Rattle.resolvo_judge.specs.Proof.{IsProof};
+ghost use Rattle.resolvo_steps.specs.Proof.{IsProof};
 ghost use Rattle.resolvo_judge.specs.Chosen.{Holds};
-ghost use Rattle.resolvo_judge.specs.Checking.{StandFor};
+ghost use Rattle.resolvo_steps.specs.Checking.{StandFor};
 ghost use Rattle.resolvo_judge.specs.KeptAnswers.{barred_of};
 ghost use Rattle.resolvo_judge.specs.Barring.{TellsVersions, version_told as version_told_lem, is_barring as is_barring_lem, clause_bars as clause_bars_lem, is_barred};
 
-use crate::checking::Checker;
 use crate::chosen::Chosen;
-use crate::clauses::{Clauses, Readings};
 use crate::entries::Barred;
-use crate::literal::Literal;
-use crate::numbers::Numbers;
-use crate::proof::nothing_each;
 use resolvo_catalogue::{Catalogue, Version};
+use resolvo_steps::checking::Checker;
+use resolvo_steps::clauses::{Clauses, Readings};
+use resolvo_steps::literal::Literal;
+use resolvo_steps::numbers::Numbers;
+use resolvo_steps::proof::nothing_each;
 use std::alloc::{AllocError, Global};
 
 /// The number of the listed version that each atom says to be in the set, None for a helper.

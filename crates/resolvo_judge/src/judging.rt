@@ -12,15 +12,15 @@ ghost use Rattle.resolvo_judge.specs.KeptAnswers.{KeepsAnswers, KeepsLines};
 ghost use Rattle.resolvo_judge.specs.Judging.{Stands, EndsSo};
 
 use crate::barring::are_barred;
-use crate::clauses::Readings;
 use crate::ending::keeps_all;
 use crate::entries::Entries;
 use crate::log::{
     Log, install_log, refusal_log, take_catalogue_line, take_request_line, take_step,
 };
-use crate::proof::causes_in;
 use resolvo_catalogue::{Catalogue, Request};
 use resolvo_report::ReportLine;
+use resolvo_steps::clauses::Readings;
+use resolvo_steps::proof::causes_in;
 use std::alloc::{AllocError, Global};
 
 /// What is kept of the lines so far.

@@ -5,19 +5,19 @@ ghost use Rattle.std.specs.Prelude.{◌≡◌, ◌+◌, ◌^◌, ◌<◌, ◌≤
 ghost use Rattle.resolvo_catalogue.specs.Listed.{listed};
 ghost use Rattle.resolvo_report.specs.Value.{ReportLine, InstallHead, RefusedHead, CatalogueLine, RequestLine, Numbered};
 ghost use Rattle.resolvo_report.specs.View.{step_of};
-ghost use Rattle.resolvo_judge.specs.Checking.{causes_in, names_catalogue, names_request};
-ghost use Rattle.resolvo_judge.specs.Proof.{derives_empty as derives_empty_lem};
+ghost use Rattle.resolvo_steps.specs.Checking.{causes_in, names_catalogue, names_request};
+ghost use Rattle.resolvo_steps.specs.Proof.{derives_empty as derives_empty_lem};
 ghost use Rattle.resolvo_judge.specs.Refusal.{passes, states_rule};
 ghost use Rattle.resolvo_catalogue.specs.Grammar.{line_at};
 ghost use Rattle.resolvo_text.specs.Line.{Line};
 ghost use Rattle.resolvo_judge.specs.Log.{LogStands};
 
-use crate::checking::{Checker, Scope, advance};
-use crate::clauses::Readings;
 use crate::named::{is_rule, name_in_catalogue, name_in_request};
-use crate::proof::begin;
 use resolvo_catalogue::{Catalogue, Request};
 use resolvo_report::Step;
+use resolvo_steps::checking::{Checker, Scope, advance};
+use resolvo_steps::clauses::Readings;
+use resolvo_steps::proof::begin;
 use std::alloc::{AllocError, Global};
 
 /// What is kept of the named lines and the steps of a report.

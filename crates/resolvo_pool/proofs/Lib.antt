@@ -1,7 +1,5 @@
 pub mod Conditions
-pub mod Favoured
 pub mod Interned
-pub mod KeptLemmas
 pub mod PassLearns
 pub mod PassNamed
 pub mod PassSound

@@ -1,9 +1,6 @@
 pub mod ByRequirement
-pub mod Cached
-pub mod Fault
 pub mod Ids
 pub mod Interning
-pub mod Keyed
 pub mod Lends
 pub mod OnePass
 pub mod Provider

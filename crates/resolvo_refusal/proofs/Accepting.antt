@@ -18,7 +18,7 @@ use Rattle.resolvo_provider.proofs.Marking.{one_some}
 use Rattle.resolvo_report.specs.Value.{Step, Report, ReportLine, RefusedHead, CatalogueLine, RequestLine, Numbered, Refused}
 use Rattle.resolvo_report.specs.Text.{numbered, report_lines}
 use Rattle.resolvo_report.specs.Grammar.{IsReport}
-use Rattle.resolvo_judge.specs.Proof.{may_stand, is_named, ends_empty}
+use Rattle.resolvo_steps.specs.Proof.{may_stand, is_named, ends_empty}
 use Rattle.resolvo_judge.specs.Refusal.{catalogue_line_in, request_line_in, step_in, catalogue_lines_in, request_lines_in, steps_in, states_rule, passes, ArePassed, IsAccepted}
 use Rattle.resolvo_judge.specs.Judgement.{IsClaimTrue}
 use Rattle.resolvo_judge.proofs.JudgeLemmas.{claim_true}

@@ -30,7 +30,7 @@ use Rattle.resolvo_provider.proofs.Elements.{flat_from, reason_from, from_lines}
 use Rattle.resolvo_provider.proofs.RulesKept.{found_in, unknown_from, listing_is, locked_by, excluded_by, exclusion_word}
 use Rattle.std.proofs.lemmas.Option.{slice_get-get_or, slice_get_within, get_or_from_slice_get, unwrap_or-slice_get}
 use Rattle.resolvo_report.specs.Value as told
-use Rattle.resolvo_judge.specs.StepClauses as judge
+use Rattle.resolvo_steps.specs.StepClauses as judge
 use Rattle.resolvo_refusal.specs.declared.named.Text.{Text}
 use Rattle.resolvo_refusal.specs.Named.{line_in, in_catalogue}
 use Rattle.resolvo_refusal.specs.Lines.{locks, marks_unknown, IsFree, IsUnknownLine, IsBarringLine}

@@ -18,7 +18,7 @@ use Rattle.resolvo_provider.specs.Ids.{Ids, AreEach, IsSpec, IsCondition, IsCond
 use Rattle.resolvo_provider.specs.Known.{condition_at}
 use Rattle.resolvo_provider.proofs.Elements.{flat_from, each_from_left}
 use Rattle.resolvo_provider.proofs.Standing.{each_more}
-use Rattle.resolvo_judge.specs.StepClauses.{case_at}
+use Rattle.resolvo_steps.specs.StepClauses.{case_at}
 use Rattle.resolvo_refusal.specs.Lines.{IsLeast, SaysAt, IsNeedLine}
 
 -- ---- each case of a condition asks for something

@@ -45,8 +45,8 @@ use Rattle.resolvo_provider.proofs.RulesKept.{con_from}
 use Rattle.resolvo_provider.proofs.Marking.{one_some}
 use Rattle.resolvo_provider.proofs.Places.{each_left}
 use Rattle.resolvo_report.specs.Value as told
-use Rattle.resolvo_judge.specs.StepClauses as judge
-use Rattle.resolvo_judge.proofs.Sets.{is_contained}
+use Rattle.resolvo_steps.specs.StepClauses as judge
+use Rattle.resolvo_steps.proofs.Sets.{is_contained}
 use Rattle.resolvo_refusal.specs.Writing.{version_at, place_at}
 use Rattle.resolvo_refusal.specs.Lines.{NeedsAs}
 use Rattle.resolvo_refusal.specs.Refusal.{IsVersion, IsRequirement, IsKnownAtom, atom_at, literal_at, AreLiterals, IsOfPlace, IsBarredBy}

@@ -28,7 +28,7 @@ use Rattle.resolvo_report.specs.Value as told
 use Rattle.resolvo_report.specs.Text.{literal_text, are_rising, IsLineNumber, IsPlace, IsAtom, IsStep}
 use Rattle.resolvo_report.specs.Text as form_of
 use Rattle.resolvo_report.specs.Grammar.{IsReport}
-use Rattle.resolvo_judge.specs.StepClauses as judge
+use Rattle.resolvo_steps.specs.StepClauses as judge
 use Rattle.resolvo_refusal.specs.declared.named.Text.{Text}
 use Rattle.resolvo_refusal.specs.declared.named.Text.TheVariants as text
 use Rattle.resolvo_refusal.specs.Named.{IsNamedBy}

@@ -25,10 +25,10 @@ use Rattle.resolvo_provider.specs.Keeping.{root_of}
 use Rattle.resolvo_provider.proofs.Marking.{one_some}
 use Rattle.resolvo_provider.proofs.RulesKept.{below_take, taken}
 use Rattle.resolvo_report.specs.Value as told
-use Rattle.resolvo_judge.specs.StepClauses as judge
-use Rattle.resolvo_judge.specs.Passing.{is_earlier}
-use Rattle.resolvo_judge.specs.Proof.{rests_on_named, allows_place, cause_of, follows, may_stand, ends_empty, derives_empty}
-use Rattle.resolvo_judge.proofs.Sets.{same_is}
+use Rattle.resolvo_steps.specs.StepClauses as judge
+use Rattle.resolvo_steps.specs.Passing.{is_earlier}
+use Rattle.resolvo_steps.specs.Proof.{rests_on_named, allows_place, cause_of, follows, may_stand, ends_empty, derives_empty}
+use Rattle.resolvo_steps.proofs.Sets.{same_is}
 use Rattle.resolvo_refusal.specs.declared.named.Text.{Text}
 use Rattle.resolvo_refusal.specs.declared.named.Text.TheVariants as text
 use Rattle.resolvo_refusal.specs.Named.{line_in, in_catalogue}

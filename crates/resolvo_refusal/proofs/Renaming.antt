@@ -23,8 +23,8 @@ use Rattle.resolvo_provider.specs.Provider.{Provider}
 use Rattle.resolvo_provider.specs.Over.{IsOver}
 use Rattle.resolvo_provider.specs.declared.id_table.Numbers.{Numbers}
 use Rattle.resolvo_report.specs.Value as told
-use Rattle.resolvo_judge.specs.Helpers as judge
-use Rattle.resolvo_judge.proofs.Atoms.{same_atom_is, atom_own}
+use Rattle.resolvo_steps.specs.Helpers as judge
+use Rattle.resolvo_steps.proofs.Atoms.{same_atom_is, atom_own}
 use Rattle.resolvo_refusal.specs.Writing.{version_at}
 use Rattle.resolvo_refusal.specs.Refusal.{IsVersion, IsRequirement, IsName}
 

@@ -37,7 +37,7 @@ use Rattle.resolvo_provider.proofs.Covering.{alternatives_stand, spec_stands}
 use Rattle.resolvo_provider.proofs.Places.{no_element}
 use Rattle.resolvo_report.specs.Value.{OfRequest, OfVersion, Step}
 use Rattle.resolvo_report.specs.Value as told
-use Rattle.resolvo_judge.specs.StepClauses.{is_owner}
+use Rattle.resolvo_steps.specs.StepClauses.{is_owner}
 use Rattle.resolvo_refusal.specs.Writing.{version_at, place_at, number_of, IsWritten}
 use Rattle.resolvo_refusal.specs.declared.lines.NeedLine.{NeedLine}
 use Rattle.resolvo_refusal.specs.Lines.{IsLeast, IsLineOf, SaysAt, NeedsIn, IsNeedLine}

@@ -6,7 +6,7 @@ use Rattle.resolvo_catalogue.specs.Grammar.{line_at}
 use Rattle.resolvo_catalogue.specs.Listed.{listed}
 use Rattle.resolvo_catalogue.specs.Questions.{SaysOf, BelongsTo, LineIs, LocksAnother, Excludes, MarksUnknownOf, Bars}
 use Rattle.resolvo_catalogue.specs.declared.rule.VersionNo.{VersionNo}
-use Rattle.resolvo_judge.specs.StepClauses.{case_at}
+use Rattle.resolvo_steps.specs.StepClauses.{case_at}
 use Rattle.resolvo_refusal.specs.declared.lines.PlaceLines.{PlaceLines}
 use Rattle.resolvo_refusal.specs.declared.lines.PlaceLines.TheVariants as of_place
 use Rattle.resolvo_refusal.specs.declared.lines.NeedLine.{NeedLine}

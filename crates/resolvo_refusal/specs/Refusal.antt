@@ -31,7 +31,7 @@ use Rattle.resolvo_report.specs.Value as told
 use Rattle.resolvo_report.specs.Text.{report_lines, IsAtom}
 use Rattle.resolvo_report.specs.Text as form_of
 use Rattle.resolvo_report.specs.Grammar.{IsReport}
-use Rattle.resolvo_judge.specs.StepClauses.{line_of}
+use Rattle.resolvo_steps.specs.StepClauses.{line_of}
 use Rattle.resolvo_judge.specs.Judgement.{IsClaimTrue}
 use Rattle.resolvo_judge.specs.Refusal.{IsAccepted}
 use Rattle.resolvo_refusal.specs.Writing.{version_at, place_at}

@@ -1,17 +1,11 @@
-pub mod Alike
 pub mod CaseLaws
 pub mod ClauseLists
 pub mod ClauseValues
 pub mod Digits
-pub mod Fitting
-pub mod Interning
-pub mod Picks
-pub mod Plain
 pub mod Rooms
 pub mod Seconds
 pub mod Ties
 pub mod Trails
-pub mod Undone
 pub mod Walks
 pub mod Watched
 pub mod Watching

@@ -10,12 +10,8 @@ pub mod Trail
 pub mod Values
 pub mod Watches
 pub mod Watchable
-pub mod Origins
 pub mod AtMostOne
 pub mod Pick
 pub mod Cases
 pub mod Deferred
 pub mod Walk
-pub mod Stored
-pub mod Changes
-pub mod Calls

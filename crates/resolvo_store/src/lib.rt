@@ -4,7 +4,6 @@
 
 pub mod binary_encoding;
 pub mod clause;
-pub mod clause_store;
 pub mod conditions;
 pub mod decide_queue;
 pub mod decision;
@@ -13,8 +12,5 @@ pub mod decision_tracker;
 pub mod lists;
 pub mod literal;
 pub mod literals;
-pub mod store_call;
-mod store_run;
-pub mod variable_map;
 pub mod watch_map;
 pub mod watched_literals;

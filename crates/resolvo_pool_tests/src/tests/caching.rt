@@ -1,7 +1,7 @@
 //! The cache over the provider in memory, of which each helper asks one thing.
 
 use super::sourcing::{Tens, small_provider};
-use resolvo_pool::cache::{CacheFault, SolverCache};
+use resolvo_cache::cache::{CacheFault, SolverCache};
 use resolvo_pool::id::{NameId, SolvableId, StringId, VersionSetId, VersionSetUnionId};
 use resolvo_pool::provider::Dependencies;
 use resolvo_pool::requirement::Requirement;

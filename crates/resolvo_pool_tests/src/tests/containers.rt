@@ -1,7 +1,7 @@
 //! Containers and ids, on small values.
 
+use resolvo_cache::frozen_copy_map::FrozenCopyMap;
 use resolvo_pool::arena::Arena;
-use resolvo_pool::frozen_copy_map::FrozenCopyMap;
 use resolvo_pool::id::{
     ClauseId, ConditionId, DenseId, DenseIndex, NameTag, SolvableTag, SparseId, VariableId,
     VersionSetId, VersionSetUnionId, next_index,

@@ -1,11 +1,11 @@
 //! At most one of some variables, and variables of all origins.
 
+use resolvo_clause_store::variable_map::{VariableMap, VariableOrigin};
 use resolvo_pool::id::{NameId, SolvableId, VariableId, VersionSetId};
 use resolvo_pool::requirement::Requirement;
 use resolvo_pool::solver_id::SolvableIdOrRoot;
 use resolvo_pool::want::R;
 use resolvo_store::binary_encoding::AtMostOnceTracker;
-use resolvo_store::variable_map::{VariableMap, VariableOrigin};
 use std::alloc::Global;
 use std::process::Abort;
 use std::test::Fail;

@@ -1,6 +1,6 @@
 use Rattle.std.proofs.Common.{Result, subst}
 use Rattle.std.specs.Prelude.{IfOk, IfErr}
-use Rattle.resolvo_pool.specs.Cached.{IsCancelledBy}
+use Rattle.resolvo_cache.specs.Cached.{IsCancelledBy}
 use Rattle.resolvo_pool.specs.RuleKeeping.{Rules}
 use Rattle.resolvo.specs.Encoder.{IsInOrder, IsRoot}
 use Rattle.resolvo.specs.Solving.{IsFound, IsPreferred}

@@ -1,5 +1,5 @@
 use Rattle.std.proofs.Common.{◌≡◌, ◌<◌, ℕ, List, [], ◌∷◌, Some, length}
-use Rattle.resolvo_judge.specs.Numbers.{number_in}
+use Rattle.resolvo_steps.specs.Numbers.{number_in}
 use Rattle.resolvo_judge.specs.Barring.{TellsVersions}
 use Rattle.resolvo_judge.proofs.barring.atoms_of.Given as goal
 

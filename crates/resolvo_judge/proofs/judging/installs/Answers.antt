@@ -2,7 +2,7 @@ use Rattle.std.proofs.Common.{◌≡◌, Bool, List, ap, subst, ◌∙◌, map}
 use Rattle.std.specs.List.{list_all}
 use Rattle.resolvo_catalogue.proofs.CatalogueFacts.{ok_map}
 use Rattle.resolvo_report.specs.Text.{report_lines}
-use Rattle.resolvo_judge.specs.Proof.{every_line}
+use Rattle.resolvo_steps.specs.Proof.{every_line}
 use Rattle.resolvo_judge.specs.Entries.{entries_of}
 use Rattle.resolvo_judge.specs.Refusal.{answers_in, steps_in}
 use Rattle.resolvo_judge.specs.Ending.{KeepsAll}

@@ -1,0 +1,2 @@
+pub mod Favoured
+pub mod KeptLemmas

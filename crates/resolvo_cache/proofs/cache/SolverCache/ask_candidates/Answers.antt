@@ -1,0 +1,15 @@
+use Rattle.std.proofs.Common.{refl}
+use Rattle.resolvo_cache.proofs.KeptLemmas.{among_found, among_more, kept_more}
+use Rattle.resolvo_cache.specs.Cached.{IsListing}
+use Rattle.resolvo_cache.proofs.cache.SolverCache.ask_candidates.Goals as goal
+
+pub invariant_of-self-2 : goal.invariant_of-self-2
+invariant_of-self-2 g c =
+    (kept_more g.D.NameId.PartialEq.eq c.self.inside.lists.entries c.insert.new.self.entries c.args.name c.in_ok-list.list c.in_ok-insert.ensures.updates.0 (IsListing (g.D.DependencyProvider.candidates_of c.self.inside.provider)) (g.met.D.NameId.Exact.exact c.args.name) c.in_ok-list.ensures c.self.invariant.0, c.self.invariant.1, c.self.invariant.2, c.self.invariant.3, c.self.invariant.4, c.self.invariant.5)
+
+pub returns-clause-there : goal.returns-clause-there
+returns-clause-there g c = among_found g.D.NameId.PartialEq.eq c.insert.new.self.entries c.args.name _ c.in_ok-insert.ensures.updates.1
+
+pub returns-clause-extends : goal.returns-clause-extends
+returns-clause-extends g c =
+    rw (← c.self.view_is) (record { provider = refl; names = among_more g.D.NameId.PartialEq.eq c.self.inside.lists.entries c.insert.new.self.entries c.args.name _ c.in_ok-insert.ensures.updates.0; matching = λ v h. h; non_matching = λ v h. h; sorted = λ v xs h. h; unions = λ u h. h; solvables = λ s h. h })

@@ -1,0 +1,3 @@
+pub mod Cached
+pub mod Fault
+pub mod Keyed

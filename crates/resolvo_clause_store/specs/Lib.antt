@@ -1,0 +1,4 @@
+pub mod Origins
+pub mod Stored
+pub mod Changes
+pub mod Calls

@@ -1,0 +1,16 @@
+pub mod PieceLemmas
+pub mod NumberLemmas
+pub mod ReadLemmas
+pub mod MarkLemmas
+pub mod Sets
+pub mod Atoms
+pub mod ListedLemmas
+pub mod ClausesTrue
+pub mod ProofTrue
+pub mod Packages
+pub mod Naming
+pub mod BuiltLemmas
+pub mod StatedLemmas
+pub mod StepLines
+pub mod CheckLemmas
+pub mod WholeProofs

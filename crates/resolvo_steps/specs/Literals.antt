@@ -1,0 +1,22 @@
+-- What numbered literals and clauses are, without how they are kept.
+use Rattle.std.specs.Prelude.{ℕ, ◌-◌, List, [], map, slice_index_or}
+use Rattle.resolvo_pool.specs.OnePass.Rest.{broken, last, more}
+use Rattle.resolvo_pool.specs.OnePass as pass
+use Rattle.resolvo_steps.specs.declared.literal.Literal.{Literal}
+use Rattle.resolvo_steps.specs.declared.literal.Rest.{Rest}
+use Rattle.resolvo_steps.specs.declared.literal.Rest.TheVariants.{Broken, Last, Open}
+
+abbrev pub literal_of : Literal → pass.Literal ℕ
+literal_of l = record { atom = l.atom; positive = l.positive }
+
+abbrev pub literals_of : List Literal → List (pass.Literal ℕ)
+literals_of ls = map literal_of ls
+
+abbrev pub rest_of : Rest → pass.Rest ℕ
+rest_of Broken = broken
+rest_of (Last l) = last (literal_of l)
+rest_of Open = more
+
+-- the n-th clause, n from 1
+abbrev pub clause_at : List (List Literal) → ℕ → List (pass.Literal ℕ)
+clause_at clauses n = literals_of (slice_index_or clauses (n - 1) [])
