@@ -5,15 +5,15 @@ ghost use Rattle.resolvo_search.specs.Steps.{AreInRange};
 ghost use Rattle.resolvo_coding.specs.Coding.{IsCoding};
 ghost use Rattle.resolvo_coding.specs.Statements.{rule_of};
 
-use crate::proof::proof_of;
-use crate::step::{ProofLiteral, ProofRule, ProofStep};
-use crate::trimming::trim;
 use resolvo_coding::atom::ProofAtom;
 use resolvo_coding::coding::Coding;
 use resolvo_coding::stated::Stated;
 use resolvo_pool::id::{ClauseId, NameId, SolvableId, StringId, VariableId, VersionSetId};
 use resolvo_pool::requirement::{ConditionalRequirement, Requirement};
 use resolvo_pool::want::R;
+use resolvo_proof::proof::proof_of;
+use resolvo_proof::step::{ProofLiteral, ProofRule, ProofStep};
+use resolvo_proof::trimming::trim;
 use resolvo_search::advancing::Progress;
 use resolvo_search::state::SearchState;
 use resolvo_store::literal::Literal;
