@@ -1,8 +1,6 @@
 -- Clauses and parents come, step by step.
-use Rattle.std.proofs.Common.{◌≡◌, ℕ, inl, inr, Bool, false, suc, ◌+◌, ◌≤◌, length, List, [], ◌∷◌, ◌++◌, Option, None, Some, Vec, Global, take, drop, take-append-drop, refl, sym, ◌∙◌, ap, subst, arith, ◌-◌, reverse}
+use Rattle.std.proofs.Common.{◌≡◌, ℕ, inl, inr, Bool, false, suc, ◌+◌, ◌≤◌, length, List, [], ◌∷◌, ◌++◌, Option, None, Some, Vec, Global, take, drop, take-append-drop, refl, sym, ◌∙◌, ap, subst, arith}
 use Rattle.resolvo_encoding.specs.declared.encoding.Noted.{Noted}
-use Rattle.resolvo_search.specs.Entries.{EndsWith}
-use Rattle.resolvo_search.specs.Advancing.{KeepsUpTo}
 use Rattle.std.specs.Prelude.{slice_get, Contains}
 use Rattle.resolvo_pool.specs.Text.{solvable_of}
 use Rattle.resolvo_pool.specs.declared.requirement.ConditionalRequirement.{ConditionalRequirement}
@@ -31,6 +29,8 @@ use Rattle.resolvo_encoding.specs.Encoded.{IsCaseEncoded}
 use Rattle.resolvo_encoding.specs.Casing.{Defers, Fires}
 use Rattle.resolvo_encoding.specs.Steps.{Extends, AddsParent, IsNextEncoded}
 use Rattle.resolvo_encoding.specs.Going.{GoesOn}
+use Rattle.resolvo_encoding.specs.Base.{KeepsTurns}
+use Rattle.resolvo_encoding.proofs.Bases.{same_turns, turn_same, turns_then}
 use Rattle.resolvo_encoding.proofs.Parents.{parent_keeps}
 use Rattle.resolvo_encoding.proofs.Picking.{ordered_stays}
 use Rattle.resolvo_encoding.proofs.Requiring.{need_grows, limit_grows, guard_grows, some_one}
@@ -82,21 +82,17 @@ module _ {N S : Type 0} (same : S → S → Bool) (p : Packages N S) (orders : R
 
 -- ---- needs
 
--- where the trail is the same, what stood stands
-tracker_earlier : {N S : Type 0} (a b : Encoding N S) (level : ℕ) → b.coding.search.tracker ≡ a.coding.search.tracker → KeepsUpTo level a.coding.search b.coding.search
-tracker_earlier a b level same = λ base low ends. subst (λ t. EndsWith base (reverse t.trail)) (sym same) ends
-
--- what stood before the turn stands through both
-earlier_then : {N S : Type 0} (a b c : Encoding N S) → Grows a.coding b.coding → KeepsUpTo (a.coding.search.floor - 1) a.coding.search b.coding.search → KeepsUpTo (b.coding.search.floor - 1) b.coding.search c.coding.search → KeepsUpTo (a.coding.search.floor - 1) a.coding.search c.coding.search
-earlier_then a b c grows f g = λ base low ends. g base (let same : b.coding.search.floor ≡ a.coding.search.floor = grows.floor in omega arith) (f base low ends)
+-- where the trail is the same, so is the turn
+coding_turns : {N S : Type 0} (a b : Encoding N S) → b.coding ≡ a.coding → b.noted.wishes.items ≡ a.noted.wishes.items → KeepsTurns a b
+coding_turns {N} {S} a b same wishes = same_turns a b (subst (λ (x : Coding N S). Grows a.coding x) (sym same) (grows_same a.coding)) (record { tracker = ap (λ (x : Coding N S). x.search.tracker) same }) wishes
 
 pub needs_none : {N S : Type 0} (e : Encoding N S) → AddsNeeds e e
-needs_none e = record { grows = grows_same e.coding; earlier = λ base low ends. ends; wishes = refl; parents = front_same e.parents.keys; encoded = refl; deferred = front_same e.deferred.items; fired = front_same e.fired.keys }
+needs_none e = record { grows = grows_same e.coding; turn = λ wish. turn_same wish e; wishes = refl; parents = front_same e.parents.keys; encoded = refl; deferred = front_same e.deferred.items; fired = front_same e.fired.keys }
 
 pub needs_then : {N S : Type 0} (a b c : Encoding N S) → AddsNeeds a b → AddsNeeds b c → AddsNeeds a c
 needs_then a b c f g = record {
   grows = grows_then a.coding b.coding c.coding f.grows g.grows;
-  earlier = earlier_then a b c f.grows f.earlier g.earlier;
+  turn = turns_then a b c f.turn g.turn;
   wishes = g.wishes ∙ f.wishes;
   parents = front_then a.parents.keys b.parents.keys c.parents.keys f.parents g.parents;
   encoded = g.encoded ∙ f.encoded;
@@ -107,7 +103,7 @@ needs_then a b c f g = record {
 pub extends_needs : {N S : Type 0} (a b : Encoding N S) → Extends a b → AddsNeeds a b
 extends_needs a b f = record {
   grows = f.grows;
-  earlier = tracker_earlier a b (a.coding.search.floor - 1) f.trail.tracker;
+  turn = same_turns a b f.grows f.trail f.wishes;
   wishes = f.wishes;
   parents = front_equal a.parents.keys b.parents.keys (ap (λ ks. ks.keys) f.parents);
   encoded = f.encoded;
@@ -118,8 +114,8 @@ extends_needs a b f = record {
 pub parents_needs : {N S : Type 0} (a b : Encoding N S) → AddsParent a b → AddsNeeds a b
 parents_needs {N} {S} a b f = record {
   grows = subst (λ (x : Coding N S). Grows a.coding x) (sym (parents_coding a b f)) (grows_same a.coding);
-  earlier = tracker_earlier a b (a.coding.search.floor - 1) (ap (λ (x : Encoding N S). x.coding.search.tracker) f.rest);
-  wishes = ap (λ (x : Encoding N S). x.noted.wishes.keys) f.rest;
+  turn = coding_turns a b (ap (λ (x : Encoding N S). x.coding) f.rest) (ap (λ (x : Encoding N S). x.noted.wishes.items) f.rest);
+  wishes = ap (λ (x : Encoding N S). x.noted.wishes.items) f.rest;
   parents = f.front;
   encoded = parents_encoded a b f;
   deferred = front_equal a.deferred.items b.deferred.items (ap (λ (x : Encoding N S). x.deferred.items) f.rest);
@@ -130,8 +126,8 @@ parents_needs {N} {S} a b f = record {
 pub defers_needs : {N S : Type 0} (a b : Encoding N S) → Defers a b → AddsNeeds a b
 defers_needs {N} {S} a b f = record {
   grows = subst (λ (x : Coding N S). Grows a.coding x) (sym (ap (λ (x : Encoding N S). x.coding) f.rest)) (grows_same a.coding);
-  earlier = tracker_earlier a b (a.coding.search.floor - 1) (ap (λ (x : Encoding N S). x.coding.search.tracker) f.rest);
-  wishes = ap (λ (x : Encoding N S). x.noted.wishes.keys) f.rest;
+  turn = coding_turns a b (ap (λ (x : Encoding N S). x.coding) f.rest) (ap (λ (x : Encoding N S). x.noted.wishes.items) f.rest);
+  wishes = ap (λ (x : Encoding N S). x.noted.wishes.items) f.rest;
   parents = front_equal a.parents.keys b.parents.keys (ap (λ (x : Encoding N S). x.parents.keys) f.rest);
   encoded = ap (λ (x : Encoding N S). x.encoded) f.rest;
   deferred = f.front;
@@ -142,8 +138,8 @@ defers_needs {N} {S} a b f = record {
 pub fires_needs : {N S : Type 0} (index : ℕ) (a b : Encoding N S) → Fires index a b → AddsNeeds a b
 fires_needs {N} {S} index a b f = record {
   grows = subst (λ (x : Coding N S). Grows a.coding x) (sym (ap (λ (x : Encoding N S). x.coding) f.rest)) (grows_same a.coding);
-  earlier = tracker_earlier a b (a.coding.search.floor - 1) (ap (λ (x : Encoding N S). x.coding.search.tracker) f.rest);
-  wishes = ap (λ (x : Encoding N S). x.noted.wishes.keys) f.rest;
+  turn = coding_turns a b (ap (λ (x : Encoding N S). x.coding) f.rest) (ap (λ (x : Encoding N S). x.noted.wishes.items) f.rest);
+  wishes = ap (λ (x : Encoding N S). x.noted.wishes.items) f.rest;
   parents = front_equal a.parents.keys b.parents.keys (ap (λ (x : Encoding N S). x.parents.keys) f.rest);
   encoded = ap (λ (x : Encoding N S). x.encoded) f.rest;
   deferred = front_equal a.deferred.items b.deferred.items (ap (λ (x : Encoding N S). x.deferred.items) f.rest);
@@ -151,11 +147,11 @@ fires_needs {N} {S} index a b f = record {
 }
 
 -- the search going on adds nothing else
-pub goes_needs : {N S : Type 0} (a b : Encoding N S) → GoesOn a b → AddsNeeds a b
-goes_needs {N} {S} a b f = record {
+pub goes_needs : {N S : Type 0} (a b : Encoding N S) → GoesOn a b → KeepsTurns a b → AddsNeeds a b
+goes_needs {N} {S} a b f turn = record {
   grows = f.grows;
-  earlier = f.earlier;
-  wishes = ap (λ (y : Noted N S). y.wishes.keys) f.rest.noted;
+  turn = turn;
+  wishes = ap (λ (y : Noted N S). y.wishes.items) f.rest.noted;
   parents = front_equal a.parents.keys b.parents.keys (ap (λ ks. ks.keys) f.rest.parents);
   encoded = f.rest.encoded;
   deferred = front_equal a.deferred.items b.deferred.items (ap (λ ds. ds.items) f.rest.deferred);
@@ -264,12 +260,11 @@ unknown_encoded same p root e s why asked stated = record {
 -- ---- encoded parents
 
 pub all_none : {N S : Type 0} (e : Encoding N S) → AddsParents e e
-all_none e = record { grows = grows_same e.coding; earlier = λ base low ends. ends; wishes = refl; parents = front_same e.parents.keys; encoded = omega arith; deferred = front_same e.deferred.items; fired = front_same e.fired.keys }
+all_none e = record { grows = grows_same e.coding; wishes = refl; parents = front_same e.parents.keys; encoded = omega arith; deferred = front_same e.deferred.items; fired = front_same e.fired.keys }
 
 pub all_then : {N S : Type 0} (a b c : Encoding N S) → AddsParents a b → AddsParents b c → AddsParents a c
 all_then a b c f g = record {
   grows = grows_then a.coding b.coding c.coding f.grows g.grows;
-  earlier = earlier_then a b c f.grows f.earlier g.earlier;
   wishes = g.wishes ∙ f.wishes;
   parents = front_then a.parents.keys b.parents.keys c.parents.keys f.parents g.parents;
   encoded = (let x : a.encoded ≤ b.encoded = f.encoded in let y : b.encoded ≤ c.encoded = g.encoded in omega arith);
@@ -279,11 +274,22 @@ all_then a b c f g = record {
 
 -- the needs of one parent more
 pub one_more : {N S : Type 0} (a b : Encoding N S) → AddsNeeds a b → AddsParents a (record b { encoded = b.encoded + 1 })
-one_more a b f = record { grows = f.grows; earlier = f.earlier; wishes = f.wishes; parents = f.parents; encoded = (let x : b.encoded ≡ a.encoded = f.encoded in omega arith); deferred = f.deferred; fired = f.fired }
+one_more a b f = record { grows = f.grows; wishes = f.wishes; parents = f.parents; encoded = (let x : b.encoded ≡ a.encoded = f.encoded in omega arith); deferred = f.deferred; fired = f.fired }
 
 pub needs_parents : {N S : Type 0} (a b : Encoding N S) → AddsNeeds a b → AddsParents a b
-needs_parents a b f = record { grows = f.grows; earlier = f.earlier; wishes = f.wishes; parents = f.parents; encoded = (let x : b.encoded ≡ a.encoded = f.encoded in omega arith); deferred = f.deferred; fired = f.fired }
+needs_parents a b f = record { grows = f.grows; wishes = f.wishes; parents = f.parents; encoded = (let x : b.encoded ≡ a.encoded = f.encoded in omega arith); deferred = f.deferred; fired = f.fired }
+
+-- the end of a parent leaves the turn
+pub next_turns : {N S : Type 0} (a b : Encoding N S) → b ≡ record a { encoded = a.encoded + 1 } → KeepsTurns a b
+next_turns {N} {S} a b is = coding_turns a b (ap (λ (x : Encoding N S). x.coding) is) (ap (λ (x : Encoding N S). x.noted.wishes.items) is)
 
 -- the search going on adds no parent
 pub goes_parents : {N S : Type 0} (a b : Encoding N S) → GoesOn a b → AddsParents a b
-goes_parents a b f = needs_parents a b (goes_needs a b f)
+goes_parents {N} {S} a b f = record {
+  grows = f.grows;
+  wishes = ap (λ (y : Noted N S). y.wishes.items) f.rest.noted;
+  parents = front_equal a.parents.keys b.parents.keys (ap (λ ks. ks.keys) f.rest.parents);
+  encoded = (let x : b.encoded ≡ a.encoded = f.rest.encoded in omega arith);
+  deferred = front_equal a.deferred.items b.deferred.items (ap (λ ds. ds.items) f.rest.deferred);
+  fired = front_equal a.fired.keys b.fired.keys (ap (λ ks. ks.keys) f.rest.fired);
+}

@@ -1,10 +1,17 @@
 -- The end of a turn, and what it tells.
-use Rattle.std.proofs.Common.{◌≡◌, ℕ, ◌<◌, ◌≤◌, inl, inr, Bool, true, false, nat_lt, cond, lt-ltb, le-ltb, List, [], ◌∷◌, ◌++◌, length, Option, Some, None, refl, sym, ◌∙◌, ap, subst, arith}
+use Rattle.std.proofs.Common.{◌≡◌, ℕ, ◌+◌, ◌<◌, ◌≤◌, inl, inr, Bool, true, false, nat_lt, cond, lt-ltb, le-ltb, List, [], ◌∷◌, ◌++◌, length, Option, Some, None, refl, sym, ◌∙◌, ap, subst, arith}
 use Rattle.std.specs.Prelude.{slice_get, Contains, is_some}
 use Rattle.std.proofs.lemmas.Bool.{false≢true}
 use Rattle.std.proofs.lemmas.Option.{slice_get_within}
 use Rattle.resolvo_pool.specs.declared.solver_id.SolvableIdOrRoot.TheVariants as Place
-use Rattle.resolvo_search.specs.Entries.{made_true}
+use Rattle.resolvo_pool.specs.declared.id.VariableId.{VariableId}
+use Rattle.resolvo_store.specs.Clauses.{yes}
+use Rattle.resolvo_store.specs.Signed.{has}
+use Rattle.resolvo_store.specs.declared.decision.Entry.{Entry}
+use Rattle.resolvo_search.specs.declared.analysis.Refusal.{Refusal}
+use Rattle.resolvo_search.specs.Entries.{literal_of, made_true, top_level}
+use Rattle.resolvo_search.specs.Steps.{choice_entry}
+use Rattle.resolvo_search.proofs.Literals.{has_here, has_later}
 use Rattle.resolvo_search.specs.State.{history}
 use Rattle.resolvo_coding.specs.Chosen.{AreChosen}
 use Rattle.resolvo_coding.proofs.Growth.{below_or_not}
@@ -12,12 +19,14 @@ use Rattle.resolvo_coding.proofs.Positions.{contains_get, front_get, front_long,
 use Rattle.resolvo_encoding.specs.declared.encoding.Encoding.{Encoding}
 use Rattle.resolvo_encoding.specs.Steps.{AddsParent}
 use Rattle.resolvo_encoding.specs.Casing.{AreSpent}
-use Rattle.resolvo_encoding.specs.Going.{IsSettled, GoesOn}
+use Rattle.resolvo_encoding.specs.Base.{base_of, HasTurn, KeepsFirst, KeepsTurn}
+use Rattle.resolvo_encoding.specs.Going.{IsSettled, GoesOn, IsDecision}
+use Rattle.resolvo_encoding.proofs.Bases.{turn_decided}
 use Rattle.resolvo_store.specs.AtMostOne.{IsFrontOf}
 use Rattle.resolvo_rules.proofs.Lists.{contains_one, contains_left, contains_parts}
 use Rattle.resolvo_coding.specs.declared.coding.Coding.{Coding}
 use Rattle.resolvo.specs.Encoder.{AddsParents, AddsAll}
-use Rattle.resolvo.specs.Turn.{AddsChosen, FiresMore, GoesFurther, IsRooted, IsTurn, IsWhole, rounds_left}
+use Rattle.resolvo.specs.Turn.{AddsChosen, FiresMore, GoesFurther, HasWish, IsBegunBy, IsDecisionOf, IsRooted, IsTurn, IsWhole, rounds_left}
 use Rattle.resolvo.proofs.Adding.{all_then, goes_parents, needs_parents, parents_needs, parents_coding, parents_encoded}
 
 -- nothing stands from the end on
@@ -82,6 +91,11 @@ some_is (Some x) h = (x, refl)
 pub still_rooted : {N S : Type 0} (a b : Encoding N S) → IsRooted a → AddsParents a b → IsRooted b
 still_rooted a b rooted adds = front_get a.parents.keys b.parents.keys 0 Place.Root adds.parents rooted
 
+-- where the trail is the same, a chosen wish is chosen
+pub wish_stays : {N S : Type 0} (wish : Option VariableId) (a b : Encoding N S) → b.coding ≡ a.coding → HasWish wish a → HasWish wish b
+wish_stays None a b same h = tt
+wish_stays {N} {S} (Some v) a b same h = subst (λ (x : Coding N S). has (made_true (history x.search)) (yes v) ≡ true) (sym same) h
+
 module _ {N S : Type 0} (same : S → S → Bool) (a b c : Encoding N S) (first : IsRooted a) (all : AddsAll a b) (chosen : AddsChosen b c) where
   pub round_adds : AddsParents a c
   round_adds = all_then a b c all.adds (needs_parents b c (parents_needs b c chosen.added))
@@ -91,8 +105,8 @@ module _ {N S : Type 0} (same : S → S → Bool) (a b c : Encoding N S) (first 
   round_rooted = still_rooted a c first round_adds
 
   -- where nothing waits and no case holds, the turn has ended
-  pub round_whole : IsSettled b → is_some (slice_get c.parents.keys c.encoded) ≡ false → AreSpent same c → IsTurn same c None
-  round_whole settled none spent = (settled_parents b c chosen.added settled, turn_whole b c chosen round_rooted (none_is (slice_get c.parents.keys c.encoded) none), spent)
+  pub round_whole : (wish : Option VariableId) → IsSettled b × HasWish wish b → is_some (slice_get c.parents.keys c.encoded) ≡ false → AreSpent same c → IsTurn same wish c None
+  round_whole wish (settled, has) none spent = (settled_parents b c chosen.added settled, turn_whole b c chosen round_rooted (none_is (slice_get c.parents.keys c.encoded) none), spent, wish_stays wish b c (parents_coding b c chosen.added) has)
 
   -- where a parent waits, the turn goes further
   pub round_goes : is_some (slice_get c.parents.keys c.encoded) ≡ true → c.encoded < 18446744073709551616 → GoesFurther a c
@@ -142,5 +156,40 @@ fewer_left a b adds goes =
     ]
 
 -- a turn that has ended where nothing changed since
-pub turn_same : {N S : Type 0} (same : S → S → Bool) (c d : Encoding N S) → d ≡ c → AreSpent same d → (AreSpent same c → IsTurn same c None) → IsTurn same d None
-turn_same {N} {S} same c d is spent ends = subst (λ (x : Encoding N S). IsTurn same x None) (sym is) (ends (subst (λ (x : Encoding N S). AreSpent same x) is spent))
+pub ended_same : {N S : Type 0} (same : S → S → Bool) (wish : Option VariableId) (c d : Encoding N S) → d ≡ c → AreSpent same d → (AreSpent same c → IsTurn same wish c None) → IsTurn same wish d None
+ended_same {N} {S} same wish c d is spent ends = subst (λ (x : Encoding N S). IsTurn same wish x None) (sym is) (ends (subst (λ (x : Encoding N S). AreSpent same x) is spent))
+
+-- ---- the turn's wish
+
+-- a chosen wish stays so where what stood up to its level stands
+chosen_stays : (p : List Entry) (e : Entry) (base : List Entry) (v : VariableId) → literal_of e ≡ yes v → has (made_true (p ++ e ∷ base)) (yes v) ≡ true
+chosen_stays [] e base v is = has_here (literal_of e) (made_true base) (yes v) is
+chosen_stays (d ∷ p) e base v is = has_later (literal_of d) (made_true (p ++ e ∷ base)) (yes v) (chosen_stays p e base v is)
+
+pub wish_kept : {N S : Type 0} (wish : Option VariableId) (a b : Encoding N S) → HasTurn wish a → HasWish wish a → KeepsFirst a b → HasWish wish b
+wish_kept None a b turn h first = tt
+wish_kept (Some v) a b turn h first =
+    let (c, ends) = turn.first h in
+    let begun : top_level (base_of a) + 1 ≡ a.coding.search.floor = turn.begun in
+    let (p, is) = first (choice_entry v c (base_of a) ∷ base_of a) (omega arith) ends in
+    subst (λ (x : List Entry). has (made_true x) (yes v) ≡ true) (sym is) (chosen_stays p (choice_entry v c (base_of a)) (base_of a) v refl)
+
+-- and its turn goes on
+pub decided_turn : {N S : Type 0} (wish : Option VariableId) (a b : Encoding N S) → GoesOn a b → KeepsFirst a b → HasWish wish a → KeepsTurn wish a b
+decided_turn None a b goes first h = λ one. goes.grows.floor ∙ one
+decided_turn (Some v) a b goes first h = turn_decided a b v goes first h
+
+-- what was decided of the turn's wish
+pub decided_of : {N S : Type 0} (wish : Option VariableId) (e : Encoding N S) (o : Option Refusal) → IsDecision e o → HasWish wish e → IsDecisionOf wish e o
+decided_of wish e None settled has = (settled, has)
+decided_of None e (Some r) refusal has = refusal
+decided_of (Some v) e (Some r) refusal has = inl (refusal, has)
+
+-- so it is with a wish that is false before its turn
+pub begun_of : {N S : Type 0} (wish : Option VariableId) (e : Encoding N S) (r : Refusal) → IsBegunBy wish e (Some r) → IsDecisionOf wish e (Some r)
+begun_of None e r h = absurd h
+begun_of (Some v) e r h = inr h
+
+-- a refusal is of the encoding that was decided
+pub refused_of : {N S : Type 0} (same : S → S → Bool) (wish : Option VariableId) (e : Encoding N S) (r : Refusal) (o : Option Refusal) → o ≡ Some r → IsDecisionOf wish e o → IsTurn same wish e (Some r)
+refused_of same wish e r o is h = subst (λ (x : Option Refusal). IsDecisionOf wish e x) is h

@@ -31,8 +31,8 @@ begun_in_order same p orders root e begun holds = record { encoding = holds; ord
 
 module _ {N S : Type 0} (same_name : N → N → Bool) (names : IsExact same_name) (same : S → S → Bool) (exact : IsExact same) (p : Packages N S) (orders : Requirement → List S → Type 0) (root : Rules) (lawful : IsLawful p) (e : Encoding N S) where
   -- what the end of the root's turn tells
-  pub turn_found : IsInOrder same p orders root e → e.coding.search.floor ≡ 1 → e.noted.wishes.keys ≡ [] → (turn : Option Refusal) → IsTurn same e turn → (f : Found S) → IsFoundBy e turn f → IsFound same p root e f × IsPreferred same p orders root f
-  turn_found holds first alone None (settled, whole, spent) (Chosen v) chosen =
+  pub turn_found : IsInOrder same p orders root e → e.coding.search.floor ≡ 1 → e.noted.wishes.items ≡ [] → (turn : Option Refusal) → IsTurn same None e turn → (f : Found S) → IsFoundBy e turn f → IsFound same p root e f × IsPreferred same p orders root f
+  turn_found holds first alone None (settled, whole, spent, wish) (Chosen v) chosen =
       let (keeping, reached, inside) = turn_keeps same exact p root lawful e same_name names holds.encoding spent settled.values settled.score settled.agree settled.quiet settled.decided v.items chosen (whole v.items chosen) alone in (
         record { keeping = keeping; reached = reached; inside = inside },
         turn_preferred same exact p root lawful e same_name names holds.encoding spent orders holds.ordered settled.values settled.score settled.agree settled.quiet settled.decided v.items chosen (whole v.items chosen) alone,
@@ -48,7 +48,7 @@ module _ {N S : Type 0} (same_name : N → N → Bool) (names : IsExact same_nam
   )
 
 -- a clash of the root's turn denies the root alone
-pub turn_denial : {N S : Type 0} (same : S → S → Bool) (e : Encoding N S) → IsCoding e.coding → e.coding.search.floor ≡ 1 → (turn : Option Refusal) → IsTurn same e turn → (f : Found S) → IsFoundBy e turn f → IsDenial e.coding f
+pub turn_denial : {N S : Type 0} (same : S → S → Bool) (e : Encoding N S) → IsCoding e.coding → e.coding.search.floor ≡ 1 → (turn : Option Refusal) → IsTurn same None e turn → (f : Found S) → IsFoundBy e turn f → IsDenial e.coding f
 turn_denial same e coding first None ended (Chosen v) h = tt
 turn_denial same e coding first None ended (Clash q) h = absurd h
 turn_denial same e coding first (Some r) refusal (Chosen v) h = absurd h

@@ -5,3 +5,6 @@ pub mod Solved
 pub mod Answered
 pub mod CaseStated
 pub mod Passing
+pub mod Wishes
+pub mod Listing
+pub mod Next

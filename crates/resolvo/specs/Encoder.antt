@@ -1,6 +1,5 @@
 -- How the encoding of parents goes on.
-use Rattle.std.specs.Prelude.{◌≡◌, ◌≤◌, Bool, false, List, length, Option, Some, Contains, ◌-◌}
-use Rattle.resolvo_search.specs.Advancing.{KeepsUpTo}
+use Rattle.std.specs.Prelude.{◌≡◌, ◌≤◌, Bool, false, List, length, Option, Some, Contains}
 use Rattle.resolvo_pool.specs.declared.id.VersionSetId.{VersionSetId}
 use Rattle.resolvo_pool.specs.declared.requirement.ConditionalRequirement.{ConditionalRequirement}
 use Rattle.resolvo_pool.specs.declared.requirement.Requirement.{Requirement}
@@ -8,6 +7,7 @@ use Rattle.resolvo_pool.specs.RuleKeeping.{Packages, Rules, rules_for, is_unknow
 use Rattle.resolvo_store.specs.AtMostOne.{IsFrontOf}
 use Rattle.resolvo_coding.specs.Coding.{Grows}
 use Rattle.resolvo_encoding.specs.declared.encoding.Encoding.{Encoding}
+use Rattle.resolvo_encoding.specs.Base.{KeepsTurns}
 use Rattle.resolvo_encoding.specs.Casing.{IsDeferred}
 use Rattle.resolvo_encoding.specs.Encoded.{AreOrdered, IsCaseEncoded, IsEncoding}
 use Rattle.resolvo_rules.specs.Encoding.{cases_for}
@@ -36,11 +36,11 @@ abbrev pub IsConditionalEncoded : {N S : Type 0} → (S → S → Bool) → Pack
 IsConditionalEncoded {N} {S} same p e parent need = (case : List VersionSetId) → Contains (cases_for same p need) case → IsCaseEncoded same p e parent need case
 
 -- clauses, what they state, parents, and cases that wait or fired came behind the others; no parent more is encoded, no wish
--- came, and what stood before the turn stands
+-- came, and the turn keeps what stood before it
 pub record AddsNeeds {N S : Type 0} (old new : Encoding N S) : Type 0 where
   pub grows : Grows old.coding new.coding
-  pub earlier : KeepsUpTo (old.coding.search.floor - 1) old.coding.search new.coding.search
-  pub wishes : new.noted.wishes.keys ≡ old.noted.wishes.keys
+  pub turn : KeepsTurns old new
+  pub wishes : new.noted.wishes.items ≡ old.noted.wishes.items
   pub parents : IsFrontOf old.parents.keys new.parents.keys
   pub encoded : new.encoded ≡ old.encoded
   pub deferred : IsFrontOf old.deferred.items new.deferred.items
@@ -49,8 +49,7 @@ pub record AddsNeeds {N S : Type 0} (old new : Encoding N S) : Type 0 where
 -- the same, and parents more may be encoded
 pub record AddsParents {N S : Type 0} (old new : Encoding N S) : Type 0 where
   pub grows : Grows old.coding new.coding
-  pub earlier : KeepsUpTo (old.coding.search.floor - 1) old.coding.search new.coding.search
-  pub wishes : new.noted.wishes.keys ≡ old.noted.wishes.keys
+  pub wishes : new.noted.wishes.items ≡ old.noted.wishes.items
   pub parents : IsFrontOf old.parents.keys new.parents.keys
   pub encoded : old.encoded ≤ new.encoded
   pub deferred : IsFrontOf old.deferred.items new.deferred.items

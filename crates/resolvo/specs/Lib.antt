@@ -1,4 +1,7 @@
 pub mod Encoder
 pub mod Turn
+pub mod Solution
+pub mod Wished
+pub mod Turns
 pub mod Solving
 pub mod Solver

@@ -6,7 +6,8 @@ use Rattle.resolvo_pool.specs.declared.requirement.Requirement.{Requirement}
 use Rattle.resolvo_rules.specs.First.{ArePreferred}
 use Rattle.resolvo_proof.specs.Proof.{EndsEmpty}
 use Rattle.resolvo_proof.specs.declared.step.ProofStep.{ProofStep}
-use Rattle.resolvo.specs.Solving.{IsSolution, IsUnsolvable, AreProved}
+use Rattle.resolvo.specs.Solution.{IsSolution, IsUnsolvable}
+use Rattle.resolvo.specs.Solving.{AreProved}
 use Rattle.resolvo_pool.specs.declared.cache.CacheFault.{CacheFault}
 use Rattle.resolvo_pool.specs.declared.cache.CacheFault.TheVariants as fault
 use Rattle.resolvo.specs.declared.search.Found.{Found}

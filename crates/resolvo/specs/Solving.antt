@@ -17,6 +17,7 @@ use Rattle.resolvo_proof.specs.Proof.{IsProof, EndsEmpty, DenyRoot}
 use Rattle.resolvo_rules.specs.Encoding.{Atom, IsExact}
 use Rattle.resolvo_proof.specs.declared.step.ProofStep.{ProofStep}
 use Rattle.resolvo_encoding.specs.declared.encoding.Encoding.{Encoding}
+use Rattle.resolvo.specs.Solution.{IsSolution, IsUnsolvable}
 use Rattle.resolvo.specs.declared.search.Found.{Found}
 use Rattle.resolvo.specs.declared.search.Found.TheVariants.{Chosen, Clash}
 use Rattle.resolvo.specs.declared.search.Searched.{Searched}
@@ -40,26 +41,15 @@ pub record IsProvable {N S : Type 0} (s : Searched N S) : Type 0 where
   pub denial : IsDenial s.encoding.coding s.found
 
 module _ {N S : Type 0} (same : S → S → Bool) (p : Packages N S) (root : Rules) where
-  -- The solvables keep all rules, and are those that the root reaches: by a requirement of its own, or of a solvable
-  -- that it reaches.
-  pub record IsSolution (chosen : List S) : Type 0 where
-    pub keeping : IsRuleKeeping same p root chosen
-    pub reached : (s : S) → is_in same p chosen s ≡ true → IsReached same p root [] chosen s
-    pub inside : (s : S) → IsReached same p root [] chosen s → is_in same p chosen s ≡ true
-
-  -- no solvables keep all rules
-  abbrev pub IsUnsolvable : Type 0
-  IsUnsolvable = (chosen : List S) → IsRuleKeeping same p root chosen → ⊥
-
   -- what was found: a solution; or a clause that denies the root alone, and there is none
   abbrev pub IsFound : Encoding N S → Found S → Type 0
-  IsFound e (Chosen v) = IsSolution v.items
-  IsFound e (Clash r) = IsUnsolvable × IsRefusal e.coding.search r.literals.items r.causes.items
+  IsFound e (Chosen v) = IsSolution same p root v.items
+  IsFound e (Clash r) = IsUnsolvable same p root × IsRefusal e.coding.search r.literals.items r.causes.items
 
   -- what was found holds: a solution, or there is none
   abbrev pub Holds : Found S → Type 0
-  Holds (Chosen v) = IsSolution v.items
-  Holds (Clash r) = IsUnsolvable
+  Holds (Chosen v) = IsSolution same p root v.items
+  Holds (Clash r) = IsUnsolvable same p root
 
   -- each of these steps may stand at its place
   abbrev pub AreProved : List (ProofStep N S) → Type 0

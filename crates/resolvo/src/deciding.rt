@@ -3,6 +3,7 @@
 ghost use Rattle.std.specs.Prelude.{◌≡◌, ◌<◌, ◌≤◌, length, IfOk, IfErr, OnOk};
 ghost use Rattle.resolvo_pool.specs.Cached.{IsCancelledBy};
 ghost use Rattle.resolvo_pool.specs.RuleKeeping.{Rules};
+ghost use Rattle.resolvo_encoding.specs.Base.{KeepsFirst};
 ghost use Rattle.resolvo_encoding.specs.Steps.{IsBuilt};
 ghost use Rattle.resolvo_encoding.specs.Going.{GoesOn, IsDecision};
 ghost use Rattle.resolvo.specs.Encoder.{IsInOrder};
@@ -82,6 +83,7 @@ pub fn decide<A: Answering>(
     requires built { IsBuilt encoding.old }
     ensures stays { OnOk result ((root : Rules) → IsInOrder A.SolvableId.eq (A.packages answers.now) (A.orders answers.now) root encoding.old → IsInOrder A.SolvableId.eq (A.packages answers.now) (A.orders answers.now) root encoding.new) }
     ensures goes_on { OnOk result (GoesOn encoding.old encoding.new) }
+    ensures first { OnOk result (KeepsFirst encoding.old encoding.new) }
     ensures decided { IfOk result (IsDecision encoding.new) }
     ensures built { OnOk result (IsBuilt encoding.new) }
     ensures cancelled { IfErr result (IsCancelledBy (A.may_cancel answers.now)) }

@@ -9,6 +9,7 @@ ghost use Rattle.resolvo_pool.specs.declared.requirement.Requirement.TheVariants
 ghost use Rattle.resolvo_rules.specs.Encoding.{Rule, IsBarredIn};
 ghost use Rattle.resolvo_rules.specs.Ending.{IsNeedEncoded};
 ghost use Rattle.resolvo_encoding.specs.Encoded.{IsGuarded, IsLimitEncoded, IsParentEncoded, rules_of};
+ghost use Rattle.resolvo_encoding.specs.Base.{KeepsTurns};
 ghost use Rattle.resolvo_encoding.specs.Steps.{IsBuilt, Needs, AddsParent};
 ghost use Rattle.resolvo.specs.Encoder.{IsRoot, AreRulesOf, IsInOrder, AddsNeeds, AddsAll, IsConditionalEncoded};
 
@@ -327,6 +328,7 @@ pub fn encode_parents<A: Answering>(
     ensures same { answers.new ≡ answers.old }
     ensures encoded { OnOk result ((root : Rules) → IsRoot requirements.now constraints.now root → IsInOrder A.SolvableId.eq (A.packages answers.old) (A.orders answers.old) root encoding.old → IsInOrder A.SolvableId.eq (A.packages answers.old) (A.orders answers.old) root encoding.new) }
     ensures all { OnOk result (AddsAll encoding.old encoding.new) }
+    ensures turn { OnOk result (KeepsTurns encoding.old encoding.new) }
     ensures built { OnOk result (IsBuilt encoding.new) }
     ensures cancelled { IfErr result (IsCancelledBy (A.may_cancel answers.old)) }
 {

@@ -11,3 +11,5 @@ pub mod proving;
 pub mod search;
 pub mod solver;
 pub mod turn;
+pub mod turns;
+pub mod wishing;

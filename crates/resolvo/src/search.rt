@@ -78,6 +78,7 @@ fn run_root<A: Answering>(
         activity,
         requirements,
         constraints,
+        None,
     )?;
     let found = found_by(alloc, encoding, turn)?;
     Ok(found)

@@ -1,14 +1,15 @@
-//! The root's turn: what was asked for is encoded, then decisions are made; what was chosen and isn't encoded yet is, in
-//! the order of the trail, then cases of conditions that hold, until nothing is left to encode.
+//! A turn, the root's or that of a wish: what was asked for is encoded, the wish is chosen, then decisions are made; what was
+//! chosen and isn't encoded yet is, in the order of the trail, then cases of conditions that hold, until nothing is left to encode.
 ghost use Rattle.std.specs.Prelude.{◌≡◌, true, false, IfOk, IfErr, OnOk};
 ghost use Rattle.resolvo_pool.specs.Cached.{IsCancelledBy};
 ghost use Rattle.resolvo_pool.specs.RuleKeeping.{Packages, Rules, IsLawful};
+ghost use Rattle.resolvo_encoding.specs.Base.{HasTurn, KeepsTurn, KeepsTurns};
 ghost use Rattle.resolvo_encoding.specs.Casing.{AreSpent};
 ghost use Rattle.resolvo_encoding.specs.Steps.{IsBuilt, AddsParent};
 ghost use Rattle.resolvo_encoding.specs.Encoded.{IsEncoding};
-ghost use Rattle.resolvo_encoding.specs.Going.{GoesOn, IsDecision};
+ghost use Rattle.resolvo_encoding.specs.Going.{GoesOn};
 ghost use Rattle.resolvo.specs.Encoder.{IsInOrder, IsRoot, AddsNeeds, AddsParents, AddsAll};
-ghost use Rattle.resolvo.specs.Turn.{AddsChosen, FiresMore, IsRooted, IsRound, IsTurn};
+ghost use Rattle.resolvo.specs.Turn.{AddsChosen, FiresMore, IsBegunBy, IsDecisionOf, IsRooted, IsRound, IsTurn};
 
 use crate::deciding::{Activity, decide};
 use crate::encoder::encode_parents;
@@ -16,7 +17,7 @@ use crate::firing::fire_cases;
 use resolvo_answers::answering::Answering;
 use resolvo_encoding::encoding::Encoding;
 use resolvo_pool::cache::CacheFault;
-use resolvo_pool::id::VersionSetId;
+use resolvo_pool::id::{VariableId, VersionSetId};
 use resolvo_pool::requirement::ConditionalRequirement;
 use resolvo_pool::solver_id::SolverId;
 use resolvo_pool::want::R;
@@ -52,6 +53,7 @@ fn undo_broken<N: SolverId, S: SolverId>(encoding: &mut Encoding<N, S>, from: us
     requires { IsBuilt encoding.old }
     ensures stays { (p : Packages N S) (root : Rules) → IsLawful p → IsEncoding S.eq p root encoding.old → IsEncoding S.eq p root encoding.new }
     ensures goes_on { GoesOn encoding.old encoding.new }
+    ensures turn { KeepsTurns encoding.old encoding.new }
     ensures built { IsBuilt encoding.new }
 {
     if is_any_broken(&encoding.coding.search, from) {
@@ -71,6 +73,7 @@ fn encode<A: Answering>(
     ensures same { answers.new ≡ answers.old }
     ensures encoded { OnOk result ((root : Rules) → IsRoot requirements.now constraints.now root → IsInOrder A.SolvableId.eq (A.packages answers.old) (A.orders answers.old) root encoding.old → IsInOrder A.SolvableId.eq (A.packages answers.old) (A.orders answers.old) root encoding.new) }
     ensures all { OnOk result (AddsAll encoding.old encoding.new) }
+    ensures turn { OnOk result (KeepsTurns encoding.old encoding.new) }
     ensures built { OnOk result (IsBuilt encoding.new) }
     ensures cancelled { IfErr result (IsCancelledBy (A.may_cancel answers.old)) }
 {
@@ -104,6 +107,51 @@ fn fire<A: Answering>(
     Ok(true)
 }
 
+/// Chooses the turn's wish, if it has one and it isn't chosen. Where it is false before its turn, this tells why.
+fn choose_first<N: SolverId, S: SolverId>(
+    alloc: Global,
+    encoding: &mut Encoding<N, S>,
+    wish: Option<VariableId>,
+) -> R<Option<Refusal>>
+    requires built { IsBuilt encoding.old }
+    requires turn { HasTurn wish encoding.old }
+    ensures stays { OnOk result ((p : Packages N S) (root : Rules) → IsLawful p → IsEncoding S.eq p root encoding.old → IsEncoding S.eq p root encoding.new) }
+    ensures goes_on { OnOk result (GoesOn encoding.old encoding.new) }
+    ensures turn { OnOk result (KeepsTurn wish encoding.old encoding.new) }
+    ensures begun { IfOk result (IsBegunBy wish encoding.new) }
+    ensures built { OnOk result (IsBuilt encoding.new) }
+{
+    match wish {
+        None => Ok(None),
+        Some(variable) => encoding.choose_wish(alloc, variable),
+    }
+}
+
+/// Chooses the turn's wish, and decides what it leaves open.
+fn choose_and_decide<A: Answering>(
+    alloc: Global,
+    answers: &A,
+    encoding: &mut Encoding<A::NameId, A::SolvableId>,
+    scores: &mut <A::NameId as SolverId>::Scores,
+    activity: Activity,
+    wish: Option<VariableId>,
+) -> Result<Option<Refusal>, CacheFault<A::Cancel>>
+    requires built { IsBuilt encoding.old }
+    requires turn { HasTurn wish encoding.old }
+    ensures stays { OnOk result ((root : Rules) → IsInOrder A.SolvableId.eq (A.packages answers.now) (A.orders answers.now) root encoding.old → IsInOrder A.SolvableId.eq (A.packages answers.now) (A.orders answers.now) root encoding.new) }
+    ensures goes_on { OnOk result (GoesOn encoding.old encoding.new) }
+    ensures turn { OnOk result (KeepsTurn wish encoding.old encoding.new) }
+    ensures decided { IfOk result (IsDecisionOf wish encoding.new) }
+    ensures built { OnOk result (IsBuilt encoding.new) }
+    ensures cancelled { IfErr result (IsCancelledBy (A.may_cancel answers.now)) }
+{
+    if let Some(refusal) = choose_first(alloc, encoding, wish)? {
+        return Ok(Some(refusal));
+    }
+    let refusal = decide(alloc, answers, encoding, scores, activity)?;
+    Ok(refusal)
+}
+
 /// Encodes what is asked for, and decides.
 fn encode_and_decide<A: Answering>(
     alloc: Global,
@@ -113,17 +161,20 @@ fn encode_and_decide<A: Answering>(
     activity: Activity,
     requirements: &[ConditionalRequirement],
     constraints: &[VersionSetId],
+    wish: Option<VariableId>,
 ) -> Result<Option<Refusal>, CacheFault<A::Cancel>>
-    requires { IsBuilt encoding.old }
+    requires built { IsBuilt encoding.old }
+    requires turn { HasTurn wish encoding.old }
     ensures same { answers.new ≡ answers.old }
     ensures stays { OnOk result ((root : Rules) → IsRoot requirements.now constraints.now root → IsInOrder A.SolvableId.eq (A.packages answers.old) (A.orders answers.old) root encoding.old → IsInOrder A.SolvableId.eq (A.packages answers.old) (A.orders answers.old) root encoding.new) }
     ensures all { OnOk result (AddsAll encoding.old encoding.new) }
-    ensures decided { IfOk result (IsDecision encoding.new) }
+    ensures turn { OnOk result (KeepsTurn wish encoding.old encoding.new) }
+    ensures decided { IfOk result (IsDecisionOf wish encoding.new) }
     ensures built { OnOk result (IsBuilt encoding.new) }
     ensures cancelled { IfErr result (IsCancelledBy (A.may_cancel answers.old)) }
 {
     encode(alloc, answers, encoding, requirements, constraints)?;
-    let refusal = decide(alloc, answers, encoding, scores, activity)?;
+    let refusal = choose_and_decide(alloc, answers, encoding, scores, activity, wish)?;
     Ok(refusal)
 }
 
@@ -138,7 +189,7 @@ enum Round {
     Refused(Refusal),
 }
 
-/// Encodes what is asked for, decides, and lets what was chosen be encoded in the next round. Where nothing was, the cases
+/// Encodes what is asked for, chooses the turn's wish, decides, and lets what was chosen be encoded in the next round. Where nothing was, the cases
 /// that hold become clauses.
 fn run_round<A: Answering>(
     alloc: Global,
@@ -148,13 +199,16 @@ fn run_round<A: Answering>(
     activity: Activity,
     requirements: &[ConditionalRequirement],
     constraints: &[VersionSetId],
+    wish: Option<VariableId>,
 ) -> Result<Round, CacheFault<A::Cancel>>
     requires built { IsBuilt encoding.old }
     requires rooted { IsRooted encoding.old }
+    requires turn { HasTurn wish encoding.old }
     ensures same { answers.new ≡ answers.old }
     ensures stays { OnOk result ((root : Rules) → IsRoot requirements.now constraints.now root → IsInOrder A.SolvableId.eq (A.packages answers.old) (A.orders answers.old) root encoding.old → IsInOrder A.SolvableId.eq (A.packages answers.old) (A.orders answers.old) root encoding.new) }
     ensures adds { OnOk result (AddsParents encoding.old encoding.new) }
-    ensures round { IfOk result (IsRound A.SolvableId.eq encoding.old encoding.new) }
+    ensures turn { OnOk result (KeepsTurn wish encoding.old encoding.new) }
+    ensures round { IfOk result (IsRound A.SolvableId.eq wish encoding.old encoding.new) }
     ensures built { OnOk result (IsBuilt encoding.new) }
     ensures cancelled { IfErr result (IsCancelledBy (A.may_cancel answers.old)) }
 {
@@ -166,6 +220,7 @@ fn run_round<A: Answering>(
         activity,
         requirements,
         constraints,
+        wish,
     )?;
     if let Some(refusal) = decided {
         return Ok(Round::Refused(refusal));
@@ -190,13 +245,16 @@ pub fn run_turn<A: Answering>(
     activity: Activity,
     requirements: &[ConditionalRequirement],
     constraints: &[VersionSetId],
+    wish: Option<VariableId>,
 ) -> Result<Option<Refusal>, CacheFault<A::Cancel>>
     requires built { IsBuilt encoding.old }
     requires rooted { IsRooted encoding.old }
+    requires turn { HasTurn wish encoding.old }
     ensures same { answers.new ≡ answers.old }
     ensures stays { OnOk result ((root : Rules) → IsRoot requirements.now constraints.now root → IsInOrder A.SolvableId.eq (A.packages answers.old) (A.orders answers.old) root encoding.old → IsInOrder A.SolvableId.eq (A.packages answers.old) (A.orders answers.old) root encoding.new) }
     ensures adds { OnOk result (AddsParents encoding.old encoding.new) }
-    ensures turn { IfOk result (IsTurn A.SolvableId.eq encoding.new) }
+    ensures turn { OnOk result (KeepsTurn wish encoding.old encoding.new) }
+    ensures ended { IfOk result (IsTurn A.SolvableId.eq wish encoding.new) }
     ensures built { OnOk result (IsBuilt encoding.new) }
     ensures cancelled { IfErr result (IsCancelledBy (A.may_cancel answers.old)) }
 {
@@ -209,6 +267,7 @@ pub fn run_turn<A: Answering>(
             activity,
             requirements,
             constraints,
+            wish,
         )? {
             Round::Goes => {}
             Round::Whole => return Ok(None),

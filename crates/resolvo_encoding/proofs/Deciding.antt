@@ -373,10 +373,10 @@ module _ {N S : Type 0} (same : S → S → Bool) (p : Packages N S) (root : Rul
       each r x a = let (t, fits, m) = holds.listed r x a in (t, fits.positive, fits.stands)
 
   -- each choice of the trail chooses a match of what was asked for
-  pub choices_called : IsExact same → IsEncoding same p root e → AreCalledFor (origin e.coding.atoms.keys) (IsCalledFor same p (E.rules_of e) e.noted.wishes.keys) (history e.coding.search)
+  pub choices_called : IsExact same → IsEncoding same p root e → AreCalledFor (origin e.coding.atoms.keys) (IsCalledFor same p (E.rules_of e) e.noted.wishes.items) (history e.coding.search)
   choices_called exact holds x older stands is other = elim (holds.called x older stands is other) [
     | inl wish ↦ inl wish
-    | inr pick ↦ first_called_for same exact p (HasOrder e) (E.rules_of e) e.noted.wishes.keys _ _ matches pick
+    | inr pick ↦ first_called_for same exact p (HasOrder e) (E.rules_of e) e.noted.wishes.items _ _ matches pick
   ]
     where
       matches : (r : Requirement) (list : List S) (s : S) → HasOrder e r list → Contains list s → meets same p r s ≡ true

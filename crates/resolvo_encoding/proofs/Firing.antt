@@ -226,7 +226,7 @@ pub record StatesCase {N S : Type 0} (same : S → S → Bool) (parent : Option 
 
 module _ {N S : Type 0} (same : S → S → Bool) (exact : IsExact same) (parent : Option S) (need : ConditionalRequirement) (sets : List (CaseSet N S)) (offered : List (Offered N S)) (old new : Encoding N S) (h : StatesCase same parent need sets offered old new) where
   case_grown : Extends h.fixed new
-  case_grown = extends_then h.fixed h.named new h.tells.extends (extends_then h.named h.helped new h.helps.extends (record { grows = h.states.states.grows; trail = h.states.states.trail; wishes = ap (λ (x : Noted N S). x.wishes.keys) h.states.noted; parents = h.states.parents; encoded = h.states.encoded; deferred = h.states.deferred; fired = h.states.fired }))
+  case_grown = extends_then h.fixed h.named new h.tells.extends (extends_then h.named h.helped new h.helps.extends (record { grows = h.states.states.grows; trail = h.states.states.trail; wishes = ap (λ (x : Noted N S). x.wishes.items) h.states.noted; parents = h.states.parents; encoded = h.states.encoded; deferred = h.states.deferred; fired = h.states.fired }))
 
   pub case_extends : Extends old new
   case_extends = extends_then old h.fixed new (fixes_extend same need.requirement offered old h.fixed h.fixes) case_grown

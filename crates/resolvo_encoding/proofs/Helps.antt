@@ -47,7 +47,7 @@ use Rattle.resolvo_encoding.proofs.Requiring.{each_of, some_one, extends_then, e
 use Rattle.resolvo_encoding.proofs.Telling.{built_noted, helped_noted, there_noted}
 
 -- where only what is noted changes, what came came
-pub extends_noted : {N S : Type 0} (old middle : Encoding N S) (x : Noted N S) → Extends old middle → x.wishes.keys ≡ middle.noted.wishes.keys → Extends old (record middle { noted = x })
+pub extends_noted : {N S : Type 0} (old middle : Encoding N S) (x : Noted N S) → Extends old middle → x.wishes.items ≡ middle.noted.wishes.items → Extends old (record middle { noted = x })
 extends_noted old middle x h wishes = record { grows = h.grows; trail = record { tracker = h.trail.tracker }; wishes = wishes ∙ h.wishes; parents = h.parents; encoded = h.encoded; deferred = h.deferred; fired = h.fired }
 
 -- the literals go on to have what they mean as variables come
@@ -136,7 +136,7 @@ module _ {N S : Type 0} (same : S → S → Bool) (exact : IsExact same) where
       → x ≡ record middle.noted { there = x.there } → SaysThere same (o ∷ []) old (record middle { noted = x })
   says_stated o old middle x tells only others = record {
     built = built_noted middle x tells.built;
-    extends = extends_noted old middle x tells.extends (ap (λ (y : Noted N S). y.wishes.keys) others);
+    extends = extends_noted old middle x tells.extends (ap (λ (y : Noted N S). y.wishes.items) others);
     lists = tells.lists;
     registry = tells.registry;
     helped = ap (λ (y : Noted N S). y.helped) others ∙ ap (λ (y : Noted N S). y.helped) tells.noted;
@@ -196,7 +196,7 @@ module _ {N S : Type 0} (same : S → S → Bool) (exact : IsExact same) where
       → ((n : N) → Contains middle.noted.helped.keys n → Contains x.helped.keys n) → Contains x.helped.keys name → x ≡ record middle.noted { helped = x.helped } → HelpsPackage same name old (record middle { noted = x })
   package_helped name list old middle x those says only keeps stands others = record {
     built = built_noted middle x says.built;
-    extends = extends_noted old middle x says.extends (ap (λ (y : Noted N S). y.wishes.keys) others);
+    extends = extends_noted old middle x says.extends (ap (λ (y : Noted N S). y.wishes.items) others);
     lists = says.lists;
     registry = says.registry;
     keeps = λ n h. keeps n (subst (λ ks. Contains ks.keys n) (sym says.helped) h);

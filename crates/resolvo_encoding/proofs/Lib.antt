@@ -13,5 +13,7 @@ pub mod Digits
 pub mod Turning
 pub mod Staying
 pub mod WishLemmas
+pub mod Bases
+pub mod Blaming
 pub mod Helps
 pub mod Firing

@@ -388,7 +388,7 @@ module _ {N S : Type 0} (same : S → S → Bool) (exact : IsExact same) (p : Pa
         gates = gates_keep same exact p root lawful old new e came.states.grows came.gates;
         bar = bar;
         noted = noted_grows same exact p root old new came.states.grows came.noted e.noted;
-        wishes = ap (λ (x : Noted N S). x.wishes.keys) came.noted;
+        wishes = ap (λ (x : Noted N S). x.wishes.items) came.noted;
         cases = cases_keep same exact p root old new e.cases came.states.grows came.deferred came.fired came.noted cased (helped_keeps same exact p root lawful old new e.cases came.states.grows came.noted (registered_before same exact p root lawful old new e.tied came.states.grows came.registry));
         within = within_keeps same exact p root lawful old new e came.parents came.encoded;
         encoded = encoded_keeps same exact p root lawful old new e came.states.grows came.parents came.encoded came.deferred;
@@ -601,4 +601,4 @@ module _ {N S : Type 0} (same : S → S → Bool) (exact : IsExact same) (p : Pa
           go (inr f) = f
 
 pub need_extends : {N S : Type 0} (x : Stated N S) (v : VariableId) (condition : Option (DenseId DisjunctionTag ℕ)) (r : Requirement) (old new : Encoding N S) → StatesNeed x v condition r old new → Extends old new
-need_extends {N = N} {S = S} x v condition r old new s = record { grows = s.states.grows; trail = s.states.trail; wishes = ap (λ (x : Noted N S). x.wishes.keys) s.noted; parents = s.parents; encoded = s.encoded; deferred = s.deferred; fired = s.fired }
+need_extends {N = N} {S = S} x v condition r old new s = record { grows = s.states.grows; trail = s.states.trail; wishes = ap (λ (x : Noted N S). x.wishes.items) s.noted; parents = s.parents; encoded = s.encoded; deferred = s.deferred; fired = s.fired }

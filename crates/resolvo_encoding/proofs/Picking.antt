@@ -95,7 +95,7 @@ module _ {N S : Type 0} (old new : Encoding N S) (grows : Grows old.coding new.c
   taken_grows same p known l k = first_pick_grows same p (E.rules_of old) (E.rules_of new) (rules_grow old.coding new.coding grows) (HasOrder old) (HasOrder new) known l order_stays k
 
   -- what was chosen for a wish, or as a first pick, was so still
-  pub chosen_grows : new.noted.wishes.keys ≡ old.noted.wishes.keys → (same : S → S → Bool) (p : Packages N S) (known : List (Literal (Atom N S))) (l : Literal (Atom N S)) → IsChosenFor same p old known l → IsChosenFor same p new known l
+  pub chosen_grows : new.noted.wishes.items ≡ old.noted.wishes.items → (same : S → S → Bool) (p : Packages N S) (known : List (Literal (Atom N S))) (l : Literal (Atom N S)) → IsChosenFor same p old known l → IsChosenFor same p new known l
   chosen_grows wishes same p known l (inl w) = inl (record { solvable = w.solvable; is = w.is; wished = subst (λ (ws : List S). is_in same p ws w.solvable ≡ true) (sym wishes) w.wished })
   chosen_grows wishes same p known l (inr k) = inr (taken_grows same p known l k)
 

@@ -83,7 +83,7 @@ module _ {N S : Type 0} (same : S → S → Bool) (exact : IsExact same) (p : Pa
     pub within : new.encoded ≤ length new.parents.keys
     pub bar : (r : Requirement) → HasClause same p (E.rules_of new) r → IsGuarded same p (E.rules_of new) r
     pub noted : IsNoted same p (E.rules_of new) new.noted
-    pub wishes : new.noted.wishes.keys ≡ old.noted.wishes.keys
+    pub wishes : new.noted.wishes.items ≡ old.noted.wishes.items
     pub cases : AreCased same p root new
     pub encoded : (i : ℕ) (parent : SolvableIdOrRoot S) → i < new.encoded → slice_get new.parents.keys i ≡ Some parent → IsParentEncoded same p new root (solvable_of parent)
 
@@ -355,7 +355,7 @@ module _ {N S : Type 0} (same : S → S → Bool) (exact : IsExact same) (p : Pa
     gates = gates_keep old new e grows rest.gates;
     bar = bar_keeps old new e coding grows none;
     noted = noted_grows same exact p root old new grows rest.noted e.noted;
-    wishes = ap (λ (x : Noted N S). x.wishes.keys) rest.noted;
+    wishes = ap (λ (x : Noted N S). x.wishes.items) rest.noted;
     cases = cases_keep same exact p root old new e.cases grows rest.deferred rest.fired rest.noted (cased_keeps old new e coding grows rest.noted tracked none) (helped_keeps old new e.cases grows rest.noted back);
     within = within_keeps old new e rest.parents rest.encoded;
     encoded = encoded_keeps old new e grows rest.parents rest.encoded rest.deferred;

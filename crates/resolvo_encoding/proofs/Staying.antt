@@ -91,7 +91,7 @@ module _ {N S : Type 0} (same : S → S → Bool) (exact : IsExact same) (p : Pa
         (helped_keeps same exact p root lawful old new e.cases goes.grows goes.rest.noted registered_back);
     within = within_keeps same exact p root lawful old new e goes.rest.parents goes.rest.encoded;
     encoded = encoded_keeps same exact p root lawful old new e goes.grows goes.rest.parents goes.rest.encoded goes.rest.deferred;
-    wished = λ s a. registered_still s (e.wished s (subst (λ (x : Noted N S). Contains x.wishes.keys s) goes.rest.noted a));
+    wished = λ s a. registered_still s (e.wished s (subst (λ (x : Noted N S). Contains x.wishes.items s) goes.rest.noted a));
     called = called;
   }
     where

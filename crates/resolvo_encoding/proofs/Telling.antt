@@ -120,7 +120,7 @@ module _ {N S : Type 0} (same : S → S → Bool) (exact : IsExact same) where
       → ((p : Packages N S) (literals : List Signed) → IsPair a b literals → Spells (origin old.coding.atoms.keys) literals (literals_of same p rule)) → StatesPair x a b old new → Tells same (rule ∷ []) old new
   pair_tells x rule a b old new built is denial spells came = record {
     built = built_rest old new built came.states.coding came.states.grows (digits_more x old.coding new.coding came.states.stated (not_digit x rule is denial)) came.rest;
-    extends = record { grows = came.states.grows; trail = came.states.trail; wishes = ap (λ (x : Noted N S). x.wishes.keys) came.rest.noted; parents = came.rest.parents; encoded = came.rest.encoded; deferred = came.rest.deferred; fired = came.rest.fired };
+    extends = record { grows = came.states.grows; trail = came.states.trail; wishes = ap (λ (x : Noted N S). x.wishes.items) came.rest.noted; parents = came.rest.parents; encoded = came.rest.encoded; deferred = came.rest.deferred; fired = came.rest.fired };
     lists = came.rest.lists;
     registry = came.rest.registry;
     noted = came.rest.noted;
@@ -207,7 +207,7 @@ module _ {N S : Type 0} (same : S → S → Bool) (exact : IsExact same) where
     -- What was stated is noted, of packages, version sets and solvables.
     pub noted_keeps : (old : Encoding N S) (x : Noted N S) → IsEncoding same p root old → IsNoted same p (E.rules_of old) x
         → ((n : N) → Contains old.noted.helped.keys n → Contains x.helped.keys n) → ((n : N) (s : S) → Contains x.helped.keys n → IsRegistered old.registry old.coding n s → E.rules_of old (Rule.is_there n s))
-        → ((s : S) → Contains x.there.keys s → E.rules_of old (Rule.is_there (p.package_of s) s)) → x.wishes.keys ≡ old.noted.wishes.keys → IsEncoding same p root (record old { noted = x })
+        → ((s : S) → Contains x.there.keys s → E.rules_of old (Rule.is_there (p.package_of s) s)) → x.wishes.items ≡ old.noted.wishes.items → IsEncoding same p root (record old { noted = x })
     noted_keeps old x e noted keeps helped there wishes = record {
       coding = e.coding;
       tied = e.tied;

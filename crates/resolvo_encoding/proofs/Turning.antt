@@ -88,10 +88,10 @@ root_denied e coding first literals causes refusal l h =
 
 module _ {N S : Type 0} (same : S → S → Bool) (exact : IsExact same) (p : Packages N S) (root : Rules) (lawful : IsLawful p) (e : Encoding N S) where
   -- What holds of the clauses whatever stands on the trail.
-  pub register : IsEncoding same p root e → Ending.AreRegistered same p (E.rules_of e) root (Registered same p root e) e.noted.wishes.keys
+  pub register : IsEncoding same p root e → Ending.AreRegistered same p (E.rules_of e) root (Registered same p root e) e.noted.wishes.items
   register holds = record {
     rule = holds.rule;
-    wish = λ s h. holds.wished s (in_contained same exact p e.noted.wishes.keys s h);
+    wish = λ s h. holds.wished s (in_contained same exact p e.noted.wishes.items s h);
     candidate = λ r s has fits. (let (c, stands, is) = holds.offered r s (holds.fixed r has) fits in (c.literal.variable, is.stands, is.tracked));
     out = λ parent need case v s stands h outside. (holds.cases.cased parent need case v stands h).1 s outside;
     candidates = holds.candidates;
@@ -291,7 +291,7 @@ module _ {N S : Type 0} (same : S → S → Bool) (exact : IsExact same) (p : Pa
   pub turn_ended : IsEncoding same p root e → AreSpent same e → (values : ℕ → Option Bool) (score : N → ℕ) → AreValues values (made_true (history e.coding.search))
       → ((n : ℕ) → n < length e.coding.search.clauses → IsQuiet (made_true (history e.coding.search)) (clause_at (clauses_of e.coding.search) n)) → IsDecided e values score
       → (members : List S) → AreChosen e.coding.atoms.keys (made_true (history e.coding.search)) members → AreAmongEncoded e members
-      → IsTurnEnd (origin e.coding.atoms.keys) same p (E.rules_of e) root (Registered same p root e) e.noted.wishes.keys (count_of e.coding.search) e.coding.search.clauses (history e.coding.search) members
+      → IsTurnEnd (origin e.coding.atoms.keys) same p (E.rules_of e) root (Registered same p root e) e.noted.wishes.items (count_of e.coding.search) e.coding.search.clauses (history e.coding.search) members
   turn_ended holds spent values score agree quiet decided members chosen among = record {
     lawful = lawful;
     coded = coding_coded same p (Registered same p root e) e.coding holds.coding holds.spelled holds.positive;
@@ -310,25 +310,25 @@ module _ {N S : Type 0} (same : S → S → Bool) (exact : IsExact same) (p : Pa
   -- and the wishes among them reach.
   pub turn_accepts : (same_name : N → N → Bool) → IsExact same_name → IsEncoding same p root e → AreSpent same e → (values : ℕ → Option Bool) (score : N → ℕ) → AreValues values (made_true (history e.coding.search))
       → ((n : ℕ) → n < length e.coding.search.clauses → IsQuiet (made_true (history e.coding.search)) (clause_at (clauses_of e.coding.search) n)) → IsDecided e values score
-      → (members : List S) → AreChosen e.coding.atoms.keys (made_true (history e.coding.search)) members → AreAmongEncoded e members → Ending.IsAccepted same p root e.noted.wishes.keys members
+      → (members : List S) → AreChosen e.coding.atoms.keys (made_true (history e.coding.search)) members → AreAmongEncoded e members → Ending.IsAccepted same p root e.noted.wishes.items members
   turn_accepts same_name names holds spent values score agree quiet decided members chosen among =
-      turn_accepted same exact same_name names p root (origin e.coding.atoms.keys) (E.rules_of e) (Registered same p root e) e.noted.wishes.keys (count_of e.coding.search) e.coding.search.clauses (history e.coding.search) members
+      turn_accepted same exact same_name names p root (origin e.coding.atoms.keys) (E.rules_of e) (Registered same p root e) e.noted.wishes.items (count_of e.coding.search) e.coding.search.clauses (history e.coding.search) members
       (turn_ended holds spent values score agree quiet decided members chosen among)
 
   -- the end of a turn before the first wish
-  ended_alone : (members : List S) → e.noted.wishes.keys ≡ [] → IsTurnEnd (origin e.coding.atoms.keys) same p (E.rules_of e) root (Registered same p root e) e.noted.wishes.keys (count_of e.coding.search) e.coding.search.clauses (history e.coding.search) members
+  ended_alone : (members : List S) → e.noted.wishes.items ≡ [] → IsTurnEnd (origin e.coding.atoms.keys) same p (E.rules_of e) root (Registered same p root e) e.noted.wishes.items (count_of e.coding.search) e.coding.search.clauses (history e.coding.search) members
       → IsTurnEnd (origin e.coding.atoms.keys) same p (E.rules_of e) root (Registered same p root e) [] (count_of e.coding.search) e.coding.search.clauses (history e.coding.search) members
   ended_alone members alone t = subst (λ (ws : List S). IsTurnEnd (origin e.coding.atoms.keys) same p (E.rules_of e) root (Registered same p root e) ws (count_of e.coding.search) e.coding.search.clauses (history e.coding.search) members) alone t
 
   -- before the first wish each choice was a first pick
-  picked_alone : e.noted.wishes.keys ≡ [] → (known : List (Literal (Atom N S))) (l : Literal (Atom N S)) → IsChosenFor same p e known l → IsFirstPick same p (HasOrder e) (E.rules_of e) known l
+  picked_alone : e.noted.wishes.items ≡ [] → (known : List (Literal (Atom N S))) (l : Literal (Atom N S)) → IsChosenFor same p e known l → IsFirstPick same p (HasOrder e) (E.rules_of e) known l
   picked_alone alone known l (inl w) = absurd (both_ways false refl (subst (λ (ws : List S). is_in same p ws w.solvable ≡ true) alone w.wished))
   picked_alone alone known l (inr k) = k
 
   -- Before the first wish the chosen solvables keep all rules, and are those that the root reaches.
   pub turn_keeps : (same_name : N → N → Bool) → IsExact same_name → IsEncoding same p root e → AreSpent same e → (values : ℕ → Option Bool) (score : N → ℕ) → AreValues values (made_true (history e.coding.search))
       → ((n : ℕ) → n < length e.coding.search.clauses → IsQuiet (made_true (history e.coding.search)) (clause_at (clauses_of e.coding.search) n)) → IsDecided e values score
-      → (members : List S) → AreChosen e.coding.atoms.keys (made_true (history e.coding.search)) members → AreAmongEncoded e members → e.noted.wishes.keys ≡ []
+      → (members : List S) → AreChosen e.coding.atoms.keys (made_true (history e.coding.search)) members → AreAmongEncoded e members → e.noted.wishes.items ≡ []
       → IsRuleKeeping same p root members × ((s : S) → is_in same p members s ≡ true → IsReached same p root [] members s) × ((s : S) → IsReached same p root [] members s → is_in same p members s ≡ true)
   turn_keeps same_name names holds spent values score agree quiet decided members chosen among alone =
       let ended = ended_alone members alone (turn_ended holds spent values score agree quiet decided members chosen among) in
@@ -338,7 +338,7 @@ module _ {N S : Type 0} (same : S → S → Bool) (exact : IsExact same) (p : Pa
   -- Before the first wish they were chosen in the order in which they are tried.
   pub turn_preferred : (same_name : N → N → Bool) → IsExact same_name → IsEncoding same p root e → AreSpent same e → (orders : Requirement → List S → Type 0) → AreOrdered orders e → (values : ℕ → Option Bool) (score : N → ℕ) → AreValues values (made_true (history e.coding.search))
       → ((n : ℕ) → n < length e.coding.search.clauses → IsQuiet (made_true (history e.coding.search)) (clause_at (clauses_of e.coding.search) n)) → IsDecided e values score
-      → (members : List S) → AreChosen e.coding.atoms.keys (made_true (history e.coding.search)) members → AreAmongEncoded e members → e.noted.wishes.keys ≡ [] → ArePreferred same p orders root members
+      → (members : List S) → AreChosen e.coding.atoms.keys (made_true (history e.coding.search)) members → AreAmongEncoded e members → e.noted.wishes.items ≡ [] → ArePreferred same p orders root members
   turn_preferred same_name names holds spent orders ordered values score agree quiet decided members chosen among alone =
       turn_prefers same exact same_name names p root (origin e.coding.atoms.keys) (E.rules_of e) (Registered same p root e) orders (digit_told same e.coding.stated.items) (count_of e.coding.search) e.coding.search.clauses (history e.coding.search) members
       (ended_alone members alone (turn_ended holds spent values score agree quiet decided members chosen among)) (λ x older stands is other. taken_ordered orders e same p ordered _ _ (picked_alone alone _ _ (holds.called x older stands is other))) (digits_agree same exact p root e holds)

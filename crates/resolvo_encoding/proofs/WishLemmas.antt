@@ -84,5 +84,5 @@ pub wish_chosen : {N S : Type 0} (same : S → S → Bool) → IsExact same → 
 wish_chosen same exact p e v known w = inl (record {
   solvable = w.solvable;
   is = sym (solvable_means e.coding.atoms.keys (yes v) w.solvable refl w.stands).1;
-  wished = contained_in same exact p e.noted.wishes.keys w.solvable w.wished;
+  wished = contained_in same exact p e.noted.wishes.items w.solvable w.wished;
 })

@@ -70,7 +70,7 @@ AreOrdered {N} {S} orders e = (r : Requirement) → has_candidates e.lists r ≡
 
 -- what a choice is made for: a wish; or a requirement that was asked for, whose first candidate it is that was not false
 abbrev pub IsChosenFor : {N S : Type 0} → (S → S → Bool) → Packages N S → Encoding N S → List (Literal (Atom N S)) → Literal (Atom N S) → Type 0
-IsChosenFor same p e known l = IsWished same p (rules_of e) e.noted.wishes.keys l ⊎ IsFirstPick same p (HasOrder e) (rules_of e) known l
+IsChosenFor same p e known l = IsWished same p (rules_of e) e.noted.wishes.items l ⊎ IsFirstPick same p (HasOrder e) (rules_of e) known l
 
 module _ {N S : Type 0} (same : S → S → Bool) (p : Packages N S) (lists : FixedLists N) where
   -- the literals of the condition are those of the case, of variables that are there
@@ -180,5 +180,5 @@ module _ {N S : Type 0} (same : S → S → Bool) (p : Packages N S) (root : Rul
     pub within : e.encoded ≤ length e.parents.keys
     pub encoded : (i : ℕ) (parent : SolvableIdOrRoot S) → i < e.encoded → slice_get e.parents.keys i ≡ Some parent → IsParentEncoded same p e root (solvable_of parent)
     -- each wish is registered; each choice is one, or the first candidate that was not false, of a requirement that was asked for
-    pub wished : (s : S) → Contains e.noted.wishes.keys s → Registered e s
+    pub wished : (s : S) → Contains e.noted.wishes.items s → Registered e s
     pub called : AreCalledFor (origin e.coding.atoms.keys) (IsChosenFor same p e) (history e.coding.search)

@@ -7,3 +7,4 @@ pub mod Casing
 pub mod Turning
 pub mod Going
 pub mod Wishing
+pub mod Base

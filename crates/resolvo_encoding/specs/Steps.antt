@@ -48,7 +48,7 @@ pub record IsBuilt {N S : Type 0} (e : Encoding N S) : Type 0 where
 pub record Extends {N S : Type 0} (old new : Encoding N S) : Type 0 where
   pub grows : Grows old.coding new.coding
   pub trail : SameTrail old.coding new.coding
-  pub wishes : new.noted.wishes.keys ≡ old.noted.wishes.keys
+  pub wishes : new.noted.wishes.items ≡ old.noted.wishes.items
   pub parents : new.parents ≡ old.parents
   pub encoded : new.encoded ≡ old.encoded
   pub deferred : new.deferred ≡ old.deferred
@@ -179,7 +179,7 @@ pub record IsBegunEncoding {N S : Type 0} (e : Encoding N S) : Type 0 where
   pub version_sets : e.noted.version_sets.keys ≡ []
   pub helped : e.noted.helped.keys ≡ []
   pub there : e.noted.there.keys ≡ []
-  pub wishes : e.noted.wishes.keys ≡ []
+  pub wishes : e.noted.wishes.items ≡ []
   pub parents : e.parents.keys ≡ Root ∷ []
   pub encoded : e.encoded ≡ 0
   pub deferred : e.deferred.items ≡ []

@@ -6,6 +6,7 @@ ghost use Rattle.resolvo_search.specs.Steps.{Undoes};
 ghost use Rattle.resolvo_encoding.specs.Encoded.{IsEncoding};
 ghost use Rattle.resolvo_encoding.specs.Steps.{IsBuilt};
 ghost use Rattle.resolvo_encoding.specs.Going.{IsNext, GoesOn, IsStep, IsChoice};
+ghost use Rattle.resolvo_encoding.specs.Base.{KeepsFirst, KeepsTurns};
 
 use crate::encoding::Encoding;
 use resolvo_pool::id::ClauseId;
@@ -45,6 +46,7 @@ impl<N: SolverId + Drop, S: SolverId> Encoding<N, S> {
         ensures stays { OnOk result ((p : Packages N S) (root : Rules) → IsLawful p → IsEncoding S.eq p root self.old → IsEncoding S.eq p root self.new) }
         ensures goes_on { OnOk result (GoesOn self.old self.new) }
         ensures built { OnOk result (IsBuilt self.new) }
+        ensures first { OnOk result (KeepsFirst self.old self.new) }
         ensures chosen { IfOk result (IsChoice self.old self.new) }
     {
         match self.next_decision(scores) {
@@ -63,6 +65,7 @@ impl<N: SolverId + Drop, S: SolverId> Encoding<N, S> {
         ensures goes_on { GoesOn self.old self.new }
         ensures built { IsBuilt self.new }
         ensures undone { Undoes (max (self.old.coding.search.floor - 1) 1) self.old.coding.search self.new.coding.search }
+        ensures turn { KeepsTurns self.old self.new }
     {
         let level = self.coding.search.floor.saturating_sub(1);
         self.coding.undo_until(level.max(1));
@@ -74,6 +77,7 @@ impl<N: SolverId + Drop, S: SolverId> Encoding<N, S> {
         ensures stays { OnOk result ((p : Packages N S) (root : Rules) → IsLawful p → IsEncoding S.eq p root self.old → IsEncoding S.eq p root self.new) }
         ensures goes_on { OnOk result (GoesOn self.old self.new) }
         ensures built { OnOk result (IsBuilt self.new) }
+        ensures first { OnOk result (KeepsFirst self.old self.new) }
         ensures step { IfOk result (IsStep self.old self.new) }
     {
         match self.coding.advance(alloc)? {

@@ -52,8 +52,8 @@ pub struct Noted<N: Eq + Hash, S: Eq + Hash> {
     pub helped: IndexSet<N>,
     /// The solvables of which such a clause says it.
     pub there: IndexSet<S>,
-    /// The wishes that were tried.
-    pub wishes: IndexSet<S>,
+    /// The accepted wishes, and behind them the one whose turn it is. An equal one may stand twice.
+    pub wishes: Vec<S>,
 }
 
 /// A case of a parent's need, which waits until each of its version sets has a chosen match.
@@ -105,7 +105,7 @@ impl<N: SolverId + Drop, S: SolverId> Encoding<N, S> {
                 version_sets: IndexSet::new(alloc),
                 helped: IndexSet::new(alloc),
                 there: IndexSet::new(alloc),
-                wishes: IndexSet::new(alloc),
+                wishes: Vec::new(alloc),
             },
             parents,
             encoded: 0,

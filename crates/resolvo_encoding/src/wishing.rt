@@ -1,16 +1,16 @@
 //! The turn of a wish: it is chosen at the turn's first level, or barred by a clause that tells why it can't stand beside what
 //! was chosen before.
-ghost use Rattle.std.specs.Prelude.{◌≡◌, ◌<◌, ◌≤◌, false, length, IfOk, OnOk};
+ghost use Rattle.std.specs.Prelude.{◌≡◌, ◌<◌, length, Some, IfOk, OnOk};
 ghost use Rattle.resolvo_pool.specs.RuleKeeping.{Packages, Rules, IsLawful};
-ghost use Rattle.resolvo_store.specs.Clauses.{yes};
-ghost use Rattle.resolvo_store.specs.Signed.{has};
 ghost use Rattle.resolvo_search.specs.Analysis.{IsBar};
-ghost use Rattle.resolvo_search.specs.Entries.{made_true, top_level};
+ghost use Rattle.resolvo_search.specs.Entries.{top_level};
 ghost use Rattle.resolvo_search.specs.State.{history};
+ghost use Rattle.resolvo_coding.specs.Coding.{Bars};
 ghost use Rattle.resolvo_encoding.specs.Encoded.{IsEncoding};
 ghost use Rattle.resolvo_encoding.specs.Steps.{IsBuilt};
 ghost use Rattle.resolvo_encoding.specs.Going.{GoesOn};
-ghost use Rattle.resolvo_encoding.specs.Wishing.{turn_of, IsWish, IsTried};
+ghost use Rattle.resolvo_encoding.specs.Wishing.{turn_of};
+ghost use Rattle.resolvo_encoding.specs.Base.{HasTurn, IsTried, KeepsTurn, KeepsTurns};
 
 use crate::encoding::Encoding;
 use resolvo_pool::id::{ClauseId, VariableId};
@@ -21,7 +21,7 @@ use resolvo_store::literal::Literal;
 use std::alloc::Global;
 
 impl<N: SolverId + Drop, S: SolverId> Encoding<N, S> {
-    /// Begins a turn: no jump goes below the next level.
+    /// Begins a turn: no jump goes below the next level. What stands is what stood before it.
     pub fn begin_turn(&mut self)
         requires { IsBuilt self.old }
         ensures begun { self.new ≡ turn_of self.old }
@@ -35,11 +35,11 @@ impl<N: SolverId + Drop, S: SolverId> Encoding<N, S> {
     /// Chooses a wish at the first level of its turn, unless it is chosen. Where it is false before, this tells why.
     pub fn choose_wish(&mut self, alloc: Global, variable: VariableId) -> R<Option<Refusal>>
         requires built { IsBuilt self.old }
-        requires later { 2 ≤ self.old.coding.search.floor }
-        requires wish { IsWish self.old variable }
+        requires turn { HasTurn (Some variable) self.old }
         ensures stays { OnOk result ((p : Packages N S) (root : Rules) → IsLawful p → IsEncoding S.eq p root self.old → IsEncoding S.eq p root self.new) }
         ensures goes_on { OnOk result (GoesOn self.old self.new) }
         ensures built { OnOk result (IsBuilt self.new) }
+        ensures turn { OnOk result (KeepsTurn (Some variable) self.old self.new) }
         ensures tried { IfOk result (IsTried self.new variable) }
     {
         if self.coding.search.is_true(Literal::new(variable, false)) {
@@ -54,11 +54,11 @@ impl<N: SolverId + Drop, S: SolverId> Encoding<N, S> {
     fn choose_or_refute(&mut self, alloc: Global, variable: VariableId) -> R<Option<Refusal>>
         requires built { IsBuilt self.old }
         requires above { top_level (history self.old.coding.search) < self.old.coding.search.floor }
-        requires open { has (made_true (history self.old.coding.search)) (yes variable) ≡ false }
-        requires wish { IsWish self.old variable }
+        requires turn { HasTurn (Some variable) self.old }
         ensures stays { OnOk result ((p : Packages N S) (root : Rules) → IsLawful p → IsEncoding S.eq p root self.old → IsEncoding S.eq p root self.new) }
         ensures goes_on { OnOk result (GoesOn self.old self.new) }
         ensures built { OnOk result (IsBuilt self.new) }
+        ensures turn { OnOk result (KeepsTurn (Some variable) self.old self.new) }
         ensures tried { IfOk result (IsTried self.new variable) }
     {
         if let Some(refusal) = self.coding.search.refute(alloc, variable)? {
@@ -76,6 +76,8 @@ impl<N: SolverId + Drop, S: SolverId> Encoding<N, S> {
         ensures stays { OnOk result ((p : Packages N S) (root : Rules) → IsLawful p → IsEncoding S.eq p root self.old → IsEncoding S.eq p root self.new) }
         ensures goes_on { OnOk result (GoesOn self.old self.new) }
         ensures built { OnOk result (IsBuilt self.new) }
+        ensures turn { OnOk result (KeepsTurns self.old self.new) }
+        ensures barred { IfOk result (λ id. Bars refusal.literals.items refusal.causes.items id self.old.coding self.new.coding) }
     {
         let clause = self.coding.bar(refusal)?;
         Ok(clause)

@@ -1,5 +1,6 @@
 use Rattle.resolvo_pool.specs.RuleKeeping.{Rules}
 use Rattle.resolvo_search.specs.Advancing.{weight_left}
+use Rattle.resolvo_encoding.specs.Base.{KeepsFirst}
 use Rattle.resolvo_encoding.specs.Steps.{IsBuilt}
 use Rattle.resolvo_encoding.specs.Going.{GoesOn}
 use Rattle.resolvo.specs.Encoder.{IsInOrder}
@@ -11,6 +12,7 @@ invariant-loop-encoding g l = record {
   stays : (root : Rules) → IsInOrder g.A.SolvableId.PartialEq.eq (g.A.Answering.packages l.fn.answers) (g.A.Answering.orders l.fn.answers) root l.initial.encoding
       → IsInOrder g.A.SolvableId.PartialEq.eq (g.A.Answering.packages l.fn.answers) (g.A.Answering.orders l.fn.answers) root l.encoding;
   goes_on : GoesOn l.initial.encoding l.encoding;
+  first : KeepsFirst l.initial.encoding l.encoding;
   built : IsBuilt l.encoding;
 }
 

@@ -4,13 +4,14 @@ use Rattle.resolvo_pool.specs.RuleKeeping.{Rules}
 use Rattle.resolvo_pool.specs.Text.{solvable_of}
 use Rattle.resolvo_encoding.specs.declared.encoding.Encoding.{Encoding}
 use Rattle.resolvo_encoding.specs.Encoded.{IsParentEncoded}
+use Rattle.resolvo_encoding.proofs.Bases.{turn_same, turns_then}
 use Rattle.resolvo.specs.Encoder.{IsInOrder, IsRoot, AddsParents}
-use Rattle.resolvo.proofs.Adding.{next_in_order, all_none, all_then, one_more, next_all}
+use Rattle.resolvo.proofs.Adding.{next_in_order, all_none, all_then, one_more, next_all, next_turns}
 use Rattle.resolvo.proofs.Ending.{past_end}
 use Rattle.resolvo.proofs.encoder.encode_parents.Goals as goal
 
 pub loop-parent-init : goal.loop-parent-init
-loop-parent-init g c = record { same = refl; encoded = λ root is e. e; adds = all_none c.args.encoding.now; built = c.requires }
+loop-parent-init g c = record { same = refl; encoded = λ root is e. e; adds = all_none c.args.encoding.now; turn = λ wish. turn_same wish c.args.encoding.now; built = c.requires }
 
 pub loop-parent-preserved : goal.loop-parent-preserved
 loop-parent-preserved g c =
@@ -29,6 +30,7 @@ loop-parent-preserved g c =
           let (last, done) = came root is (before.encoded root is e) in
           next_in_order same p (g.A.Answering.orders c.args.answers.now) root middle c.end_parent.new.self c.end_parent.ensures.next (λ e. c.end_parent.ensures.encoding p root e (next_all same p root c.loop-parent.encoding middle c.in-Some.parent kept here done)) last);
       adds = subst (λ (x : Encoding _ _). AddsParents c.args.encoding.now x) (sym c.end_parent.ensures.next) (all_then c.args.encoding.now c.loop-parent.encoding (record middle { encoded = middle.encoded + 1 }) before.adds (one_more c.loop-parent.encoding middle kept));
+      turn = turns_then c.args.encoding.now middle c.end_parent.new.self (turns_then c.args.encoding.now c.loop-parent.encoding middle before.turn kept.turn) (next_turns middle c.end_parent.new.self c.end_parent.ensures.next);
       built = c.end_parent.ensures.built c.in_ok-encode_parent.ensures.built;
     }
 

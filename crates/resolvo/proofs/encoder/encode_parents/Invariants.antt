@@ -1,5 +1,6 @@
 use Rattle.std.proofs.Common.{◌≡◌, ◌-◌}
 use Rattle.resolvo_pool.specs.RuleKeeping.{Rules}
+use Rattle.resolvo_encoding.specs.Base.{KeepsTurns}
 use Rattle.resolvo_encoding.specs.Steps.{IsBuilt}
 use Rattle.resolvo.specs.Encoder.{IsInOrder, IsRoot, AddsParents}
 use Rattle.resolvo.proofs.encoder.encode_parents.Given as goal
@@ -11,6 +12,7 @@ invariant-loop-parent g l = record {
   encoded : (root : Rules) → IsRoot l.requirements l.constraints root → IsInOrder g.A.SolvableId.PartialEq.eq (g.A.Answering.packages l.initial.answers) (g.A.Answering.orders l.initial.answers) root l.initial.encoding
       → IsInOrder g.A.SolvableId.PartialEq.eq (g.A.Answering.packages l.initial.answers) (g.A.Answering.orders l.initial.answers) root l.encoding;
   adds : AddsParents l.initial.encoding l.encoding;
+  turn : KeepsTurns l.initial.encoding l.encoding;
   built : IsBuilt l.encoding;
 }
 

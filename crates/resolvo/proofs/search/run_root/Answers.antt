@@ -19,10 +19,10 @@ returns-clause-found g c = λ root is e.
     let lawful = g.met.A.Answering.lawful c.args.answers.now in
     let holds = c.in_ok-turn.ensures.stays root is e in
     let first : c.run_turn.new.encoding.coding.search.floor ≡ 1 = c.in_ok-turn.ensures.adds.grows.floor ∙ c.requires.coding.floor in
-    let (found, preferred) = turn_found g.A.NameId.PartialEq.eq names same exact p (g.A.Answering.orders c.args.answers.now) root lawful c.run_turn.new.encoding holds first (c.in_ok-turn.ensures.adds.wishes ∙ c.requires.wishes) c.in_ok-turn.turn c.in_ok-turn.ensures.turn c.in_ok-found.found c.in_ok-found.ensures in
+    let (found, preferred) = turn_found g.A.NameId.PartialEq.eq names same exact p (g.A.Answering.orders c.args.answers.now) root lawful c.run_turn.new.encoding holds first (c.in_ok-turn.ensures.adds.wishes ∙ c.requires.wishes) c.in_ok-turn.turn c.in_ok-turn.ensures.ended c.in_ok-found.found c.in_ok-found.ensures in
     (holds, found, preferred)
 
 pub returns-clause-denial : goal.returns-clause-denial
 returns-clause-denial g c =
     let first : c.run_turn.new.encoding.coding.search.floor ≡ 1 = c.in_ok-turn.ensures.adds.grows.floor ∙ c.requires.coding.floor in
-    turn_denial g.A.SolvableId.PartialEq.eq c.run_turn.new.encoding c.in_ok-turn.ensures.built.coding first c.in_ok-turn.turn c.in_ok-turn.ensures.turn c.in_ok-found.found c.in_ok-found.ensures
+    turn_denial g.A.SolvableId.PartialEq.eq c.run_turn.new.encoding c.in_ok-turn.ensures.built.coding first c.in_ok-turn.turn c.in_ok-turn.ensures.ended c.in_ok-found.found c.in_ok-found.ensures

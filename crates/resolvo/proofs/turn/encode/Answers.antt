@@ -1,3 +1,4 @@
+use Rattle.resolvo_encoding.proofs.Bases.{turns_then}
 use Rattle.resolvo.proofs.Adding.{goes_in_order}
 use Rattle.resolvo.proofs.Ending.{all_goes}
 use Rattle.resolvo.proofs.turn.encode.Goals as goal
@@ -9,3 +10,6 @@ returns-clause-encoded g c = λ root is e.
 
 pub returns-clause-all : goal.returns-clause-all
 returns-clause-all g c = all_goes c.args.encoding.now c.encode_parents.new.encoding c.undo_broken.new.encoding c.in_ok-encode_parents.ensures.all c.undo_broken.ensures.goes_on
+
+pub returns-clause-turn : goal.returns-clause-turn
+returns-clause-turn g c = turns_then c.args.encoding.now c.encode_parents.new.encoding c.undo_broken.new.encoding c.in_ok-encode_parents.ensures.turn c.undo_broken.ensures.turn

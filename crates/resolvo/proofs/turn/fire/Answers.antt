@@ -10,4 +10,4 @@ returns-clause-stays g c = λ root e.
     (c.undo_broken.ensures.stays (g.A.Answering.packages c.args.answers.now) root (g.met.A.Answering.lawful c.args.answers.now)) (c.in_ok-fire_cases.ensures.stays root e)
 
 pub returns-clause-adds : goal.returns-clause-adds
-returns-clause-adds g c = needs_then c.args.encoding.now c.fire_cases.new.encoding c.undo_broken.new.encoding c.in_ok-fire_cases.ensures.kept (goes_needs c.fire_cases.new.encoding c.undo_broken.new.encoding c.undo_broken.ensures.goes_on)
+returns-clause-adds g c = needs_then c.args.encoding.now c.fire_cases.new.encoding c.undo_broken.new.encoding c.in_ok-fire_cases.ensures.kept (goes_needs c.fire_cases.new.encoding c.undo_broken.new.encoding c.undo_broken.ensures.goes_on c.undo_broken.ensures.turn)

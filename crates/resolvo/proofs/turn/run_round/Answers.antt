@@ -2,11 +2,12 @@ use Rattle.std.proofs.Common.{Option, sym, ◌∙◌, ap, subst}
 use Rattle.std.specs.Prelude.{is_some}
 use Rattle.resolvo_search.specs.declared.analysis.Refusal.{Refusal}
 use Rattle.resolvo_pool.specs.RuleKeeping.{Rules}
-use Rattle.resolvo_encoding.specs.Going.{IsDecision}
+use Rattle.resolvo_encoding.proofs.Bases.{turn_then}
 use Rattle.resolvo_encoding.proofs.Building.{built_parents}
 use Rattle.resolvo.specs.Encoder.{IsInOrder}
-use Rattle.resolvo.proofs.Adding.{parents_in_order, needs_parents, all_then}
-use Rattle.resolvo.proofs.Ending.{round_adds, round_whole, round_goes, fires_goes, turn_same}
+use Rattle.resolvo.specs.Turn.{IsDecisionOf}
+use Rattle.resolvo.proofs.Adding.{parents_in_order, parents_needs, needs_parents, all_then}
+use Rattle.resolvo.proofs.Ending.{round_adds, round_whole, round_goes, fires_goes, ended_same, refused_of}
 use Rattle.resolvo.proofs.turn.run_round.Goals as goal
 
 pub returns-then-is_some-clause-stays : goal.returns-then-is_some-clause-stays
@@ -57,11 +58,27 @@ pub returns-else-branch-clause-round : goal.returns-else-branch-clause-round
 returns-else-branch-clause-round g c =
     let same = g.A.SolvableId.PartialEq.eq in
     let (stays, spent) = c.in_ok-fire.ensures.spent c.if-branch.false in
-    turn_same same c.add_chosen.new.encoding c.fire.new.encoding stays spent (λ none. (
-    round_whole same c.args.encoding.now c.encode_and_decide.new.encoding c.add_chosen.new.encoding c.requires.rooted c.in_ok-decided.ensures.all c.in_ok-add_chosen.ensures
-    (subst (λ (o : Option Refusal). IsDecision c.encode_and_decide.new.encoding o) c.in_default.is c.in_ok-decided.ensures.decided) (sym (ap is_some c.next_parent.ensures.parent) ∙ sym c.if-is_some.ensures) none))
+    ended_same same c.args.wish c.add_chosen.new.encoding c.fire.new.encoding stays spent (λ none. (
+    round_whole same c.args.encoding.now c.encode_and_decide.new.encoding c.add_chosen.new.encoding c.requires.rooted c.in_ok-decided.ensures.all c.in_ok-add_chosen.ensures c.args.wish
+    (subst (λ (o : Option Refusal). IsDecisionOf c.args.wish c.encode_and_decide.new.encoding o) c.in_default.is c.in_ok-decided.ensures.decided) (sym (ap is_some c.next_parent.ensures.parent) ∙ sym c.if-is_some.ensures) none))
 
 pub returns-else-branch-clause-adds : goal.returns-else-branch-clause-adds
 returns-else-branch-clause-adds g c =
     all_then c.args.encoding.now c.add_chosen.new.encoding c.fire.new.encoding (round_adds g.A.SolvableId.PartialEq.eq c.args.encoding.now c.encode_and_decide.new.encoding c.add_chosen.new.encoding c.requires.rooted c.in_ok-decided.ensures.all c.in_ok-add_chosen.ensures)
     (needs_parents c.add_chosen.new.encoding c.fire.new.encoding c.in_ok-fire.ensures.adds)
+
+pub returns-then-is_some-clause-turn : goal.returns-then-is_some-clause-turn
+returns-then-is_some-clause-turn g c =
+    turn_then c.args.wish c.args.encoding.now c.encode_and_decide.new.encoding c.add_chosen.new.encoding c.in_ok-decided.ensures.turn ((parents_needs c.encode_and_decide.new.encoding c.add_chosen.new.encoding c.in_ok-add_chosen.ensures.added).turn c.args.wish)
+
+pub returns-then-branch-clause-turn : goal.returns-then-branch-clause-turn
+returns-then-branch-clause-turn g c =
+    turn_then c.args.wish c.args.encoding.now c.add_chosen.new.encoding c.fire.new.encoding
+    (turn_then c.args.wish c.args.encoding.now c.encode_and_decide.new.encoding c.add_chosen.new.encoding c.in_ok-decided.ensures.turn ((parents_needs c.encode_and_decide.new.encoding c.add_chosen.new.encoding c.in_ok-add_chosen.ensures.added).turn c.args.wish))
+    (c.in_ok-fire.ensures.adds.turn c.args.wish)
+
+pub returns-else-branch-clause-turn : goal.returns-else-branch-clause-turn
+returns-else-branch-clause-turn g c =
+    turn_then c.args.wish c.args.encoding.now c.add_chosen.new.encoding c.fire.new.encoding
+    (turn_then c.args.wish c.args.encoding.now c.encode_and_decide.new.encoding c.add_chosen.new.encoding c.in_ok-decided.ensures.turn ((parents_needs c.encode_and_decide.new.encoding c.add_chosen.new.encoding c.in_ok-add_chosen.ensures.added).turn c.args.wish))
+    (c.in_ok-fire.ensures.adds.turn c.args.wish)

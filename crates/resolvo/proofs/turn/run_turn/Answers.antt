@@ -1,5 +1,6 @@
 use Rattle.std.proofs.Common.{refl, ◌∙◌, subst}
 use Rattle.resolvo_pool.specs.RuleKeeping.{Rules}
+use Rattle.resolvo_encoding.proofs.Bases.{turn_has, turn_same, turn_then}
 use Rattle.resolvo.specs.Encoder.{IsInOrder, IsRoot}
 use Rattle.resolvo.specs.declared.turn.Round.{Round}
 use Rattle.resolvo.specs.Turn.{IsRound}
@@ -8,7 +9,7 @@ use Rattle.resolvo.proofs.Ending.{fewer_left, still_rooted}
 use Rattle.resolvo.proofs.turn.run_turn.Goals as goal
 
 pub loop-refusal-init : goal.loop-refusal-init
-loop-refusal-init g c = record { same = refl; stays = λ root is e. e; adds = all_none c.args.encoding.now; built = c.requires.built; rooted = c.requires.rooted }
+loop-refusal-init g c = record { same = refl; stays = λ root is e. e; adds = all_none c.args.encoding.now; built = c.requires.built; rooted = c.requires.rooted; turn = turn_same c.args.wish c.args.encoding.now }
 
 pub run_round-requires-clause-built : goal.run_round-requires-clause-built
 run_round-requires-clause-built g c = c.loop-refusal.invariant.built
@@ -18,7 +19,7 @@ run_round-requires-clause-rooted g c = c.loop-refusal.invariant.rooted
 
 pub loop-refusal-smaller : goal.loop-refusal-smaller
 loop-refusal-smaller g c =
-    fewer_left c.loop-refusal.encoding c.run_round.new.encoding c.in_ok-run_round.ensures.adds (subst (λ (r : Round). IsRound g.A.SolvableId.PartialEq.eq c.loop-refusal.encoding c.run_round.new.encoding r) c.in-Goes.is c.in_ok-run_round.ensures.round)
+    fewer_left c.loop-refusal.encoding c.run_round.new.encoding c.in_ok-run_round.ensures.adds (subst (λ (r : Round). IsRound g.A.SolvableId.PartialEq.eq c.args.wish c.loop-refusal.encoding c.run_round.new.encoding r) c.in-Goes.is c.in_ok-run_round.ensures.round)
 
 pub loop-refusal-preserved : goal.loop-refusal-preserved
 loop-refusal-preserved g c =
@@ -31,6 +32,7 @@ loop-refusal-preserved g c =
       stays = λ root is e. stays root is (before.stays root is e);
       adds = all_then c.args.encoding.now c.loop-refusal.encoding c.run_round.new.encoding before.adds c.in_ok-run_round.ensures.adds;
       built = c.in_ok-run_round.ensures.built;
+      turn = turn_then c.args.wish c.args.encoding.now c.loop-refusal.encoding c.run_round.new.encoding before.turn c.in_ok-run_round.ensures.turn;
       rooted = still_rooted c.loop-refusal.encoding c.run_round.new.encoding before.rooted c.in_ok-run_round.ensures.adds;
     }
 
@@ -46,8 +48,8 @@ returns-in-Whole-clause-same g c = c.in_ok-run_round.ensures.same ∙ c.loop-ref
 pub returns-in-Whole-clause-adds : goal.returns-in-Whole-clause-adds
 returns-in-Whole-clause-adds g c = all_then c.args.encoding.now c.loop-refusal.encoding c.run_round.new.encoding c.loop-refusal.invariant.adds c.in_ok-run_round.ensures.adds
 
-pub returns-in-Whole-clause-turn : goal.returns-in-Whole-clause-turn
-returns-in-Whole-clause-turn g c = subst (λ (r : Round). IsRound g.A.SolvableId.PartialEq.eq c.loop-refusal.encoding c.run_round.new.encoding r) c.in-Whole.is c.in_ok-run_round.ensures.round
+pub returns-in-Whole-clause-ended : goal.returns-in-Whole-clause-ended
+returns-in-Whole-clause-ended g c = subst (λ (r : Round). IsRound g.A.SolvableId.PartialEq.eq c.args.wish c.loop-refusal.encoding c.run_round.new.encoding r) c.in-Whole.is c.in_ok-run_round.ensures.round
 
 pub returns-in-Refused-clause-stays : goal.returns-in-Refused-clause-stays
 returns-in-Refused-clause-stays g c = λ root is e.
@@ -61,5 +63,14 @@ returns-in-Refused-clause-same g c = c.in_ok-run_round.ensures.same ∙ c.loop-r
 pub returns-in-Refused-clause-adds : goal.returns-in-Refused-clause-adds
 returns-in-Refused-clause-adds g c = all_then c.args.encoding.now c.loop-refusal.encoding c.run_round.new.encoding c.loop-refusal.invariant.adds c.in_ok-run_round.ensures.adds
 
+pub returns-in-Refused-clause-ended : goal.returns-in-Refused-clause-ended
+returns-in-Refused-clause-ended g c = subst (λ (r : Round). IsRound g.A.SolvableId.PartialEq.eq c.args.wish c.loop-refusal.encoding c.run_round.new.encoding r) c.in-Refused.is c.in_ok-run_round.ensures.round
+
+pub returns-in-Whole-clause-turn : goal.returns-in-Whole-clause-turn
+returns-in-Whole-clause-turn g c = turn_then c.args.wish c.args.encoding.now c.loop-refusal.encoding c.run_round.new.encoding c.loop-refusal.invariant.turn c.in_ok-run_round.ensures.turn
+
 pub returns-in-Refused-clause-turn : goal.returns-in-Refused-clause-turn
-returns-in-Refused-clause-turn g c = subst (λ (r : Round). IsRound g.A.SolvableId.PartialEq.eq c.loop-refusal.encoding c.run_round.new.encoding r) c.in-Refused.is c.in_ok-run_round.ensures.round
+returns-in-Refused-clause-turn g c = turn_then c.args.wish c.args.encoding.now c.loop-refusal.encoding c.run_round.new.encoding c.loop-refusal.invariant.turn c.in_ok-run_round.ensures.turn
+
+pub run_round-requires-clause-turn : goal.run_round-requires-clause-turn
+run_round-requires-clause-turn g c = turn_has c.args.wish c.args.encoding.now c.loop-refusal.encoding c.requires.turn c.loop-refusal.invariant.turn

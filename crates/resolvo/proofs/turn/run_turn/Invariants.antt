@@ -1,5 +1,6 @@
 use Rattle.std.proofs.Common.{◌≡◌}
 use Rattle.resolvo_pool.specs.RuleKeeping.{Rules}
+use Rattle.resolvo_encoding.specs.Base.{KeepsTurn}
 use Rattle.resolvo_encoding.specs.Steps.{IsBuilt}
 use Rattle.resolvo.specs.Encoder.{IsInOrder, IsRoot, AddsParents}
 use Rattle.resolvo.specs.Turn.{IsRooted, rounds_left}
@@ -13,6 +14,7 @@ invariant-loop-refusal g l = record {
       → IsInOrder g.A.SolvableId.PartialEq.eq (g.A.Answering.packages l.initial.answers) (g.A.Answering.orders l.initial.answers) root l.encoding;
   adds : AddsParents l.initial.encoding l.encoding;
   built : IsBuilt l.encoding;
+  turn : KeepsTurn l.fn.wish l.initial.encoding l.encoding;
   rooted : IsRooted l.encoding;
 }
 

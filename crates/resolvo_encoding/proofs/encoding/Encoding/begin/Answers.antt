@@ -8,7 +8,7 @@ use Rattle.resolvo_encoding.proofs.encoding.Encoding.begin.Goals as goal
 pub returns-clause-begun : goal.returns-clause-begun
 returns-clause-begun g c =
     let parents : c.insert.new.self.keys ≡ Root ∷ [] = rw c.new-parents.ensures.empty at c.in_ok-insert.ensures.keys in
-    record { coding = c.in_ok-begin.ensures.begun; registry = c.new.ensures; lists = c.in_ok-new.ensures.empty; queue = c.new-3.ensures; gates = c.in_ok-new-2.ensures.empty; packages = c.new-5.ensures.empty; version_sets = c.new-6.ensures.empty; helped = c.new-7.ensures.empty; there = c.new-8.ensures.empty; wishes = c.new-9.ensures.empty; parents = parents; encoded = refl; deferred = c.new-10.ensures.items; fired = c.new-11.ensures.empty }
+    record { coding = c.in_ok-begin.ensures.begun; registry = c.new.ensures; lists = c.in_ok-new.ensures.empty; queue = c.new-3.ensures; gates = c.in_ok-new-2.ensures.empty; packages = c.new-5.ensures.empty; version_sets = c.new-6.ensures.empty; helped = c.new-7.ensures.empty; there = c.new-8.ensures.empty; wishes = c.new-9.ensures.items; parents = parents; encoded = refl; deferred = c.new-10.ensures.items; fired = c.new-11.ensures.empty }
 
 pub returns-clause-encoding : goal.returns-clause-encoding
 returns-clause-encoding g c = λ p root lawful.

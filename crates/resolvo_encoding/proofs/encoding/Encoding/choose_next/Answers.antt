@@ -4,6 +4,7 @@ use Rattle.resolvo_rules.specs.Encoding.{IsExact}
 use Rattle.resolvo_encoding.proofs.Deciding.{choice_taken, none_picked}
 use Rattle.resolvo_encoding.proofs.Building.{built_choice, built_rest}
 use Rattle.resolvo_encoding.proofs.Staying.{digits_kept, choice_goes, choice_keeps, choice_gains}
+use Rattle.resolvo_encoding.proofs.Bases.{choice_first}
 use Rattle.resolvo_encoding.proofs.encoding.Encoding.choose_next.Goals as goal
 
 pub choose-requires-clause-in_range : goal.choose-requires-clause-in_range
@@ -44,3 +45,6 @@ pub returns-in_ok-choose-in-Some-clause-built : goal.returns-in_ok-choose-in-Som
 returns-in_ok-choose-in-Some-clause-built g c =
     let goes = choice_goes c.args.self.now c.choose.new.self c.in-Some.next.candidate c.in-Some.next.clause_id c.in_ok-choose-in-Some.ensures.chosen c.in_ok-choose-in-Some.ensures.kept in
     built_rest c.args.self.now (record c.args.self.now { coding = c.choose.new.self }) c.requires goes.coding goes.grows (digits_kept c.args.self.now (record c.args.self.now { coding = c.choose.new.self }) c.requires.coding goes) goes.rest
+
+pub returns-in_ok-choose-in-Some-clause-first : goal.returns-in_ok-choose-in-Some-clause-first
+returns-in_ok-choose-in-Some-clause-first g c = choice_first c.args.self.now c.choose.new.self _ _ c.in_ok-choose-in-Some.ensures.chosen

@@ -72,7 +72,7 @@ returns-clause-kept g c =
     let middle : Encoding _ _ = record c.args.self.now { coding = c.variable.new.self } in
     let first : Extends c.args.self.now middle = record { grows = c.in_ok-variable.ensures.given.grows; trail = c.in_ok-variable.ensures.given.trail; wishes = refl; parents = refl; encoded = refl; deferred = refl; fired = refl } in
     let opened = c.in_ok-open_gate.ensures.opened in
-    let last : Extends c.gate.new.self c.open_gate.new.self = record { grows = opened.states.grows; trail = opened.states.trail; wishes = ap (λ (x : Noted _ _). x.wishes.keys) opened.rest.noted; parents = opened.rest.parents; encoded = opened.rest.encoded; deferred = opened.rest.deferred; fired = opened.rest.fired } in
+    let last : Extends c.gate.new.self c.open_gate.new.self = record { grows = opened.states.grows; trail = opened.states.trail; wishes = ap (λ (x : Noted _ _). x.wishes.items) opened.rest.noted; parents = opened.rest.parents; encoded = opened.rest.encoded; deferred = opened.rest.deferred; fired = opened.rest.fired } in
     extends_then c.args.self.now middle c.open_gate.new.self first (extends_then middle c.gate.new.self c.open_gate.new.self c.in_ok-gate.ensures.kept last)
 
 pub returns-clause-built : goal.returns-clause-built

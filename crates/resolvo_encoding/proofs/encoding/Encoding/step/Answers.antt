@@ -7,6 +7,7 @@ use Rattle.resolvo_encoding.specs.declared.encoding.Encoding.{Encoding}
 use Rattle.resolvo_encoding.specs.Going.{IsChoice}
 use Rattle.resolvo_encoding.proofs.Building.{built_rest}
 use Rattle.resolvo_encoding.proofs.Staying.{digits_kept, step_goes, step_keeps, learnt_heavier, complete_gains, goes_then}
+use Rattle.resolvo_encoding.proofs.Bases.{step_first, first_then}
 use Rattle.resolvo_encoding.proofs.encoding.Encoding.step.Goals as goal
 
 pub choose_next-requires : goal.choose_next-requires
@@ -78,3 +79,17 @@ pub returns-in-Learnt-clause-built : goal.returns-in-Learnt-clause-built
 returns-in-Learnt-clause-built g c =
     let goes = step_goes c.args.self.now c.advance.new.self c.in_ok-refusal.field-0 c.requires.coding c.in_ok-refusal.ensures.advanced in
     built_rest c.args.self.now (record c.args.self.now { coding = c.advance.new.self }) c.requires goes.coding goes.grows (digits_kept c.args.self.now (record c.args.self.now { coding = c.advance.new.self }) c.requires.coding goes) goes.rest
+
+pub returns-in-Refused-clause-first : goal.returns-in-Refused-clause-first
+returns-in-Refused-clause-first g c = step_first c.args.self.now c.advance.new.self c.in_ok-refusal.field-0 c.in_ok-refusal.ensures.advanced
+
+pub returns-in-Learnt-clause-first : goal.returns-in-Learnt-clause-first
+returns-in-Learnt-clause-first g c = step_first c.args.self.now c.advance.new.self c.in_ok-refusal.field-0 c.in_ok-refusal.ensures.advanced
+
+pub returns-then-has_chosen-clause-first : goal.returns-then-has_chosen-clause-first
+returns-then-has_chosen-clause-first g c =
+    first_then c.args.self.now (record c.args.self.now { coding = c.advance.new.self }) c.choose_next.new.self c.in_ok-refusal.ensures.advanced.grows.floor (step_first c.args.self.now c.advance.new.self c.in_ok-refusal.field-0 c.in_ok-refusal.ensures.advanced) c.in_ok-has_chosen-in-Complete.ensures.first
+
+pub returns-else-has_chosen-clause-first : goal.returns-else-has_chosen-clause-first
+returns-else-has_chosen-clause-first g c =
+    first_then c.args.self.now (record c.args.self.now { coding = c.advance.new.self }) c.choose_next.new.self c.in_ok-refusal.ensures.advanced.grows.floor (step_first c.args.self.now c.advance.new.self c.in_ok-refusal.field-0 c.in_ok-refusal.ensures.advanced) c.in_ok-has_chosen-in-Complete.ensures.first

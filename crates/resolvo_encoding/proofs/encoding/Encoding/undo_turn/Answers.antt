@@ -4,6 +4,7 @@ use Rattle.resolvo_search.specs.Steps.{Undoes}
 use Rattle.resolvo_rules.specs.Encoding.{IsExact}
 use Rattle.resolvo_encoding.proofs.Building.{built_rest}
 use Rattle.resolvo_encoding.proofs.Staying.{digits_kept, undo_goes, undo_keeps}
+use Rattle.resolvo_encoding.proofs.Bases.{turn_undone}
 use Rattle.resolvo_encoding.proofs.encoding.Encoding.undo_turn.Goals as goal
 
 -- what stood before the turn isn't above the level
@@ -32,3 +33,6 @@ pub returns-clause-built : goal.returns-clause-built
 returns-clause-built g c =
     let goes = returns-clause-goes_on g c in
     built_rest c.args.self.now _ c.requires goes.coding goes.grows (digits_kept c.args.self.now _ c.requires.coding goes) goes.rest
+
+pub returns-clause-turn : goal.returns-clause-turn
+returns-clause-turn g c = turn_undone c.args.self.now (record c.args.self.now { coding = c.undo_until.new.self }) (returns-clause-goes_on g c) (returns-clause-undone g c)

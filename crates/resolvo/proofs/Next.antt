@@ -1,0 +1,132 @@
+-- One wish more: what its turn came to is told, and what is chosen is listed.
+use Rattle.std.proofs.Common.{◌≡◌, ℕ, cond, inl, inr, Bool, true, false, reverse, List, [], ◌∷◌, ◌++◌, length, Option, None, Vec, Global, HashSet, BuildHasherDefault, FoldHasher, refl, sym, ◌∙◌, ap, subst, arith}
+use Rattle.std.specs.Prelude.{Contains}
+use Rattle.std.proofs.lemmas.Bool.{both_ways, cases_Bool}
+use Rattle.resolvo_pool.specs.declared.id.ClauseId.{ClauseId}
+use Rattle.resolvo_pool.specs.declared.id.VariableId.{VariableId}
+use Rattle.resolvo_pool.specs.declared.requirement.Requirement.{Requirement}
+use Rattle.resolvo_pool.specs.RuleKeeping.{Packages, Rules, IsLawful, is_in, IsRuleKeeping}
+use Rattle.resolvo_store.specs.AtMostOne.{IsFrontOf}
+use Rattle.resolvo_store.specs.Clauses.{yes}
+use Rattle.resolvo_store.specs.Signed.{Signed, has}
+use Rattle.resolvo_store.specs.declared.decision.Entry.{Entry}
+use Rattle.resolvo_search.specs.Entries.{literal_of, made_true, EndsWith}
+use Rattle.resolvo_search.specs.State.{history}
+use Rattle.resolvo_search.proofs.Literals.{has_later}
+use Rattle.resolvo_search.proofs.StepLemmas.{reverse_push}
+use Rattle.resolvo_rules.specs.Encoding.{IsExact, Atom, plus}
+use Rattle.resolvo_rules.specs.Ending.{IsAccepted}
+use Rattle.resolvo_rules.specs.Numbered.{Means}
+use Rattle.resolvo_rules.proofs.Members.{in_contained, contained_in}
+use Rattle.resolvo_coding.specs.declared.atom.ProofAtom.{ProofAtom}
+use Rattle.resolvo_coding.specs.declared.atom.ProofAtom.TheVariants.{Solvable}
+use Rattle.resolvo_coding.specs.Atoms.{origin, StandsFor}
+use Rattle.resolvo_coding.specs.Chosen.{AreChosen}
+use Rattle.resolvo_coding.specs.Coding.{IsCoding}
+use Rattle.resolvo_coding.proofs.Origins.{means_solvable, solvable_means, stands_front}
+use Rattle.resolvo_encoding.specs.declared.encoding.Encoding.{Encoding}
+use Rattle.resolvo_encoding.proofs.Turning.{turn_accepts}
+use Rattle.resolvo.specs.Encoder.{IsInOrder}
+use Rattle.resolvo.specs.Turn.{IsTurn}
+use Rattle.resolvo.specs.Turns.{AreAt, AreRight, Lists, Records, accepted_of, was_accepted}
+use Rattle.resolvo.specs.declared.wishing.Wished.{Wished}
+use Rattle.resolvo.specs.Wished.{IsDenied, IsTrue, KeepsTrail}
+use Rattle.resolvo.specs.declared.turns.Turn.{Turn}
+use Rattle.resolvo.specs.declared.turns.Turns.{Turns}
+use Rattle.resolvo.proofs.Listing.{accepted_next, next_right, refused_next}
+use Rattle.resolvo.proofs.Wishes.{true_before}
+
+-- ---- what the trail chooses
+
+-- a literal is true for what stands behind it
+later_known : (p base : List Entry) (l : Signed) → has (made_true base) l ≡ true → has (made_true (p ++ base)) l ≡ true
+later_known [] base l h = h
+later_known (e ∷ p) base l h = has_later (literal_of e) (made_true (p ++ base)) l (later_known p base l h)
+
+-- the accepted wishes after a turn
+wishes_told : {S : Type 0} (accepted : List S) (s : S) (turn : Turn S) (earlier : List (Turn S)) (b : Bool) → turn.accepted ≡ b → turn.solvable ≡ s → accepted ≡ accepted_of earlier → cond b (accepted ++ s ∷ []) accepted ≡ accepted_of (turn ∷ earlier)
+wishes_told {S} accepted s turn earlier true so is same = ap (λ (ws : List S). ws ++ s ∷ []) same ∙ sym (accepted_next turn earlier s so is)
+wishes_told accepted s turn earlier false so is same = same ∙ sym (refused_next turn earlier so)
+
+module _ {N S : Type 0} where
+  -- what is chosen is true, and what is true is chosen
+  pub chosen_true : (e : Encoding N S) (members : List S) → AreChosen e.coding.atoms.keys (made_true (history e.coding.search)) members → (s : S) → Contains members s → IsTrue e s
+  chosen_true e members are s h =
+      let (l, known, means) = are.each s h in
+      let (positive, stands) = means_solvable e.coding.atoms.keys l s means in
+      (l.variable, stands, subst (λ (x : Signed). has (made_true (history e.coding.search)) x ≡ true) (λ i. record { variable = l.variable; positive = positive i }) known)
+
+  pub true_chosen : (e : Encoding N S) (members : List S) → AreChosen e.coding.atoms.keys (made_true (history e.coding.search)) members → (s : S) → IsTrue e s → Contains members s
+  true_chosen e members are s (u, stands, known) = are.all (yes u) s known (solvable_means e.coding.atoms.keys (yes u) s refl stands)
+
+  -- what was true is so in a trail that goes on
+  pub true_later : (a b : Encoding N S) → KeepsTrail a b → (s : S) → IsTrue a s → IsTrue b s
+  true_later a b keeps s (u, stands, known) =
+      let (p, is) = keeps.ends in
+      (u, stands_front a.coding.atoms.keys b.coding.atoms.keys u (Solvable s) keeps.atoms stands, subst (λ (h : List Entry). has (made_true h) (yes u) ≡ true) (sym is) (later_known p (history a.coding.search) (yes u) known))
+
+  -- what is true of a literal's meaning
+  true_means : (e : Encoding N S) (s : S) → IsTrue e s → (l : Signed) × (has (made_true (history e.coding.search)) l ≡ true) × Means (origin e.coding.atoms.keys) l (plus (Atom.solvable s))
+  true_means e s (u, stands, known) = (yes u, known, solvable_means e.coding.atoms.keys (yes u) s refl stands)
+
+  -- the listed ones are what the trail chooses, where it went on
+  pub listed_chosen : (a b : Encoding N S) (old new : List S) → KeepsTrail a b → AreChosen a.coding.atoms.keys (made_true (history a.coding.search)) old → Lists b old new → AreChosen b.coding.atoms.keys (made_true (history b.coding.search)) new
+  listed_chosen a b old new keeps are lists = record {
+    each = λ s h. elim (lists.adds.only s h) [
+      | inl before ↦ true_means b s (true_later a b keeps s (chosen_true a old are s before))
+      | inr now ↦ lists.are.each s now
+    ];
+    all = λ l s known means. lists.adds.all s (lists.are.all l s known means);
+  }
+
+  -- and where it is what it was
+  pub same_chosen : (a b : Encoding N S) (members : List S) → IsCoding a.coding → KeepsTrail a b → history b.coding.search ≡ history a.coding.search
+      → AreChosen a.coding.atoms.keys (made_true (history a.coding.search)) members → AreChosen b.coding.atoms.keys (made_true (history b.coding.search)) members
+  same_chosen a b members coding keeps same are = record {
+    each = λ s h. true_means b s (true_later a b keeps s (chosen_true a members are s h));
+    all = λ l s known means. (
+        let (positive, stands) = means_solvable b.coding.atoms.keys l s means in
+        let truth : has (made_true (history b.coding.search)) (yes l.variable) ≡ true = subst (λ (x : Signed). has (made_true (history b.coding.search)) x ≡ true) (λ i. record { variable = l.variable; positive = positive i }) known in
+        true_chosen a members are s (true_before a b coding keeps.atoms s l.variable stands (subst (λ (h : List Entry). has (made_true h) (yes l.variable) ≡ true) same truth)));
+  }
+
+  -- ---- the turn is told
+
+  pub next_at : (a b : Encoding N S) (t m u : Turns S) (s : S) (begin : ℕ) (w : Wished) → AreAt a t → AreChosen b.coding.atoms.keys (made_true (history b.coding.search)) m.chosen.keys → m.turns ≡ t.turns → Records s begin w m u
+      → b.noted.wishes.items ≡ cond (was_accepted w) (a.noted.wishes.items ++ s ∷ []) a.noted.wishes.items → AreAt b u
+  next_at a b t m u s begin w at are turns told wishes =
+      let all : reverse u.turns.items ≡ told.turn ∷ reverse t.turns.items = ap reverse (told.turns ∙ ap (λ (ts : Vec (Turn S) Global). ts.items ++ told.turn ∷ []) turns) ∙ reverse_push t.turns.items told.turn in
+      record {
+        chosen = subst (λ (c : HashSet S (BuildHasherDefault FoldHasher)). AreChosen b.coding.atoms.keys (made_true (history b.coding.search)) c.keys) (sym told.chosen) are;
+        wishes = wishes ∙ wishes_told a.noted.wishes.items s told.turn (reverse t.turns.items) (was_accepted w) told.tells.accepted told.tells.solvable at.wishes ∙ ap accepted_of (sym all);
+      }
+
+  module _ (same : S → S → Bool) (exact : IsExact same) (p : Packages N S) (root : Rules) where
+    -- what was told of it is right
+    pub next_told : (a b : Encoding N S) (t m u : Turns S) (first : ℕ) (done : List S) (s : S) (w : Wished) → AreAt a t → AreRight same p root first done t → IsFrontOf t.chosen.keys m.chosen.keys → m.turns ≡ t.turns → Records s (length t.chosen.keys) w m u
+        → b.noted.wishes.items ≡ cond (was_accepted w) (a.noted.wishes.items ++ s ∷ []) a.noted.wishes.items → IsAccepted same p root b.noted.wishes.items m.chosen.keys → was_accepted w ≡ is_in same p m.chosen.keys s
+        → (was_accepted w ≡ false → IsDenied same p root a s) → AreRight same p root first (done ++ s ∷ []) u
+    next_told a b t m u first done s w at right front turns told wishes accepted is denied =
+        let keys : u.chosen.keys ≡ m.chosen.keys = ap (λ (c : HashSet S (BuildHasherDefault FoldHasher)). c.keys) told.chosen in
+        next_right same p root first done s t u told.turn right (subst (λ (xs : List S). IsFrontOf t.chosen.keys xs) (sym keys) front) (told.turns ∙ ap (λ (ts : Vec (Turn S) Global). ts.items ++ told.turn ∷ []) turns)
+        told.tells.begin_is (told.tells.end_is ∙ ap (λ (xs : List S). length xs) (sym keys)) told.tells.solvable
+        (subst (λ (xs : List S). IsAccepted same p root (accepted_of (told.turn ∷ reverse t.turns.items)) xs) (sym keys)
+        (subst (λ (ws : List S). IsAccepted same p root ws m.chosen.keys) (wishes ∙ wishes_told a.noted.wishes.items s told.turn (reverse t.turns.items) (was_accepted w) told.tells.accepted told.tells.solvable at.wishes) accepted))
+        (told.tells.accepted ∙ is ∙ ap (λ (xs : List S). is_in same p xs s) (sym keys))
+        (λ so set keeping all held. denied (sym told.tells.accepted ∙ so) set keeping (λ r truth. all r (contained_in same exact p t.chosen.keys r (true_chosen a t.chosen.keys at.chosen r truth))) held)
+
+    -- a wish is among the listed ones exactly if the trail chooses it
+    pub told_true : (b : Encoding N S) (members : List S) (s : S) → AreChosen b.coding.atoms.keys (made_true (history b.coding.search)) members → IsTrue b s → true ≡ is_in same p members s
+    told_true b members s are truth = sym (contained_in same exact p members s (true_chosen b members are s truth))
+
+    pub told_false : (b : Encoding N S) (members : List S) (s : S) → AreChosen b.coding.atoms.keys (made_true (history b.coding.search)) members → (IsTrue b s → ⊥) → false ≡ is_in same p members s
+    told_false b members s are untrue = elim (cases_Bool (is_in same p members s)) [
+      | inl there ↦ absurd (untrue (chosen_true b members are s (in_contained same exact p members s there)))
+      | inr none ↦ sym none
+    ]
+
+    -- the end of the turn of a wish that was chosen
+    pub chosen_accepted : (same_name : N → N → Bool) → IsExact same_name → IsLawful p → (orders : Requirement → List S → Type 0) (b : Encoding N S) (wish : Option VariableId) (members : List S) → IsInOrder same p orders root b → IsTurn same wish b None
+        → AreChosen b.coding.atoms.keys (made_true (history b.coding.search)) members → IsAccepted same p root b.noted.wishes.items members
+    chosen_accepted same_name names lawful orders b wish members holds (settled, whole, spent, has) are =
+        turn_accepts same exact p root lawful b same_name names holds.encoding spent settled.values settled.score settled.agree settled.quiet settled.decided members are (whole members are)

@@ -1,0 +1,117 @@
+-- The turns of wishes, and what was chosen in each.
+use Rattle.std.specs.Prelude.{◌≡◌, ℕ, ◌-◌, ◌≤◌, ◌⊎◌, cond, Bool, true, false, take, reverse, List, [], ◌∷◌, ◌++◌, length, Option, Some, None, Contains}
+use Rattle.resolvo_pool.specs.RuleKeeping.{Packages, Rules, is_in, IsRuleKeeping, IsReached}
+use Rattle.resolvo_store.specs.AtMostOne.{IsFrontOf}
+use Rattle.resolvo_search.specs.declared.analysis.Refusal.{Refusal}
+use Rattle.resolvo_search.specs.Analysis.{IsRefusal}
+use Rattle.resolvo_search.specs.Entries.{made_true}
+use Rattle.resolvo_search.specs.State.{history}
+use Rattle.resolvo_rules.specs.Ending.{IsAccepted}
+use Rattle.resolvo_coding.specs.Chosen.{AreChosen}
+use Rattle.resolvo_encoding.specs.declared.encoding.Encoding.{Encoding}
+use Rattle.resolvo.specs.Solution.{IsSolution, IsUnsolvable}
+use Rattle.resolvo.specs.declared.wishing.Wished.{Wished}
+use Rattle.resolvo.specs.declared.wishing.Wished.TheVariants.{Stood, Chosen, Refused, Clash}
+use Rattle.resolvo.specs.declared.turns.Turn.{Turn}
+use Rattle.resolvo.specs.declared.turns.Turns.{Turns}
+
+-- the accepted wishes after a turn
+abbrev pub accepted_by : {S : Type 0} → List S → Turn S → List S
+accepted_by accepted t = cond t.accepted (accepted ++ t.solvable ∷ []) accepted
+
+-- after turns, the newest first
+abbrev pub accepted_of : {S : Type 0} → List (Turn S) → List S
+accepted_of [] = []
+accepted_of (t ∷ earlier) = accepted_by (accepted_of earlier) t
+
+-- how many solvables were chosen after turns, the newest first, and the root's, after which so many were
+abbrev pub end_of : {S : Type 0} → ℕ → List (Turn S) → ℕ
+end_of first [] = first
+end_of first (t ∷ earlier) = t.end
+
+module _ {N S : Type 0} (same : S → S → Bool) (p : Packages N S) (root : Rules) (chosen : List S) where
+  -- The turn is the wish's. The solvables chosen by its end keep all rules, but that accepted wishes may be barred whose packages
+  -- nobody names, and are what the root and the accepted wishes reach. The wish is accepted where it is among them, and refused
+  -- only if no rule-keeping set holds it with those chosen before the turn.
+  pub record IsTurnOf (accepted : List S) (wish : S) (t : Turn S) : Type 0 where
+    pub solvable : t.solvable ≡ wish
+    pub grows : t.begin ≤ t.end
+    pub within : t.end ≤ length chosen
+    pub ended : IsAccepted same p root (accepted_by accepted t) (take t.end chosen)
+    pub told : t.accepted ≡ is_in same p (take t.end chosen) wish
+    pub refused : t.accepted ≡ false → (set : List S) → IsRuleKeeping same p root set → ((s : S) → is_in same p (take t.begin chosen) s ≡ true → is_in same p set s ≡ true) → is_in same p set wish ≡ true → ⊥
+
+  -- the turns are those of the wishes, both newest first, and each begins where the one before it ended
+  abbrev pub AreTurns : ℕ → List S → List (Turn S) → Type 0
+  AreTurns first [] [] = Unit {0}
+  AreTurns first [] (t ∷ earlier) = ⊥
+  AreTurns first (w ∷ before) [] = ⊥
+  AreTurns first (w ∷ before) (t ∷ earlier) = (t.begin ≡ end_of first earlier) × IsTurnOf (accepted_of earlier) w t × AreTurns first before earlier
+
+  -- The first ones chosen are a solution, in the root's turn; the others were chosen in the turns of the wishes.
+  pub record AreWished (first : ℕ) (wishes : List S) (told : List (Turn S)) : Type 0 where
+    pub solution : IsSolution same p root (take first chosen)
+    pub within : first ≤ length chosen
+    pub turns : AreTurns first (reverse wishes) (reverse told)
+    pub whole : end_of first (reverse told) ≡ length chosen
+
+-- these came behind the others
+pub record AddsEach {S : Type 0} (members old new : List S) : Type 0 where
+  pub front : IsFrontOf old new
+  pub only : (s : S) → Contains new s → Contains old s ⊎ Contains members s
+  pub all : (s : S) → Contains members s → Contains new s
+
+-- what the trail chooses came behind the others
+pub record Lists {N S : Type 0} (e : Encoding N S) (old new : List S) : Type 0 where
+  pub members : List S
+  pub are : AreChosen e.coding.atoms.keys (made_true (history e.coding.search)) members
+  pub adds : AddsEach members old new
+
+-- these are what the trail chooses, and the noted wishes are the accepted ones
+pub record AreAt {N S : Type 0} (e : Encoding N S) (t : Turns S) : Type 0 where
+  pub chosen : AreChosen e.coding.atoms.keys (made_true (history e.coding.search)) t.chosen.keys
+  pub wishes : e.noted.wishes.items ≡ accepted_of (reverse t.turns.items)
+
+-- what was chosen is right, turn by turn
+pub record AreRight {N S : Type 0} (same : S → S → Bool) (p : Packages N S) (root : Rules) (first : ℕ) (wishes : List S) (t : Turns S) : Type 0 where
+  pub wished : AreWished same p root t.chosen.keys first wishes t.turns.items
+  pub accepted : IsAccepted same p root (accepted_of (reverse t.turns.items)) t.chosen.keys
+
+-- whether the wish's turn accepted it
+abbrev pub was_accepted : Wished → Bool
+was_accepted Stood = true
+was_accepted Chosen = true
+was_accepted (Refused clause) = false
+was_accepted (Clash r) = false
+
+-- the proof's step of the clause that tells why it was not
+abbrev pub step_of : Wished → Option ℕ
+step_of Stood = None
+step_of Chosen = None
+step_of (Refused clause) = Some (clause.0 - 1)
+step_of (Clash r) = None
+
+-- the turn tells what it came to
+pub record Tells {S : Type 0} (wish : S) (begin end_ : ℕ) (wished : Wished) (t : Turn S) : Type 0 where
+  pub solvable : t.solvable ≡ wish
+  pub begin_is : t.begin ≡ begin
+  pub end_is : t.end ≡ end_
+  pub accepted : t.accepted ≡ was_accepted wished
+  pub step : t.step ≡ step_of wished
+
+-- it came behind the others
+pub record Records {S : Type 0} (wish : S) (begin : ℕ) (wished : Wished) (old new : Turns S) : Type 0 where
+  pub turn : Turn S
+  pub tells : Tells wish begin (length old.chosen.keys) wished turn
+  pub chosen : new.chosen ≡ old.chosen
+  pub turns : new.turns.items ≡ old.turns.items ++ turn ∷ []
+
+-- what was chosen is right after these wishes; or the rules can't all be kept
+abbrev pub IsNextRight : {N S : Type 0} → (S → S → Bool) → Packages N S → Rules → ℕ → List S → Turns S → Option Refusal → Type 0
+IsNextRight same p root first wishes t None = AreRight same p root first wishes t
+IsNextRight same p root first wishes t (Some r) = IsUnsolvable same p root
+
+-- what is told of the turns stands; or this clause can't be true
+abbrev pub StandSo : {N S : Type 0} → Encoding N S → Turns S → Option Refusal → Type 0
+StandSo e t None = AreAt e t
+StandSo e t (Some r) = IsRefusal e.coding.search r.literals.items r.causes.items × (r.literals.items ≡ [])

@@ -1,0 +1,93 @@
+//! The turns of wishes, as a solver tells of them, and the solvables that were chosen in them.
+ghost use Rattle.std.specs.Prelude.{◌≡◌, [], OnOk, IfOk};
+ghost use Rattle.resolvo.specs.Turns.{AddsEach, Lists, Records, Tells};
+
+use crate::wishing::Wished;
+use indexmap::IndexSet;
+use resolvo_encoding::encoding::{Encoding, add_key};
+use resolvo_pool::solver_id::SolverId;
+use resolvo_pool::want::R;
+use std::alloc::Global;
+use std::hash::Hash;
+
+/// The turn of a wish.
+#[derive(Clone, Copy, Debug)]
+pub struct Turn<S> {
+    pub solvable: S,
+    /// How many of the chosen solvables were chosen before the turn.
+    pub begin: usize,
+    /// How many were after it.
+    pub end: usize,
+    /// Whether the wish is among them.
+    pub accepted: bool,
+    /// The step of the proof that tells why it isn't.
+    pub step: Option<usize>,
+}
+
+/// The solvables that were chosen so far, in the order of the trail, and the turns of the wishes so far.
+#[derive(Drop)]
+pub struct Turns<S: Eq + Hash> {
+    pub chosen: IndexSet<S>,
+    pub turns: Vec<Turn<S>>,
+}
+
+impl<S: SolverId> Turns<S> {
+    /// Nothing is chosen, and there was no turn.
+    pub fn new(alloc: Global) -> Turns<S>
+        ensures chosen { result.chosen.keys ≡ [] }
+        ensures turns { result.turns.items ≡ [] }
+    {
+        Turns {
+            chosen: IndexSet::new(alloc),
+            turns: Vec::new(alloc),
+        }
+    }
+
+    /// Lists what the trail chooses, behind what was listed.
+    pub fn list<N: SolverId>(&mut self, alloc: Global, encoding: &Encoding<N, S>) -> R<()>
+        ensures listed { OnOk result (Lists encoding.now self.old.chosen.keys self.new.chosen.keys) }
+        ensures turns { OnOk result (self.new.turns ≡ self.old.turns) }
+    {
+        let chosen = encoding.coding.chosen(alloc)?;
+        list_each(&mut self.chosen, chosen.as_slice())?;
+        Ok(())
+    }
+
+    /// Notes the turn of a wish that began when so many solvables were chosen.
+    pub fn record(&mut self, wish: S, begin: usize, wished: Wished) -> R<()>
+        ensures { OnOk result (Records wish begin wished self.old self.new) }
+    {
+        let end = self.chosen.len();
+        self.turns.push(turn_of(wish, begin, end, wished))?;
+        Ok(())
+    }
+}
+
+/// What a wish's turn came to.
+fn turn_of<S>(wish: S, begin: usize, end: usize, wished: Wished) -> Turn<S>
+    ensures { Tells wish begin end wished result }
+{
+    let (accepted, step) = match wished {
+        Wished::Stood => (true, None),
+        Wished::Chosen => (true, None),
+        Wished::Refused(clause) => (false, Some((clause.0 as usize).saturating_sub(1))),
+        Wished::Clash(_) => (false, None),
+    };
+    Turn {
+        solvable: wish,
+        begin,
+        end,
+        accepted,
+        step,
+    }
+}
+
+/// Lists these behind the others, each once.
+fn list_each<S: SolverId>(listed: &mut IndexSet<S>, chosen: &[S]) -> R<()>
+    ensures { OnOk result (AddsEach chosen.now listed.old.keys listed.new.keys) }
+{
+    for solvable in chosen {
+        add_key(listed, *solvable)?;
+    }
+    Ok(())
+}
