@@ -8,3 +8,4 @@ pub mod Passing
 pub mod Wishes
 pub mod Listing
 pub mod Next
+pub mod Outcomes

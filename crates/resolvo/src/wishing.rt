@@ -1,6 +1,6 @@
 //! The turns of wishes. Each wish is registered and noted; unless it is chosen already, it is chosen at the first level of its
 //! turn. Where it can't stand beside what was chosen before, a clause tells why, and what was chosen before stands as it did.
-ghost use Rattle.std.specs.Prelude.{◌≡◌, ◌<◌, ◌++◌, ◌∷◌, [], false, length, Some, IfOk, IfErr, OnOk};
+ghost use Rattle.std.specs.Prelude.{◌≡◌, ◌<◌, ◌++◌, ◌∷◌, ℕ, List, [], false, length, Some, IfOk, IfErr, OnOk};
 ghost use Rattle.resolvo_pool.specs.Cached.{IsCancelledBy};
 ghost use Rattle.resolvo_pool.specs.RuleKeeping.{Packages, Rules, IsLawful};
 ghost use Rattle.resolvo_store.specs.Clauses.{yes};
@@ -13,11 +13,13 @@ ghost use Rattle.resolvo_encoding.specs.Steps.{IsBuilt};
 ghost use Rattle.resolvo_encoding.specs.Wishing.{turn_of, IsWish};
 ghost use Rattle.resolvo.specs.Encoder.{IsInOrder, IsRoot, AddsParents};
 ghost use Rattle.resolvo.specs.Turn.{IsRooted, IsTurn};
-ghost use Rattle.resolvo.specs.Wished.{IsCandidate, IsOutcome, IsRefusable, IsTold, IsTurnedDown, KeepsRest, KeepsTrail};
+ghost use Rattle.resolvo.specs.Turns.{AreAt, AreRight, IsNextRight, StandSo};
+ghost use Rattle.resolvo.specs.Wished.{AreCandidates, IsCandidate, IsOutcome, IsRefusable, IsTold, IsTurnedDown, KeepsRest, KeepsTrail};
 ghost use Rattle.resolvo.specs.declared.wishing.Wished.TheVariants.{Refused};
 
 use crate::deciding::Activity;
 use crate::turn::run_turn;
+use crate::turns::Turns;
 use resolvo_answers::answering::{Answering, Offered};
 use resolvo_encoding::encoding::Encoding;
 use resolvo_pool::cache::CacheFault;
@@ -79,4 +81,182 @@ fn run_open<A: Answering>(
         Some(variable),
     )?;
     Ok(refusal)
+}
+
+/// Takes the refused turn of the last wish back, and adds the clause that tells why.
+fn refuse<N: SolverId, S: SolverId>(
+    encoding: &mut Encoding<N, S>,
+    refusal: Refusal,
+) -> R<ClauseId>
+    requires built { IsBuilt encoding.old }
+    requires refused { IsRefusable encoding.old refusal }
+    requires some { 0 < length refusal.literals.items }
+    ensures stays { OnOk result ((p : Packages N S) (root : Rules) → IsLawful p → IsEncoding S.eq p root encoding.old → IsEncoding S.eq p root encoding.new) }
+    ensures rest { OnOk result (KeepsRest encoding.old encoding.new) }
+    ensures refused { IfOk result (λ clause. IsTurnedDown refusal encoding.old encoding.new (Refused clause)) }
+    ensures built { OnOk result (IsBuilt encoding.new) }
+{
+    encoding.undo_turn();
+    let clause = encoding.learn_refusal(refusal)?;
+    encoding.drop_wish();
+    Ok(clause)
+}
+
+/// What the refused turn of the last wish came to: without literals the refusal is one of the whole problem.
+fn turn_down<N: SolverId, S: SolverId>(
+    encoding: &mut Encoding<N, S>,
+    refusal: Refusal,
+) -> R<Wished>
+    requires built { IsBuilt encoding.old }
+    requires refused { IsRefusable encoding.old refusal }
+    ensures stays { OnOk result ((p : Packages N S) (root : Rules) → IsLawful p → IsEncoding S.eq p root encoding.old → IsEncoding S.eq p root encoding.new) }
+    ensures rest { OnOk result (KeepsRest encoding.old encoding.new) }
+    ensures turned { IfOk result (IsTurnedDown refusal encoding.old encoding.new) }
+    ensures built { OnOk result (IsBuilt encoding.new) }
+{
+    if refusal.literals.is_empty() {
+        return Ok(Wished::Clash(refusal));
+    }
+    let clause = refuse(encoding, refusal)?;
+    Ok(Wished::Refused(clause))
+}
+
+/// The turn of a wish.
+pub fn run_wish<A: Answering>(
+    alloc: Global,
+    answers: &mut A,
+    encoding: &mut Encoding<A::NameId, A::SolvableId>,
+    scores: &mut <A::NameId as SolverId>::Scores,
+    activity: Activity,
+    requirements: &[ConditionalRequirement],
+    constraints: &[VersionSetId],
+    wish: A::SolvableId,
+) -> Result<Wished, CacheFault<A::Cancel>>
+    requires built { IsBuilt encoding.old }
+    requires rooted { IsRooted encoding.old }
+    ensures same { answers.new ≡ answers.old }
+    ensures stays { IfOk result (λ w. (root : Rules) → IsRoot requirements.now constraints.now root → IsCandidate A.SolvableId.eq (A.packages answers.old) wish → IsInOrder A.SolvableId.eq (A.packages answers.old) (A.orders answers.old) root encoding.old → IsInOrder A.SolvableId.eq (A.packages answers.old) (A.orders answers.old) root encoding.new × IsTold A.SolvableId.eq (A.packages answers.old) root encoding.old wish w) }
+    ensures outcome { IfOk result (IsOutcome A.SolvableId.eq wish encoding.old encoding.new) }
+    ensures keeps { OnOk result (KeepsTrail encoding.old encoding.new) }
+    ensures built { OnOk result (IsBuilt encoding.new) }
+    ensures cancelled { IfErr result (IsCancelledBy (A.may_cancel answers.old)) }
+{
+    let name = answers.package(wish);
+    let offered = Offered {
+        solvable: wish,
+        name,
+    };
+    let variable = encoding.note_wish(alloc, offered)?;
+    if encoding.coding.search.is_true(Literal::new(variable, false)) {
+        return Ok(Wished::Stood);
+    }
+    let turn = run_open(
+        alloc,
+        answers,
+        encoding,
+        scores,
+        activity,
+        requirements,
+        constraints,
+        wish,
+        variable,
+    )?;
+    match turn {
+        None => Ok(Wished::Chosen),
+        Some(refusal) => {
+            let wished = turn_down(encoding, refusal)?;
+            Ok(wished)
+        }
+    }
+}
+
+/// The turn of the next wish, which is noted with what was chosen in it; or why no solvables keep all rules.
+fn run_next<A: Answering>(
+    alloc: Global,
+    answers: &mut A,
+    encoding: &mut Encoding<A::NameId, A::SolvableId>,
+    scores: &mut <A::NameId as SolverId>::Scores,
+    activity: Activity,
+    requirements: &[ConditionalRequirement],
+    constraints: &[VersionSetId],
+    wish: A::SolvableId,
+    turns: &mut Turns<A::SolvableId>,
+) -> Result<Option<Refusal>, CacheFault<A::Cancel>>
+    requires built { IsBuilt encoding.old }
+    requires rooted { IsRooted encoding.old }
+    requires at { AreAt encoding.old turns.old }
+    ensures same { answers.new ≡ answers.old }
+    ensures right { IfOk result (λ o. (root : Rules) (first : ℕ) (done : List A.SolvableId) → IsRoot requirements.now constraints.now root → IsCandidate A.SolvableId.eq (A.packages answers.old) wish → IsInOrder A.SolvableId.eq (A.packages answers.old) (A.orders answers.old) root encoding.old → AreRight A.SolvableId.eq (A.packages answers.old) root first done turns.old → IsInOrder A.SolvableId.eq (A.packages answers.old) (A.orders answers.old) root encoding.new × IsNextRight A.SolvableId.eq (A.packages answers.old) root first (done ++ wish ∷ []) turns.new o) }
+    ensures stands { IfOk result (StandSo encoding.new turns.new) }
+    ensures rooted { OnOk result (IsRooted encoding.new) }
+    ensures built { OnOk result (IsBuilt encoding.new) }
+    ensures cancelled { IfErr result (IsCancelledBy (A.may_cancel answers.old)) }
+{
+    let begin = turns.chosen.len();
+    let wished = run_wish(
+        alloc,
+        answers,
+        encoding,
+        scores,
+        activity,
+        requirements,
+        constraints,
+        wish,
+    )?;
+    match wished {
+        Wished::Clash(refusal) => Ok(Some(refusal)),
+        Wished::Stood => {
+            turns.record(wish, begin, Wished::Stood)?;
+            Ok(None)
+        }
+        Wished::Refused(clause) => {
+            turns.record(wish, begin, Wished::Refused(clause))?;
+            Ok(None)
+        }
+        Wished::Chosen => {
+            turns.list(alloc, encoding)?;
+            turns.record(wish, begin, Wished::Chosen)?;
+            Ok(None)
+        }
+    }
+}
+
+/// The turns of these wishes, one after another; or why no solvables keep all rules.
+pub fn run_wishes<A: Answering>(
+    alloc: Global,
+    answers: &mut A,
+    encoding: &mut Encoding<A::NameId, A::SolvableId>,
+    scores: &mut <A::NameId as SolverId>::Scores,
+    activity: Activity,
+    requirements: &[ConditionalRequirement],
+    constraints: &[VersionSetId],
+    wishes: &[A::SolvableId],
+    turns: &mut Turns<A::SolvableId>,
+) -> Result<Option<Refusal>, CacheFault<A::Cancel>>
+    requires built { IsBuilt encoding.old }
+    requires rooted { IsRooted encoding.old }
+    requires at { AreAt encoding.old turns.old }
+    ensures same { answers.new ≡ answers.old }
+    ensures right { IfOk result (λ o. (root : Rules) (first : ℕ) → IsRoot requirements.now constraints.now root → AreCandidates A.SolvableId.eq (A.packages answers.old) wishes.now → IsInOrder A.SolvableId.eq (A.packages answers.old) (A.orders answers.old) root encoding.old → AreRight A.SolvableId.eq (A.packages answers.old) root first [] turns.old → IsInOrder A.SolvableId.eq (A.packages answers.old) (A.orders answers.old) root encoding.new × IsNextRight A.SolvableId.eq (A.packages answers.old) root first wishes.now turns.new o) }
+    ensures stands { IfOk result (StandSo encoding.new turns.new) }
+    ensures built { OnOk result (IsBuilt encoding.new) }
+    ensures cancelled { IfErr result (IsCancelledBy (A.may_cancel answers.old)) }
+{
+    for wish in wishes {
+        let clash = run_next(
+            alloc,
+            answers,
+            encoding,
+            scores,
+            activity,
+            requirements,
+            constraints,
+            *wish,
+            turns,
+        )?;
+        if let Some(refusal) = clash {
+            return Ok(Some(refusal));
+        }
+    }
+    Ok(None)
 }

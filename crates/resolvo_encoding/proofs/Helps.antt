@@ -168,23 +168,23 @@ module _ {N S : Type 0} (same : S → S → Bool) (exact : IsExact same) where
   pub admits_none : (e : Encoding N S) → IsBuilt e → Admits same [] e e
   admits_none e built = record { said = []; each = λ o h named. absurd (contains_none o h); only = λ o h. absurd (contains_none o h); says = says_none e built }
 
-  pub admits_said : (xs : List (Offered N S)) (o : Offered N S) (a b c : Encoding N S) → Admits same xs a b → SaysThere same (o ∷ []) b c → Admits same (xs ++ o ∷ []) a c
-  admits_said xs o a b c f g = record {
-    said = f.said ++ o ∷ [];
-    each = λ q h named. elim (contains_parts q xs (o ∷ []) h) [ inl k ↦ contains_left q f.said (o ∷ []) (f.each q k named) | inr k ↦ contains_right q f.said (o ∷ []) k ];
-    only = λ q h. elim (contains_parts q f.said (o ∷ []) h) [ inl k ↦ contains_left q xs (o ∷ []) (f.only q k) | inr k ↦ contains_right q xs (o ∷ []) k ];
-    says = says_then f.said (o ∷ []) a b c f.says g;
+  pub admits_other : (o : Offered N S) (e : Encoding N S) → IsBuilt e → (Contains e.noted.helped.keys o.name → ⊥) → Admits same (o ∷ []) e e
+  admits_other o e built other = record {
+    said = [];
+    each = λ q h named. absurd (other (subst (λ (y : Offered N S). Contains e.noted.helped.keys y.name) (contains_one q o h) named));
+    only = λ q h. absurd (contains_none q h);
+    says = says_none e built;
   }
 
-  pub admits_other : (xs : List (Offered N S)) (o : Offered N S) (a b : Encoding N S) → Admits same xs a b → (Contains b.noted.helped.keys o.name → ⊥) → Admits same (xs ++ o ∷ []) a b
-  admits_other xs o a b f other = record {
-    said = f.said;
-    each = λ q h named. elim (contains_parts q xs (o ∷ []) h) [
-      | inl k ↦ f.each q k named
-      | inr k ↦ absurd (other (subst (λ (y : Offered N S). Contains b.noted.helped.keys y.name) (contains_one q o k) (subst (λ ks. Contains ks.keys q.name) (sym f.says.helped) named)))
+  pub admits_then : (xs ys : List (Offered N S)) (a b c : Encoding N S) → Admits same xs a b → Admits same ys b c → Admits same (xs ++ ys) a c
+  admits_then xs ys a b c f g = record {
+    said = f.said ++ g.said;
+    each = λ q h named. elim (contains_parts q xs ys h) [
+      | inl k ↦ contains_left q f.said g.said (f.each q k named)
+      | inr k ↦ contains_right q f.said g.said (g.each q k (subst (λ ks. Contains ks.keys q.name) (sym f.says.helped) named))
     ];
-    only = λ q h. contains_left q xs (o ∷ []) (f.only q h);
-    says = f.says;
+    only = λ q h. elim (contains_parts q f.said g.said h) [ inl k ↦ contains_left q xs ys (f.only q k) | inr k ↦ contains_right q xs ys (g.only q k) ];
+    says = says_then f.said g.said a b c f.says g.says;
   }
 
   -- ---- a package that a case names

@@ -17,3 +17,4 @@ pub mod Bases
 pub mod Blaming
 pub mod Helps
 pub mod Firing
+pub mod Noting

@@ -1,15 +1,17 @@
-//! Solvables are registered, as the candidates of a requirement or since they are outside a case's version set. Where a case names
-//! their package, a clause says first that one of it is there.
+//! Solvables are registered, as the candidates of a requirement, since they are outside a case's version set, or as wishes. Where
+//! a case names their package, a clause says first that one of it is there.
 ghost use Rattle.std.specs.Prelude.{◌≡◌, ◌∷◌, [], OnOk, IfOk};
 ghost use Rattle.resolvo_coding.specs.Coding.{IsCoding};
 ghost use Rattle.resolvo_coding.specs.Registered.{AreTied};
 ghost use Rattle.resolvo_encoding.specs.Steps.{RegistersOne, RegistersAll, IsBuilt, Enrols};
 ghost use Rattle.resolvo_encoding.specs.Helped.{SaysThere, Admits};
+ghost use Rattle.resolvo_encoding.specs.Wishing.{RegistersWish};
 
 use crate::encoding::Encoding;
 use resolvo_answers::answering::Offered;
 use resolvo_coding::coding::Coding;
 use resolvo_coding::registry::Registry;
+use resolvo_pool::id::VariableId;
 use resolvo_pool::solver_id::SolverId;
 use resolvo_pool::want::R;
 use resolvo_store::lists::Candidate;
@@ -37,11 +39,32 @@ impl<N: SolverId + Drop, S: SolverId> Encoding<N, S> {
         ensures { OnOk result (Admits S.eq offered.now self.old self.new) }
     {
         for one in offered {
-            if self.noted.helped.contains(&one.name) {
-                self.say_there(alloc, *one)?;
-            }
+            self.admit_one(alloc, *one)?;
         }
         Ok(())
+    }
+
+    /// States that one of its package is there, if a case names that.
+    fn admit_one(&mut self, alloc: Global, one: Offered<N, S>) -> R<()>
+        requires { IsBuilt self.old }
+        ensures { OnOk result (Admits S.eq (one ∷ []) self.old self.new) }
+    {
+        if self.noted.helped.contains(&one.name) {
+            self.say_there(alloc, one)?;
+        }
+        Ok(())
+    }
+
+    /// Registers a wish, and gives its variable.
+    pub(crate) fn register_wish(&mut self, alloc: Global, wish: Offered<N, S>) -> R<VariableId>
+        requires { IsBuilt self.old }
+        ensures { IfOk result (λ v. RegistersWish S.eq wish v self.old self.new) }
+    {
+        self.admit_one(alloc, wish)?;
+        let variable = self
+            .registry
+            .register(&mut self.coding, wish.name, wish.solvable)?;
+        Ok(variable)
     }
 }
 

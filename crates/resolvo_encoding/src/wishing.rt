@@ -9,10 +9,11 @@ ghost use Rattle.resolvo_coding.specs.Coding.{Bars};
 ghost use Rattle.resolvo_encoding.specs.Encoded.{IsEncoding};
 ghost use Rattle.resolvo_encoding.specs.Steps.{IsBuilt};
 ghost use Rattle.resolvo_encoding.specs.Going.{GoesOn};
-ghost use Rattle.resolvo_encoding.specs.Wishing.{turn_of};
+ghost use Rattle.resolvo_encoding.specs.Wishing.{turn_of, Notes, IsUntaken, TakesBack};
 ghost use Rattle.resolvo_encoding.specs.Base.{HasTurn, IsTried, KeepsTurn, KeepsTurns};
 
 use crate::encoding::Encoding;
+use resolvo_answers::answering::Offered;
 use resolvo_pool::id::{ClauseId, VariableId};
 use resolvo_pool::solver_id::SolverId;
 use resolvo_pool::want::R;
@@ -81,5 +82,24 @@ impl<N: SolverId + Drop, S: SolverId> Encoding<N, S> {
     {
         let clause = self.coding.bar(refusal)?;
         Ok(clause)
+    }
+
+    /// Registers a wish and notes it as the last one. Gives its variable.
+    pub fn note_wish(&mut self, alloc: Global, wish: Offered<N, S>) -> R<VariableId>
+        requires { IsBuilt self.old }
+        ensures { IfOk result (λ v. Notes S.eq wish v self.old self.new) }
+    {
+        let variable = self.register_wish(alloc, wish)?;
+        self.noted.wishes.push(wish.solvable)?;
+        Ok(variable)
+    }
+
+    /// Takes the last wish back, which isn't chosen.
+    pub fn drop_wish(&mut self)
+        requires built { IsBuilt self.old }
+        requires untaken { IsUntaken self.old }
+        ensures { TakesBack S.eq self.old self.new }
+    {
+        self.noted.wishes.pop();
     }
 }

@@ -2,33 +2,25 @@ use Rattle.std.proofs.Common.{◌≡◌, ◌+◌, ◌∷◌, ◌++◌, [], ◌�
 use Rattle.std.proofs.lemmas.List.{take_more, take_all}
 use Rattle.resolvo_rules.specs.Encoding.{IsExact}
 use Rattle.resolvo_answers.specs.declared.answering.Offered.{Offered}
-use Rattle.resolvo_encoding.specs.declared.encoding.Encoding.{Encoding}
 use Rattle.resolvo_encoding.specs.Helped.{Admits}
-use Rattle.resolvo_encoding.proofs.Firing.{not_contained}
-use Rattle.resolvo_encoding.proofs.Helps.{admits_none, admits_said, admits_other}
+use Rattle.resolvo_encoding.proofs.Helps.{admits_none, admits_then}
 use Rattle.resolvo_encoding.proofs.encoding.Encoding.admit.Goals as goal
-use Rattle.resolvo_encoding.proofs.encoding.Encoding.admit.Goals.{then-contains+in_ok-say_there, else-contains}
 
 pub loop-one-init : goal.loop-one-init
 loop-one-init g c =
     let exact : IsExact g.S.PartialEq.eq = record { one = g.met.S.Exact.exact; own = g.met.S.Eq.laws.refl } in
     admits_none g.S.PartialEq.eq exact c.args.self.now c.requires
 
-pub say_there-requires : goal.say_there-requires
-say_there-requires g c = c.loop-one.invariant.says.built
+pub admit_one-requires : goal.admit_one-requires
+admit_one-requires g c = c.loop-one.invariant.says.built
 
 pub loop-one-preserved : goal.loop-one-preserved
 loop-one-preserved g c =
     let exact : IsExact g.S.PartialEq.eq = record { one = g.met.S.Exact.exact; own = g.met.S.Eq.laws.refl } in
     let more : take (c.loop-one.one-index + 1) c.args.offered.now ≡ take c.loop-one.one-index c.args.offered.now ++ c.one-item.result ∷ [] =
     take_more c.args.offered.now c.loop-one.one-index c.one-item.result c.loop-one-test.true ∙ ap (λ (x : Offered _ _). take c.loop-one.one-index c.args.offered.now ++ x ∷ []) (sym c.one-item.is) in
-    subst (λ (xs : List (Offered _ _)). Admits g.S.PartialEq.eq xs c.args.self.now c.if-contains.self) (sym more)
-    (elim c.if-contains.branch [
-      | then-contains+in_ok-say_there w ↦ subst (λ (e : Encoding _ _). Admits g.S.PartialEq.eq (take c.loop-one.one-index c.args.offered.now ++ c.one-item.result ∷ []) c.args.self.now e) (sym w.self-is)
-          (admits_said g.S.PartialEq.eq exact (take c.loop-one.one-index c.args.offered.now) c.one-item.result c.args.self.now c.loop-one.self w.say_there.new.self c.loop-one.invariant w.in_ok-say_there.ensures)
-      | else-contains w ↦ subst (λ (e : Encoding _ _). Admits g.S.PartialEq.eq (take c.loop-one.one-index c.args.offered.now ++ c.one-item.result ∷ []) c.args.self.now e) (sym w.self-is)
-          (admits_other g.S.PartialEq.eq exact (take c.loop-one.one-index c.args.offered.now) c.one-item.result c.args.self.now c.loop-one.self c.loop-one.invariant (not_contained g.N.PartialEq.eq c.loop-one.self.noted.helped.keys c.one-item.result.name (g.met.N.Eq.laws.refl c.one-item.result.name) (sym c.contains.ensures ∙ w.if-contains.false)))
-    ])
+    subst (λ (xs : List (Offered _ _)). Admits g.S.PartialEq.eq xs c.args.self.now c.admit_one.new.self) (sym more)
+    (admits_then g.S.PartialEq.eq exact (take c.loop-one.one-index c.args.offered.now) (c.one-item.result ∷ []) c.args.self.now c.loop-one.self c.admit_one.new.self c.loop-one.invariant c.in_ok-admit_one.ensures)
 
 pub returns : goal.returns
 returns g c = subst (λ (xs : List (Offered _ _)). Admits g.S.PartialEq.eq xs c.args.self.now c.loop-one.self) (take_all c.loop-one.one-index c.args.offered.now c.loop-one-test.false) c.loop-one.invariant
