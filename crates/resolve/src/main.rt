@@ -3,11 +3,11 @@
 #![tactic(auto)]
 
 use resolvo_catalogue::Counted;
-use resolvo_commands::check::check;
-use resolvo_commands::endings::{check_ending, run_ending};
-use resolvo_commands::input::{INPUT_LIMIT, read_input, split_input};
-use resolvo_commands::outcome::{Checked, Outcome, RunFault};
 use resolvo_commands::run::run;
+use resolvo_judging::check::check;
+use resolvo_judging::endings::{check_ending, run_ending};
+use resolvo_judging::input::{INPUT_LIMIT, read_input, split_input};
+use resolvo_judging::outcome::{Checked, Outcome, RunFault};
 use std::fs::File;
 use std::process::ExitCode;
 use std::{env, io};

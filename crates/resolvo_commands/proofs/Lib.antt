@@ -1,5 +1,1 @@
-pub mod Elements
-pub mod Splitting
-pub mod Pieces
 pub mod Reports
-pub mod CheckLemmas

@@ -5,31 +5,26 @@ use Rattle.resolvo_text.specs.Line.{Line}
 use Rattle.resolvo_text.specs.Device.{IfKnown}
 use Rattle.resolvo_text.specs.Texts.{IsGrammatical}
 use Rattle.resolvo_catalogue.specs.Grammar.{IsCatalogueLine, IsRequestLine}
-use Rattle.resolvo_commands.specs.declared.outcome.Outcome.{Outcome}
-use Rattle.resolvo_commands.specs.declared.outcome.Outcome.TheVariants.{Faulty}
-use Rattle.resolvo_commands.specs.Texts.{fault_text}
+use Rattle.resolvo_judging.specs.declared.outcome.Outcome.{Outcome}
+use Rattle.resolvo_judging.specs.declared.outcome.Outcome.TheVariants.{Faulty}
+use Rattle.resolvo_judging.specs.Texts.{fault_text}
 use Rattle.resolvo_commands.specs.Answer.{IsAnswerOfLines, catalogue_fault, request_fault, grammatical}
 use Rattle.resolvo_text.specs.Texts.{IsTextFault}
 use Rattle.resolvo_text.specs.declared.lines.ReadFault.{ReadFault}
 use Rattle.resolvo_text.specs.declared.lines.ReadFault.TheVariants as read
-use Rattle.resolvo_commands.specs.declared.run.Written.{Written}
-use Rattle.resolvo_commands.specs.declared.outcome.RunFault.{RunFault}
-use Rattle.resolvo_commands.specs.declared.outcome.RunFault.TheVariants.{Reader, TooLong, Memory, Ids, Writer}
-use Rattle.resolvo_commands.specs.Running.{Device, AnswersTexts, StopsReading, in_catalogue, in_request, AreRead, IsLack, StopsBefore, StopsRun, TellsFault}
-
-pub if_ok : {A E : Type 0} {P Q : A → Type 0} (r : Result A E) → ((a : A) → P a → Q a) → IfOk r P → IfOk r Q
-if_ok (Ok a) f h = f a h
-if_ok (Err e) f h = tt
+use Rattle.resolvo_judging.specs.declared.written.Written.{Written}
+use Rattle.resolvo_judging.specs.declared.outcome.RunFault.{RunFault}
+use Rattle.resolvo_judging.specs.declared.outcome.RunFault.TheVariants.{Reader, TooLong, Memory, Ids, Writer}
+use Rattle.resolvo_judging.specs.Devices.{Device, StopsReading}
+use Rattle.resolvo_judging.specs.Faults.{TellsFault}
+use Rattle.resolvo_judging.proofs.Results.{if_ok, if_err, never_ids}
+use Rattle.resolvo_commands.specs.Running.{AnswersTexts, AreRead, IsLack, StopsBefore, StopsRun}
 
 pub of_texts : (c r : Option (List ℕ)) (catalogue request : List Line) (outcome : Outcome) (output : List ℕ) → IfKnown c (λ t. IsGrammatical IsCatalogueLine t catalogue) → IfKnown r (λ t. IsGrammatical (IsRequestLine catalogue) t request)
     → IsAnswerOfLines catalogue request outcome output → AnswersTexts c r outcome output
 of_texts c r catalogue request outcome output says_c says_r answer = λ t is_c u is_r. grammatical catalogue request (says_c t is_c) (says_r u is_r) answer
 
 -- ---- a text that was not read
-
-pub if_err : {A E : Type 0} {P Q : E → Type 0} (r : Result A E) → ((e : E) → P e → Q e) → IfErr r P → IfErr r Q
-if_err (Ok a) f h = tt
-if_err (Err e) f h = f e h
 
 told_ok : (P : Outcome → List ℕ → Type 0) (fault : ReadFault) (which : List ℕ) (told : Result Written RunFault) → TellsFault fault which told → ((n : ℕ) → fault ≡ read.Fault n → P Faulty (fault_text which n))
     → IfOk told (λ a. P a.outcome a.text.items)
@@ -48,10 +43,6 @@ pub request_told : (catalogue before after : Option (List ℕ)) (lines : List Li
     → IsTextFault (IsRequestLine lines) fault before after 16777216 Failed → TellsFault fault (codes "request") told → IfOk told (λ a. AnswersTexts catalogue before a.outcome a.text.items)
 request_told catalogue before after lines Failed fault told says stopped tells = told_ok (AnswersTexts catalogue before) fault (codes "request") told tells
     (λ n is t known u known_u. request_fault lines n (says t known) (subst (λ (f : ReadFault). IsTextFault (IsRequestLine lines) f before after 16777216 Failed) is stopped u known_u) refl refl)
-
-pub never_ids : (catalogue request : Device) → StopsReading read.Ids catalogue request → ⊥
-never_ids catalogue request (in_catalogue h unread) = h
-never_ids catalogue request (in_request lines says h) = h
 
 pub told_err : (catalogue request : Device) (fault : ReadFault) (which : List ℕ) (told : Result Written RunFault) → TellsFault fault which told → StopsReading fault catalogue request → IfErr told (λ e. StopsBefore e catalogue request)
 told_err catalogue request (read.Fault n) which told h stops = if_err told (λ e is. subst (λ (x : RunFault). StopsBefore x catalogue request) (sym is) tt) h.1

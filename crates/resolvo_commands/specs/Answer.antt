@@ -7,9 +7,9 @@ use Rattle.resolvo_report.specs.Value.{Report, Install, Refused}
 use Rattle.resolvo_report.specs.Text.{report_text}
 use Rattle.resolvo_reporting.specs.Served.{AllServed, IsFirstUnserved, wishes_nothing}
 use Rattle.resolvo_reporting.specs.Reported.{IsReportOf}
-use Rattle.resolvo_commands.specs.declared.outcome.Outcome.{Outcome}
-use Rattle.resolvo_commands.specs.declared.outcome.Outcome.TheVariants as outcome
-use Rattle.resolvo_commands.specs.Texts.{fault_text}
+use Rattle.resolvo_judging.specs.declared.outcome.Outcome.{Outcome}
+use Rattle.resolvo_judging.specs.declared.outcome.Outcome.TheVariants as outcome
+use Rattle.resolvo_judging.specs.Texts.{fault_text}
 
 -- how a run ends that writes this report
 abbrev pub outcome_of : Report → Outcome

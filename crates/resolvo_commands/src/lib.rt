@@ -1,10 +1,5 @@
-//! What the program `resolve` does: from the bytes of texts to the bytes of a report or of a verdict, how standard
-//! input is parted, and how the program ends.
+//! What the program `resolve` does with the solver: from the bytes of two texts to the bytes of a report.
 #![tactic(auto)]
 
-pub mod check;
-pub mod endings;
-pub mod input;
-pub mod outcome;
 mod report;
 pub mod run;

@@ -1,51 +1,21 @@
 //! From the bytes of a catalogue and a request to the bytes of a report. `main` and the tests call `run`.
 
-ghost use Rattle.std.specs.Prelude.{◌≡◌, List, codes, IfOk, IfErr, MatchResult, ⊤};
+ghost use Rattle.std.specs.Prelude.{◌≡◌, IfOk, IfErr};
 ghost use Rattle.resolvo_text.specs.Device.{DeviceFailed, WriterFailed};
 ghost use Rattle.resolvo_catalogue.specs.Grammar.{AreRequestLines};
 ghost use Rattle.resolvo_report.specs.View.{report_of};
-ghost use Rattle.resolvo_commands.specs.Texts.{fault_text};
 ghost use Rattle.resolvo_commands.specs.Answer.{IsAnswerOfLines, outcome_of};
-ghost use Rattle.resolvo_commands.specs.Running.{reader_of, writer_of, AnswersTexts, IsLack, StopsBefore, StopsRun, Writes, TellsFault};
+ghost use Rattle.resolvo_commands.specs.Running.{AnswersTexts, IsLack, StopsBefore, StopsRun, Writes};
+ghost use Rattle.resolvo_judging.specs.Devices.{reader_of, writer_of};
 
-use crate::outcome::{Outcome, RunFault};
-use crate::report::{fault_text, report_text};
-use resolvo_catalogue::{Catalogue, ReadFault, Request, Sink, Source, write_all};
+use crate::report::report_text;
+use resolvo_catalogue::{Catalogue, Request, Sink, Source, write_all};
+use resolvo_judging::outcome::{Outcome, RunFault};
+use resolvo_judging::written::{Written, faulty, not_read};
 use resolvo_report::Report;
 use resolvo_reporting::reporting::report_for;
 use resolvo_reporting::serving::first_unserved;
 use std::alloc::Global;
-
-/// What is written: how the run ends, and the text.
-#[derive(Drop)]
-pub struct Written {
-    pub outcome: Outcome,
-    pub text: Vec<u8>,
-}
-
-/// The first faulty line of a text.
-fn faulty(alloc: Global, which: &str, line: u32) -> Result<Written, RunFault>
-    ensures ok { IfOk result (λ answer. (answer.outcome ≡ Outcome.Faulty) × (answer.text.items ≡ fault_text which.now line)) }
-    ensures err { IfErr result (λ e. e ≡ RunFault.Memory) }
-{
-    Ok(Written {
-        outcome: Outcome::Faulty,
-        text: fault_text(alloc, which, line)?,
-    })
-}
-
-/// What is written where a text was not read: its faulty line, or nothing.
-pub fn not_read(alloc: Global, which: &str, fault: ReadFault) -> Result<Written, RunFault>
-    ensures { TellsFault fault which.now result }
-{
-    match fault {
-        ReadFault::Fault(line) => faulty(alloc, which, line),
-        ReadFault::Reader => Err(RunFault::Reader),
-        ReadFault::TooLong => Err(RunFault::TooLong),
-        ReadFault::Memory => Err(RunFault::Memory),
-        ReadFault::Ids => Err(RunFault::Ids),
-    }
-}
 
 /// How a run ends that writes this report.
 fn outcome_of(report: &Report) -> Outcome

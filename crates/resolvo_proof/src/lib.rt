@@ -5,7 +5,5 @@
 
 pub mod proof;
 pub mod step;
-#[cfg(test)]
-mod tests;
 pub mod trimming;
 mod writing;

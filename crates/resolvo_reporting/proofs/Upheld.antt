@@ -39,7 +39,8 @@ use Rattle.resolvo.specs.declared.proving.Solved.{Solved}
 use Rattle.resolvo.specs.declared.search.Found.{Found}
 use Rattle.resolvo.specs.declared.search.Found.TheVariants.{Chosen, Clash}
 use Rattle.resolvo.specs.Encoder.{IsRoot}
-use Rattle.resolvo.specs.Solving.{IsSolution, Holds, IsPreferred, IsSolved, EndsSo}
+use Rattle.resolvo.specs.Solution.{IsSolution}
+use Rattle.resolvo.specs.Solving.{Holds, IsPreferred, IsSolved, EndsSo}
 use Rattle.resolvo_reporting.specs.Served.{wishes_nothing, AllServed}
 use Rattle.resolvo_reporting.specs.First.{orders_of, AreFirstChosen}
 use Rattle.resolvo_reporting.specs.Solved.{IsSolvedOver}

@@ -1,6 +1,6 @@
 //! Requests that can be served: the report, whole, and the judge's yes to it.
 
-use super::{prints, tells};
+use super::{is_upheld, prints};
 use std::test::Fail;
 
 struct Row {
@@ -179,7 +179,7 @@ fn installs_are_judged(rt: HostRuntime) -> Result<(), Fail> {
     for row in &ROWS {
         let (catalogue, request) = (row.catalogue, row.request);
         let texts = (catalogue, request, row.printed);
-        let holds = tells(rt.alloc(), texts, 4096, ("yes\n", 0))?;
+        let holds = is_upheld(rt.alloc(), texts)?;
         assert!(rt; holds, "{catalogue} --- {request}");
     }
     Ok(())

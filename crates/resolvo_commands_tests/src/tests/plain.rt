@@ -1,6 +1,6 @@
 //! A plain slow program that computes the answer of flat texts from its definition, compared with `run`; each report is judged.
 
-use super::{printed, tells};
+use super::{is_upheld, printed};
 use std::alloc::{AllocError, Global};
 use std::test::Fail;
 
@@ -144,7 +144,7 @@ fn agrees(alloc: Global, catalogue: &str, needs: &[Wanted]) -> Result<bool, Allo
     let request = request_text(alloc, needs)?;
     let (text, status) = printed(alloc, catalogue, request.as_str(), 4096)?;
     let texts = (catalogue, request.as_str(), text.as_str());
-    Ok(is_answer(alloc, needs, text.as_str(), status)? && tells(alloc, texts, 4096, ("yes\n", 0))?)
+    Ok(is_answer(alloc, needs, text.as_str(), status)? && is_upheld(alloc, texts)?)
 }
 
 /// Whether the text installs what these functions do, or the status is that of a refusal where needs clash.

@@ -1,6 +1,6 @@
 //! Requests that can't be served: how the report begins, and the judge's yes to it.
 
-use super::{printed, tells};
+use super::{is_upheld, printed};
 use std::alloc::{AllocError, Global};
 use std::test::Fail;
 
@@ -102,7 +102,7 @@ fn is_refused(alloc: Global, row: &Row) -> Result<bool, AllocError> {
     let (text, status) = printed(alloc, row.catalogue, row.request, 4096)?;
     let begins = text.as_str().starts_with(row.printed) && status == 1;
     let texts = (row.catalogue, row.request, text.as_str());
-    Ok(begins && tells(alloc, texts, 4096, ("yes\n", 0))?)
+    Ok(begins && is_upheld(alloc, texts)?)
 }
 
 #[test]

@@ -1,5 +1,6 @@
-use Rattle.resolvo_commands.specs.Running.{in_request}
-use Rattle.resolvo_commands.proofs.Reports.{if_ok, if_err, of_texts, catalogue_told, request_told, told_err, lacked}
+use Rattle.resolvo_judging.specs.Devices.{in_request}
+use Rattle.resolvo_judging.proofs.Results.{if_ok, if_err}
+use Rattle.resolvo_commands.proofs.Reports.{of_texts, catalogue_told, request_told, told_err, lacked}
 use Rattle.resolvo_commands.proofs.run.answer.Goals as goal
 
 pub returns-in-Err-clause-ok : goal.returns-in-Err-clause-ok

@@ -1,6 +1,6 @@
 use Rattle.resolvo_report.specs.View.{report_of}
 use Rattle.resolvo_commands.specs.Answer.{unserved, reported}
-use Rattle.resolvo_commands.proofs.Reports.{if_ok}
+use Rattle.resolvo_judging.proofs.Results.{if_ok}
 use Rattle.resolvo_commands.proofs.run.report.Goals as goal
 
 pub returns-in-Some-clause-ok : goal.returns-in-Some-clause-ok

@@ -1,0 +1,6 @@
+pub mod Endings
+pub mod Texts
+pub mod Input
+pub mod Devices
+pub mod Faults
+pub mod Check

@@ -1,0 +1,233 @@
+//! Searches over a few rules, and the steps of their proofs.
+ghost use Rattle.std.specs.Prelude.{◌<◌, OnOk, IfOk, IsSome};
+ghost use Rattle.resolvo_search.specs.State.{count_of};
+ghost use Rattle.resolvo_search.specs.Steps.{AreInRange};
+ghost use Rattle.resolvo_coding.specs.Coding.{IsCoding};
+ghost use Rattle.resolvo_coding.specs.Statements.{rule_of};
+
+use resolvo_coding::atom::ProofAtom;
+use resolvo_coding::coding::Coding;
+use resolvo_coding::stated::Stated;
+use resolvo_pool::id::{ClauseId, NameId, SolvableId, StringId, VariableId, VersionSetId};
+use resolvo_pool::requirement::{ConditionalRequirement, Requirement};
+use resolvo_pool::want::R;
+use resolvo_proof::proof::proof_of;
+use resolvo_proof::step::{ProofLiteral, ProofRule, ProofStep};
+use resolvo_proof::trimming::trim;
+use resolvo_search::advancing::Progress;
+use resolvo_search::state::SearchState;
+use resolvo_store::literal::Literal;
+use std::alloc::Global;
+use std::test::Fail;
+
+type TestCoding = Coding<NameId, SolvableId>;
+
+type TestStep = ProofStep<NameId, SolvableId>;
+
+/// The literals of the variables that are there.
+fn literals_of(alloc: Global, search: &SearchState, signs: &[(u32, bool)]) -> R<Vec<Literal>>
+    ensures { IfOk result (λ v. AreInRange (count_of search.now) v.items) }
+{
+    let mut literals = Vec::new(alloc);
+    for (variable, positive) in signs {
+        if (*variable as usize) < search.variables.len() && *variable < 2147483648 {
+            literals.push(Literal::new(VariableId(*variable), !*positive))?;
+        }
+    }
+    Ok(literals)
+}
+
+/// States a rule, unless its clause has no literal.
+fn state(
+    alloc: Global,
+    coding: &mut TestCoding,
+    stated: Stated<NameId, SolvableId>,
+    signs: &[(u32, bool)],
+) -> R<()>
+    requires coding { IsCoding coding.old }
+    requires rule { IsSome (rule_of stated) }
+    ensures { OnOk result (IsCoding coding.new) }
+{
+    let literals = literals_of(alloc, &coding.search, signs)?;
+    if literals.is_empty() {
+        return Ok(());
+    }
+    coding.state(stated, literals)?;
+    Ok(())
+}
+
+/// Adds the variables of some solvables.
+fn solvables(alloc: Global, count: u32) -> R<TestCoding>
+    ensures { IfOk result IsCoding }
+{
+    let mut coding: TestCoding = Coding::begin(alloc)?;
+    for number in 0..count {
+        coding.variable(ProofAtom::Solvable(SolvableId::from_raw(number)))?;
+    }
+    Ok(coding)
+}
+
+/// States that the root needs one of two solvables, and that both are excluded; what then is refused.
+fn refused(alloc: Global) -> R<Vec<TestStep>> {
+    let mut coding = solvables(alloc, 2)?;
+    let needs = Stated::Needs {
+        parent: None,
+        need: ConditionalRequirement::from(VersionSetId(3)),
+        case: Vec::new(alloc),
+    };
+    state(
+        alloc,
+        &mut coding,
+        needs,
+        &[(0, false), (1, true), (2, true)],
+    )?;
+    exclude(alloc, &mut coding, 0)?;
+    exclude(alloc, &mut coding, 1)?;
+    steps_of_next(alloc, &mut coding)
+}
+
+/// States that a solvable is excluded.
+fn exclude(alloc: Global, coding: &mut TestCoding, number: u16) -> R<()>
+    requires { IsCoding coding.old }
+    ensures { OnOk result (IsCoding coding.new) }
+{
+    let excluded = Stated::Excluded {
+        solvable: SolvableId::from_raw(u32::from(number)),
+        reason: StringId(5),
+    };
+    state(alloc, coding, excluded, &[(u32::from(number) + 1, false)])
+}
+
+/// The steps after one more step of the search.
+fn steps_of_next(alloc: Global, coding: &mut TestCoding) -> R<Vec<TestStep>>
+    requires { IsCoding coding.old }
+{
+    match coding.advance(alloc)? {
+        Progress::Refused(refusal) => proof_of(alloc, coding, Some(&refusal)),
+        _ => proof_of(alloc, coding, None),
+    }
+}
+
+/// A solvable is chosen that needs another one, and keeps it out; what then is learnt.
+fn learnt(alloc: Global) -> R<Vec<TestStep>> {
+    let mut coding = solvables(alloc, 2)?;
+    let shared = Stated::Shared {
+        requirement: Requirement::Single(VersionSetId(3)),
+    };
+    state(alloc, &mut coding, shared, &[(1, false), (2, true)])?;
+    let limits = Stated::Limits {
+        parent: Some(SolvableId::from_raw(0)),
+        version_set: VersionSetId(4),
+        barred: SolvableId::from_raw(1),
+    };
+    state(alloc, &mut coding, limits, &[(1, false), (2, false)])?;
+    coding.advance(alloc)?;
+    choose_first(&mut coding)?;
+    steps_of_next(alloc, &mut coding)
+}
+
+/// Chooses the first solvable, where it is there and has no value.
+fn choose_first(coding: &mut TestCoding) -> R<()>
+    requires { IsCoding coding.old }
+    ensures { OnOk result (IsCoding coding.new) }
+{
+    let first = VariableId(1);
+    let literal = Literal::new(first, false);
+    if coding.search.variables.len() > 1
+        && !coding.search.is_true(literal)
+        && !coding.search.is_false(literal)
+    {
+        coding.choose(first, ClauseId(1))?;
+    }
+    Ok(())
+}
+
+/// The solvable that a step excludes.
+fn excluded(step: &TestStep) -> Option<SolvableId> {
+    match step {
+        ProofStep::Rule(ProofRule::Excluded { solvable, .. }) => Some(*solvable),
+        _ => None,
+    }
+}
+
+/// The requirement that a step needs.
+fn needed(step: &TestStep) -> Option<Requirement> {
+    match step {
+        ProofStep::Rule(ProofRule::Needs { requirement, .. }) => Some(*requirement),
+        _ => None,
+    }
+}
+
+/// The literals of a derived step.
+fn literals(step: &TestStep) -> Option<&[ProofLiteral<NameId, SolvableId>]> {
+    match step {
+        ProofStep::Derived { literals, .. } => Some(literals.as_slice()),
+        _ => None,
+    }
+}
+
+/// The causes of a derived step.
+fn causes(step: &TestStep) -> Option<&[usize]> {
+    match step {
+        ProofStep::Derived { causes, .. } => Some(causes.as_slice()),
+        _ => None,
+    }
+}
+
+/// The rules come as they were stated. The last step has no literals: both solvables are out, which
+/// breaks the first rule.
+#[test]
+fn refusal(rt: HostRuntime) -> Result<(), Fail> {
+    let steps = refused(rt.alloc())?;
+    assert_eq!(rt; steps.len(), 4);
+    assert_eq!(rt;
+        needed(&steps[0]),
+        Some(Requirement::Single(VersionSetId(3)))
+    );
+    assert_eq!(rt; excluded(&steps[1]), Some(SolvableId::from_raw(0)));
+    assert_eq!(rt; excluded(&steps[2]), Some(SolvableId::from_raw(1)));
+    assert_eq!(rt; literals(&steps[3]), Some([].as_slice()));
+    assert_eq!(rt; causes(&steps[3]), Some([1, 2, 0].as_slice()));
+    Ok(())
+}
+
+/// The learnt clause says that the first solvable is out. With it, the rule that came last, which is met
+/// first, keeps the second one out, and then the other rule breaks.
+#[test]
+fn learning(rt: HostRuntime) -> Result<(), Fail> {
+    let steps = learnt(rt.alloc())?;
+    let out = ProofLiteral {
+        atom: ProofAtom::Solvable(SolvableId::from_raw(0)),
+        positive: false,
+    };
+    assert_eq!(rt; steps.len(), 3);
+    assert_eq!(rt; literals(&steps[2]), Some([out].as_slice()));
+    assert_eq!(rt; causes(&steps[2]), Some([1, 0].as_slice()));
+    Ok(())
+}
+
+/// The step of an exclusion.
+fn exclusion(number: u16) -> TestStep {
+    ProofStep::Rule(ProofRule::Excluded {
+        solvable: SolvableId::from_raw(u32::from(number)),
+        reason: StringId(5),
+    })
+}
+
+/// A rule that nothing rests on is left out, and the one behind it is named anew.
+#[test]
+fn trimming(rt: HostRuntime) -> Result<(), Fail> {
+    let alloc = rt.alloc();
+    let mut steps = Vec::new(alloc);
+    steps.push(exclusion(0))?;
+    steps.push(exclusion(1))?;
+    steps.push(ProofStep::Derived {
+        literals: Vec::new(alloc),
+        causes: vec![in alloc; 1]?,
+    })?;
+    let steps = trim(alloc, steps)?;
+    assert_eq!(rt; steps.len(), 2);
+    assert_eq!(rt; excluded(&steps[0]), Some(SolvableId::from_raw(1)));
+    assert_eq!(rt; causes(&steps[1]), Some([0].as_slice()));
+    Ok(())
+}
