@@ -156,7 +156,7 @@ module _ {N S : Type 0} where
       let low : top_level (history new.coding.search) < new.coding.search.floor = (let floor : new.coding.search.floor ≡ old.coding.search.floor = goes.grows.floor in let ends : top_level (history new.coding.search) ≤ max (old.coding.search.floor - 1) 1 = undoes.low in omega arith) in
       let base : base_of new ≡ base_of old = below_all new.coding.search.floor (history new.coding.search) low ∙ left in (
         open_kept old new v o (wish_grows old new v goes.grows (ap (λ (n : Noted N S). n.wishes.items) goes.rest.noted) o.wish) goes.grows.floor base
-          (λ known. absurd (both_ways _ o.before (subst (λ (h : List Entry). has (made_true h) (yes v) ≡ true) left known))),
+            (λ known. absurd (both_ways _ o.before (subst (λ (h : List Entry). has (made_true h) (yes v) ≡ true) left known))),
         base,
       )
 

@@ -124,8 +124,8 @@ module _ {N S : Type 0} (same : S → S → Bool) (exact : IsExact same) (p : Pa
                   let (c, (q, ends)) = o.first known in
                   let highest : d.level ≤ e.coding.search.floor = kept.low in
                   let which : literal_of d ≡ yes v = choice_alone (count_of e.coding.search) (clauses_of e.coding.search) e.coding.search.floor v q (choice_entry v c (base_of e)) (base_of e) d older
-                    (subst (λ (x : List Entry). IsTrail (count_of e.coding.search) (clauses_of e.coding.search) x) ends holds.coding.ready.state.trail) (omega arith) (omega arith) refl
-                    (subst (λ (x : List Entry). StandsOn x d older) ends stands) choice (omega arith) in
+                  (subst (λ (x : List Entry). IsTrail (count_of e.coding.search) (clauses_of e.coding.search) x) ends holds.coding.ready.state.trail) (omega arith) (omega arith) refl
+                  (subst (λ (x : List Entry). StandsOn x d older) ends stands) choice (omega arith) in
                   inr (inl (sym (negation-negation l) ∙ ap negation (sym is ∙ which)))
             ]
           ]
