@@ -1,9 +1,8 @@
 -- What is chosen turn by turn.
-use Rattle.std.proofs.Common.{◌≡◌, ℕ, zero, suc, cond, get_or, ◌+◌, ◌<◌, ◌≤◌, ◌⊎◌, inl, inr, Bool, true, false, take, reverse, List, [], ◌∷◌, ◌++◌, length, refl, sym, ◌∙◌, ap, subst, arith}
+use Rattle.std.proofs.Common.{◌≡◌, ℕ, zero, suc, cond, get_or, ◌<◌, ◌≤◌, ◌⊎◌, inl, inr, Bool, true, false, take, reverse, List, [], ◌∷◌, ◌++◌, length, refl, sym, ◌∙◌, ap, subst, arith}
 use Rattle.std.specs.Prelude.{Contains}
-use Rattle.std.proofs.lemmas.Bool.{both_ways, cases_Bool}
 use Rattle.std.proofs.lemmas.List.{take_all}
-use Rattle.resolvo_pool.specs.RuleKeeping.{Packages, Rules, is_in, IsClosed, IsReached, IsExemptKeeping, IsRuleKeeping}
+use Rattle.resolvo_pool.specs.RuleKeeping.{Packages, Rules, is_in, IsReached, IsExemptKeeping, IsRuleKeeping}
 use Rattle.resolvo_store.specs.AtMostOne.{IsFrontOf}
 use Rattle.resolvo_search.proofs.StepLemmas.{reverse_push}
 use Rattle.resolvo_rules.specs.Encoding.{IsExact}

@@ -1,16 +1,16 @@
 -- One wish more: what its turn came to is told, and what is chosen is listed.
-use Rattle.std.proofs.Common.{◌≡◌, ℕ, cond, inl, inr, Bool, true, false, reverse, List, [], ◌∷◌, ◌++◌, length, Option, Some, None, Vec, Global, HashSet, BuildHasherDefault, FoldHasher, refl, sym, ◌∙◌, ap, subst, arith}
+use Rattle.std.proofs.Common.{◌≡◌, ℕ, cond, inl, inr, Bool, true, false, reverse, List, [], ◌∷◌, ◌++◌, length, Option, Some, None, Vec, Global, HashSet, BuildHasherDefault, FoldHasher, refl, sym, ◌∙◌, ap, subst}
 use Rattle.std.specs.Prelude.{Contains}
 use Rattle.std.proofs.lemmas.Bool.{both_ways, cases_Bool}
 use Rattle.resolvo_pool.specs.declared.id.ClauseId.{ClauseId}
 use Rattle.resolvo_pool.specs.declared.id.VariableId.{VariableId}
 use Rattle.resolvo_pool.specs.declared.requirement.Requirement.{Requirement}
-use Rattle.resolvo_pool.specs.RuleKeeping.{Packages, Rules, IsLawful, is_in, IsRuleKeeping}
+use Rattle.resolvo_pool.specs.RuleKeeping.{Packages, Rules, IsLawful, is_in}
 use Rattle.resolvo_store.specs.AtMostOne.{IsFrontOf}
 use Rattle.resolvo_store.specs.Clauses.{yes}
 use Rattle.resolvo_store.specs.Signed.{Signed, has}
 use Rattle.resolvo_store.specs.declared.decision.Entry.{Entry}
-use Rattle.resolvo_search.specs.Entries.{literal_of, made_true, EndsWith}
+use Rattle.resolvo_search.specs.Entries.{literal_of, made_true}
 use Rattle.resolvo_search.specs.State.{history}
 use Rattle.resolvo_search.proofs.Literals.{has_later}
 use Rattle.resolvo_search.proofs.StepLemmas.{reverse_push}
@@ -18,9 +18,8 @@ use Rattle.resolvo_rules.specs.Encoding.{IsExact, Atom, plus}
 use Rattle.resolvo_rules.specs.Ending.{IsAccepted}
 use Rattle.resolvo_rules.specs.Numbered.{Means}
 use Rattle.resolvo_rules.proofs.Members.{in_contained, contained_in}
-use Rattle.resolvo_coding.specs.declared.atom.ProofAtom.{ProofAtom}
 use Rattle.resolvo_coding.specs.declared.atom.ProofAtom.TheVariants.{Solvable}
-use Rattle.resolvo_coding.specs.Atoms.{origin, StandsFor}
+use Rattle.resolvo_coding.specs.Atoms.{origin}
 use Rattle.resolvo_coding.specs.Chosen.{AreChosen}
 use Rattle.resolvo_coding.specs.Coding.{IsCoding}
 use Rattle.resolvo_coding.proofs.Origins.{means_solvable, solvable_means, stands_front}

@@ -1,8 +1,8 @@
 -- What the turn of a wish comes to, from what its parts came to.
-use Rattle.std.proofs.Common.{◌≡◌, ℕ, ◌+◌, ◌-◌, ◌<◌, ◌≤◌, inl, inr, Bool, true, false, List, [], ◌∷◌, ◌++◌, length, reverse, Option, Some, None, refl, sym, ◌∙◌, ap, subst, arith}
+use Rattle.std.proofs.Common.{◌≡◌, ◌-◌, ◌≤◌, Bool, true, false, List, [], ◌∷◌, reverse, Some, None, sym, ◌∙◌, ap, subst, arith}
 use Rattle.std.specs.Prelude.{max, slice_get, Contains}
 use Rattle.resolvo_pool.specs.declared.solver_id.SolvableIdOrRoot.TheVariants as Place
-use Rattle.std.proofs.lemmas.Bool.{both_ways, cases_Bool}
+use Rattle.std.proofs.lemmas.Bool.{both_ways}
 use Rattle.resolvo_pool.specs.declared.id.ClauseId.{ClauseId}
 use Rattle.resolvo_pool.specs.declared.id.VariableId.{VariableId}
 use Rattle.resolvo_pool.specs.declared.requirement.Requirement.{Requirement}
@@ -25,24 +25,23 @@ use Rattle.resolvo_answers.specs.declared.answering.Offered.{Offered}
 use Rattle.resolvo_coding.specs.declared.atom.ProofAtom.TheVariants.{Solvable}
 use Rattle.resolvo_coding.specs.declared.coding.Coding.{Coding}
 use Rattle.resolvo_coding.specs.Atoms.{StandsFor}
-use Rattle.resolvo_coding.specs.Coding.{Bars, Grows, IsCoding, SameTrail}
-use Rattle.resolvo_coding.proofs.Growth.{grows_same, grows_then, stands_grow, stands_once}
+use Rattle.resolvo_coding.specs.Coding.{Bars, Grows, IsCoding}
+use Rattle.resolvo_coding.proofs.Growth.{grows_then, stands_grow, stands_once}
 use Rattle.resolvo_coding.proofs.Origins.{stands_front}
 use Rattle.resolvo_coding.proofs.Positions.{front_then}
 use Rattle.resolvo_encoding.specs.declared.encoding.Encoding.{Encoding}
 use Rattle.resolvo_encoding.specs.declared.encoding.Noted.{Noted}
 use Rattle.resolvo_encoding.specs.Base.{base_of, IsOpen, KeepsTurns}
-use Rattle.resolvo_encoding.specs.Encoded.{AreOrdered, IsEncoding}
+use Rattle.resolvo_encoding.specs.Encoded.{IsEncoding}
 use Rattle.resolvo_encoding.specs.Going.{GoesOn}
 use Rattle.resolvo_encoding.specs.Steps.{IsBuilt, IsListed}
 use Rattle.resolvo_encoding.specs.Wishing.{turn_of, IsUntaken, IsWish, Notes, TakesBack}
 use Rattle.resolvo_encoding.proofs.Bases.{below_all, below_ends}
 use Rattle.resolvo_encoding.proofs.Picking.{ordered_stays}
 use Rattle.resolvo.specs.Encoder.{IsInOrder, AddsParents}
-use Rattle.resolvo.specs.Turn.{IsRefusedBy, IsRooted, IsTurn}
-use Rattle.resolvo.specs.Wished.{IsLast, IsOutcome, IsRefusable, IsTold, IsTrue, IsTurnedDown, KeepsRest, KeepsTrail}
+use Rattle.resolvo.specs.Turn.{IsRooted, IsTurn}
+use Rattle.resolvo.specs.Wished.{IsOutcome, IsRefusable, IsTold, IsTrue, IsTurnedDown, KeepsRest, KeepsTrail}
 use Rattle.resolvo.specs.declared.wishing.Wished.{Wished}
-use Rattle.resolvo.specs.declared.wishing.Wished.TheVariants as Wished
 use Rattle.resolvo.proofs.Ending.{still_rooted}
 use Rattle.resolvo.proofs.Wishes.{refused_all, refused_bars, refused_denied, refused_empty}
 

@@ -1,7 +1,7 @@
 -- What a search for a problem's solvables comes to.
-use Rattle.std.specs.Prelude.{◌≡◌, ℕ, ◌+◌, ⊤, Bool, true, List, [], Option, Some, None}
+use Rattle.std.specs.Prelude.{◌≡◌, ℕ, ◌+◌, ⊤, Bool, List, Option, Some, None}
 use Rattle.resolvo_pool.specs.declared.requirement.Requirement.{Requirement}
-use Rattle.resolvo_pool.specs.RuleKeeping.{Packages, Rules, is_in, IsRuleKeeping, IsReached}
+use Rattle.resolvo_pool.specs.RuleKeeping.{Packages, Rules}
 use Rattle.resolvo_search.specs.declared.analysis.Refusal.{Refusal}
 use Rattle.resolvo_search.specs.Analysis.{IsRefusal}
 use Rattle.resolvo_search.specs.Entries.{made_true}

@@ -1,5 +1,5 @@
 -- What the turn of a wish comes to.
-use Rattle.std.specs.Prelude.{◌≡◌, Bool, true, ⊤, List, [], ◌∷◌, ◌++◌, Option, Some, None, Contains}
+use Rattle.std.specs.Prelude.{◌≡◌, Bool, true, ⊤, List, [], ◌∷◌, ◌++◌, Some, None, Contains}
 use Rattle.resolvo_pool.specs.declared.id.VariableId.{VariableId}
 use Rattle.resolvo_pool.specs.Provider.{listed}
 use Rattle.resolvo_pool.specs.RuleKeeping.{Packages, Rules, is_in, IsRuleKeeping}

@@ -1,4 +1,4 @@
-use Rattle.std.proofs.Common.{Option, Some, None, sym, subst}
+use Rattle.std.proofs.Common.{Option, subst}
 use Rattle.resolvo_search.specs.declared.analysis.Refusal.{Refusal}
 use Rattle.resolvo_encoding.proofs.Bases.{turn_has, turn_then}
 use Rattle.resolvo_encoding.proofs.Staying.{goes_then}

@@ -7,7 +7,7 @@ use Rattle.resolvo_encoding.proofs.Building.{built_parents}
 use Rattle.resolvo.specs.Encoder.{IsInOrder}
 use Rattle.resolvo.specs.Turn.{IsDecisionOf}
 use Rattle.resolvo.proofs.Adding.{parents_in_order, parents_needs, needs_parents, all_then}
-use Rattle.resolvo.proofs.Ending.{round_adds, round_whole, round_goes, fires_goes, ended_same, refused_of}
+use Rattle.resolvo.proofs.Ending.{round_adds, round_whole, round_goes, fires_goes, ended_same}
 use Rattle.resolvo.proofs.turn.run_round.Goals as goal
 
 pub returns-then-is_some-clause-stays : goal.returns-then-is_some-clause-stays

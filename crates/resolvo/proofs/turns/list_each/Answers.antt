@@ -2,8 +2,6 @@ use Rattle.std.proofs.Common.{◌≡◌, ◌+◌, ◌++◌, ◌∷◌, [], List,
 use Rattle.std.proofs.lemmas.List.{take_more, take_all}
 use Rattle.resolvo.specs.Turns.{AddsEach}
 use Rattle.resolvo.proofs.Listing.{adds_none, adds_more}
-use Rattle.resolvo.proofs.Next.{next_at}
-use Rattle.resolvo.proofs.Outcomes.{down_told}
 use Rattle.resolvo.proofs.turns.list_each.Goals as goal
 
 pub loop-solvable-init : goal.loop-solvable-init
