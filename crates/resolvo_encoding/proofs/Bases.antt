@@ -46,13 +46,6 @@ pub below_all : (level : ℕ) (h : List Entry) → top_level h < level → below
 below_all level [] low = refl
 below_all level (e ∷ older) low = below_here level e older low
 
-pub below_low : (level : ℕ) (h : List Entry) → 0 < level → top_level (below level h) < level
-below_low level [] some = some
-below_low level (e ∷ older) some = elim (at_or_above e.level level) [
-  | inl low ↦ subst (λ (x : List Entry). top_level x < level) (sym (below_here level e older low)) low
-  | inr high ↦ subst (λ (x : List Entry). top_level x < level) (sym (below_further level e older high)) (below_low level older some)
-]
-
 -- the trail goes on from it
 pub below_ends : (level : ℕ) (h : List Entry) → EndsWith (below level h) h
 below_ends level [] = ([], refl)

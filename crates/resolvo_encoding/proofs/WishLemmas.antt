@@ -1,19 +1,17 @@
 -- The turn of a wish.
 use Rattle.std.proofs.Common.{◌≡◌, ℕ, inl, inr, Bool, false, List, Option, Some, None, refl, sym}
-use Rattle.std.proofs.lemmas.Bool.{both_ways, cases_Bool}
+use Rattle.std.proofs.lemmas.Bool.{cases_Bool}
 use Rattle.resolvo_pool.specs.declared.id.VariableId.{VariableId}
 use Rattle.resolvo_pool.specs.OnePass.{Literal}
 use Rattle.resolvo_pool.specs.RuleKeeping.{Packages, Rules}
-use Rattle.resolvo_store.specs.Signed.{Signed, has}
+use Rattle.resolvo_store.specs.Signed.{has}
 use Rattle.resolvo_store.specs.Clauses.{yes, no}
-use Rattle.resolvo_store.specs.declared.decision.Entry.{Entry}
 use Rattle.resolvo_search.specs.declared.analysis.Refusal.{Refusal}
 use Rattle.resolvo_search.specs.declared.state.SearchState.{SearchState}
 use Rattle.resolvo_search.specs.Analysis.{IsRefuted}
-use Rattle.resolvo_search.specs.Entries.{made_true, IsUndone}
+use Rattle.resolvo_search.specs.Entries.{made_true}
 use Rattle.resolvo_search.specs.Known.{IsUndecided}
 use Rattle.resolvo_search.specs.State.{history}
-use Rattle.resolvo_search.proofs.Trails.{undone_known}
 use Rattle.resolvo_rules.specs.Encoding.{IsExact, Atom}
 use Rattle.resolvo_rules.specs.Numbered.{meaning}
 use Rattle.resolvo_rules.proofs.Members.{contained_in}
@@ -74,10 +72,6 @@ floor_keeps same p root e level coding h = record {
 pub open_wish : (s : SearchState) (v : VariableId) (o : Option Refusal) → IsRefuted s v o → o ≡ None → has (made_true (history s)) (yes v) ≡ false → IsUndecided (made_true (history s)) (yes v)
 open_wish s v None unfalse is open_one = record { not_true = open_one; not_false = elim (cases_Bool (has (made_true (history s)) (no v))) [ inl t ↦ absurd (unfalse t) | inr f ↦ f ] }
 open_wish s v (Some r) refuted is open_one = absurd cc
-
--- what is not true stays so when entries are taken away
-pub still_open : (level : ℕ) (old new : List Entry) (l : Signed) → IsUndone level old new → has (made_true old) l ≡ false → has (made_true new) l ≡ false
-still_open level old new l undone open_one = elim (cases_Bool (has (made_true new) l)) [ inl t ↦ absurd (both_ways _ open_one (undone_known level old new l undone t)) | inr f ↦ f ]
 
 -- a wish is chosen for itself
 pub wish_chosen : {N S : Type 0} (same : S → S → Bool) → IsExact same → (p : Packages N S) (e : Encoding N S) (v : VariableId) (known : List (Literal (Atom N S))) → IsWish e v → IsChosenFor same p e known (meaning (origin e.coding.atoms.keys) (yes v))
