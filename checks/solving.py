@@ -1,10 +1,11 @@
 #!/usr/bin/env python3
-"""Compares `resolve solve` with a plain slow solver, which tries all sets, over generated texts without wishes.
+"""Compares `resolve solve` with a plain slow solver, which tries all sets, over generated texts.
 
 Usage: checks/solving.py [PAIRS] [PATH OF THE PROGRAM]
 Defaults: 1000 pairs, crates/resolve/out/resolve (which `rt run` leaves).
 It installs exactly where some set keeps all rules; the plain judge says yes to each report; where the first choices keep all
-rules and no line has alternatives, they are the entries; of flat texts the entries are the newest versions that fit.
+rules and no line has alternatives, they are the entries above the first wish; of flat texts these are the newest versions that fit;
+a wish is left out only where no rule-keeping set holds it with all entries above its line.
 """
 import os
 import random
@@ -18,11 +19,15 @@ from plain_judge import cases, holds, judge, matches, obeys
 HERE = os.path.dirname(os.path.abspath(__file__))
 
 
-def served_texts(rng):
-    """Texts which wish nothing; some lose their conditions, some all rules of the catalogue."""
+def generated_texts(rng):
+    """Texts of all forms; some wish more, some lose their conditions, some all rules of the catalogue."""
     most = 6 if rng.random() < 0.3 else 3
     catalogue, request = some_texts(rng, most)
-    request = "".join(line + "\n" for line in request.splitlines() if not line.startswith("wish"))
+    if rng.random() < 0.5:
+        listed = [line.split()[1:] for line in catalogue.splitlines() if line.startswith("version")]
+        wished = [line.split()[1:] for line in request.splitlines() if line.startswith("wish")]
+        more = [v for v in rng.sample(listed, min(len(listed), 4)) if v not in wished]
+        request += "".join(f"wish {package} {number}\n" for package, number in more)
     if rng.random() < 0.3:
         catalogue, request = ("".join(line.split(" if ")[0] + "\n" for line in text.splitlines()) for text in (catalogue, request))
     if rng.random() < 0.2:
@@ -66,25 +71,56 @@ def newest(catalogue, request, listed):
     return [max((v for v in listed if v[0] == package and fits(v)), key=lambda v: v[1], default=None) for package in {s[0] for s in needs}]
 
 
-def entries(report):
-    return [(line.split("=")[0], int(line.split("=")[1].split()[0])) for line in report.splitlines()[1:]]
+def told(report):
+    """The lines of an install report: each entry or left-out wish, with whether it is an entry, and whether a wish."""
+    lines = []
+    for line in report.splitlines()[1:]:
+        if line.startswith("step "):
+            break
+        left = line.startswith("left out ")
+        name, number = line.removeprefix("left out ").split()[0].split("=")
+        lines.append(((name, int(number)), not left, left or " wished line " in line))
+    return lines
+
+
+def first_turn(lines):
+    """The entries above the first wish."""
+    first = []
+    for v, entry, wish in lines:
+        if wish:
+            break
+        first.append(v)
+    return first
+
+
+def check_wishes(lines, sets):
+    above = []
+    for v, entry, wish in lines:
+        if entry:
+            above.append(v)
+        else:
+            holding = next((s for s in sets if v in s and all(w in s for w in above)), None)
+            assert holding is None, f"{v} is left out, and {holding} holds it with what stands above"
 
 
 def check(catalogue_text, request_text, status, report):
     prover = Prover(catalogue_text.encode(), request_text.encode())
     catalogue, request, listed = prover.catalogue, prover.request, prover.listed
-    some = next(iter(prover.sets()), None)
-    assert status == (1 if some is None else 0), f"status {status}, and a set is {some}"
+    sets = list(prover.sets())
+    assert status == (0 if sets else 1), f"status {status}, and {len(sets)} sets"
     refused = judge(catalogue_text.encode(), request_text.encode(), report.encode())
     assert refused == 0, f"the plain judge says no at line {refused}"
     if status == 0:
+        lines = told(report)
+        check_wishes(lines, sets)
+        chosen = first_turn(lines)
         first = first_choices(catalogue, request, listed)
         single = first is not None and len({v[0] for v in first}) == len(first)
         if single and all(obeys(line, first) for line in catalogue + request):
-            assert sorted(first) == sorted(entries(report)), f"first choices are {first}"
-        flat = newest(catalogue, request, listed)
+            assert sorted(first) == sorted(chosen), f"first choices are {first}"
+        flat = newest(catalogue, [line for line in request if line["kind"] != "wish"], listed)
         if flat is not None:
-            assert sorted(flat) == sorted(entries(report)), f"the newest are {flat}"
+            assert sorted(flat) == sorted(chosen), f"the newest are {flat}"
 
 
 def main():
@@ -94,7 +130,7 @@ def main():
     with tempfile.TemporaryDirectory() as folder:
         paths = [os.path.join(folder, part) for part in ("catalogue", "request")]
         for k in range(pairs):
-            texts = served_texts(rng)
+            texts = generated_texts(rng)
             for path, text in zip(paths, texts):
                 open(path, "w").write(text)
             run = subprocess.run([program, "solve", *paths], capture_output=True, text=True)

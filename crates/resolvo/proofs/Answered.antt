@@ -1,5 +1,5 @@
 -- What a solver answers and leaves, by what was found or by what stopped it.
-use Rattle.std.proofs.Common.{Bool, List, length, Result, Err, Vec, Global, sym, subst}
+use Rattle.std.proofs.Common.{◌≡◌, Bool, List, [], length, Result, Ok, Err, Vec, Global, sym, ap, subst}
 use Rattle.resolvo_pool.specs.declared.requirement.Requirement.{Requirement}
 use Rattle.resolvo_cache.specs.declared.cache.CacheFault.{CacheFault}
 use Rattle.resolvo_cache.specs.declared.cache.CacheFault.TheVariants as fault
@@ -7,29 +7,75 @@ use Rattle.resolvo_cache.specs.Cached.{IsCancelledBy}
 use Rattle.resolvo_pool.specs.RuleKeeping.{Packages, Rules}
 use Rattle.resolvo.specs.declared.search.Found.{Found}
 use Rattle.resolvo.specs.declared.search.Found.TheVariants.{Chosen, Clash}
+use Rattle.resolvo.specs.declared.proving.Solved.{Solved}
 use Rattle.resolvo.specs.declared.solver.UnsolvableOrCancelled.{UnsolvableOrCancelled}
-use Rattle.resolvo.specs.Solving.{Holds, IsPreferred, AreProved, EndsSo, Counts}
-use Rattle.resolvo.specs.Solver.{Kept, HasNothing, IsAnswer, Prefers, Leaves, AnswersSo, stopped_by}
+use Rattle.resolvo.specs.declared.solver.UnsolvableOrCancelled.TheVariants.{Unsolvable, Cancelled, Memory, Ids}
+use Rattle.resolvo.specs.Solving.{Holds, HaveProofs, IsPreferred, IsSolved, EndsSo, Counts}
+use Rattle.resolvo.specs.Solver.{Kept, HasNothing, IfEnded, IsAnswer, IsStopped, Keeps, Leaves, stopped_by}
 
-module _ {N S C : Type 0} (same : S → S → Bool) (p : Packages N S) (root : Rules) where
-  pub found_answers : (may : C → Type 0) (f : Found S) (r : Result (Vec S Global) (UnsolvableOrCancelled C)) → AnswersSo f r → (Holds same p root f) → IsAnswer same p root may r
-  found_answers may (Chosen v) r is h = subst (λ (x : Result (Vec S Global) (UnsolvableOrCancelled C)). IsAnswer same p root may x) (sym is) h
-  found_answers may (Clash q) r is h = subst (λ (x : Result (Vec S Global) (UnsolvableOrCancelled C)). IsAnswer same p root may x) (sym is) h
+module _ {P N S C : Type 0} (old : Kept P N S) where
+  -- what is kept of a search is what it found
+  pub kept_answers : (same : S → S → Bool) (p : Packages N S) (root : Rules) (orders : Requirement → List S → Type 0) (wishes : List S) (s : Solved N S) (r : Result (Vec S Global) (UnsolvableOrCancelled C)) (new : Kept P N S) → Keeps s old r new → IsSolved same p orders root wishes s → IsAnswer same p root orders wishes r new
+  kept_answers same p root orders wishes s (Ok v) new (turns, found, kept) solved =
+      let holds : Holds same p root wishes (Chosen v turns) = subst (λ (f : Found S). Holds same p root wishes f) found solved.found in
+      let preferred : IsPreferred same p orders root (Chosen v turns) = subst (λ (f : Found S). IsPreferred same p orders root f) found solved.preferred in
+      let proofs : HaveProofs s.proof.items (Chosen v turns) = subst (λ (f : Found S). HaveProofs s.proof.items f) found solved.proofs in
+      subst (λ (k : Kept P N S). IsAnswer same p root orders wishes {C = C} (Ok v) k) (sym kept) (holds, preferred, proofs, solved.proof)
+  kept_answers same p root orders wishes s (Err (Unsolvable conflict)) new (r, found, clauses, kept) solved =
+      let holds : Holds same p root wishes (Clash r) = subst (λ (f : Found S). Holds same p root wishes f) found solved.found in
+      subst (λ (k : Kept P N S). IsAnswer same p root orders wishes {C = C} (Err (Unsolvable conflict)) k) (sym kept) (holds, solved.proof)
+  kept_answers same p root orders wishes s (Err (Cancelled value)) new h solved = absurd h
+  kept_answers same p root orders wishes s (Err Memory) new h solved = absurd h
+  kept_answers same p root orders wishes s (Err Ids) new h solved = absurd h
 
-  pub found_prefers : (orders : Requirement → List S → Type 0) (f : Found S) (r : Result (Vec S Global) (UnsolvableOrCancelled C)) → AnswersSo f r → (IsPreferred same p orders root f) → Prefers same p root orders r
-  found_prefers orders (Chosen v) r is h = subst (λ (x : Result (Vec S Global) (UnsolvableOrCancelled C)). Prefers same p root orders x) (sym is) h
-  found_prefers orders (Clash q) r is h = subst (λ (x : Result (Vec S Global) (UnsolvableOrCancelled C)). Prefers same p root orders x) (sym is) tt
+  -- a search that came to its end has an answer
+  pub kept_ended : (s : Solved N S) (r : Result (Vec S Global) (UnsolvableOrCancelled C)) (new : Kept P N S) (Q : Type 0) → Keeps s old r new → Q → IfEnded r Q
+  kept_ended s (Ok v) new Q h q = q
+  kept_ended s (Err (Unsolvable conflict)) new Q h q = q
+  kept_ended s (Err (Cancelled value)) new Q h q = absurd h
+  kept_ended s (Err Memory) new Q h q = absurd h
+  kept_ended s (Err Ids) new Q h q = absurd h
 
-  pub found_leaves : {P : Type 0} (f : Found S) (r : Result (Vec S Global) (UnsolvableOrCancelled C)) (k : Kept P N S) → AnswersSo f r → Counts f k.clause_count (length k.proof) → EndsSo f k.proof → (AreProved same p root k.proof) → Leaves same p root r k
-  found_leaves (Chosen v) r k is counts ends h = subst (λ (x : Result (Vec S Global) (UnsolvableOrCancelled C)). Leaves same p root x k) (sym is) (counts, h)
-  found_leaves (Clash q) r k is counts ends h = subst (λ (x : Result (Vec S Global) (UnsolvableOrCancelled C)). Leaves same p root x k) (sym is) (counts, ends, h)
+  -- and wasn't stopped
+  pub kept_unstopped : (may : C → Type 0) (s : Solved N S) (r : Result (Vec S Global) (UnsolvableOrCancelled C)) (new : Kept P N S) → Keeps s old r new → IsStopped may r
+  kept_unstopped may s (Ok v) new h = tt
+  kept_unstopped may s (Err (Unsolvable conflict)) new h = tt
+  kept_unstopped may s (Err (Cancelled value)) new h = absurd h
+  kept_unstopped may s (Err Memory) new h = absurd h
+  kept_unstopped may s (Err Ids) new h = absurd h
 
-  pub stopped_answers : (may : C → Type 0) (f : CacheFault C) → IsCancelledBy may f → IsAnswer same p root may (Err (stopped_by f))
-  stopped_answers may fault.Memory h = tt
-  stopped_answers may fault.Ids h = tt
-  stopped_answers may (fault.Cancelled c) h = h
+  -- what is left after it
+  pub kept_leaves : (s : Solved N S) (r : Result (Vec S Global) (UnsolvableOrCancelled C)) (new : Kept P N S) → old.turns ≡ [] → Keeps s old r new → EndsSo s.found s.proof.items → Counts s.found s.clause_count (length s.proof.items) → Leaves r new
+  kept_leaves s (Ok v) new none (turns, found, kept) ends counts =
+      subst (λ (k : Kept P N S). Leaves {C = C} (Ok v) k) (sym kept) (subst (λ (f : Found S). Counts f s.clause_count (length s.proof.items)) found counts)
+  kept_leaves s (Err (Unsolvable conflict)) new none (r, found, clauses, kept) ends counts =
+      subst (λ (k : Kept P N S). Leaves {C = C} (Err (Unsolvable conflict)) k) (sym kept)
+      (subst (λ (f : Found S). Counts f s.clause_count (length s.proof.items)) found counts, subst (λ (f : Found S). EndsSo f s.proof.items) found ends, none)
+  kept_leaves s (Err (Cancelled value)) new none h ends counts = absurd h
+  kept_leaves s (Err Memory) new none h ends counts = absurd h
+  kept_leaves s (Err Ids) new none h ends counts = absurd h
 
-  pub stopped_leaves : {P : Type 0} (f : CacheFault C) (k : Kept P N S) → HasNothing k → Leaves same p root (Err (stopped_by f)) k
-  stopped_leaves fault.Memory k h = h
-  stopped_leaves fault.Ids k h = h
-  stopped_leaves (fault.Cancelled c) k h = h
+  -- the provider is the same
+  pub kept_provider : (s : Solved N S) (r : Result (Vec S Global) (UnsolvableOrCancelled C)) (new : Kept P N S) → Keeps s old r new → new.provider ≡ old.provider
+  kept_provider s (Ok v) new (turns, found, kept) = ap (λ (k : Kept P N S). k.provider) kept
+  kept_provider s (Err (Unsolvable conflict)) new (r, found, clauses, kept) = ap (λ (k : Kept P N S). k.provider) kept
+  kept_provider s (Err (Cancelled value)) new h = absurd h
+  kept_provider s (Err Memory) new h = absurd h
+  kept_provider s (Err Ids) new h = absurd h
+
+-- a search that was stopped has none
+pub stopped_ended : (S : Type 0) {C : Type 0} (f : CacheFault C) (Q : Type 0) → IfEnded {S = S} (Err (stopped_by f)) Q
+stopped_ended S fault.Memory Q = tt
+stopped_ended S fault.Ids Q = tt
+stopped_ended S (fault.Cancelled c) Q = tt
+
+pub stopped_stopped : (S : Type 0) {C : Type 0} (may : C → Type 0) (f : CacheFault C) → IsCancelledBy may f → IsStopped {S = S} may (Err (stopped_by f))
+stopped_stopped S may fault.Memory h = tt
+stopped_stopped S may fault.Ids h = tt
+stopped_stopped S may (fault.Cancelled c) h = h
+
+-- and leaves nothing
+pub stopped_leaves : {P N S C : Type 0} (f : CacheFault C) (k : Kept P N S) → HasNothing k → Leaves (Err (stopped_by f)) k
+stopped_leaves fault.Memory k h = h
+stopped_leaves fault.Ids k h = h
+stopped_leaves (fault.Cancelled c) k h = h

@@ -1,15 +1,25 @@
 -- What a search found is true.
-use Rattle.std.proofs.Common.{◌≡◌, Bool, List, Option, Some, None, refl, sym, ap, subst, []}
-use Rattle.std.specs.Prelude.{slice_get, is_some}
+use Rattle.std.proofs.Common.{◌≡◌, ℕ, suc, inl, inr, Bool, true, false, take, reverse, List, [], ◌∷◌, ◌++◌, length, Option, Some, None, Vec, Global, refl, sym, ◌∙◌, ap, subst, arith}
+use Rattle.std.specs.Prelude.{slice_get, is_some, Contains}
 use Rattle.std.proofs.lemmas.Bool.{both_ways}
+use Rattle.std.proofs.lemmas.List.{reverse-append, take_all}
 use Rattle.resolvo_pool.specs.declared.requirement.Requirement.{Requirement}
 use Rattle.resolvo_pool.specs.declared.solver_id.SolvableIdOrRoot.{SolvableIdOrRoot}
 use Rattle.resolvo_pool.specs.declared.solver_id.SolvableIdOrRoot.TheVariants.{Root}
 use Rattle.resolvo_pool.specs.RuleKeeping.{Packages, Rules, IsLawful}
+use Rattle.resolvo_store.specs.AtMostOne.{IsFrontOf}
+use Rattle.resolvo_store.specs.Signed.{Signed, has}
 use Rattle.resolvo_search.specs.declared.analysis.Refusal.{Refusal}
 use Rattle.resolvo_search.specs.Analysis.{IsRefusal}
+use Rattle.resolvo_search.specs.Entries.{made_true}
+use Rattle.resolvo_search.specs.State.{history}
 use Rattle.resolvo_rules.specs.Encoding.{IsExact}
+use Rattle.resolvo_rules.specs.Ending.{IsAccepted}
+use Rattle.resolvo_rules.specs.First.{ArePreferred}
+use Rattle.resolvo_rules.proofs.Lists.{contains_none}
+use Rattle.resolvo_coding.specs.Chosen.{AreChosen}
 use Rattle.resolvo_coding.specs.Coding.{IsCoding}
+use Rattle.resolvo_coding.specs.declared.coding.Coding.{Coding}
 use Rattle.resolvo_proof.specs.Proof.{DenyRoot}
 use Rattle.resolvo_encoding.specs.declared.encoding.Encoding.{Encoding}
 use Rattle.resolvo_encoding.specs.Encoded.{IsEncoding}
@@ -17,9 +27,14 @@ use Rattle.resolvo_encoding.specs.Steps.{IsBegunEncoding}
 use Rattle.resolvo_encoding.proofs.Turning.{turn_keeps, turn_preferred, refused, root_denied}
 use Rattle.resolvo.specs.declared.search.Found.{Found}
 use Rattle.resolvo.specs.declared.search.Found.TheVariants.{Chosen, Clash}
+use Rattle.resolvo.specs.declared.turns.Turn.{Turn}
+use Rattle.resolvo.specs.declared.turns.Turns.{Turns}
 use Rattle.resolvo.specs.Turn.{IsRooted, IsTurn}
+use Rattle.resolvo.specs.Turns.{AreRight, AreTurns, AreWished, HasReason, HaveReasons, IsNextRight, Lists, StandSo, accepted_of, end_of, first_of}
 use Rattle.resolvo.specs.Encoder.{IsInOrder}
-use Rattle.resolvo.specs.Solving.{IsFoundBy, IsFound, IsPreferred, IsDenial}
+use Rattle.resolvo.specs.Solution.{IsSolution, IsUnsolvable}
+use Rattle.resolvo.specs.Solving.{IsFoundIn, IsFound, IsPreferred, IsDenial}
+use Rattle.resolvo.proofs.Next.{chosen_accepted}
 
 -- the root is the first parent
 pub begun_rooted : {N S : Type 0} (e : Encoding N S) → IsBegunEncoding e → IsRooted e
@@ -29,28 +44,90 @@ begun_rooted {N} {S} e begun = subst (λ (ks : List (SolvableIdOrRoot S)). slice
 pub begun_in_order : {N S : Type 0} (same : S → S → Bool) (p : Packages N S) (orders : Requirement → List S → Type 0) (root : Rules) (e : Encoding N S) → IsBegunEncoding e → IsEncoding same p root e → IsInOrder same p orders root e
 begun_in_order same p orders root e begun holds = record { encoding = holds; ordered = λ r has. absurd (both_ways _ (ap is_some (begun.lists.candidates r)) has) }
 
+-- a turn before which others stand is the first one's
+last_begin : {N S : Type 0} (same : S → S → Bool) (p : Packages N S) (root : Rules) (chosen : List S) (first : ℕ) (t : Turn S) (ws : List S) (later : List (Turn S)) → AreTurns same p root chosen first ws (later ++ t ∷ []) → t.begin ≡ first
+last_begin same p root chosen first t [] [] h = absurd h
+last_begin same p root chosen first t (w ∷ ws) [] (begin, one, rest) = begin
+last_begin same p root chosen first t [] (u ∷ later) h = absurd h
+last_begin same p root chosen first t (w ∷ ws) (u ∷ later) (begin, one, rest) = last_begin same p root chosen first t ws later rest
+
+-- so many were chosen in the root's turn
+pub first_is : {N S : Type 0} (same : S → S → Bool) (p : Packages N S) (root : Rules) (chosen : List S) (first : ℕ) (wishes : List S) (turns : List (Turn S)) → AreWished same p root chosen first wishes turns → first ≡ first_of chosen turns
+first_is same p root chosen first wishes [] h = h.whole
+first_is same p root chosen first wishes (t ∷ later) h = sym (last_begin same p root chosen first t (reverse wishes) (reverse later) (subst (λ (ts : List (Turn _)). AreTurns same p root chosen first (reverse wishes) ts) (reverse-append (t ∷ []) later) h.turns))
+
+-- the first ones of what begins a list are its first ones
+first_front : {X : Type 0} (xs ys : List X) → IsFrontOf xs ys → take (length xs) ys ≡ xs
+first_front [] ys h = refl
+first_front (x ∷ xs) ys (more, is) = ap (take (suc (length xs))) is ∙ ap (λ zs. x ∷ zs) (first_front xs (xs ++ more) (more, refl))
+
+-- no turn, no reason
+pub no_reasons : {N S : Type 0} (c : Coding N S) (t : Turns S) → t.turns.items ≡ [] → HaveReasons c t
+no_reasons {N} {S} c t none turn h = absurd (contains_none turn (subst (λ (ts : List (Turn S)). Contains ts turn) none h))
+
+-- what the trail chooses is what is listed of it first
+pub first_listed : {N S : Type 0} (e : Encoding N S) (old keys : List S) → old ≡ [] → Lists e old keys → AreChosen e.coding.atoms.keys (made_true (history e.coding.search)) keys
+first_listed {N} {S} e old keys none lists = record {
+  each = λ s h. elim (lists.adds.only s h) [
+    | inl before ↦ absurd (contains_none s (subst (λ (xs : List S). Contains xs s) none before))
+    | inr now ↦ lists.are.each s now
+  ];
+  all = λ l s known means. lists.adds.all s (lists.are.all l s known means);
+}
+
 module _ {N S : Type 0} (same_name : N → N → Bool) (names : IsExact same_name) (same : S → S → Bool) (exact : IsExact same) (p : Packages N S) (orders : Requirement → List S → Type 0) (root : Rules) (lawful : IsLawful p) (e : Encoding N S) where
-  -- what the end of the root's turn tells
-  pub turn_found : IsInOrder same p orders root e → e.coding.search.floor ≡ 1 → e.noted.wishes.items ≡ [] → (turn : Option Refusal) → IsTurn same None e turn → (f : Found S) → IsFoundBy e turn f → IsFound same p root e f × IsPreferred same p orders root f
-  turn_found holds first alone None (settled, whole, spent, wish) (Chosen v) chosen =
-      let (keeping, reached, inside) = turn_keeps same exact p root lawful e same_name names holds.encoding spent settled.values settled.score settled.agree settled.quiet settled.decided v.items chosen (whole v.items chosen) alone in (
-        record { keeping = keeping; reached = reached; inside = inside },
-        turn_preferred same exact p root lawful e same_name names holds.encoding spent orders holds.ordered settled.values settled.score settled.agree settled.quiet settled.decided v.items chosen (whole v.items chosen) alone,
+  -- the end of the root's turn: what is chosen is right, and was preferred
+  pub root_right : IsInOrder same p orders root e → e.noted.wishes.items ≡ [] → IsTurn same None e None → (t : Turns S) → t.turns.items ≡ [] → AreChosen e.coding.atoms.keys (made_true (history e.coding.search)) t.chosen.keys
+      → AreRight same p root (length t.chosen.keys) [] t × ArePreferred same p orders root t.chosen.keys
+  root_right holds alone (settled, whole, spent, wish) t none chosen =
+      let (keeping, reached, inside) = turn_keeps same exact p root lawful e same_name names holds.encoding spent settled.values settled.score settled.agree settled.quiet settled.decided t.chosen.keys chosen (whole t.chosen.keys chosen) alone in
+      let all : take (length t.chosen.keys) t.chosen.keys ≡ t.chosen.keys = take_all (length t.chosen.keys) t.chosen.keys (omega arith) in (
+        record {
+          wished = record {
+            solution = subst (λ (xs : List S). IsSolution same p root xs) (sym all) (record { keeping = keeping; reached = reached; inside = inside });
+            within = omega arith;
+            turns = subst (λ (ts : List (Turn S)). AreTurns same p root t.chosen.keys (length t.chosen.keys) [] (reverse ts)) (sym none) tt;
+            whole = ap (λ (ts : List (Turn S)). end_of (length t.chosen.keys) (reverse ts)) none;
+          };
+          accepted = subst (λ (ts : List (Turn S)). IsAccepted same p root (accepted_of (reverse ts)) t.chosen.keys) (sym none)
+              (subst (λ (ws : List S). IsAccepted same p root ws t.chosen.keys) alone (chosen_accepted same exact p root same_name names lawful orders e None t.chosen.keys holds (settled, whole, spent, wish) chosen));
+        },
+        turn_preferred same exact p root lawful e same_name names holds.encoding spent orders holds.ordered settled.values settled.score settled.agree settled.quiet settled.decided t.chosen.keys chosen (whole t.chosen.keys chosen) alone,
       )
-  turn_found holds first alone None ended (Clash q) h = absurd h
-  turn_found holds first alone (Some r) refusal (Chosen v) h = absurd h
-  turn_found holds first alone (Some r) refusal (Clash q) is = (
-    (
-      λ chosen keeping. refused same exact p root lawful e same_name names holds.encoding first r.literals.items r.causes.items refusal chosen keeping,
-      subst (λ (x : Refusal). IsRefusal e.coding.search x.literals.items x.causes.items) (sym is) refusal,
-    ),
+
+  -- a refusal of the root's turn leaves no rule-keeping set
+  pub root_refused : IsInOrder same p orders root e → e.coding.search.floor ≡ 1 → (r : Refusal) → IsRefusal e.coding.search r.literals.items r.causes.items → IsUnsolvable same p root
+  root_refused holds first r refusal = λ chosen keeping. refused same exact p root lawful e same_name names holds.encoding first r.literals.items r.causes.items refusal chosen keeping
+
+module _ {N S : Type 0} (same : S → S → Bool) (p : Packages N S) (orders : Requirement → List S → Type 0) (root : Rules) (wishes : List S) (e : Encoding N S) (old t : Turns S) (front : IsFrontOf old.chosen.keys t.chosen.keys) where
+  -- what all turns found
+  pub turns_found : ArePreferred same p orders root old.chosen.keys → (o : Option Refusal) → IsNextRight same p root (length old.chosen.keys) wishes e t o → StandSo e t o → (f : Found S) → IsFoundIn t o f → IsFound same p root wishes e f × IsPreferred same p orders root f
+  turns_found preferred None (right, reasons) at (Chosen v turns) (solvables, told) =
+      let first : length old.chosen.keys ≡ first_of v.items turns.items = first_is same p root t.chosen.keys (length old.chosen.keys) wishes t.turns.items right.wished ∙ ap (λ (xs : List S). first_of xs t.turns.items) (sym solvables) ∙ ap (λ (ts : Vec (Turn S) Global). first_of v.items ts.items) (sym told) in
+      let whole : take (first_of v.items turns.items) v.items ≡ old.chosen.keys = ap (λ (n : ℕ). take n v.items) (sym first) ∙ ap (take (length old.chosen.keys)) solvables ∙ first_front old.chosen.keys t.chosen.keys front in (
+        (
+          subst (λ (n : ℕ). AreWished same p root v.items n wishes turns.items) first
+              (subst (λ (ts : Vec (Turn S) Global). AreWished same p root v.items (length old.chosen.keys) wishes ts.items) (sym told) (subst (λ (xs : List S). AreWished same p root xs (length old.chosen.keys) wishes t.turns.items) (sym solvables) right.wished)),
+          λ turn h. subst (λ (xs : List S). HasReason e.coding xs turn) (sym solvables) (reasons turn (subst (λ (ts : Vec (Turn S) Global). Contains ts.items turn) told h)),
+        ),
+        subst (λ (xs : List S). ArePreferred same p orders root xs) (sym whole) preferred,
+      )
+  turns_found preferred None right at (Clash q) h = absurd h
+  turns_found preferred (Some r) right stands (Chosen v turns) h = absurd h
+  turns_found preferred (Some r) right (refusal, none) (Clash q) is = (
+    (right, subst (λ (x : Refusal). IsRefusal e.coding.search x.literals.items x.causes.items) (sym is) refusal),
     tt,
   )
 
--- a clash of the root's turn denies the root alone
-pub turn_denial : {N S : Type 0} (same : S → S → Bool) (e : Encoding N S) → IsCoding e.coding → e.coding.search.floor ≡ 1 → (turn : Option Refusal) → IsTurn same None e turn → (f : Found S) → IsFoundBy e turn f → IsDenial e.coding f
-turn_denial same e coding first None ended (Chosen v) h = tt
-turn_denial same e coding first None ended (Clash q) h = absurd h
-turn_denial same e coding first (Some r) refusal (Chosen v) h = absurd h
-turn_denial same e coding first (Some r) refusal (Clash q) is =
-    subst (λ (x : Refusal). IsRefusal e.coding.search x.literals.items x.causes.items × DenyRoot x.literals.items) (sym is) (refusal, root_denied e coding first r.literals.items r.causes.items refusal)
+-- a clash in a wish's turn denies nothing but the root
+pub later_denial : {N S : Type 0} (e : Encoding N S) (t : Turns S) (o : Option Refusal) → StandSo e t o → (f : Found S) → IsFoundIn t o f → IsDenial e.coding f
+later_denial e t None at (Chosen v turns) h = tt
+later_denial e t None at (Clash q) h = absurd h
+later_denial e t (Some r) stands (Chosen v turns) h = absurd h
+later_denial e t (Some r) (refusal, none) (Clash q) is =
+    subst (λ (x : Refusal). IsRefusal e.coding.search x.literals.items x.causes.items × DenyRoot x.literals.items) (sym is)
+    (refusal, λ l h. absurd (both_ways false refl (subst (λ (ls : List Signed). has ls l ≡ true) none h)))
+
+-- so does one of the root's turn
+pub root_denial : {N S : Type 0} (e : Encoding N S) → IsCoding e.coding → e.coding.search.floor ≡ 1 → (r : Refusal) → IsRefusal e.coding.search r.literals.items r.causes.items → IsDenial e.coding (Clash r)
+root_denial e coding first r refusal = (refusal, root_denied e coding first r.literals.items r.causes.items refusal)

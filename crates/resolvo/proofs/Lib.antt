@@ -9,3 +9,5 @@ pub mod Wishes
 pub mod Listing
 pub mod Next
 pub mod Outcomes
+pub mod Reasons
+pub mod Forward

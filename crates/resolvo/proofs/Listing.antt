@@ -89,6 +89,7 @@ module _ {N S : Type 0} (same : S → S → Bool) (p : Packages N S) (root : Rul
         within = omega arith;
         ended = subst (λ zs. IsAccepted same p root (accepted_by accepted t) zs) (sym ends) h.ended;
         told = h.told ∙ ap (λ zs. is_in same p zs w) (sym ends);
+        still = h.still;
         refused = λ so set keeping all held. h.refused so set keeping (λ s a. all s (subst (λ zs. is_in same p zs s ≡ true) (sym begins) a)) held;
       }
 
@@ -100,10 +101,10 @@ module _ {N S : Type 0} (same : S → S → Bool) (p : Packages N S) (root : Rul
 
   -- a turn more was right
   pub next_right : (first : ℕ) (done : List S) (s : S) (t u : Turns S) (turn : Turn S) → AreRight same p root first done t → IsFrontOf t.chosen.keys u.chosen.keys → u.turns.items ≡ t.turns.items ++ turn ∷ []
-      → turn.begin ≡ length t.chosen.keys → turn.end ≡ length u.chosen.keys → turn.solvable ≡ s → IsAccepted same p root (accepted_of (turn ∷ reverse t.turns.items)) u.chosen.keys → turn.accepted ≡ is_in same p u.chosen.keys s
+      → turn.begin ≡ length t.chosen.keys → turn.end ≡ length u.chosen.keys → turn.solvable ≡ s → IsAccepted same p root (accepted_of (turn ∷ reverse t.turns.items)) u.chosen.keys → turn.accepted ≡ is_in same p u.chosen.keys s → (turn.accepted ≡ false → turn.end ≡ turn.begin)
       → (turn.accepted ≡ false → (set : List S) → IsRuleKeeping same p root set → ((r : S) → is_in same p t.chosen.keys r ≡ true → is_in same p set r ≡ true) → is_in same p set s ≡ true → ⊥)
       → AreRight same p root first (done ++ s ∷ []) u
-  next_right first done s t u turn right front came begin end_ solvable accepted told refused =
+  next_right first done s t u turn right front came begin end_ solvable accepted told still refused =
       let turns : reverse u.turns.items ≡ turn ∷ reverse t.turns.items = ap reverse came ∙ reverse_push t.turns.items turn in
       let long : length t.chosen.keys ≤ length u.chosen.keys = front_long t.chosen.keys u.chosen.keys front in
       let low : first ≤ length t.chosen.keys = right.wished.within in
@@ -116,6 +117,7 @@ module _ {N S : Type 0} (same : S → S → Bool) (p : Packages N S) (root : Rul
         within = omega arith;
         ended = subst (λ zs. IsAccepted same p root (accepted_of (turn ∷ reverse t.turns.items)) zs) (sym ends) accepted;
         told = told ∙ ap (λ zs. is_in same p zs s) (sym ends);
+        still = still;
         refused = λ so set keeping all held. refused so set keeping (λ r a. all r (subst (λ zs. is_in same p zs r ≡ true) (sym begins) a)) held;
       } in
       record {

@@ -1,7 +1,8 @@
 -- One wish more: what its turn came to is told, and what is chosen is listed.
-use Rattle.std.proofs.Common.{◌≡◌, ℕ, cond, inl, inr, Bool, true, false, reverse, List, [], ◌∷◌, ◌++◌, length, Option, Some, None, Vec, Global, HashSet, BuildHasherDefault, FoldHasher, refl, sym, ◌∙◌, ap, subst}
+use Rattle.std.proofs.Common.{◌≡◌, ℕ, zero, suc, ◌-◌, ◌<◌, ◌⊎◌, cond, inl, inr, Bool, true, false, take, reverse, List, [], ◌∷◌, ◌++◌, length, Option, Some, None, Vec, Global, HashSet, BuildHasherDefault, FoldHasher, refl, sym, ◌∙◌, ap, subst, arith}
 use Rattle.std.specs.Prelude.{Contains}
 use Rattle.std.proofs.lemmas.Bool.{both_ways, cases_Bool}
+use Rattle.std.proofs.lemmas.List.{take_all}
 use Rattle.resolvo_pool.specs.declared.id.ClauseId.{ClauseId}
 use Rattle.resolvo_pool.specs.declared.id.VariableId.{VariableId}
 use Rattle.resolvo_pool.specs.declared.requirement.Requirement.{Requirement}
@@ -17,24 +18,28 @@ use Rattle.resolvo_search.proofs.StepLemmas.{reverse_push}
 use Rattle.resolvo_rules.specs.Encoding.{IsExact, Atom, plus}
 use Rattle.resolvo_rules.specs.Ending.{IsAccepted}
 use Rattle.resolvo_rules.specs.Numbered.{Means}
+use Rattle.resolvo_rules.proofs.Lists.{contains_one, contains_parts}
 use Rattle.resolvo_rules.proofs.Members.{in_contained, contained_in}
 use Rattle.resolvo_coding.specs.declared.atom.ProofAtom.TheVariants.{Solvable}
 use Rattle.resolvo_coding.specs.Atoms.{origin}
 use Rattle.resolvo_coding.specs.Chosen.{AreChosen}
 use Rattle.resolvo_coding.specs.Coding.{IsCoding}
+use Rattle.resolvo_coding.specs.declared.coding.Coding.{Coding}
+use Rattle.resolvo_coding.specs.declared.stated.Stated.TheVariants.{Learnt}
 use Rattle.resolvo_coding.proofs.Origins.{means_solvable, solvable_means, stands_front}
 use Rattle.resolvo_encoding.specs.declared.encoding.Encoding.{Encoding}
 use Rattle.resolvo_encoding.proofs.Turning.{turn_accepts}
 use Rattle.resolvo.specs.Encoder.{IsInOrder}
 use Rattle.resolvo.specs.Turn.{IsTurn}
-use Rattle.resolvo.specs.Turns.{AreAt, AreRight, Lists, Records, accepted_of, was_accepted}
+use Rattle.resolvo.specs.Turns.{AreAt, AreRight, HasReason, HaveReasons, IsDeniable, Lists, Records, accepted_of, step_of, was_accepted}
 use Rattle.resolvo.specs.declared.wishing.Wished.{Wished}
-use Rattle.resolvo.specs.Wished.{IsDenied, IsOutcome, IsTrue, KeepsTrail}
+use Rattle.resolvo.specs.Wished.{IsDenied, IsOutcome, IsReasonOf, IsTrue, KeepsTrail}
 use Rattle.resolvo.specs.declared.wishing.Wished.TheVariants as Wishes
 use Rattle.resolvo.specs.declared.turns.Turn.{Turn}
 use Rattle.resolvo.specs.declared.turns.Turns.{Turns}
-use Rattle.resolvo_coding.proofs.Positions.{front_same}
+use Rattle.resolvo_coding.proofs.Positions.{front_get, front_same}
 use Rattle.resolvo.proofs.Listing.{accepted_more, accepted_next, next_right, refused_next}
+use Rattle.resolvo.proofs.Ending.{contains_longer}
 use Rattle.resolvo.proofs.Wishes.{true_before}
 
 -- ---- what the trail chooses
@@ -48,6 +53,45 @@ later_known (e ∷ p) base l h = has_later (literal_of e) (made_true (p ++ base)
 wishes_told : {S : Type 0} (accepted : List S) (s : S) (turn : Turn S) (earlier : List (Turn S)) (b : Bool) → turn.accepted ≡ b → turn.solvable ≡ s → accepted ≡ accepted_of earlier → cond b (accepted ++ s ∷ []) accepted ≡ accepted_of (turn ∷ earlier)
 wishes_told {S} accepted s turn earlier true so is same = ap (λ (ws : List S). ws ++ s ∷ []) same ∙ sym (accepted_next turn earlier s so is)
 wishes_told accepted s turn earlier false so is same = same ∙ sym (refused_next turn earlier so)
+
+-- the first ones of a list stand in front of the first ones of a longer one
+front_taken : {X : Type 0} (n : ℕ) (xs more : List X) → IsFrontOf (take n xs) (take n (xs ++ more))
+front_taken zero xs more = ([], refl)
+front_taken (suc n) [] more = (take (suc n) more, refl)
+front_taken (suc n) (x ∷ xs) more = (let (rest, is) = front_taken n xs more in (rest, ap (λ ys. x ∷ ys) is))
+
+taken_longer : {X : Type 0} (n : ℕ) (xs ys : List X) (x : X) → IsFrontOf xs ys → Contains (take n xs) x → Contains (take n ys) x
+taken_longer n xs ys x (more, is) h = subst (λ (zs : List _). Contains (take n zs) x) (sym is) (contains_longer (take n xs) (take n (xs ++ more)) x (front_taken n xs more) h)
+
+-- a reason is one for more solvables
+reason_widens : {N S : Type 0} (c : Coding N S) (some more : S → Type 0) (number : ℕ) → ((s : S) → some s → more s) → IsReasonOf c some number → IsReasonOf c more number
+reason_widens c some more number wider r = record {
+  later = r.later;
+  held = r.held;
+  stands = r.stands;
+  learnt = r.learnt;
+  denies = λ l h. elim (r.denies l h) [ inl itself ↦ inl itself | inr (t, u, is, stands, among) ↦ inr (t, u, is, stands, wider t among) ];
+}
+
+-- and stays one
+reason_stays : {N S : Type 0} (c d : Coding N S) (chosen longer : List S) → IsFrontOf c.atoms.keys d.atoms.keys → IsFrontOf c.search.clauses d.search.clauses → IsFrontOf c.stated.items d.stated.items → IsFrontOf chosen longer → (t : Turn S) → HasReason c chosen t → HasReason d longer t
+reason_stays c d chosen longer atoms clauses stated front t r = record {
+  accepted = r.accepted;
+  refused = λ so. (let (k, step, reason) = r.refused so in (
+    k,
+    step,
+    record {
+      later = reason.later;
+      held = reason.held;
+      stands = front_get c.search.clauses d.search.clauses (suc k) reason.held clauses reason.stands;
+      learnt = front_get c.stated.items d.stated.items (suc k) Learnt stated reason.learnt;
+      denies = λ l h. elim (reason.denies l h) [
+        | inl itself ↦ inl itself
+        | inr (s, u, is, stands, among) ↦ inr (s, u, is, stands_front c.atoms.keys d.atoms.keys u (Solvable s) atoms stands, elim among [ inl wish ↦ inl wish | inr before ↦ inr (taken_longer t.begin chosen longer s front before) ])
+      ];
+    },
+  ));
+}
 
 module _ {N S : Type 0} where
   -- what is chosen is true, and what is true is chosen
@@ -105,15 +149,16 @@ module _ {N S : Type 0} where
   module _ (same : S → S → Bool) (exact : IsExact same) (p : Packages N S) (root : Rules) where
     -- what was told of it is right
     pub next_told : (a b : Encoding N S) (t m u : Turns S) (first : ℕ) (done : List S) (s : S) (w : Wished) → AreAt a t → AreRight same p root first done t → IsFrontOf t.chosen.keys m.chosen.keys → m.turns ≡ t.turns → Records s (length t.chosen.keys) w m u
-        → b.noted.wishes.items ≡ cond (was_accepted w) (a.noted.wishes.items ++ s ∷ []) a.noted.wishes.items → IsAccepted same p root b.noted.wishes.items m.chosen.keys → was_accepted w ≡ is_in same p m.chosen.keys s
+        → b.noted.wishes.items ≡ cond (was_accepted w) (a.noted.wishes.items ++ s ∷ []) a.noted.wishes.items → IsAccepted same p root b.noted.wishes.items m.chosen.keys → was_accepted w ≡ is_in same p m.chosen.keys s → (was_accepted w ≡ false → m.chosen.keys ≡ t.chosen.keys)
         → (was_accepted w ≡ false → IsDenied same p root a s) → AreRight same p root first (done ++ s ∷ []) u
-    next_told a b t m u first done s w at right front turns told wishes accepted is denied =
+    next_told a b t m u first done s w at right front turns told wishes accepted is same_keys denied =
         let keys : u.chosen.keys ≡ m.chosen.keys = ap (λ (c : HashSet S (BuildHasherDefault FoldHasher)). c.keys) told.chosen in
         next_right same p root first done s t u told.turn right (subst (λ (xs : List S). IsFrontOf t.chosen.keys xs) (sym keys) front) (told.turns ∙ ap (λ (ts : Vec (Turn S) Global). ts.items ++ told.turn ∷ []) turns)
         told.tells.begin_is (told.tells.end_is ∙ ap (λ (xs : List S). length xs) (sym keys)) told.tells.solvable
         (subst (λ (xs : List S). IsAccepted same p root (accepted_of (told.turn ∷ reverse t.turns.items)) xs) (sym keys)
         (subst (λ (ws : List S). IsAccepted same p root ws m.chosen.keys) (wishes ∙ wishes_told a.noted.wishes.items s told.turn (reverse t.turns.items) (was_accepted w) told.tells.accepted told.tells.solvable at.wishes) accepted))
         (told.tells.accepted ∙ is ∙ ap (λ (xs : List S). is_in same p xs s) (sym keys))
+        (λ so. told.tells.end_is ∙ ap (λ (xs : List S). length xs) (same_keys (sym told.tells.accepted ∙ so)) ∙ sym told.tells.begin_is)
         (λ so set keeping all held. denied (sym told.tells.accepted ∙ so) set keeping (λ r truth. all r (contained_in same exact p t.chosen.keys r (true_chosen a t.chosen.keys at.chosen r truth))) held)
 
     -- a wish is among the listed ones exactly if the trail chooses it
@@ -131,6 +176,43 @@ module _ {N S : Type 0} where
         → AreChosen b.coding.atoms.keys (made_true (history b.coding.search)) members → IsAccepted same p root b.noted.wishes.items members
     chosen_accepted same_name names lawful orders b wish members holds (settled, whole, spent, has) are =
         turn_accepts same exact p root lawful b same_name names holds.encoding spent settled.values settled.score settled.agree settled.quiet settled.decided members are (whole members are)
+
+  -- ---- each turn has its reason
+
+  next_reasons : (a b : Encoding N S) (t m u : Turns S) (s : S) (begin : ℕ) (w : Wished) → KeepsTrail a b → IsFrontOf t.chosen.keys m.chosen.keys → m.turns ≡ t.turns → (told : Records s begin w m u) → HaveReasons a.coding t → HasReason b.coding u.chosen.keys told.turn → HaveReasons b.coding u
+  next_reasons a b t m u s begin w keeps front turns told old new turn h =
+      let keys : m.chosen.keys ≡ u.chosen.keys = sym (ap (λ (c : HashSet S (BuildHasherDefault FoldHasher)). c.keys) told.chosen) in
+      elim (contains_parts turn t.turns.items (told.turn ∷ []) (subst (λ (ts : List (Turn S)). Contains ts turn) (told.turns ∙ ap (λ (ts : Vec (Turn S) Global). ts.items ++ told.turn ∷ []) turns) h)) [
+        | inl before ↦ reason_stays a.coding b.coding t.chosen.keys u.chosen.keys keeps.atoms keeps.clauses keeps.stated (subst (λ (xs : List S). IsFrontOf t.chosen.keys xs) keys front) turn (old turn before)
+        | inr now ↦ subst (λ (x : Turn S). HasReason b.coding u.chosen.keys x) (sym (contains_one turn told.turn now)) new
+      ]
+
+  -- an accepted wish needs none
+  accepted_reason : (b : Encoding N S) (m u : Turns S) (s : S) (begin : ℕ) (w : Wished) (told : Records s begin w m u) → was_accepted w ≡ true → step_of w ≡ None → HasReason b.coding u.chosen.keys told.turn
+  accepted_reason b m u s begin w told so none = record {
+    accepted = λ h. told.tells.step ∙ none;
+    refused = λ h. absurd (both_ways _ h (told.tells.accepted ∙ so));
+  }
+
+  -- the reason of a refused one
+  refused_reason : (a b : Encoding N S) (t u : Turns S) (s : S) (begin : ℕ) (clause : ClauseId) (told : Records s begin (Wishes.Refused clause) t u) → AreAt a t → begin ≡ length t.chosen.keys → IsReasonOf b.coding (λ r. (r ≡ s) ⊎ IsTrue a r) clause.0
+      → HasReason b.coding u.chosen.keys told.turn
+  refused_reason a b t u s begin clause told at is reason =
+      let later : 0 < clause.0 = reason.later in
+      let number : clause.0 ≡ suc (clause.0 - 1) = omega arith in
+      let keys : t.chosen.keys ≡ u.chosen.keys = sym (ap (λ (c : HashSet S (BuildHasherDefault FoldHasher)). c.keys) told.chosen) in
+      let whole : take told.turn.begin u.chosen.keys ≡ t.chosen.keys = ap (λ (xs : List S). take told.turn.begin xs) (sym keys) ∙ take_all told.turn.begin t.chosen.keys (let x : told.turn.begin ≡ begin = told.tells.begin_is in let y : begin ≡ length t.chosen.keys = is in omega arith) in
+      record {
+        accepted = λ h. absurd (both_ways _ told.tells.accepted h);
+        refused = λ h. (
+          clause.0 - 1,
+          told.tells.step,
+          subst (λ (n : ℕ). IsReasonOf b.coding (IsDeniable u.chosen.keys told.turn) n) number (reason_widens b.coding (λ r. (r ≡ s) ⊎ IsTrue a r) (IsDeniable u.chosen.keys told.turn) clause.0 (λ r either. elim either [
+            | inl itself ↦ inl (itself ∙ sym told.tells.solvable)
+            | inr truth ↦ inr (subst (λ (xs : List S). Contains xs r) (sym whole) (true_chosen a t.chosen.keys at.chosen r truth))
+          ]) reason),
+        );
+      }
 
   -- ---- what each turn comes to
 
@@ -151,16 +233,25 @@ module _ {N S : Type 0} where
       still_accepted : IsAccepted same p root a.noted.wishes.items t.chosen.keys
       still_accepted = subst (λ (ws : List S). IsAccepted same p root ws t.chosen.keys) (sym at.wishes) right.accepted
 
+      pub stood_reasons : HaveReasons a.coding t → (begin : ℕ) → Records s begin Wishes.Stood t u → HaveReasons b.coding u
+      stood_reasons reasons begin told = next_reasons a b t t u s begin Wishes.Stood keeps (front_same t.chosen.keys) refl told reasons (accepted_reason b t u s begin Wishes.Stood told refl refl)
+
+      pub refused_reasons : (clause : ClauseId) → IsReasonOf b.coding (λ r. (r ≡ s) ⊎ IsTrue a r) clause.0 → HaveReasons a.coding t → (begin : ℕ) → begin ≡ length t.chosen.keys → Records s begin (Wishes.Refused clause) t u → HaveReasons b.coding u
+      refused_reasons clause reason reasons begin is told = next_reasons a b t t u s begin (Wishes.Refused clause) keeps (front_same t.chosen.keys) refl told reasons (refused_reason a b t u s begin clause told at is reason)
+
+      pub chosen_reasons : (m : Turns S) → Lists b t.chosen.keys m.chosen.keys → m.turns ≡ t.turns → HaveReasons a.coding t → (begin : ℕ) → Records s begin Wishes.Chosen m u → HaveReasons b.coding u
+      chosen_reasons m lists turns reasons begin told = next_reasons a b t m u s begin Wishes.Chosen keeps lists.adds.front turns told reasons (accepted_reason b m u s begin Wishes.Chosen told refl refl)
+
       pub stood_told : IsOutcome same s a b Wishes.Stood → (begin : ℕ) → begin ≡ length t.chosen.keys → Records s begin Wishes.Stood t u → AreRight same p root first (done ++ s ∷ []) u
       stood_told (wishes, trail, known) begin is told =
           let truth : true ≡ is_in same p t.chosen.keys s = told_true same exact p root b t.chosen.keys s (stays_chosen trail) known in
           next_told same exact p root a b t t u first done s Wishes.Stood at right (front_same t.chosen.keys) refl (subst (λ n. Records s n Wishes.Stood t u) is told) wishes
-          (subst (λ (ws : List S). IsAccepted same p root ws t.chosen.keys) (sym wishes) (accepted_more same exact p root a.noted.wishes.items t.chosen.keys s still_accepted (sym truth))) truth (λ so. absurd (both_ways true so refl))
+          (subst (λ (ws : List S). IsAccepted same p root ws t.chosen.keys) (sym wishes) (accepted_more same exact p root a.noted.wishes.items t.chosen.keys s still_accepted (sym truth))) truth (λ so. absurd (both_ways true so refl)) (λ so. absurd (both_ways true so refl))
 
       pub refused_told : (clause : ClauseId) → IsOutcome same s a b (Wishes.Refused clause) → IsDenied same p root a s → (begin : ℕ) → begin ≡ length t.chosen.keys → Records s begin (Wishes.Refused clause) t u → AreRight same p root first (done ++ s ∷ []) u
       refused_told clause (wishes, trail, untrue) denied begin is told =
           next_told same exact p root a b t t u first done s (Wishes.Refused clause) at right (front_same t.chosen.keys) refl (subst (λ n. Records s n (Wishes.Refused clause) t u) is told) wishes
-          (subst (λ (ws : List S). IsAccepted same p root ws t.chosen.keys) (sym wishes) still_accepted) (told_false same exact p root b t.chosen.keys s (stays_chosen trail) untrue) (λ so. denied)
+          (subst (λ (ws : List S). IsAccepted same p root ws t.chosen.keys) (sym wishes) still_accepted) (told_false same exact p root b t.chosen.keys s (stays_chosen trail) untrue) (λ so. refl) (λ so. denied)
 
       pub chosen_told : (same_name : N → N → Bool) → IsExact same_name → IsLawful p → (orders : Requirement → List S → Type 0) → IsInOrder same p orders root b → (m : Turns S) → IsOutcome same s a b Wishes.Chosen → Lists b t.chosen.keys m.chosen.keys → m.turns ≡ t.turns
           → (begin : ℕ) → begin ≡ length t.chosen.keys → Records s begin Wishes.Chosen m u → AreRight same p root first (done ++ s ∷ []) u
@@ -168,4 +259,4 @@ module _ {N S : Type 0} where
           let are : AreChosen b.coding.atoms.keys (made_true (history b.coding.search)) m.chosen.keys = listed_chosen a b t.chosen.keys m.chosen.keys keeps at.chosen lists in
           let (settled, whole, spent, has_it) = ended in
           next_told same exact p root a b t m u first done s Wishes.Chosen at right lists.adds.front turns (subst (λ n. Records s n Wishes.Chosen m u) is told) wishes
-          (chosen_accepted same exact p root same_name names lawful orders b (Some v) m.chosen.keys order ended are) (told_true same exact p root b m.chosen.keys s are (v, stands, has_it)) (λ so. absurd (both_ways true so refl))
+          (chosen_accepted same exact p root same_name names lawful orders b (Some v) m.chosen.keys order ended are) (told_true same exact p root b m.chosen.keys s are (v, stands, has_it)) (λ so. absurd (both_ways true so refl)) (λ so. absurd (both_ways true so refl))

@@ -1,8 +1,9 @@
 -- What the turn of a wish comes to, from what its parts came to.
-use Rattle.std.proofs.Common.{◌≡◌, ◌-◌, ◌≤◌, Bool, true, false, List, [], ◌∷◌, reverse, Some, None, sym, ◌∙◌, ap, subst, arith}
+use Rattle.std.proofs.Common.{◌≡◌, ℕ, ◌-◌, ◌<◌, ◌≤◌, ◌⊎◌, inl, inr, Bool, true, false, List, [], ◌∷◌, reverse, length, Some, None, refl, sym, ◌∙◌, ap, subst, arith}
 use Rattle.std.specs.Prelude.{max, slice_get, Contains}
 use Rattle.resolvo_pool.specs.declared.solver_id.SolvableIdOrRoot.TheVariants as Place
 use Rattle.std.proofs.lemmas.Bool.{both_ways}
+use Rattle.std.proofs.lemmas.Option.{slice_get_within}
 use Rattle.resolvo_pool.specs.declared.id.ClauseId.{ClauseId}
 use Rattle.resolvo_pool.specs.declared.id.VariableId.{VariableId}
 use Rattle.resolvo_pool.specs.declared.requirement.Requirement.{Requirement}
@@ -26,9 +27,12 @@ use Rattle.resolvo_coding.specs.declared.atom.ProofAtom.TheVariants.{Solvable}
 use Rattle.resolvo_coding.specs.declared.coding.Coding.{Coding}
 use Rattle.resolvo_coding.specs.Atoms.{StandsFor}
 use Rattle.resolvo_coding.specs.Coding.{Bars, Grows, IsCoding}
+use Rattle.resolvo_coding.specs.Statements.{stated_at}
+use Rattle.resolvo_coding.specs.declared.stated.Stated.{Stated}
+use Rattle.resolvo_coding.specs.declared.stated.Stated.TheVariants.{Learnt, Root}
 use Rattle.resolvo_coding.proofs.Growth.{grows_then, stands_grow, stands_once}
 use Rattle.resolvo_coding.proofs.Origins.{stands_front}
-use Rattle.resolvo_coding.proofs.Positions.{front_then}
+use Rattle.resolvo_coding.proofs.Positions.{front_then, get_last}
 use Rattle.resolvo_encoding.specs.declared.encoding.Encoding.{Encoding}
 use Rattle.resolvo_encoding.specs.declared.encoding.Noted.{Noted}
 use Rattle.resolvo_encoding.specs.Base.{base_of, IsOpen, KeepsTurns}
@@ -40,10 +44,10 @@ use Rattle.resolvo_encoding.proofs.Bases.{below_all, below_ends}
 use Rattle.resolvo_encoding.proofs.Picking.{ordered_stays}
 use Rattle.resolvo.specs.Encoder.{IsInOrder, AddsParents}
 use Rattle.resolvo.specs.Turn.{IsRooted, IsTurn}
-use Rattle.resolvo.specs.Wished.{IsOutcome, IsRefusable, IsTold, IsTrue, IsTurnedDown, KeepsRest, KeepsTrail}
+use Rattle.resolvo.specs.Wished.{IsLearntAs, IsOutcome, IsReasonOf, IsRefusable, IsTold, IsTrue, IsTurnedDown, KeepsRest, KeepsTrail}
 use Rattle.resolvo.specs.declared.wishing.Wished.{Wished}
 use Rattle.resolvo.proofs.Ending.{still_rooted}
-use Rattle.resolvo.proofs.Wishes.{refused_all, refused_bars, refused_denied, refused_empty}
+use Rattle.resolvo.proofs.Wishes.{refused_all, refused_bars, refused_blamed, refused_denied, refused_empty, taken_true}
 
 -- ---- a turn is taken back
 
@@ -54,6 +58,20 @@ bars_clauses s t literals causes same b = record {
   from = λ l h. (let (n, stands) = b.from l h in (n, subst (λ (cs : List HeldClause). has (clause_at (lists cs) n) l ≡ true) (sym same) stands));
   negative = b.negative;
 }
+
+-- the clause that is added is learnt, and not the root's
+bars_learnt : {N S : Type 0} (a b : Coding N S) (literals : List Signed) (causes : List ClauseId) (clause : ClauseId) → IsCoding a → Bars literals causes clause a b → IsLearntAs b literals clause
+bars_learnt {N} {S} a b literals causes clause coding barred =
+    let some : 0 < length a.stated.items = slice_get_within a.stated.items 0 Root coding.first in
+    let each : length a.stated.items ≡ length a.search.clauses = coding.each in
+    let number : clause.0 ≡ length a.search.clauses = barred.number in
+    record {
+      later = omega arith;
+      held = barred.clause;
+      stands = subst (λ (n : ℕ). slice_get b.search.clauses n ≡ Some barred.clause) (sym number) (subst (λ (cs : List HeldClause). slice_get cs (length a.search.clauses) ≡ Some barred.clause) (sym barred.added) (get_last a.search.clauses barred.clause));
+      learnt = subst (λ (n : ℕ). stated_at b.stated.items n ≡ Some Learnt) (each ∙ sym number) (subst (λ (xs : List (Stated N S)). stated_at xs (length a.stated.items) ≡ Some Learnt) (sym barred.stated) (get_last a.stated.items Learnt));
+      is = barred.literals;
+    }
 
 module _ {N S : Type 0} (a b : Encoding N S) (undone : Undoes (max (a.coding.search.floor - 1) 1) a.coding.search b.coding.search) (turn : KeepsTurns a b) where
   -- what is left is what stood before it
@@ -98,10 +116,15 @@ module _ {N S : Type 0} (a b : Encoding N S) (undone : Undoes (max (a.coding.sea
             parents = ap (λ (x : Encoding N S). x.parents) taken.rest ∙ learnt.rest.parents ∙ goes.rest.parents;
           }
 
-      pub refuse_turned : (r : Refusal) → IsRefusable a r → IsTurnedDown r a d (Wished.Refused clause)
-      refuse_turned r (v, o, last, refused) = (
+      -- the refusal's clause was learnt
+      refuse_learnt : IsCoding b.coding → IsLearntAs d.coding literals clause
+      refuse_learnt before = subst (λ (x : Coding N S). IsLearntAs x literals clause) (sym (ap (λ (x : Encoding N S). x.coding) taken.rest)) (bars_learnt b.coding c.coding literals causes clause before barred)
+
+      pub refuse_turned : IsCoding b.coding → (r : Refusal) → literals ≡ r.literals.items → IsRefusable a r → IsTurnedDown r a d (Wished.Refused clause)
+      refuse_turned before r are (v, o, last, refused) = (
         ap (λ (x : Encoding N S). history x.coding.search) taken.rest ∙ left v o,
         λ front s is. taken.wishes front s (wishes_left ∙ is),
+        subst (λ (ls : List Signed). IsLearntAs d.coding ls clause) are (refuse_learnt before),
       )
 
 -- ---- a wish is noted
@@ -117,7 +140,7 @@ module _ {N S : Type 0} (same : S → S → Bool) (a b : Encoding N S) (one : Of
   noted_wish = record { solvable = one.solvable; stands = notes.stands; wished = subst (λ (ws : List S). Contains ws one.solvable) (sym notes.wishes) (contains_right one.solvable a.noted.wishes.items (one.solvable ∷ []) (contains_only one.solvable)) }
 
   pub noted_keeps : KeepsTrail a b
-  noted_keeps = record { atoms = notes.grows.atoms; ends = ([], noted_same); rooted = noted_rooted }
+  noted_keeps = record { atoms = notes.grows.atoms; clauses = notes.grows.clauses; stated = notes.grows.stated; ends = ([], noted_same); rooted = noted_rooted }
 
   pub noted_in_order : (p : Packages N S) (orders : Requirement → List S → Type 0) (root : Rules) → IsLawful p → IsListed same p one → IsInOrder same p orders root a → IsInOrder same p orders root b
   noted_in_order p orders root lawful listed e = record { encoding = notes.encoding p root lawful e.encoding listed; ordered = ordered_stays orders a b notes.grows notes.lists e.ordered }
@@ -135,6 +158,12 @@ module _ {N S : Type 0} (same : S → S → Bool) (a b : Encoding N S) (one : Of
     turn_atoms : IsFrontOf a.coding.atoms.keys c.coding.atoms.keys
     turn_atoms = front_then a.coding.atoms.keys b.coding.atoms.keys c.coding.atoms.keys notes.grows.atoms adds.grows.atoms
 
+    turn_clauses : IsFrontOf a.coding.search.clauses c.coding.search.clauses
+    turn_clauses = front_then a.coding.search.clauses b.coding.search.clauses c.coding.search.clauses notes.grows.clauses adds.grows.clauses
+
+    turn_stated : IsFrontOf a.coding.stated.items c.coding.stated.items
+    turn_stated = front_then a.coding.stated.items b.coding.stated.items c.coding.stated.items notes.grows.stated adds.grows.stated
+
     turn_ends : EndsWith (history a.coding.search) (history c.coding.search)
     turn_ends = subst (λ (h : List Entry). EndsWith h (history c.coding.search)) (base ∙ noted_same) (below_ends c.coding.search.floor (history c.coding.search))
 
@@ -142,7 +171,7 @@ module _ {N S : Type 0} (same : S → S → Bool) (a b : Encoding N S) (one : Of
     turn_rooted rooted = still_rooted (turn_of b) c (noted_rooted rooted) adds
 
     pub turn_keeps : KeepsTrail a c
-    turn_keeps = record { atoms = turn_atoms; ends = turn_ends; rooted = turn_rooted }
+    turn_keeps = record { atoms = turn_atoms; clauses = turn_clauses; stated = turn_stated; ends = turn_ends; rooted = turn_rooted }
 
     pub turn_chosen : IsTurn same (Some v) c None → IsOutcome same one.solvable a c Wished.Chosen
     turn_chosen ended = (adds.wishes ∙ notes.wishes, (v, turn_stands, ended))
@@ -159,12 +188,20 @@ module _ {N S : Type 0} (same : S → S → Bool) (a b : Encoding N S) (one : Of
       down_rooted : IsRooted a → IsRooted d
       down_rooted rooted = subst (λ ks. slice_get ks.keys 0 ≡ Some Place.Root) (sym rest.parents) (turn_rooted rooted)
 
+      down_clauses : IsFrontOf a.coding.search.clauses d.coding.search.clauses
+      down_clauses = front_then a.coding.search.clauses c.coding.search.clauses d.coding.search.clauses turn_clauses rest.grows.clauses
+
+      down_stated : IsFrontOf a.coding.stated.items d.coding.stated.items
+      down_stated = front_then a.coding.stated.items c.coding.stated.items d.coding.stated.items turn_stated rest.grows.stated
+
       pub down_keeps : (w : Wished) → IsTurnedDown r c d w → KeepsTrail a d
       down_keeps Wished.Stood h = absurd h
       down_keeps Wished.Chosen h = absurd h
-      down_keeps (Wished.Refused clause) (trail, wishes) = record { atoms = front_then a.coding.atoms.keys c.coding.atoms.keys d.coding.atoms.keys turn_atoms rest.grows.atoms; ends = ([], trail ∙ base ∙ noted_same); rooted = down_rooted }
+      down_keeps (Wished.Refused clause) (trail, wishes, learnt) = record { atoms = front_then a.coding.atoms.keys c.coding.atoms.keys d.coding.atoms.keys turn_atoms rest.grows.atoms; clauses = down_clauses; stated = down_stated; ends = ([], trail ∙ base ∙ noted_same); rooted = down_rooted }
       down_keeps (Wished.Clash q) (is, none, unchanged) = record {
         atoms = front_then a.coding.atoms.keys c.coding.atoms.keys d.coding.atoms.keys turn_atoms rest.grows.atoms;
+        clauses = down_clauses;
+        stated = down_stated;
         ends = subst (λ (x : Encoding N S). EndsWith (history a.coding.search) (history x.coding.search)) (sym unchanged) turn_ends;
         rooted = down_rooted;
       }
@@ -172,7 +209,7 @@ module _ {N S : Type 0} (same : S → S → Bool) (a b : Encoding N S) (one : Of
       pub down_outcome : IsBuilt d → has (made_true (history b.coding.search)) (yes v) ≡ false → (w : Wished) → IsTurnedDown r c d w → IsOutcome same one.solvable a d w
       down_outcome built unchosen Wished.Stood h = absurd h
       down_outcome built unchosen Wished.Chosen h = absurd h
-      down_outcome built unchosen (Wished.Refused clause) (trail, wishes) = (
+      down_outcome built unchosen (Wished.Refused clause) (trail, wishes, learnt) = (
         wishes a.noted.wishes.items one.solvable (adds.wishes ∙ notes.wishes),
         trail ∙ base ∙ noted_same,
         untrue,
@@ -189,8 +226,26 @@ module _ {N S : Type 0} (same : S → S → Bool) (a b : Encoding N S) (one : Of
         none,
       )
 
-      pub down_told : IsCoding a.coding → IsExact same → (same_name : N → N → Bool) → IsExact same_name → (p : Packages N S) (root : Rules) → IsEncoding same p root c → (w : Wished) → IsTurnedDown r c d w → IsTold same p root a one.solvable w
+      -- the added clause denies the wish and what was chosen before its turn, and nothing else
+      down_reason : IsCoding a.coding → IsExact same → (same_name : N → N → Bool) → IsExact same_name → (p : Packages N S) (root : Rules) → IsEncoding same p root c → (clause : ClauseId) → IsLearntAs d.coding r.literals.items clause
+          → IsReasonOf d.coding (λ t. (t ≡ one.solvable) ⊎ IsTrue a t) clause.0
+      down_reason coding exact same_name names p root holds clause learnt = record {
+        later = learnt.later;
+        held = learnt.held;
+        stands = learnt.stands;
+        learnt = learnt.learnt;
+        denies = λ l h. elim ((refused_blamed c v same exact p root holds same_name names o r ended).blame l (subst (λ (ls : List Signed). has ls l ≡ true) learnt.is h)) [
+          | inl itself ↦ inl itself
+          | inr (inl wish) ↦ inr (one.solvable, v, wish, stands_grow c.coding d.coding v (Solvable one.solvable) rest.grows turn_stands, inl refl)
+          | inr (inr (s, u, is, stands, truth)) ↦ inr (s, u, is, stands_grow c.coding d.coding u (Solvable s) rest.grows stands, inr (taken_true c v same exact p root holds same_name names o a coding turn_atoms (base ∙ noted_same) s (u, stands, truth)))
+        ];
+      }
+
+      pub down_told : IsCoding a.coding → IsExact same → (same_name : N → N → Bool) → IsExact same_name → (p : Packages N S) (root : Rules) → IsEncoding same p root c → (w : Wished) → IsTurnedDown r c d w → IsTold same p root a d one.solvable w
       down_told coding exact same_name names p root holds Wished.Stood h = tt
       down_told coding exact same_name names p root holds Wished.Chosen h = tt
-      down_told coding exact same_name names p root holds (Wished.Refused clause) h = refused_denied c v same exact p root holds same_name names o a coding turn_atoms (base ∙ noted_same) one.solvable turn_stands r ended
+      down_told coding exact same_name names p root holds (Wished.Refused clause) (trail, wishes, learnt) = (
+        refused_denied c v same exact p root holds same_name names o a coding turn_atoms (base ∙ noted_same) one.solvable turn_stands r ended,
+        down_reason coding exact same_name names p root holds clause learnt,
+      )
       down_told coding exact same_name names p root holds (Wished.Clash q) (is, none, unchanged) = refused_all c v same exact p root holds same_name names o r ended (ap (λ (x : Refusal). x.literals.items) (sym is) ∙ none)

@@ -10,31 +10,39 @@ use Rattle.resolvo_coding.specs.Spelled.{Spelled}
 use Rattle.resolvo_proof.specs.Drawn.{AreDrawn, HaveOneSigns}
 use Rattle.resolvo_proof.specs.Places.{HaveOnePlace, AreNamedBy}
 use Rattle.resolvo_proof.specs.Proof.{Proves}
+use Rattle.resolvo_proof.specs.declared.step.ProofStep.{ProofStep}
 use Rattle.resolvo.specs.declared.search.Found.{Found}
 use Rattle.resolvo.specs.declared.search.Found.TheVariants.{Chosen, Clash}
 use Rattle.resolvo.specs.declared.search.Searched.{Searched}
 use Rattle.resolvo.specs.declared.proving.Solved.{Solved}
-use Rattle.resolvo.specs.Solving.{IsFound, IsPreferred, IsSearch, Holds, IsSolved}
+use Rattle.resolvo.specs.Solving.{HasSteps, HaveProofs, IsFound, IsPreferred, IsSearch, Holds, IsSolved}
+use Rattle.resolvo.proofs.Reasons.{reason_proof}
 
 -- what is so of an answer where something else is so
 pub with_given : {X E : Type 0} (r : Result X E) (G : Type 0) (P : X → Type 0) → IfOk r (λ v. G → P v) → G → IfOk r P
 with_given (Ok v) G P h given = h given
 with_given (Err e) G P h given = tt
 
-module _ {N S : Type 0} (same : S → S → Bool) (p : Packages N S) (orders : Requirement → List S → Type 0) (root : Rules) where
-  found_holds : (e : Encoding N S) (f : Found S) → IsFound same p root e f → Holds same p root f
-  found_holds e (Chosen v) h = h
+module _ {N S : Type 0} (same : S → S → Bool) (p : Packages N S) (orders : Requirement → List S → Type 0) (root : Rules) (wishes : List S) where
+  found_holds : (e : Encoding N S) (f : Found S) → IsFound same p root wishes e f → Holds same p root wishes f
+  found_holds e (Chosen v turns) h = h.0
   found_holds e (Clash r) h = h.0
 
+  -- each turn has its step
+  found_proofs : (e : Encoding N S) (f : Found S) (steps : List (ProofStep N S)) → HasSteps e.coding f steps → IsFound same p root wishes e f → HaveProofs steps f
+  found_proofs e (Chosen v turns) steps are h = λ t there. reason_proof e.coding steps are v.items t (h.1 t there)
+  found_proofs e (Clash r) steps are h = tt
+
   -- what was found, with the steps of its clauses
-  pub search_solved : (s : Searched N S) (x : Solved N S) → IsSearch same p orders root s → x.found ≡ s.found → Proves s.encoding.coding x.proof.items
+  pub search_solved : (s : Searched N S) (x : Solved N S) → IsSearch same p orders root wishes s → x.found ≡ s.found → Proves s.encoding.coding x.proof.items
       → ((alike : S → S → Bool) (q : Packages N S) → Spelled alike q s.encoding.coding → AreDrawn alike q x.proof.items) → HaveOneSigns x.proof.items
-      → ((r : Registry N) (package_of : S → N) → AreTied r s.encoding.coding → AreNamedBy r s.encoding.coding package_of → HaveOnePlace x.proof.items) → IsSolved same p orders root x
-  search_solved s x search is proves drawn signs places = record {
-    found = subst (λ (f : Found S). Holds same p root f) (sym is) (found_holds s.encoding s.found search.found);
+      → ((r : Registry N) (package_of : S → N) → AreTied r s.encoding.coding → AreNamedBy r s.encoding.coding package_of → HaveOnePlace x.proof.items) → HasSteps s.encoding.coding s.found x.proof.items → IsSolved same p orders root wishes x
+  search_solved s x search is proves drawn signs places clauses = record {
+    found = subst (λ (f : Found S). Holds same p root wishes f) (sym is) (found_holds s.encoding s.found search.found);
     proof = λ same_atom exact. proves same_atom exact same p root search.encoding.spelled search.encoding.rule;
     drawn = drawn same p search.encoding.spelled;
     signs = signs;
     one_place = places s.encoding.registry p.package_of search.encoding.tied search.encoding.named;
     preferred = subst (λ (f : Found S). IsPreferred same p orders root f) (sym is) search.preferred;
+    proofs = subst (λ (f : Found S). HaveProofs x.proof.items f) (sym is) (found_proofs s.encoding s.found x.proof.items clauses search.found);
   }

@@ -97,7 +97,7 @@ module _ {N S : Type 0} (e : Encoding N S) (v : VariableId) where
     refused_all r refused none set keeping = empty_refuses same exact p root e holds same_name names v r.literals.items r.causes.items (refused_blamed r refused) (ap (λ ls. length ls) none) set keeping
 
     -- what was chosen before the turn is what the trail chose then
-    taken_true : (before : Encoding N S) → IsCoding before.coding → IsFrontOf before.coding.atoms.keys e.coding.atoms.keys → base_of e ≡ history before.coding.search → (t : S) → IsTaken e t → IsTrue before t
+    pub taken_true : (before : Encoding N S) → IsCoding before.coding → IsFrontOf before.coding.atoms.keys e.coding.atoms.keys → base_of e ≡ history before.coding.search → (t : S) → IsTaken e t → IsTrue before t
     taken_true before coding front base t (u, stands, truth) = true_before before e coding front t u stands (subst (λ (h : List Entry). has (made_true h) (yes u) ≡ true) base truth)
 
     -- no rule-keeping set holds the wish with what was chosen before

@@ -1,38 +1,43 @@
 -- What a search for a problem's solvables comes to.
-use Rattle.std.specs.Prelude.{◌≡◌, ℕ, ◌+◌, ⊤, Bool, List, Option, Some, None}
+use Rattle.std.specs.Prelude.{◌≡◌, ℕ, ◌+◌, ⊤, Bool, true, false, take, List, Option, Some, None, Contains, slice_get}
+use Rattle.std.specs.Global.{Vec}
 use Rattle.resolvo_pool.specs.declared.requirement.Requirement.{Requirement}
 use Rattle.resolvo_pool.specs.RuleKeeping.{Packages, Rules}
 use Rattle.resolvo_search.specs.declared.analysis.Refusal.{Refusal}
 use Rattle.resolvo_search.specs.Analysis.{IsRefusal}
-use Rattle.resolvo_search.specs.Entries.{made_true}
-use Rattle.resolvo_search.specs.State.{history}
 use Rattle.resolvo_rules.specs.First.{ArePreferred}
 use Rattle.resolvo_coding.specs.declared.coding.Coding.{Coding}
-use Rattle.resolvo_coding.specs.Chosen.{AreChosen}
+use Rattle.resolvo_coding.specs.declared.atom.ProofAtom.TheVariants.{Solvable}
 use Rattle.resolvo_encoding.specs.Encoded.{IsEncoding}
 use Rattle.resolvo_encoding.specs.Steps.{IsBuilt}
 use Rattle.resolvo_proof.specs.Drawn.{AreDrawn, HaveOneSigns}
 use Rattle.resolvo_proof.specs.Places.{HaveOnePlace}
 use Rattle.resolvo_proof.specs.Proof.{IsProof, EndsEmpty, DenyRoot}
 use Rattle.resolvo_rules.specs.Encoding.{Atom, IsExact}
+use Rattle.resolvo_proof.specs.declared.step.ProofLiteral.{ProofLiteral}
 use Rattle.resolvo_proof.specs.declared.step.ProofStep.{ProofStep}
+use Rattle.resolvo_proof.specs.declared.step.ProofStep.TheVariants.{Derived}
+use Rattle.resolvo_proof.specs.Written.{AreSteps}
 use Rattle.resolvo_encoding.specs.declared.encoding.Encoding.{Encoding}
-use Rattle.resolvo.specs.Solution.{IsSolution, IsUnsolvable}
+use Rattle.resolvo.specs.Solution.{IsUnsolvable}
+use Rattle.resolvo.specs.Turns.{AreWished, HasReason, IsDeniable, first_of}
+use Rattle.resolvo.specs.declared.turns.Turn.{Turn}
+use Rattle.resolvo.specs.declared.turns.Turns.{Turns}
 use Rattle.resolvo.specs.declared.search.Found.{Found}
 use Rattle.resolvo.specs.declared.search.Found.TheVariants.{Chosen, Clash}
 use Rattle.resolvo.specs.declared.search.Searched.{Searched}
 use Rattle.resolvo.specs.declared.proving.Solved.{Solved}
 
--- what is told of a turn: what the trail chooses, or why it was refused
-abbrev pub IsFoundBy : {N S : Type 0} → Encoding N S → Option Refusal → Found S → Type 0
-IsFoundBy e None (Chosen v) = AreChosen e.coding.atoms.keys (made_true (history e.coding.search)) v.items
-IsFoundBy e None (Clash q) = ⊥
-IsFoundBy e (Some r) (Chosen v) = ⊥
-IsFoundBy e (Some r) (Clash q) = q ≡ r
+-- what is told of turns: what was chosen in them, or why nothing can be
+abbrev pub IsFoundIn : {S : Type 0} → Turns S → Option Refusal → Found S → Type 0
+IsFoundIn t None (Chosen v turns) = (v.items ≡ t.chosen.keys) × (turns ≡ t.turns)
+IsFoundIn t None (Clash q) = ⊥
+IsFoundIn t (Some r) (Chosen v turns) = ⊥
+IsFoundIn t (Some r) (Clash q) = q ≡ r
 
 -- what clashes was derived from the clauses, and denies the root alone
 abbrev pub IsDenial : {N S : Type 0} → Coding N S → Found S → Type 0
-IsDenial c (Chosen v) = ⊤
+IsDenial c (Chosen v turns) = ⊤
 IsDenial c (Clash r) = IsRefusal c.search r.literals.items r.causes.items × DenyRoot r.literals.items
 
 -- What was encoded is built, whatever the packages are, and a clash is one of its clauses: its proof can be written.
@@ -40,50 +45,81 @@ pub record IsProvable {N S : Type 0} (s : Searched N S) : Type 0 where
   pub built : IsBuilt s.encoding
   pub denial : IsDenial s.encoding.coding s.found
 
-module _ {N S : Type 0} (same : S → S → Bool) (p : Packages N S) (root : Rules) where
-  -- what was found: a solution; or a clause that denies the root alone, and there is none
+-- The step of this number is derived, and denies nothing but these solvables.
+pub record DeniesOnly {N S : Type 0} (steps : List (ProofStep N S)) (among : S → Type 0) (k : ℕ) : Type 0 where
+  pub literals : Vec (ProofLiteral N S)
+  pub causes : Vec ℕ
+  pub derived : slice_get steps k ≡ Some (Derived literals causes)
+  pub denies : (l : ProofLiteral N S) → Contains literals.items l → (l.positive ≡ false) × ((s : S) × (l.atom ≡ Solvable s) × among s)
+
+-- The turn's step, which a refused wish has, is derived and denies nothing but the wish and what was chosen before its turn.
+pub record HasProof {N S : Type 0} (steps : List (ProofStep N S)) (chosen : List S) (t : Turn S) : Type 0 where
+  pub accepted : t.accepted ≡ true → t.step ≡ None
+  pub refused : t.accepted ≡ false → (k : ℕ) × (t.step ≡ Some k) × DeniesOnly steps (IsDeniable chosen t) k
+
+-- each turn has
+abbrev pub HaveProofs : {N S : Type 0} → List (ProofStep N S) → Found S → Type 0
+HaveProofs {N} {S} steps (Chosen v turns) = (t : Turn S) → Contains turns.items t → HasProof steps v.items t
+HaveProofs {N} {S} steps (Clash r) = ⊤
+
+-- what was chosen, and the turns: each has a learnt clause for its step
+abbrev pub HaveClauses : {N S : Type 0} → Coding N S → Found S → Type 0
+HaveClauses {N} {S} c (Chosen v turns) = (t : Turn S) → Contains turns.items t → HasReason c v.items t
+HaveClauses {N} {S} c (Clash r) = ⊤
+
+module _ {N S : Type 0} (same : S → S → Bool) (p : Packages N S) (root : Rules) (wishes : List S) where
+  -- What was found: what the turns of the wishes come to, each with its reason; or a clause that denies the root alone, and no
+  -- solvables keep all rules.
   abbrev pub IsFound : Encoding N S → Found S → Type 0
-  IsFound e (Chosen v) = IsSolution same p root v.items
+  IsFound e (Chosen v turns) = AreWished same p root v.items (first_of v.items turns.items) wishes turns.items × HaveClauses e.coding (Chosen v turns)
   IsFound e (Clash r) = IsUnsolvable same p root × IsRefusal e.coding.search r.literals.items r.causes.items
 
-  -- what was found holds: a solution, or there is none
+  -- what was found holds: what the turns come to, or that no solvables keep all rules
   abbrev pub Holds : Found S → Type 0
-  Holds (Chosen v) = IsSolution same p root v.items
+  Holds (Chosen v turns) = AreWished same p root v.items (first_of v.items turns.items) wishes turns.items
   Holds (Clash r) = IsUnsolvable same p root
 
+module _ {N S : Type 0} (same : S → S → Bool) (p : Packages N S) (root : Rules) where
   -- each of these steps may stand at its place
   abbrev pub AreProved : List (ProofStep N S) → Type 0
   AreProved steps = (same_atom : Atom N S → Atom N S → Bool) → IsExact same_atom → IsProof same_atom same p root steps
 
 module _ {N S : Type 0} (same : S → S → Bool) (p : Packages N S) (orders : Requirement → List S → Type 0) (root : Rules) where
-  -- candidates were chosen in the order in which they are tried
+  -- in the root's turn candidates were chosen in the order in which they are tried
   abbrev pub IsPreferred : Found S → Type 0
-  IsPreferred (Chosen v) = ArePreferred same p orders root v.items
+  IsPreferred (Chosen v turns) = ArePreferred same p orders root (take (first_of v.items turns.items) v.items)
   IsPreferred (Clash r) = Unit {0}
 
   -- The encoding is the problem's, and so is what was found, by an order in which each requirement's candidates may be
   -- tried.
-  pub record IsSearch (s : Searched N S) : Type 0 where
+  pub record IsSearch (wishes : List S) (s : Searched N S) : Type 0 where
     pub encoding : IsEncoding same p root s.encoding
-    pub found : IsFound same p root s.encoding s.found
+    pub found : IsFound same p root wishes s.encoding s.found
     pub preferred : IsPreferred s.found
 
   -- What was found holds, each step of the proof may stand, each literal of a derived one stands in an earlier one, an atom has
-  -- one sign in it, each solvable has one place, and candidates were chosen in the order in which they are tried.
-  pub record IsSolved (s : Solved N S) : Type 0 where
-    pub found : Holds same p root s.found
+  -- one sign in it, each solvable has one place, candidates were chosen in the order in which they are tried, and each refused
+  -- wish has a step.
+  pub record IsSolved (wishes : List S) (s : Solved N S) : Type 0 where
+    pub found : Holds same p root wishes s.found
     pub proof : AreProved same p root s.proof.items
     pub drawn : AreDrawn same p s.proof.items
     pub signs : HaveOneSigns s.proof.items
     pub one_place : HaveOnePlace s.proof.items
     pub preferred : IsPreferred s.found
+    pub proofs : HaveProofs s.proof.items s.found
 
 -- after a clash the last step has no literals
 abbrev pub EndsSo : {N S : Type 0} → Found S → List (ProofStep N S) → Type 0
-EndsSo (Chosen v) steps = ⊤
+EndsSo (Chosen v turns) steps = ⊤
 EndsSo (Clash r) steps = EndsEmpty steps
 
 -- Each clause but the root's has a step; after a clash there is one step more.
 abbrev pub Counts : {S : Type 0} → Found S → ℕ → ℕ → Type 0
-Counts (Chosen v) clauses steps = clauses ≡ steps + 1
+Counts (Chosen v turns) clauses steps = clauses ≡ steps + 1
 Counts (Clash r) clauses steps = clauses ≡ steps
+
+-- what was chosen leaves a step for each clause behind the root's
+abbrev pub HasSteps : {N S : Type 0} → Coding N S → Found S → List (ProofStep N S) → Type 0
+HasSteps c (Chosen v turns) steps = AreSteps c steps
+HasSteps c (Clash r) steps = ⊤

@@ -1,5 +1,5 @@
 -- The turns of wishes, and what was chosen in each.
-use Rattle.std.specs.Prelude.{◌≡◌, ℕ, ◌-◌, ◌≤◌, ◌⊎◌, cond, Bool, true, false, take, reverse, List, [], ◌∷◌, ◌++◌, length, Option, Some, None, Contains}
+use Rattle.std.specs.Prelude.{◌≡◌, ℕ, suc, ◌-◌, ◌≤◌, ◌⊎◌, cond, Bool, true, false, take, reverse, List, [], ◌∷◌, ◌++◌, length, Option, Some, None, Contains}
 use Rattle.resolvo_pool.specs.RuleKeeping.{Packages, Rules, is_in, IsRuleKeeping}
 use Rattle.resolvo_store.specs.AtMostOne.{IsFrontOf}
 use Rattle.resolvo_search.specs.declared.analysis.Refusal.{Refusal}
@@ -8,8 +8,10 @@ use Rattle.resolvo_search.specs.Entries.{made_true}
 use Rattle.resolvo_search.specs.State.{history}
 use Rattle.resolvo_rules.specs.Ending.{IsAccepted}
 use Rattle.resolvo_coding.specs.Chosen.{AreChosen}
+use Rattle.resolvo_coding.specs.declared.coding.Coding.{Coding}
 use Rattle.resolvo_encoding.specs.declared.encoding.Encoding.{Encoding}
 use Rattle.resolvo.specs.Solution.{IsSolution, IsUnsolvable}
+use Rattle.resolvo.specs.Wished.{IsReasonOf}
 use Rattle.resolvo.specs.declared.wishing.Wished.{Wished}
 use Rattle.resolvo.specs.declared.wishing.Wished.TheVariants.{Stood, Chosen, Refused, Clash}
 use Rattle.resolvo.specs.declared.turns.Turn.{Turn}
@@ -24,6 +26,15 @@ abbrev pub accepted_of : {S : Type 0} → List (Turn S) → List S
 accepted_of [] = []
 accepted_of (t ∷ earlier) = accepted_by (accepted_of earlier) t
 
+-- how many solvables were chosen in the root's turn, where the others were chosen in these turns
+abbrev pub first_of : {S : Type 0} → List S → List (Turn S) → ℕ
+first_of chosen [] = length chosen
+first_of chosen (t ∷ later) = t.begin
+
+-- the wish, or what was chosen before its turn
+abbrev pub IsDeniable : {S : Type 0} → List S → Turn S → S → Type 0
+IsDeniable chosen t s = (s ≡ t.solvable) ⊎ Contains (take t.begin chosen) s
+
 -- how many solvables were chosen after turns, the newest first, and the root's, after which so many were
 abbrev pub end_of : {S : Type 0} → ℕ → List (Turn S) → ℕ
 end_of first [] = first
@@ -31,14 +42,15 @@ end_of first (t ∷ earlier) = t.end
 
 module _ {N S : Type 0} (same : S → S → Bool) (p : Packages N S) (root : Rules) (chosen : List S) where
   -- The turn is the wish's. The solvables chosen by its end keep all rules, but that accepted wishes may be barred whose packages
-  -- nobody names, and are what the root and the accepted wishes reach. The wish is accepted where it is among them, and refused
-  -- only if no rule-keeping set holds it with those chosen before the turn.
+  -- nobody names, and are what the root and the accepted wishes reach. The wish is accepted where it is among them; it is refused
+  -- only if no rule-keeping set holds it with those chosen before the turn, and then nothing is chosen in it.
   pub record IsTurnOf (accepted : List S) (wish : S) (t : Turn S) : Type 0 where
     pub solvable : t.solvable ≡ wish
     pub grows : t.begin ≤ t.end
     pub within : t.end ≤ length chosen
     pub ended : IsAccepted same p root (accepted_by accepted t) (take t.end chosen)
     pub told : t.accepted ≡ is_in same p (take t.end chosen) wish
+    pub still : t.accepted ≡ false → t.end ≡ t.begin
     pub refused : t.accepted ≡ false → (set : List S) → IsRuleKeeping same p root set → ((s : S) → is_in same p (take t.begin chosen) s ≡ true → is_in same p set s ≡ true) → is_in same p set wish ≡ true → ⊥
 
   -- the turns are those of the wishes, both newest first, and each begins where the one before it ended
@@ -47,6 +59,14 @@ module _ {N S : Type 0} (same : S → S → Bool) (p : Packages N S) (root : Rul
   AreTurns first [] (t ∷ earlier) = ⊥
   AreTurns first (w ∷ before) [] = ⊥
   AreTurns first (w ∷ before) (t ∷ earlier) = (t.begin ≡ end_of first earlier) × IsTurnOf (accepted_of earlier) w t × AreTurns first before earlier
+
+  -- the turns are those of the wishes, each begins where the one before it ended, and the first one where so many were chosen, after
+  -- these accepted wishes
+  abbrev pub AreInTurn : ℕ → List S → List S → List (Turn S) → Type 0
+  AreInTurn begin accepted [] [] = Unit {0}
+  AreInTurn begin accepted [] (t ∷ later) = ⊥
+  AreInTurn begin accepted (w ∷ ws) [] = ⊥
+  AreInTurn begin accepted (w ∷ ws) (t ∷ later) = (t.begin ≡ begin) × IsTurnOf accepted w t × AreInTurn t.end (accepted_by accepted t) ws later
 
   -- The first ones chosen are a solution, in the root's turn; the others were chosen in the turns of the wishes.
   pub record AreWished (first : ℕ) (wishes : List S) (told : List (Turn S)) : Type 0 where
@@ -77,6 +97,16 @@ pub record AreRight {N S : Type 0} (same : S → S → Bool) (p : Packages N S) 
   pub wished : AreWished same p root t.chosen.keys first wishes t.turns.items
   pub accepted : IsAccepted same p root (accepted_of (reverse t.turns.items)) t.chosen.keys
 
+-- An accepted wish has no step. The step of a refused one is that of a learnt clause, which denies nothing but the wish and what
+-- was chosen before its turn.
+pub record HasReason {N S : Type 0} (c : Coding N S) (chosen : List S) (t : Turn S) : Type 0 where
+  pub accepted : t.accepted ≡ true → t.step ≡ None
+  pub refused : t.accepted ≡ false → (k : ℕ) × (t.step ≡ Some k) × IsReasonOf c (IsDeniable chosen t) (suc k)
+
+-- each turn has
+abbrev pub HaveReasons : {N S : Type 0} → Coding N S → Turns S → Type 0
+HaveReasons {N} {S} c t = (turn : Turn S) → Contains t.turns.items turn → HasReason c t.chosen.keys turn
+
 -- whether the wish's turn accepted it
 abbrev pub was_accepted : Wished → Bool
 was_accepted Stood = true
@@ -106,10 +136,10 @@ pub record Records {S : Type 0} (wish : S) (begin : ℕ) (wished : Wished) (old 
   pub chosen : new.chosen ≡ old.chosen
   pub turns : new.turns.items ≡ old.turns.items ++ turn ∷ []
 
--- what was chosen is right after these wishes; or the rules can't all be kept
-abbrev pub IsNextRight : {N S : Type 0} → (S → S → Bool) → Packages N S → Rules → ℕ → List S → Turns S → Option Refusal → Type 0
-IsNextRight same p root first wishes t None = AreRight same p root first wishes t
-IsNextRight same p root first wishes t (Some r) = IsUnsolvable same p root
+-- what was chosen is right after these wishes, and each turn has its reason; or the rules can't all be kept
+abbrev pub IsNextRight : {N S : Type 0} → (S → S → Bool) → Packages N S → Rules → ℕ → List S → Encoding N S → Turns S → Option Refusal → Type 0
+IsNextRight same p root first wishes e t None = AreRight same p root first wishes t × HaveReasons e.coding t
+IsNextRight same p root first wishes e t (Some r) = IsUnsolvable same p root
 
 -- what is told of the turns stands; or this clause can't be true
 abbrev pub StandSo : {N S : Type 0} → Encoding N S → Turns S → Option Refusal → Type 0

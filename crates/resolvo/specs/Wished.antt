@@ -1,17 +1,22 @@
 -- What the turn of a wish comes to.
-use Rattle.std.specs.Prelude.{◌≡◌, Bool, true, ⊤, List, [], ◌∷◌, ◌++◌, Some, None, Contains}
+use Rattle.std.specs.Prelude.{◌≡◌, ◌⊎◌, ◌<◌, ℕ, Bool, true, ⊤, List, [], ◌∷◌, ◌++◌, Some, None, Contains, slice_get}
+use Rattle.resolvo_pool.specs.declared.id.ClauseId.{ClauseId}
 use Rattle.resolvo_pool.specs.declared.id.VariableId.{VariableId}
 use Rattle.resolvo_pool.specs.Provider.{listed}
 use Rattle.resolvo_pool.specs.RuleKeeping.{Packages, Rules, is_in, IsRuleKeeping}
 use Rattle.resolvo_store.specs.AtMostOne.{IsFrontOf}
-use Rattle.resolvo_store.specs.Clauses.{yes}
-use Rattle.resolvo_store.specs.Signed.{has}
+use Rattle.resolvo_store.specs.Clauses.{yes, no, root as root_variable}
+use Rattle.resolvo_store.specs.Signed.{Signed, has}
+use Rattle.resolvo_search.specs.declared.state.HeldClause.{HeldClause}
 use Rattle.resolvo_search.specs.Analysis.{IsRefusal}
 use Rattle.resolvo_search.specs.Entries.{made_true, EndsWith}
 use Rattle.resolvo_search.specs.State.{history}
 use Rattle.resolvo_coding.specs.declared.atom.ProofAtom.TheVariants.{Solvable}
 use Rattle.resolvo_coding.specs.Atoms.{StandsFor}
 use Rattle.resolvo_coding.specs.Coding.{Grows}
+use Rattle.resolvo_coding.specs.declared.coding.Coding.{Coding}
+use Rattle.resolvo_coding.specs.Statements.{stated_at}
+use Rattle.resolvo_coding.specs.declared.stated.Stated.TheVariants.{Learnt}
 use Rattle.resolvo_search.specs.declared.analysis.Refusal.{Refusal}
 use Rattle.resolvo_encoding.specs.Base.{base_of, IsOpen}
 use Rattle.resolvo_encoding.specs.declared.encoding.Encoding.{Encoding}
@@ -32,9 +37,24 @@ AreCandidates {N} {S} same p list = (s : S) → Contains list s → IsCandidate 
 abbrev pub IsTrue : {N S : Type 0} → Encoding N S → S → Type 0
 IsTrue e s = (u : VariableId) × StandsFor e.coding.atoms.keys u (Solvable s) × (has (made_true (history e.coding.search)) (yes u) ≡ true)
 
--- What the trail made true stands, the newest entries apart, and the root still is the first parent.
+-- the literal denies the root, or one of these solvables
+abbrev pub DeniesOne : {N S : Type 0} → Coding N S → (S → Type 0) → Signed → Type 0
+DeniesOne {N} {S} c among l = (l ≡ no root_variable) ⊎ ((t : S) × (u : VariableId) × (l ≡ no u) × StandsFor c.atoms.keys u (Solvable t) × among t)
+
+-- The clause of this number, which is not the root's, was learnt, and denies nothing but these solvables.
+pub record IsReasonOf {N S : Type 0} (c : Coding N S) (among : S → Type 0) (number : ℕ) : Type 0 where
+  pub later : 0 < number
+  pub held : HeldClause
+  pub stands : slice_get c.search.clauses number ≡ Some held
+  pub learnt : stated_at c.stated.items number ≡ Some Learnt
+  pub denies : (l : Signed) → has held.literals.items l ≡ true → DeniesOne c among l
+
+-- What the trail made true stands, the newest entries apart, clauses came behind the others, and the root still is the first
+-- parent.
 pub record KeepsTrail {N S : Type 0} (old new : Encoding N S) : Type 0 where
   pub atoms : IsFrontOf old.coding.atoms.keys new.coding.atoms.keys
+  pub clauses : IsFrontOf old.coding.search.clauses new.coding.search.clauses
+  pub stated : IsFrontOf old.coding.stated.items new.coding.stated.items
   pub ends : EndsWith (history old.coding.search) (history new.coding.search)
   pub rooted : IsRooted old → IsRooted new
 
@@ -54,11 +74,20 @@ IsLast {N} {S} e v = (front : List S) × (s : S) × (e.noted.wishes.items ≡ fr
 abbrev pub IsRefusable : {N S : Type 0} → Encoding N S → Refusal → Type 0
 IsRefusable e r = (v : VariableId) × IsOpen e v × IsLast e v × IsRefusedBy (Some v) e r
 
--- Where the refusal has literals, the trail is what it was before the turn, and the wish is noted no more. Else nothing changed.
+-- the clause has these literals, and was learnt
+pub record IsLearntAs {N S : Type 0} (c : Coding N S) (literals : List Signed) (clause : ClauseId) : Type 0 where
+  pub later : 0 < clause.0
+  pub held : HeldClause
+  pub stands : slice_get c.search.clauses clause.0 ≡ Some held
+  pub learnt : stated_at c.stated.items clause.0 ≡ Some Learnt
+  pub is : held.literals.items ≡ literals
+
+-- Where the refusal has literals, they are those of a clause more, the trail is what it was before the turn, and the wish is noted
+-- no more. Else nothing changed.
 abbrev pub IsTurnedDown : {N S : Type 0} → Refusal → Encoding N S → Encoding N S → Wished → Type 0
 IsTurnedDown refusal old new Stood = ⊥
 IsTurnedDown refusal old new Chosen = ⊥
-IsTurnedDown {N} {S} refusal old new (Refused clause) = (history new.coding.search ≡ base_of old) × ((front : List S) (s : S) → old.noted.wishes.items ≡ front ++ s ∷ [] → new.noted.wishes.items ≡ front)
+IsTurnedDown {N} {S} refusal old new (Refused clause) = (history new.coding.search ≡ base_of old) × ((front : List S) (s : S) → old.noted.wishes.items ≡ front ++ s ∷ [] → new.noted.wishes.items ≡ front) × IsLearntAs new.coding refusal.literals.items clause
 IsTurnedDown refusal old new (Clash r) = (r ≡ refusal) × (r.literals.items ≡ []) × (new ≡ old)
 
 -- clauses may have come, and what variables stand for, candidates and parents are what they were
@@ -72,9 +101,10 @@ module _ {N S : Type 0} (same : S → S → Bool) (p : Packages N S) (root : Rul
   abbrev pub IsDenied : Encoding N S → S → Type 0
   IsDenied e s = (set : List S) → IsRuleKeeping same p root set → ((t : S) → IsTrue e t → is_in same p set t ≡ true) → is_in same p set s ≡ true → ⊥
 
-  -- what is told of the wish is true: it is refused only where no rule-keeping set holds it with what was chosen before its turn
-  abbrev pub IsTold : Encoding N S → S → Wished → Type 0
-  IsTold old s Stood = ⊤
-  IsTold old s Chosen = ⊤
-  IsTold old s (Refused clause) = IsDenied old s
-  IsTold old s (Clash r) = IsUnsolvable same p root
+  -- What is told of the wish is true: it is refused only where no rule-keeping set holds it with what was chosen before its turn,
+  -- and by a clause that denies nothing else.
+  abbrev pub IsTold : Encoding N S → Encoding N S → S → Wished → Type 0
+  IsTold old new s Stood = ⊤
+  IsTold old new s Chosen = ⊤
+  IsTold old new s (Refused clause) = IsDenied old s × IsReasonOf new.coding (λ t. (t ≡ s) ⊎ IsTrue old t) clause.0
+  IsTold old new s (Clash r) = IsUnsolvable same p root

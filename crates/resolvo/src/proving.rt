@@ -11,7 +11,8 @@ ghost use Rattle.resolvo_proof.specs.Drawn.{AreDrawn, HaveOneSigns};
 ghost use Rattle.resolvo_proof.specs.Places.{HaveOnePlace, AreNamedBy};
 ghost use Rattle.resolvo_proof.specs.Proof.{Proves};
 ghost use Rattle.resolvo.specs.Encoder.{IsRoot};
-ghost use Rattle.resolvo.specs.Solving.{IsDenial, IsProvable, IsSolved, EndsSo, Counts};
+ghost use Rattle.resolvo.specs.Wished.{AreCandidates};
+ghost use Rattle.resolvo.specs.Solving.{IsDenial, IsProvable, IsSolved, EndsSo, Counts, HasSteps};
 
 use crate::deciding::Activity;
 use crate::search::{Found, Searched, search};
@@ -50,9 +51,10 @@ fn steps_of<N: SolverId, S: SolverId>(
     ensures places { IfOk result (λ v. (r : Registry N) (package_of : S → N) → AreTied r coding.now → AreNamedBy r coding.now package_of → HaveOnePlace v.items) }
     ensures ends { IfOk result (λ v. EndsSo found.now v.items) }
     ensures count { IfOk result (λ v. Counts found.now (length coding.now.search.clauses) (length v.items)) }
+    ensures clauses { IfOk result (λ v. HasSteps coding.now found.now v.items) }
 {
     match found {
-        Found::Chosen(_) => proof_of(alloc, coding, None),
+        Found::Chosen { .. } => proof_of(alloc, coding, None),
         Found::Clash(refusal) => proof_of(alloc, coding, Some(refusal)),
     }
 }
@@ -71,6 +73,7 @@ fn prove<N: SolverId + Drop, S: SolverId>(
     ensures signs { IfOk result (λ s. HaveOneSigns s.proof.items) }
     ensures places { IfOk result (λ s. (r : Registry N) (package_of : S → N) → AreTied r searched.encoding.coding → AreNamedBy r searched.encoding.coding package_of → HaveOnePlace s.proof.items) }
     ensures ends { IfOk result (λ s. EndsSo s.found s.proof.items) }
+    ensures clauses { IfOk result (λ s. HasSteps searched.encoding.coding searched.found s.proof.items) }
 {
     let Searched { encoding, found } = searched;
     let proof = steps_of(alloc, &encoding.coding, &found)?;
@@ -82,22 +85,23 @@ fn prove<N: SolverId + Drop, S: SolverId>(
     })
 }
 
-/// Searches for solvables that keep the rules of a root with these requirements and constraints, and of each other, and
-/// writes the proof. It stops with `Memory`, `Ids`, or a value with which the answers are cancelled.
+/// Searches for solvables that keep the rules of a root with these requirements and constraints, and of each other, then for the
+/// wishes, in their order, and writes the proof. It stops with `Memory`, `Ids`, or a value with which the answers are cancelled.
 pub fn solve<A: Answering>(
     alloc: Global,
     answers: &mut A,
     activity: Activity,
     requirements: &[ConditionalRequirement],
     constraints: &[VersionSetId],
+    wishes: &[A::SolvableId],
 ) -> Result<Solved<A::NameId, A::SolvableId>, CacheFault<A::Cancel>>
     ensures same { answers.new ≡ answers.old }
-    ensures solved { IfOk result (λ s. (root : Rules) → IsRoot requirements.now constraints.now root → IsSolved A.SolvableId.eq (A.packages answers.old) (A.orders answers.old) root s) }
+    ensures solved { IfOk result (λ s. (root : Rules) → IsRoot requirements.now constraints.now root → AreCandidates A.SolvableId.eq (A.packages answers.old) wishes.now → IsSolved A.SolvableId.eq (A.packages answers.old) (A.orders answers.old) root wishes.now s) }
     ensures ends { IfOk result (λ s. EndsSo s.found s.proof.items) }
     ensures count { IfOk result (λ s. Counts s.found s.clause_count (length s.proof.items)) }
     ensures cancelled { IfErr result (IsCancelledBy (A.may_cancel answers.old)) }
 {
-    match search(alloc, answers, activity, requirements, constraints) {
+    match search(alloc, answers, activity, requirements, constraints, wishes) {
         Ok(searched) => {
             let solved = prove(alloc, searched)?;
             Ok(solved)

@@ -1,13 +1,17 @@
-//! A whole search for what a problem's root needs.
-ghost use Rattle.std.specs.Prelude.{◌≡◌, IfOk, IfErr, OnOk};
+//! A whole search for what a problem's root needs and for its wishes.
+ghost use Rattle.std.specs.Prelude.{◌≡◌, [], None, IfOk, IfErr, OnOk};
 ghost use Rattle.resolvo_cache.specs.Cached.{IsCancelledBy};
 ghost use Rattle.resolvo_pool.specs.RuleKeeping.{Rules};
 ghost use Rattle.resolvo_encoding.specs.Steps.{IsBegunEncoding, IsBuilt};
 ghost use Rattle.resolvo.specs.Encoder.{IsInOrder, IsRoot};
-ghost use Rattle.resolvo.specs.Solving.{IsFound, IsFoundBy, IsPreferred, IsSearch, IsDenial, IsProvable};
+ghost use Rattle.resolvo.specs.Turn.{IsRooted, IsTurn};
+ghost use Rattle.resolvo.specs.Wished.{AreCandidates};
+ghost use Rattle.resolvo.specs.Solving.{IsFound, IsFoundIn, IsPreferred, IsSearch, IsDenial, IsProvable};
 
 use crate::deciding::Activity;
 use crate::turn::run_turn;
+use crate::turns::{Turn, Turns};
+use crate::wishing::run_wishes;
 use resolvo_answers::answering::Answering;
 use resolvo_cache::cache::CacheFault;
 use resolvo_encoding::encoding::Encoding;
@@ -23,8 +27,11 @@ use std::hash::Hash;
 /// What was found.
 #[derive(Debug, Drop)]
 pub enum Found<S> {
-    /// Solvables that keep all rules, in the order of the trail.
-    Chosen(Vec<S>),
+    /// What was chosen, in the order in which it was: first in the root's turn, then in those of the wishes.
+    Chosen {
+        solvables: Vec<S>,
+        turns: Vec<Turn<S>>,
+    },
     /// The clauses can't be true together: no solvables keep all rules.
     Clash(Refusal),
 }
@@ -36,25 +43,23 @@ pub struct Searched<N: Eq + Hash, S: Eq + Hash> {
     pub found: Found<S>,
 }
 
-/// What a turn found.
-fn found_by<N: SolverId, S: SolverId>(
-    alloc: Global,
-    encoding: &Encoding<N, S>,
-    turn: Option<Refusal>,
-) -> R<Found<S>>
-    ensures { IfOk result (IsFoundBy encoding.now turn) }
+/// What was chosen in the turns; or why nothing can be.
+fn found_in<S: SolverId>(alloc: Global, turns: Turns<S>, clash: Option<Refusal>) -> R<Found<S>>
+    ensures { IfOk result (IsFoundIn turns clash) }
 {
-    match turn {
+    match clash {
         Some(refusal) => Ok(Found::Clash(refusal)),
         None => {
-            let chosen = encoding.coding.chosen(alloc)?;
-            Ok(Found::Chosen(chosen))
+            let Turns { chosen, turns } = turns;
+            let mut solvables = Vec::new(alloc);
+            solvables.extend_from_slice(chosen.as_slice())?;
+            Ok(Found::Chosen { solvables, turns })
         }
     }
 }
 
-/// The root's turn, and what it found.
-fn run_root<A: Answering>(
+/// The turns of the wishes, after the root's, and what was found in all of them.
+fn run_others<A: Answering>(
     alloc: Global,
     answers: &mut A,
     encoding: &mut Encoding<A::NameId, A::SolvableId>,
@@ -62,10 +67,49 @@ fn run_root<A: Answering>(
     activity: Activity,
     requirements: &[ConditionalRequirement],
     constraints: &[VersionSetId],
+    wishes: &[A::SolvableId],
+) -> Result<Found<A::SolvableId>, CacheFault<A::Cancel>>
+    requires built { IsBuilt encoding.old }
+    requires rooted { IsRooted encoding.old }
+    requires ended { IsTurn A.SolvableId.eq None encoding.old None }
+    requires first { encoding.old.noted.wishes.items ≡ [] }
+    ensures same { answers.new ≡ answers.old }
+    ensures found { IfOk result (λ f. (root : Rules) → IsRoot requirements.now constraints.now root → AreCandidates A.SolvableId.eq (A.packages answers.old) wishes.now → IsInOrder A.SolvableId.eq (A.packages answers.old) (A.orders answers.old) root encoding.old → IsInOrder A.SolvableId.eq (A.packages answers.old) (A.orders answers.old) root encoding.new × IsFound A.SolvableId.eq (A.packages answers.old) root wishes.now encoding.new f × IsPreferred A.SolvableId.eq (A.packages answers.old) (A.orders answers.old) root f) }
+    ensures denial { IfOk result (IsDenial encoding.new.coding) }
+    ensures built { OnOk result (IsBuilt encoding.new) }
+    ensures cancelled { IfErr result (IsCancelledBy (A.may_cancel answers.old)) }
+{
+    let mut turns = Turns::new(alloc);
+    turns.list(alloc, encoding)?;
+    let clash = run_wishes(
+        alloc,
+        answers,
+        encoding,
+        scores,
+        activity,
+        requirements,
+        constraints,
+        wishes,
+        &mut turns,
+    )?;
+    let found = found_in(alloc, turns, clash)?;
+    Ok(found)
+}
+
+/// All turns, and what was found in them.
+fn run_turns<A: Answering>(
+    alloc: Global,
+    answers: &mut A,
+    encoding: &mut Encoding<A::NameId, A::SolvableId>,
+    scores: &mut <A::NameId as SolverId>::Scores,
+    activity: Activity,
+    requirements: &[ConditionalRequirement],
+    constraints: &[VersionSetId],
+    wishes: &[A::SolvableId],
 ) -> Result<Found<A::SolvableId>, CacheFault<A::Cancel>>
     requires { IsBegunEncoding encoding.old }
     ensures same { answers.new ≡ answers.old }
-    ensures found { IfOk result (λ f. (root : Rules) → IsRoot requirements.now constraints.now root → IsInOrder A.SolvableId.eq (A.packages answers.old) (A.orders answers.old) root encoding.old → IsInOrder A.SolvableId.eq (A.packages answers.old) (A.orders answers.old) root encoding.new × IsFound A.SolvableId.eq (A.packages answers.old) root encoding.new f × IsPreferred A.SolvableId.eq (A.packages answers.old) (A.orders answers.old) root f) }
+    ensures found { IfOk result (λ f. (root : Rules) → IsRoot requirements.now constraints.now root → AreCandidates A.SolvableId.eq (A.packages answers.old) wishes.now → IsInOrder A.SolvableId.eq (A.packages answers.old) (A.orders answers.old) root encoding.old → IsInOrder A.SolvableId.eq (A.packages answers.old) (A.orders answers.old) root encoding.new × IsFound A.SolvableId.eq (A.packages answers.old) root wishes.now encoding.new f × IsPreferred A.SolvableId.eq (A.packages answers.old) (A.orders answers.old) root f) }
     ensures denial { IfOk result (IsDenial encoding.new.coding) }
     ensures built { OnOk result (IsBuilt encoding.new) }
     ensures cancelled { IfErr result (IsCancelledBy (A.may_cancel answers.old)) }
@@ -80,27 +124,41 @@ fn run_root<A: Answering>(
         constraints,
         None,
     )?;
-    let found = found_by(alloc, encoding, turn)?;
+    if let Some(refusal) = turn {
+        return Ok(Found::Clash(refusal));
+    }
+    let found = run_others(
+        alloc,
+        answers,
+        encoding,
+        scores,
+        activity,
+        requirements,
+        constraints,
+        wishes,
+    )?;
     Ok(found)
 }
 
 /// Searches for solvables that keep the rules of a root with these requirements and constraints, and of each other, and
-/// takes candidates in the order in which they are tried. It stops with `Memory`, `Ids`, or a value with which the answers are cancelled.
+/// takes candidates in the order in which they are tried; then for the wishes, in their order. It stops with `Memory`, `Ids`, or a
+/// value with which the answers are cancelled.
 pub fn search<A: Answering>(
     alloc: Global,
     answers: &mut A,
     activity: Activity,
     requirements: &[ConditionalRequirement],
     constraints: &[VersionSetId],
+    wishes: &[A::SolvableId],
 ) -> Result<Searched<A::NameId, A::SolvableId>, CacheFault<A::Cancel>>
     ensures same { answers.new ≡ answers.old }
-    ensures found { IfOk result (λ s. (root : Rules) → IsRoot requirements.now constraints.now root → IsSearch A.SolvableId.eq (A.packages answers.old) (A.orders answers.old) root s) }
+    ensures found { IfOk result (λ s. (root : Rules) → IsRoot requirements.now constraints.now root → AreCandidates A.SolvableId.eq (A.packages answers.old) wishes.now → IsSearch A.SolvableId.eq (A.packages answers.old) (A.orders answers.old) root wishes.now s) }
     ensures provable { IfOk result IsProvable }
     ensures cancelled { IfErr result (IsCancelledBy (A.may_cancel answers.old)) }
 {
     let mut encoding = Encoding::begin(alloc)?;
     let mut scores = <A::NameId as SolverId>::Scores::new(alloc);
-    match run_root(
+    match run_turns(
         alloc,
         answers,
         &mut encoding,
@@ -108,6 +166,7 @@ pub fn search<A: Answering>(
         activity,
         requirements,
         constraints,
+        wishes,
     ) {
         Ok(found) => Ok(Searched { encoding, found }),
         Err(fault) => Err(fault),

@@ -1,14 +1,16 @@
 //! The solver: a provider with its answers, and what the last search left.
-ghost use Rattle.std.specs.Prelude.{◌≡◌, ◌≤◌, [], ◌+◌, ⊤, length};
-ghost use Rattle.resolvo_cache.specs.Cached.{IsCancelledBy};
+ghost use Rattle.std.specs.Prelude.{◌≡◌, ◌≤◌, List, []};
+ghost use Rattle.std.specs.Iterator.{IsFinite};
+ghost use Rattle.std.specs.Iterator.Runs.{WholeRun};
 ghost use Rattle.resolvo_answers.specs.Answering.{packages_by, orders_by};
-ghost use Rattle.resolvo_proof.specs.Proof.{EndsEmpty};
-ghost use Rattle.resolvo.specs.Solver.{Kept, IsAnswer, Prefers, Leaves, root_of, AnswersSo, stopped_by};
+ghost use Rattle.resolvo.specs.Wished.{AreCandidates};
+ghost use Rattle.resolvo.specs.Solver.{Kept, IfEnded, IsAnswer, IsStopped, Keeps, Leaves, root_of, stopped_by};
 
 use crate::deciding::Activity;
 use crate::problem::Problem;
 use crate::proving::{Solved, solve};
 use crate::search::Found;
+use crate::turns::Turn;
 use resolvo_answers::answers::Answers;
 use resolvo_cache::cache::CacheFault;
 use resolvo_pool::id::ClauseId;
@@ -61,19 +63,57 @@ pub struct Solver<D: DependencyProvider> {
     activity: Activity,
     clause_count: usize,
     deferred_count: usize,
+    turns: Vec<Turn<D::SolvableId>>,
     proof: Vec<ProofStep<D::NameId, D::SolvableId>>,
 }
 
 impl<D: DependencyProvider> Model for Solver<D> {
     ghost Value = { Kept D D.NameId D.SolvableId };
 
-    ghost view = { λ s. record { provider = s.answers; clause_count = s.clause_count; deferred_count = s.deferred_count; proof = s.proof.items } };
+    ghost view = { λ s. record { provider = s.answers; clause_count = s.clause_count; deferred_count = s.deferred_count; turns = s.turns.items; proof = s.proof.items } };
 }
 
 impl<D: DependencyProvider> Solver<D> {
+    /// Forgets the last search.
+    fn forget(&mut self)
+        ensures { self.new ≡ record self.old { clause_count = 0; deferred_count = 0; turns = []; proof = [] } }
+    {
+        self.clause_count = 0;
+        self.deferred_count = 0;
+        self.turns = Vec::new(self.alloc);
+        self.proof = Vec::new(self.alloc);
+    }
+
+    /// Keeps what a search left, and tells what it found.
+    fn keep(
+        &mut self,
+        solved: Solved<D::NameId, D::SolvableId>,
+    ) -> Result<Vec<D::SolvableId>, UnsolvableOrCancelled<D::Cancel>>
+        ensures { Keeps solved self.old result self.new }
+    {
+        let Solved {
+            found,
+            clause_count,
+            deferred_count,
+            proof,
+        } = solved;
+        self.clause_count = clause_count;
+        self.deferred_count = deferred_count;
+        self.proof = proof;
+        match found {
+            Found::Chosen { solvables, turns } => {
+                self.turns = turns;
+                Ok(solvables)
+            }
+            Found::Clash(refusal) => Err(UnsolvableOrCancelled::Unsolvable(Conflict {
+                clauses: refusal.causes,
+            })),
+        }
+    }
+
     /// A solver that was asked nothing yet.
     pub fn new(alloc: Global, provider: D) -> Solver<D>
-        ensures { result ≡ record { provider = provider; clause_count = 0; deferred_count = 0; proof = [] } }
+        ensures { result ≡ record { provider = provider; clause_count = 0; deferred_count = 0; turns = []; proof = [] } }
     {
         Solver {
             alloc,
@@ -81,6 +121,7 @@ impl<D: DependencyProvider> Solver<D> {
             activity: Activity::standard(),
             clause_count: 0,
             deferred_count: 0,
+            turns: Vec::new(alloc),
             proof: Vec::new(alloc),
         }
     }
@@ -107,6 +148,14 @@ impl<D: DependencyProvider> Solver<D> {
         self.deferred_count
     }
 
+    /// The turns of the wishes of the last search, one for each, in their order; none before the first, and after one that chose
+    /// nothing.
+    pub fn turns(&self) -> &[Turn<D::SolvableId>]
+        ensures { result.now ≡ self.now.turns }
+    {
+        self.turns.as_slice()
+    }
+
     /// The steps of the last search's proof; none before the first, and after one that stopped.
     pub fn proof(&self) -> &[ProofStep<D::NameId, D::SolvableId>]
         ensures { result.now ≡ self.now.proof }
@@ -126,6 +175,7 @@ impl<D: DependencyProvider> Solver<D> {
             activity: _,
             clause_count,
             deferred_count,
+            turns,
             proof,
         } = self;
         Solver {
@@ -134,58 +184,45 @@ impl<D: DependencyProvider> Solver<D> {
             activity: Activity::new(add, decay),
             clause_count,
             deferred_count,
+            turns,
             proof,
         }
     }
 
-    /// Searches for solvables that keep the rules of the problem, in the order in which they were chosen. A search begins
-    /// anew, with the answers as they are.
-    pub fn solve(
+    /// Searches for solvables that keep the rules of the problem, then for its wishes, in their order, and gives what was chosen,
+    /// in the order in which it was. A search begins anew, with the answers as they are.
+    pub fn solve<I: Iterator<Item = D::SolvableId>>(
         &mut self,
-        problem: Problem<D::SolvableId>,
+        problem: Problem<D::SolvableId, I>,
     ) -> Result<Vec<D::SolvableId>, UnsolvableOrCancelled<D::Cancel>>
+        requires wishes { I.can_next problem.soft_requirements }
+        requires finite { IsFinite (I.remaining problem.soft_requirements) }
         ensures provider { self.new.provider ≡ self.old.provider }
-        ensures answer { IsAnswer D.SolvableId.eq (packages_by D.name_of_solvable D.name_of_version_set D.members_of D.condition_of D.candidates_of D.matches D.dependencies_of self.old.provider) (root_of problem) (D.may_cancel self.old.provider) result }
-        ensures preferred { Prefers D.SolvableId.eq (packages_by D.name_of_solvable D.name_of_version_set D.members_of D.condition_of D.candidates_of D.matches D.dependencies_of self.old.provider) (root_of problem) (orders_by D.name_of_version_set D.members_of D.candidates_of D.matches D.sorts D.SolvableId.eq self.old.provider) result }
-        ensures leaves { Leaves D.SolvableId.eq (packages_by D.name_of_solvable D.name_of_version_set D.members_of D.condition_of D.candidates_of D.matches D.dependencies_of self.old.provider) (root_of problem) result self.new }
+        ensures answer { IfEnded result ((wishes : List D.SolvableId) × WholeRun I.next_gives problem.soft_requirements (λ p. wishes ≡ p.items) × (AreCandidates D.SolvableId.eq (packages_by D.name_of_solvable D.name_of_version_set D.members_of D.condition_of D.candidates_of D.matches D.dependencies_of self.old.provider) wishes → IsAnswer D.SolvableId.eq (packages_by D.name_of_solvable D.name_of_version_set D.members_of D.condition_of D.candidates_of D.matches D.dependencies_of self.old.provider) (root_of problem) (orders_by D.name_of_version_set D.members_of D.candidates_of D.matches D.sorts D.SolvableId.eq self.old.provider) wishes result self.new)) }
+        ensures leaves { Leaves result self.new }
+        ensures cancelled { IsStopped (D.may_cancel self.old.provider) result }
     {
-        self.clause_count = 0;
-        self.deferred_count = 0;
-        self.proof = Vec::new(self.alloc);
-        let requirements = problem.requirements.as_slice();
-        let constraints = problem.constraints.as_slice();
+        self.forget();
+        let Problem {
+            requirements,
+            constraints,
+            soft_requirements,
+            of: _,
+        } = problem;
+        let wishes: Vec<D::SolvableId> = match soft_requirements.collect(self.alloc) {
+            Ok(wishes) => wishes,
+            Err(_) => return Err(UnsolvableOrCancelled::Memory),
+        };
         match solve(
             self.alloc,
             &mut self.answers,
             self.activity,
-            requirements,
-            constraints,
+            requirements.as_slice(),
+            constraints.as_slice(),
+            wishes.as_slice(),
         ) {
-            Ok(solved) => {
-                let Solved {
-                    found,
-                    clause_count,
-                    deferred_count,
-                    proof,
-                } = solved;
-                self.clause_count = clause_count;
-                self.deferred_count = deferred_count;
-                self.proof = proof;
-                answer_of(found)
-            }
+            Ok(solved) => self.keep(solved),
             Err(fault) => Err(UnsolvableOrCancelled::from(fault)),
         }
-    }
-}
-
-/// What was found, as an answer.
-fn answer_of<S, C>(found: Found<S>) -> Result<Vec<S>, UnsolvableOrCancelled<C>>
-    ensures { AnswersSo found result }
-{
-    match found {
-        Found::Chosen(chosen) => Ok(chosen),
-        Found::Clash(refusal) => Err(UnsolvableOrCancelled::Unsolvable(Conflict {
-            clauses: refusal.causes,
-        })),
     }
 }

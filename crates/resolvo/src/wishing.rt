@@ -3,6 +3,7 @@
 ghost use Rattle.std.specs.Prelude.{◌≡◌, ◌<◌, ◌++◌, ◌∷◌, ℕ, List, [], false, length, Some, IfOk, IfErr, OnOk};
 ghost use Rattle.resolvo_cache.specs.Cached.{IsCancelledBy};
 ghost use Rattle.resolvo_pool.specs.RuleKeeping.{Packages, Rules, IsLawful};
+ghost use Rattle.resolvo_store.specs.AtMostOne.{IsFrontOf};
 ghost use Rattle.resolvo_store.specs.Clauses.{yes};
 ghost use Rattle.resolvo_store.specs.Signed.{has};
 ghost use Rattle.resolvo_search.specs.Entries.{made_true};
@@ -13,7 +14,7 @@ ghost use Rattle.resolvo_encoding.specs.Steps.{IsBuilt};
 ghost use Rattle.resolvo_encoding.specs.Wishing.{turn_of, IsWish};
 ghost use Rattle.resolvo.specs.Encoder.{IsInOrder, IsRoot, AddsParents};
 ghost use Rattle.resolvo.specs.Turn.{IsRooted, IsTurn};
-ghost use Rattle.resolvo.specs.Turns.{AreAt, AreRight, IsNextRight, StandSo};
+ghost use Rattle.resolvo.specs.Turns.{AreAt, AreRight, HaveReasons, IsNextRight, StandSo};
 ghost use Rattle.resolvo.specs.Wished.{AreCandidates, IsCandidate, IsOutcome, IsRefusable, IsTold, IsTurnedDown, KeepsRest, KeepsTrail};
 ghost use Rattle.resolvo.specs.declared.wishing.Wished.TheVariants.{Refused};
 
@@ -129,7 +130,7 @@ pub fn run_wish<A: Answering>(
     requires built { IsBuilt encoding.old }
     requires rooted { IsRooted encoding.old }
     ensures same { answers.new ≡ answers.old }
-    ensures stays { IfOk result (λ w. (root : Rules) → IsRoot requirements.now constraints.now root → IsCandidate A.SolvableId.eq (A.packages answers.old) wish → IsInOrder A.SolvableId.eq (A.packages answers.old) (A.orders answers.old) root encoding.old → IsInOrder A.SolvableId.eq (A.packages answers.old) (A.orders answers.old) root encoding.new × IsTold A.SolvableId.eq (A.packages answers.old) root encoding.old wish w) }
+    ensures stays { IfOk result (λ w. (root : Rules) → IsRoot requirements.now constraints.now root → IsCandidate A.SolvableId.eq (A.packages answers.old) wish → IsInOrder A.SolvableId.eq (A.packages answers.old) (A.orders answers.old) root encoding.old → IsInOrder A.SolvableId.eq (A.packages answers.old) (A.orders answers.old) root encoding.new × IsTold A.SolvableId.eq (A.packages answers.old) root encoding.old encoding.new wish w) }
     ensures outcome { IfOk result (IsOutcome A.SolvableId.eq wish encoding.old encoding.new) }
     ensures keeps { OnOk result (KeepsTrail encoding.old encoding.new) }
     ensures built { OnOk result (IsBuilt encoding.new) }
@@ -184,8 +185,9 @@ fn run_next<A: Answering>(
     requires rooted { IsRooted encoding.old }
     requires at { AreAt encoding.old turns.old }
     ensures same { answers.new ≡ answers.old }
-    ensures right { IfOk result (λ o. (root : Rules) (first : ℕ) (done : List A.SolvableId) → IsRoot requirements.now constraints.now root → IsCandidate A.SolvableId.eq (A.packages answers.old) wish → IsInOrder A.SolvableId.eq (A.packages answers.old) (A.orders answers.old) root encoding.old → AreRight A.SolvableId.eq (A.packages answers.old) root first done turns.old → IsInOrder A.SolvableId.eq (A.packages answers.old) (A.orders answers.old) root encoding.new × IsNextRight A.SolvableId.eq (A.packages answers.old) root first (done ++ wish ∷ []) turns.new o) }
+    ensures right { IfOk result (λ o. (root : Rules) (first : ℕ) (done : List A.SolvableId) → IsRoot requirements.now constraints.now root → IsCandidate A.SolvableId.eq (A.packages answers.old) wish → IsInOrder A.SolvableId.eq (A.packages answers.old) (A.orders answers.old) root encoding.old → AreRight A.SolvableId.eq (A.packages answers.old) root first done turns.old → HaveReasons encoding.old.coding turns.old → IsInOrder A.SolvableId.eq (A.packages answers.old) (A.orders answers.old) root encoding.new × IsNextRight A.SolvableId.eq (A.packages answers.old) root first (done ++ wish ∷ []) encoding.new turns.new o) }
     ensures stands { IfOk result (StandSo encoding.new turns.new) }
+    ensures front { OnOk result (IsFrontOf turns.old.chosen.keys turns.new.chosen.keys) }
     ensures rooted { OnOk result (IsRooted encoding.new) }
     ensures built { OnOk result (IsBuilt encoding.new) }
     ensures cancelled { IfErr result (IsCancelledBy (A.may_cancel answers.old)) }
@@ -235,8 +237,9 @@ pub fn run_wishes<A: Answering>(
     requires rooted { IsRooted encoding.old }
     requires at { AreAt encoding.old turns.old }
     ensures same { answers.new ≡ answers.old }
-    ensures right { IfOk result (λ o. (root : Rules) (first : ℕ) → IsRoot requirements.now constraints.now root → AreCandidates A.SolvableId.eq (A.packages answers.old) wishes.now → IsInOrder A.SolvableId.eq (A.packages answers.old) (A.orders answers.old) root encoding.old → AreRight A.SolvableId.eq (A.packages answers.old) root first [] turns.old → IsInOrder A.SolvableId.eq (A.packages answers.old) (A.orders answers.old) root encoding.new × IsNextRight A.SolvableId.eq (A.packages answers.old) root first wishes.now turns.new o) }
+    ensures right { IfOk result (λ o. (root : Rules) (first : ℕ) → IsRoot requirements.now constraints.now root → AreCandidates A.SolvableId.eq (A.packages answers.old) wishes.now → IsInOrder A.SolvableId.eq (A.packages answers.old) (A.orders answers.old) root encoding.old → AreRight A.SolvableId.eq (A.packages answers.old) root first [] turns.old → HaveReasons encoding.old.coding turns.old → IsInOrder A.SolvableId.eq (A.packages answers.old) (A.orders answers.old) root encoding.new × IsNextRight A.SolvableId.eq (A.packages answers.old) root first wishes.now encoding.new turns.new o) }
     ensures stands { IfOk result (StandSo encoding.new turns.new) }
+    ensures front { OnOk result (IsFrontOf turns.old.chosen.keys turns.new.chosen.keys) }
     ensures built { OnOk result (IsBuilt encoding.new) }
     ensures cancelled { IfErr result (IsCancelledBy (A.may_cancel answers.old)) }
 {

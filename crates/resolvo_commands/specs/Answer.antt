@@ -5,7 +5,6 @@ use Rattle.resolvo_text.specs.Texts.{IsGrammatical, IsFaultyAt}
 use Rattle.resolvo_catalogue.specs.Grammar.{IsCatalogueLine, IsRequestLine}
 use Rattle.resolvo_report.specs.Value.{Report, Install, Refused}
 use Rattle.resolvo_report.specs.Text.{report_text}
-use Rattle.resolvo_reporting.specs.Served.{AllServed, IsFirstUnserved, wishes_nothing}
 use Rattle.resolvo_reporting.specs.Reported.{IsReportOf}
 use Rattle.resolvo_judging.specs.declared.outcome.Outcome.{Outcome}
 use Rattle.resolvo_judging.specs.declared.outcome.Outcome.TheVariants as outcome
@@ -16,11 +15,12 @@ abbrev pub outcome_of : Report → Outcome
 outcome_of (Install lines steps) = outcome.Installed
 outcome_of (Refused catalogue request steps message) = outcome.Refused
 
--- What is written for the lines of grammatical texts: the first line of the request that isn't served, else a report that
--- the judge says yes to, whose claim is true.
-pub data IsAnswerOfLines (catalogue request : List Line) (ended : Outcome) (output : List ℕ) : Type 0 where
-  unserved : (n : ℕ) → IsFirstUnserved wishes_nothing request n → ended ≡ outcome.Faulty → output ≡ fault_text (codes "request") n → IsAnswerOfLines catalogue request ended output
-  reported : (r : Report) → AllServed wishes_nothing request → IsReportOf catalogue request r → ended ≡ outcome_of r → output ≡ report_text r → IsAnswerOfLines catalogue request ended output
+-- What is written for the lines of grammatical texts: a report that the judge says yes to, whose claim is true.
+pub record IsAnswerOfLines (catalogue request : List Line) (ended : Outcome) (output : List ℕ) : Type 0 where
+  pub report : Report
+  pub reported : IsReportOf catalogue request report
+  pub ends : ended ≡ outcome_of report
+  pub is_text : output ≡ report_text report
 
 -- What is written for two texts: the catalogue's first faulty line, else that of the request; where there is none, the
 -- answer of their lines.

@@ -4,6 +4,7 @@ ghost use Rattle.std.specs.Prelude.{◌≡◌, IfOk, IfErr};
 ghost use Rattle.resolvo_text.specs.Device.{DeviceFailed, WriterFailed};
 ghost use Rattle.resolvo_catalogue.specs.Grammar.{AreRequestLines};
 ghost use Rattle.resolvo_report.specs.View.{report_of};
+ghost use Rattle.resolvo_reporting.specs.Wishes.{AreWishesAt};
 ghost use Rattle.resolvo_commands.specs.Answer.{IsAnswerOfLines, outcome_of};
 ghost use Rattle.resolvo_commands.specs.Running.{AnswersTexts, IsLack, StopsBefore, StopsRun, Writes};
 ghost use Rattle.resolvo_judging.specs.Devices.{reader_of, writer_of};
@@ -11,10 +12,9 @@ ghost use Rattle.resolvo_judging.specs.Devices.{reader_of, writer_of};
 use crate::report::report_text;
 use resolvo_catalogue::{Catalogue, Request, Sink, Source, write_all};
 use resolvo_judging::outcome::{Outcome, RunFault};
-use resolvo_judging::written::{Written, faulty, not_read};
+use resolvo_judging::written::{Written, not_read};
 use resolvo_report::Report;
 use resolvo_reporting::reporting::report_for;
-use resolvo_reporting::serving::first_unserved;
 use std::alloc::Global;
 
 /// How a run ends that writes this report.
@@ -27,14 +27,11 @@ fn outcome_of(report: &Report) -> Outcome
     }
 }
 
-/// The report of grammatical texts, or the first line that isn't served.
+/// The report of grammatical texts.
 fn report(alloc: Global, catalogue: &Catalogue, request: &Request) -> Result<Written, RunFault>
-    ensures ok { IfOk result (λ answer. AreRequestLines catalogue.now request.now.lines → IsAnswerOfLines catalogue.now request.now.lines answer.outcome answer.text.items) }
+    ensures ok { IfOk result (λ answer. AreRequestLines catalogue.now request.now.lines → AreWishesAt catalogue.now request.now → IsAnswerOfLines catalogue.now request.now.lines answer.outcome answer.text.items) }
     ensures err { IfErr result IsLack }
 {
-    if let Some(line) = first_unserved(request) {
-        return faulty(alloc, "request", line);
-    }
     let report = report_for(alloc, catalogue, request)?;
     Ok(Written {
         outcome: outcome_of(&report),

@@ -1,3 +1,5 @@
+pub mod SameSets
+pub mod Turning
 pub mod Reaching
 pub mod Fitting
 pub mod Accepting

@@ -12,11 +12,11 @@ use Rattle.resolvo_catalogue.specs.Answers.{Reason, ForRequest, ForVersion}
 use Rattle.resolvo_catalogue.specs.Listed.{listed, members}
 use Rattle.resolvo_catalogue.specs.declared.rule.VersionNo.{VersionNo}
 use Rattle.resolvo_catalogue.proofs.Placing.{at_from_contains}
-use Rattle.resolvo_listing.specs.Order.{line_named, IsAsked, AreReached}
+use Rattle.resolvo_listing.specs.Order.{line_named, IsAsked, AreReached, chosen_by, chosen_in, wishes_in}
 use Rattle.resolvo_listing.specs.Order as texts
 use Rattle.resolvo_listing.proofs.Elements.{map_element, mapped_element}
 use Rattle.resolvo_pool.specs.declared.requirement.ConditionalRequirement.{ConditionalRequirement}
-use Rattle.resolvo_pool.specs.RuleKeeping.{Rules, is_in, meets, binds, is_member, rules_for, IsRuleKeeping, IsReached}
+use Rattle.resolvo_pool.specs.RuleKeeping.{Rules, is_in, is_barred, meets, binds, is_member, rules_for, IsSingle, IsRuleKeeping, IsExemptKeeping, IsReached}
 use Rattle.resolvo_pool.specs.RuleKeeping as kept
 use Rattle.resolvo_provider.specs.Ids.{SolvableId, AreEach, IsNeed}
 use Rattle.resolvo_provider.specs.Known.{name_of}
@@ -33,7 +33,7 @@ use Rattle.resolvo_provider.proofs.Elements.{flat_from, flat_to, option_from, op
 use Rattle.resolvo_provider.proofs.RulesKept.{req_from, member_from, member_to}
 use Rattle.resolvo_provider.proofs.Alike.{listed_is, in_from, in_to, need_binds, meets_same}
 use Rattle.resolvo_provider.proofs.KeptAlike.{told_of_it, its_version}
-use Rattle.resolvo_entries.specs.Install.{numbers_of}
+use Rattle.resolvo_entries.specs.Numbers.{numbers_of}
 
 -- ---- the versions of solvables
 
@@ -104,16 +104,17 @@ module _ (p : Provider) (catalogue request : List Line) (over : IsOver catalogue
   held : (xs : List SolvableId) (s : SolvableId) → Contains xs s → is_in same (packages_of p) xs s ≡ true
   held xs s h = in_to p (listed catalogue) over.versions over.once same apart xs s h
 
-  -- a solvable of a set that keeps the rules has a version
-  pub has_version : (chosen : List SolvableId) → IsRuleKeeping same (packages_of p) root chosen → (s : SolvableId) → Contains chosen s → (v : Version) × (slice_get (listed catalogue) s.raw ≡ Some v)
-  has_version chosen keeps s c =
+  -- a solvable of a set of candidates has a version
+  pub has_version : (chosen : List SolvableId) → IsSingle same (packages_of p) chosen → (s : SolvableId) → Contains chosen s → (v : Version) × (slice_get (listed catalogue) s.raw ≡ Some v)
+  has_version chosen single s c =
       let n = name_of p.ids s in
-      let among = found (pool.listed (candidates_of p n)) s (keeps.single.listed s (held chosen s c)) in
+      let among = found (pool.listed (candidates_of p n)) s (single.listed s (held chosen s c)) in
       let v = its_version p catalogue over same apart n s (subst (λ (xs : List SolvableId). Contains xs s) (listed_is p (solvables_of p.ids n.raw)) among) in
       (v.0, v.1)
 
-  module _ (needs_are : AreEach (IsNeed p.ids) root.requirements (flat_map need_in request)) (chosen : List SolvableId) (set : Set) (stands : StandsFor (listed catalogue) chosen set) where
-    module _ (part : Set) (closed : texts.IsClosed catalogue request set [] part) where
+  module _ (needs_are : AreEach (IsNeed p.ids) root.requirements (flat_map need_in request)) (chosen : List SolvableId) (set : Set) (stands : StandsFor (listed catalogue) chosen set)
+      (wishes : List SolvableId) (wished : Set) (wish_has : (s : SolvableId) → Contains wishes s → (v : Version) × (slice_get (listed catalogue) s.raw ≡ Some v) × Contains wished v) where
+    module _ (part : Set) (closed : texts.IsClosed catalogue request set wished part) where
       inner : StandsFor (listed catalogue) (part_of (listed catalogue) chosen part) part
       inner = part_stands (listed catalogue) chosen part set stands closed.within
 
@@ -151,15 +152,20 @@ module _ (p : Provider) (catalogue request : List Line) (over : IsOver catalogue
           let at = line_at_need t w.0 w.1 tells said.0 f in
           given_by (ForVersion w.0 at.0) need said.0 s (w.2, at.2) at.1 said.2 binding meeting inside
 
-      closed_part : kept.IsClosed same (packages_of p) root [] chosen (part_of (listed catalogue) chosen part)
+      wish_part : (s : SolvableId) → is_in same (packages_of p) wishes s ≡ true → is_in same (packages_of p) chosen s ≡ true → is_in same (packages_of p) (part_of (listed catalogue) chosen part) s ≡ true
+      wish_part s h inside =
+          let v = wish_has s (found wishes s h) in
+          held (part_of (listed catalogue) chosen part) s (to_part (listed catalogue) chosen part s v.0 (found chosen s inside) v.1 (closed.wished v.0 v.2))
+
+      closed_part : kept.IsClosed same (packages_of p) root wishes chosen (part_of (listed catalogue) chosen part)
       closed_part = record {
         inside = λ s h. held chosen s (from_part (listed catalogue) chosen part s (found (part_of (listed catalogue) chosen part) s h)).0;
-        wished = λ s h c. absurd (no_element s (found [] s h));
+        wished = wish_part;
         matches = given;
       }
 
-    -- solvables that are reached stand for versions that are
-    pub reached_alike : ((s : SolvableId) → is_in same (packages_of p) chosen s ≡ true → IsReached same (packages_of p) root [] chosen s) → AreReached catalogue request set []
+    -- solvables that are reached from the root and the wishes stand for versions that are
+    pub reached_alike : ((s : SolvableId) → is_in same (packages_of p) chosen s ≡ true → IsReached same (packages_of p) root wishes chosen s) → AreReached catalogue request set wished
     reached_alike all part closed v c =
         let xs = part_of (listed catalogue) chosen part in
         let s = stands.all v c in

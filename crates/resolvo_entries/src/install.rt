@@ -1,36 +1,24 @@
-//! The report of chosen versions: each with the line that asked for it, in listing order.
+//! The report of the turns of a search: chosen versions with the lines that asked for them, and wishes that are left out.
 //!
-//! `list` of the crate below tells the order and the lines; here its entries become the lines of a report. Called by
-//! the program, with what the solver chose over a catalogue's provider.
+//! `list` of the crate below tells the order and the lines; here its answers become the lines of a report. Called by
+//! the program, with the turns of the solver over a catalogue's provider.
 
 ghost use Rattle.std.specs.Prelude.{◌≡◌, map, IfOk};
 ghost use Rattle.std.specs.List.{AllByRecursion};
 ghost use Rattle.resolvo_text.specs.Spelling.{IsNumber};
 ghost use Rattle.resolvo_text.specs.View.{version_of};
-ghost use Rattle.resolvo_catalogue.specs.Grammar.{AreRequestLines};
 ghost use Rattle.resolvo_catalogue.specs.Listed.{listed};
 ghost use Rattle.resolvo_catalogue.specs.Table.{nth};
+ghost use Rattle.resolvo_listing.specs.declared.entry.Answer.TheVariants as answer;
 ghost use Rattle.resolvo_listing.specs.View as view;
-ghost use Rattle.resolvo_report.specs.View.{answer_line_of, answer_lines_of, report_of};
+ghost use Rattle.resolvo_report.specs.View.{answer_line_of, answer_lines_of, steps_of, report_of};
 ghost use Rattle.resolvo_judge.specs.Refusal.{answer_of};
-ghost use Rattle.resolvo_entries.specs.Install.{WishesNothing, Serve, numbers_of, line_of, IsInstallOf};
+ghost use Rattle.resolvo_entries.specs.Install.{Serve, line_of, IsInstallOf};
 
 use resolvo_catalogue::{Catalogue, Request, Version, VersionNo};
-use resolvo_listing::{Entry, Reason, Turn, list};
-use resolvo_pool::id::SolvableId;
-use resolvo_report::{AnswerLine, Place, Report};
+use resolvo_listing::{Answer, Entry, Reason, Turn, list};
+use resolvo_report::{AnswerLine, Place, Report, Step};
 use std::alloc::{AllocError, Global};
-
-/// The numbers of the solvables' versions.
-fn numbers_of(alloc: Global, chosen: &[SolvableId]) -> Result<Vec<VersionNo>, AllocError>
-    ensures { IfOk result (λ numbers. numbers.items ≡ numbers_of chosen.now) }
-{
-    let mut numbers = Vec::new(alloc);
-    for solvable in chosen {
-        numbers.push(VersionNo(solvable.into_raw()))?;
-    }
-    Ok(numbers)
-}
 
 /// The version of this number. One that no version has stands for a version without a name.
 fn version_at(
@@ -53,8 +41,8 @@ fn version_at(
 }
 
 /// What an entry says in a report.
-fn answer_line(alloc: Global, catalogue: &Catalogue, entry: Entry) -> Result<AnswerLine, AllocError>
-    ensures says { IfOk result (λ line. answer_of (answer_line_of line) ≡ view.answer_of (listed catalogue.now) entry) }
+fn entry_line(alloc: Global, catalogue: &Catalogue, entry: Entry) -> Result<AnswerLine, AllocError>
+    ensures says { IfOk result (λ line. answer_of (answer_line_of line) ≡ view.answer_of (listed catalogue.now) (answer.Entry entry)) }
     ensures numbered { IfOk result (λ line. IsNumber (line_of (answer_line_of line))) }
 {
     let version = version_at(alloc, catalogue, entry.version)?;
@@ -76,40 +64,61 @@ fn answer_line(alloc: Global, catalogue: &Catalogue, entry: Entry) -> Result<Ans
     }
 }
 
-/// What entries say in a report.
+/// What an entry or a wish that is left out says in a report.
+fn answer_line(
+    alloc: Global,
+    catalogue: &Catalogue,
+    answer: Answer,
+) -> Result<AnswerLine, AllocError>
+    ensures says { IfOk result (λ line. answer_of (answer_line_of line) ≡ view.answer_of (listed catalogue.now) answer) }
+    ensures numbered { IfOk result (λ line. IsNumber (line_of (answer_line_of line))) }
+{
+    match answer {
+        Answer::Entry(entry) => entry_line(alloc, catalogue, entry),
+        Answer::LeftOut {
+            version,
+            line,
+            step,
+        } => Ok(AnswerLine::LeftOut {
+            version: version_at(alloc, catalogue, version)?,
+            line,
+            step,
+        }),
+    }
+}
+
+/// What answers say in a report.
 fn answer_lines(
     alloc: Global,
     catalogue: &Catalogue,
-    entries: &[Entry],
+    answers: &[Answer],
 ) -> Result<Vec<AnswerLine>, AllocError>
-    ensures say { IfOk result (λ lines. map answer_of (answer_lines_of lines.items) ≡ view.answers_of (listed catalogue.now) entries.now) }
+    ensures say { IfOk result (λ lines. map answer_of (answer_lines_of lines.items) ≡ view.answers_of (listed catalogue.now) answers.now) }
     ensures numbered { IfOk result (λ lines. AllByRecursion (λ l. IsNumber (line_of l)) (answer_lines_of lines.items)) }
 {
     let mut lines = Vec::new(alloc);
-    for entry in entries {
-        lines.push(answer_line(alloc, catalogue, *entry)?)?;
+    for answer in answers {
+        lines.push(answer_line(alloc, catalogue, *answer)?)?;
     }
     Ok(lines)
 }
 
-/// The report of chosen solvables, for a request without wishes: each version with the line that asked for it, in
-/// listing order. Where the solvables keep the rules and are reached, it is the install report that a judge accepts.
+/// The report of the turns of a search: each chosen version with the line that asked for it, in listing order, and the
+/// wishes that are left out, each by its step. Where the turns serve the request, it is the install report that a judge
+/// accepts.
 pub fn install_report(
     alloc: Global,
     catalogue: &Catalogue,
     request: &Request,
-    chosen: &[SolvableId],
+    turns: &[Turn<'_>],
+    steps: Vec<Step>,
 ) -> Result<Report, AllocError>
-    ensures { IfOk result (λ report. AreRequestLines catalogue.now request.now.lines → WishesNothing request.now.lines → Serve catalogue.now request.now chosen.now → IsInstallOf catalogue.now request.now.lines chosen.now (report_of report)) }
+    ensures { IfOk result (λ report. Serve catalogue.now request.now.lines turns.now (steps_of steps.items) → IsInstallOf catalogue.now request.now.lines turns.now (steps_of steps.items) (report_of report)) }
 {
-    let numbers = numbers_of(alloc, chosen)?;
-    let turn = Turn {
-        wish: None,
-        chosen: &numbers,
-    };
-    let entries = list(alloc, catalogue, request, &[turn])?;
+    catalogue.lines_are_in_place();
+    let answers = list(alloc, catalogue, request, turns)?;
     Ok(Report::Install {
-        lines: answer_lines(alloc, catalogue, &entries)?,
-        steps: Vec::new(alloc),
+        lines: answer_lines(alloc, catalogue, &answers)?,
+        steps,
     })
 }

@@ -1,47 +1,128 @@
 //! What no clause says: that there is a report where there is memory, and its text for some rows.
 
-use resolvo_catalogue::{Catalogue, MemorySource, ReadFault, Request};
-use resolvo_entries::install_report;
+use resolvo_catalogue::{Catalogue, MemorySource, ReadFault, Request, Version, VersionNo};
+use resolvo_entries::{install_report, numbers_of};
 use resolvo_judge::{Verdict, judge};
+use resolvo_listing::Turn;
 use resolvo_pool::id::SolvableId;
-use resolvo_report::Report;
+use resolvo_report::{Report, Step};
 use resolvo_text::MemorySink;
 use std::alloc::{AllocError, Global};
 use std::test::Fail;
 
-/// Two texts, the numbers of the versions that a search chose, in its order, and the report.
+/// A turn of a row: the place of its wish among those of the request, and the numbers of the versions that it chose; or
+/// the place of a wish that is left out, and its step.
+enum RowTurn {
+    Chose(Option<usize>, &'static [u32]),
+    LeftOut(usize, u32),
+}
+
+/// A step of a row: the line of a lock, and the version that it bars.
+struct Lock {
+    line: u32,
+    name: &'static str,
+    number: u32,
+}
+
+/// Two texts, the turns of a search in their order, the steps, and the report.
 struct Row {
     catalogue: &'static str,
     request: &'static str,
-    chosen: &'static [u32],
+    turns: &'static [RowTurn],
+    steps: &'static [Lock],
     report: &'static str,
 }
 
-/// Nothing; versions that were chosen in another order; a line that waits for its condition; alternatives.
-static ROWS: [Row; 4] = [
+/// Nothing; versions that were chosen in another order; a line that waits for its condition; alternatives; then wishes:
+/// one that is left out alone, one that the needs chose, one with needs of its own, one that is left out below an entry,
+/// and some of each.
+static ROWS: [Row; 9] = [
     Row {
         catalogue: "version a 1\n",
         request: "limits a 1\n",
-        chosen: &[],
+        turns: &[RowTurn::Chose(None, &[])],
+        steps: &[],
         report: "install\n",
     },
     Row {
         catalogue: "version a 1\nneeds b\nversion b 1\nversion b 2\nneeds c 1\nversion c 1\n",
         request: "#\nneeds a\n",
-        chosen: &[2, 3, 0],
+        turns: &[RowTurn::Chose(None, &[2, 3, 0])],
+        steps: &[],
         report: "install\na=1 for request line 2\nb=2 for a=1 line 2\nc=1 for b=2 line 5\n",
     },
     Row {
         catalogue: "version a 1\nneeds b\nversion b 1\nversion c 1\n",
         request: "needs c if b\nneeds a\n",
-        chosen: &[2, 1, 0],
+        turns: &[RowTurn::Chose(None, &[2, 1, 0])],
+        steps: &[],
         report: "install\na=1 for request line 2\nb=1 for a=1 line 2\nc=1 for request line 1\n",
     },
     Row {
         catalogue: "version a 1\nneeds d | c 1..3 | b\nlimits c 2\nversion b 1\nversion c 2\nneeds a if c and a\nversion d 1\nunknown why\n",
         request: "needs a | d\n",
-        chosen: &[0, 2],
+        turns: &[RowTurn::Chose(None, &[0, 2])],
+        steps: &[],
         report: "install\na=1 for request line 1\nc=2 for a=1 line 2\n",
+    },
+    Row {
+        catalogue: "version a 1\nversion a 2\nlock a 1\n",
+        request: "wish a 2\n",
+        turns: &[RowTurn::Chose(None, &[]), RowTurn::LeftOut(0, 1)],
+        steps: &[Lock {
+            line: 3,
+            name: "a",
+            number: 2,
+        }],
+        report: "install\nleft out a=2 line 1 by 1\nstep 1 lock line 3 bars a=2\n",
+    },
+    Row {
+        catalogue: "version a 1\n",
+        request: "needs a\nwish a 1\n",
+        turns: &[RowTurn::Chose(None, &[0]), RowTurn::Chose(Some(0), &[])],
+        steps: &[],
+        report: "install\na=1 for request line 1\n",
+    },
+    Row {
+        catalogue: "version a 1\nversion a 2\nversion w 1\nneeds x\nversion x 1\nversion x 2\nneeds a 1\n",
+        request: "needs a\nwish w 1\n",
+        turns: &[RowTurn::Chose(None, &[1]), RowTurn::Chose(Some(0), &[3, 2])],
+        steps: &[],
+        report: "install\na=2 for request line 1\nw=1 wished line 2\nx=1 for w=1 line 4\n",
+    },
+    Row {
+        catalogue: "version a 1\nversion a 2\nlock a 1\n",
+        request: "needs a\nwish a 2\n",
+        turns: &[RowTurn::Chose(None, &[0]), RowTurn::LeftOut(0, 1)],
+        steps: &[Lock {
+            line: 3,
+            name: "a",
+            number: 2,
+        }],
+        report: "install\na=1 for request line 1\nleft out a=2 line 2 by 1\nstep 1 lock line 3 bars a=2\n",
+    },
+    Row {
+        catalogue: "version a 1\nversion a 2\nlock a 1\nversion b 1\nversion b 2\nlock b 2\nversion c 1\nneeds b\n",
+        request: "wish a 2\nneeds a\nwish c 1\nwish b 1\n",
+        turns: &[
+            RowTurn::Chose(None, &[0]),
+            RowTurn::LeftOut(0, 2),
+            RowTurn::Chose(Some(1), &[4, 3]),
+            RowTurn::LeftOut(2, 1),
+        ],
+        steps: &[
+            Lock {
+                line: 6,
+                name: "b",
+                number: 1,
+            },
+            Lock {
+                line: 3,
+                name: "a",
+                number: 2,
+            },
+        ],
+        report: "install\na=1 for request line 2\nleft out a=2 line 1 by 2\nc=1 wished line 3\nb=2 for c=1 line 8\nleft out b=1 line 4 by 1\nstep 1 lock line 6 bars b=1\nstep 2 lock line 3 bars a=2\n",
     },
 ];
 
@@ -51,6 +132,67 @@ fn solvables(alloc: Global, numbers: &[u32]) -> Result<Vec<SolvableId>, AllocErr
         solvables.push(SolvableId::from_raw(*number))?;
     }
     Ok(solvables)
+}
+
+/// The versions that a turn chose.
+fn chosen_by(alloc: Global, turn: &RowTurn) -> Result<Vec<VersionNo>, AllocError> {
+    match turn {
+        RowTurn::Chose(_, chosen) => numbers_of(alloc, &solvables(alloc, chosen)?),
+        RowTurn::LeftOut(_, _) => Ok(Vec::new(alloc)),
+    }
+}
+
+fn chosen_of(alloc: Global, told: &[RowTurn]) -> Result<Vec<Vec<VersionNo>>, AllocError> {
+    let mut chosen = Vec::new(alloc);
+    for turn in told {
+        chosen.push(chosen_by(alloc, turn)?)?;
+    }
+    Ok(chosen)
+}
+
+/// The turn of a row. A wish that the request doesn't have is passed over.
+fn turn_of<'a>(request: &Request, turn: &RowTurn, chosen: &'a [VersionNo]) -> Option<Turn<'a>> {
+    match turn {
+        RowTurn::Chose(None, _) => Some(Turn::Chose { wish: None, chosen }),
+        RowTurn::Chose(Some(wish), _) => Some(Turn::Chose {
+            wish: Some(*request.wishes().get(*wish)?),
+            chosen,
+        }),
+        RowTurn::LeftOut(wish, step) => Some(Turn::LeftOut {
+            wish: *request.wishes().get(*wish)?,
+            step: *step,
+        }),
+    }
+}
+
+fn add_turns<'a>(
+    turns: &mut Vec<Turn<'a>>,
+    request: &Request,
+    told: &[RowTurn],
+    chosen: &'a [Vec<VersionNo>],
+) -> Result<(), AllocError> {
+    for (turn, chosen) in told.iter().zip(chosen) {
+        if let Some(turn) = turn_of(request, turn, chosen) {
+            turns.push(turn)?;
+        }
+    }
+    Ok(())
+}
+
+fn steps_of(alloc: Global, locks: &[Lock]) -> Result<Vec<Step>, AllocError> {
+    let mut steps = Vec::new(alloc);
+    for lock in locks {
+        let mut name = String::new(alloc);
+        name.push_str(lock.name)?;
+        steps.push(Step::Lock {
+            line: lock.line,
+            version: Version {
+                name,
+                number: lock.number,
+            },
+        })?;
+    }
+    Ok(steps)
 }
 
 fn catalogue_of(alloc: Global, text: &str) -> Result<Catalogue, ReadFault> {
@@ -65,6 +207,25 @@ fn request_of(alloc: Global, text: &str, catalogue: &Catalogue) -> Result<Reques
     )
 }
 
+/// The report of a row, whose turns chose these versions.
+fn report_with(
+    alloc: Global,
+    catalogue: &Catalogue,
+    request: &Request,
+    row: &Row,
+    chosen: &[Vec<VersionNo>],
+) -> Result<Report, AllocError> {
+    let mut turns = Vec::new(alloc);
+    add_turns(&mut turns, request, row.turns, chosen)?;
+    install_report(
+        alloc,
+        catalogue,
+        request,
+        &turns,
+        steps_of(alloc, row.steps)?,
+    )
+}
+
 /// The report of a row.
 fn report_of(
     alloc: Global,
@@ -72,8 +233,8 @@ fn report_of(
     request: &Request,
     row: &Row,
 ) -> Result<Report, Fail> {
-    let chosen = solvables(alloc, row.chosen)?;
-    Ok(install_report(alloc, catalogue, request, &chosen)?)
+    let chosen = chosen_of(alloc, row.turns)?;
+    Ok(report_with(alloc, catalogue, request, row, &chosen)?)
 }
 
 /// A report as it is written.

@@ -11,17 +11,19 @@ use Rattle.resolvo_text.specs.Matching.{Set}
 use Rattle.resolvo_catalogue.specs.Answers as answers
 use Rattle.resolvo_catalogue.specs.Answers.{entries_of}
 use Rattle.resolvo_catalogue.specs.Grammar.{line_at}
-use Rattle.resolvo_catalogue.specs.Listed.{listed, members}
+use Rattle.resolvo_catalogue.specs.Listed.{listed}
 use Rattle.resolvo_catalogue.specs.Table.{nth, nowhere}
 use Rattle.resolvo_catalogue.specs.declared.rule.VersionNo.{VersionNo}
 use Rattle.resolvo_catalogue.proofs.TableSteps.{numbered}
 use Rattle.resolvo_listing.specs.Order as order
-use Rattle.resolvo_listing.specs.Order.{IsNext, AreInOrder, IsComplete, IsTurn, AreTurns, wish_entry, chosen_in}
-use Rattle.resolvo_listing.specs.View.{reason_of, answer_of, turn_of, turns_of, IsAccepted, AreAccepted}
+use Rattle.resolvo_listing.specs.Order.{IsNext, AreInOrder, IsComplete, IsOneTurn, AreTurns, wish_entry, chosen_by, chosen_in, accepted_by}
+use Rattle.resolvo_listing.specs.View.{reason_of, answer_of, wish_at, turn_of, turns_of, IsAccepted, IsWishOf, AreWishesOf}
 use Rattle.resolvo_listing.specs.Kept.{AreOneEach, IsListing, IsLeft, IsFound, Extends, TakesTurn, IsSpentAt, Remains, answers_in, entries_in, left_of}
+use Rattle.resolvo_listing.specs.declared.entry.Answer.TheVariants as answer
 use Rattle.resolvo_listing.specs.declared.entry.Entry.{Entry}
 use Rattle.resolvo_listing.specs.declared.entry.Reason.{Reason}
 use Rattle.resolvo_listing.specs.declared.entry.Turn.{Turn}
+use Rattle.resolvo_listing.specs.declared.entry.Turn.TheVariants as turn
 use Rattle.resolvo_listing.specs.declared.listing.Listing.{Listing}
 use Rattle.resolvo_listing.specs.declared.places.Places.{Places}
 use Rattle.resolvo_listing.proofs.Elements.{no_element}
@@ -51,24 +53,24 @@ pub number_at : (catalogue : List Line) (n : VersionNo) → n.0 < length (listed
 number_at catalogue n lt = slice_get-get_or (listed catalogue) n.0 nowhere lt
 
 pub extends_more : (catalogue request : List Line) (chosen : Set) (first before after : Listing) (e : Entry) → Extends catalogue request chosen first before → IsFound catalogue request before chosen (Some e)
-    → after.entries.items ≡ before.entries.items ++ e ∷ [] → IsListing catalogue request after chosen → Extends catalogue request chosen first after
+    → after.answers.items ≡ before.answers.items ++ answer.Entry e ∷ [] → IsListing catalogue request after chosen → Extends catalogue request chosen first after
 extends_more catalogue request chosen first before after e h found more listing = record {
   listing = listing;
-  others = h.others ++ answer_of (listed catalogue) e ∷ [];
-  more = answers_more catalogue before after e more ∙ ap (λ (xs : List answers.Answer). xs ++ answer_of (listed catalogue) e ∷ []) h.more ∙ append_assoc (answers_in catalogue first) h.others (answer_of (listed catalogue) e ∷ []);
+  others = h.others ++ answer_of (listed catalogue) (answer.Entry e) ∷ [];
+  more = answers_more catalogue before after (answer.Entry e) more ∙ ap (λ (xs : List answers.Answer). xs ++ answer_of (listed catalogue) (answer.Entry e) ∷ []) h.more ∙ append_assoc (answers_in catalogue first) h.others (answer_of (listed catalogue) (answer.Entry e) ∷ []);
   in_order = in_order_more catalogue request chosen (entries_in catalogue first) h.others (reason_of (listed catalogue) e.reason) (nth (listed catalogue) e.version) h.in_order
       (subst (λ (set : Set). IsNext catalogue request chosen set (reason_of (listed catalogue) e.reason) (nth (listed catalogue) e.version)) (ap entries_of h.more ∙ after_both [] (answers_in catalogue first) h.others) found.1);
 }
 
 -- ---- one turn
 
-pub turn_taken : (catalogue request : List Line) (chosen : Set) (wish : Option (ℕ × Version)) (first begun after : Listing) → answers_in catalogue begun ≡ answers_in catalogue first ++ wish_entry wish (entries_in catalogue first)
-    → Extends catalogue request chosen begun after → IsComplete catalogue request chosen (entries_in catalogue after) → TakesTurn catalogue request chosen wish first after
-turn_taken catalogue request chosen wish first begun after wished h complete = record {
+pub turn_taken : (catalogue request : List Line) (chosen : Set) (wish : Option (ℕ × Version)) (mine : Set) (first begun after : Listing) → answers_in catalogue begun ≡ answers_in catalogue first ++ wish_entry wish (entries_in catalogue first)
+    → Extends catalogue request chosen begun after → IsComplete catalogue request chosen (entries_in catalogue after) → TakesTurn catalogue request chosen (order.Chose wish mine) first after
+turn_taken catalogue request chosen wish mine first begun after wished h complete = record {
   listing = h.listing;
   others = wish_entry wish (entries_in catalogue first) ++ h.others;
   more = more;
-  turn = record {
+  is_turn = record {
     others = h.others;
     wish_first = refl;
     in_order = subst (λ (set : Set). AreInOrder catalogue request chosen set h.others) (ap entries_of wished ∙ after_both [] (answers_in catalogue first) (wish_entry wish (entries_in catalogue first))) h.in_order;
@@ -86,10 +88,10 @@ turns_next versions turns i t lt is = ap (turns_of versions) (take_more turns i 
 
 -- what the turns up to turn i choose
 pub chosen_more : (versions : List Version) (turns : List Turn) (i : ℕ) (t : Turn) → i < length turns → t ≡ get_or turns i t
-    → chosen_in (turns_of versions (take (i + 1) turns)) ≡ chosen_in (turns_of versions (take i turns)) ++ members versions t.chosen.now
+    → chosen_in (turns_of versions (take (i + 1) turns)) ≡ chosen_in (turns_of versions (take i turns)) ++ chosen_by (turn_of versions t)
 chosen_more versions turns i t lt is =
-    ap chosen_in (turns_next versions turns i t lt is) ∙ flat_map-append (λ (x : order.Turn). x.chosen) (turns_of versions (take i turns)) (turn_of versions t ∷ [])
-    ∙ ap (λ (set : Set). chosen_in (turns_of versions (take i turns)) ++ set) (append-nil (members versions t.chosen.now))
+    ap chosen_in (turns_next versions turns i t lt is) ∙ flat_map-append chosen_by (turns_of versions (take i turns)) (turn_of versions t ∷ [])
+    ∙ ap (λ (set : Set). chosen_in (turns_of versions (take i turns)) ++ set) (append-nil (chosen_by (turn_of versions t)))
 
 pub one_each_before : (versions : List Version) (turns : List Turn) (i : ℕ) → AreOneEach (chosen_in (turns_of versions turns)) → AreOneEach (chosen_in (turns_of versions (take i turns)))
 one_each_before versions turns i one = λ v w cv cw same. one v w (whole v cv) (whole w cw) same
@@ -97,32 +99,37 @@ one_each_before versions turns i one = λ v w cv cw same. one v w (whole v cv) (
     all : chosen_in (turns_of versions turns) ≡ chosen_in (turns_of versions (take i turns)) ++ chosen_in (turns_of versions (drop i turns))
     all =
         ap (λ (ts : List Turn). chosen_in (turns_of versions ts)) (sym (take-append-drop i turns)) ∙ ap chosen_in (map-append (turn_of versions) (take i turns) (drop i turns))
-        ∙ flat_map-append (λ (x : order.Turn). x.chosen) (turns_of versions (take i turns)) (turns_of versions (drop i turns))
+        ∙ flat_map-append chosen_by (turns_of versions (take i turns)) (turns_of versions (drop i turns))
 
     whole : (v : Version) → Contains (chosen_in (turns_of versions (take i turns))) v → Contains (chosen_in (turns_of versions turns)) v
     whole v c = subst (λ (set : Set). Contains set v) (sym all) (Contains-append_left (chosen_in (turns_of versions (take i turns))) (chosen_in (turns_of versions (drop i turns))) v c)
 
-accepted_suc : (versions : List Version) (request : List Line) (chosen : Set) (turns : List Turn) (i : ℕ) (t : Turn) → i < length turns → t ≡ get_or turns i t → AreAccepted versions request chosen turns
-    → IsAccepted versions request (chosen ++ chosen_in (turns_of versions (take (suc i) turns))) t.wish
-accepted_suc versions request chosen [] i t lt is h = absurd (omega (arith, lt))
-accepted_suc versions request chosen (u ∷ turns) zero t lt is h =
-    subst (λ (x : Turn). IsAccepted versions request (chosen ++ chosen_in (turns_of versions (u ∷ []))) x.wish) (sym is)
-    (subst (λ (set : Set). IsAccepted versions request (chosen ++ set) u.wish) (sym (append-nil (members versions u.chosen.now))) h.0)
-accepted_suc versions request chosen (u ∷ turns) (suc i) t lt is h =
-    subst (λ (set : Set). IsAccepted versions request set t.wish) (append_assoc chosen (members versions u.chosen.now) (chosen_in (turns_of versions (take (suc i) turns))))
-    (accepted_suc versions request (chosen ++ members versions u.chosen.now) turns i t (omega (arith, lt)) is h.1)
+wish_suc : (versions : List Version) (request : List Line) (chosen : Set) (turns : List Turn) (i : ℕ) (t : Turn) → i < length turns → t ≡ get_or turns i t → AreWishesOf versions request chosen turns
+    → IsWishOf versions request (chosen ++ chosen_in (turns_of versions (take (suc i) turns))) t
+wish_suc versions request chosen [] i t lt is h = absurd (omega (arith, lt))
+wish_suc versions request chosen (u ∷ turns) zero t lt is h =
+    subst (λ (x : Turn). IsWishOf versions request (chosen ++ chosen_in (turns_of versions (u ∷ []))) x) (sym is)
+    (subst (λ (set : Set). IsWishOf versions request (chosen ++ set) u) (sym (append-nil (chosen_by (turn_of versions u)))) h.0)
+wish_suc versions request chosen (u ∷ turns) (suc i) t lt is h =
+    subst (λ (set : Set). IsWishOf versions request set t) (append_assoc chosen (chosen_by (turn_of versions u)) (chosen_in (turns_of versions (take (suc i) turns))))
+    (wish_suc versions request (chosen ++ chosen_by (turn_of versions u)) turns i t (omega (arith, lt)) is h.1)
 
-pub accepted_at : (versions : List Version) (request : List Line) (turns : List Turn) (i : ℕ) (t : Turn) → i < length turns → t ≡ get_or turns i t → AreAccepted versions request [] turns
-    → IsAccepted versions request (chosen_in (turns_of versions (take (i + 1) turns))) t.wish
-accepted_at versions request turns i t lt is h = subst (λ (n : ℕ). IsAccepted versions request (chosen_in (turns_of versions (take n turns))) t.wish) (sym (add-one i)) (accepted_suc versions request [] turns i t lt is h)
+pub wish_at_turn : (versions : List Version) (request : List Line) (turns : List Turn) (i : ℕ) (t : Turn) → i < length turns → t ≡ get_or turns i t → AreWishesOf versions request [] turns
+    → IsWishOf versions request (chosen_in (turns_of versions (take (i + 1) turns))) t
+wish_at_turn versions request turns i t lt is h = subst (λ (n : ℕ). IsWishOf versions request (chosen_in (turns_of versions (take n turns))) t) (sym (add-one i)) (wish_suc versions request [] turns i t lt is h)
 
-accepts : (versions : List Version) (request : List Line) (chosen : Set) (wish : Option (ℕ × VersionNo)) → IsAccepted versions request chosen wish → Accepts request chosen (option_map (λ w. (w.0, nth versions w.1)) wish)
+accepts : (versions : List Version) (request : List Line) (chosen : Set) (wish : Option (ℕ × VersionNo)) → IsAccepted versions request chosen wish → Accepts request chosen (option_map (wish_at versions) wish)
 accepts versions request chosen None h = tt
 accepts versions request chosen (Some w) h = (subst (λ (v : Version). line_at request w.0 ≡ Some (Wish v)) (sym (numbered versions w.1 h.0.0 h.0.1)) h.0.2, h.1)
 
-pub all_accepted : (versions : List Version) (request : List Line) (chosen : Set) (turns : List Turn) → AreAccepted versions request chosen turns → AllAccepted request chosen (turns_of versions turns)
+turn_accepts : (versions : List Version) (request : List Line) (chosen : Set) (t : Turn) → IsWishOf versions request chosen t → Accepts request chosen (accepted_by (turn_of versions t))
+turn_accepts versions request chosen (turn.Chose wish more) h = accepts versions request chosen wish h
+turn_accepts versions request chosen (turn.LeftOut wish step) h = tt
+
+pub all_accepted : (versions : List Version) (request : List Line) (chosen : Set) (turns : List Turn) → AreWishesOf versions request chosen turns → AllAccepted request chosen (turns_of versions turns)
 all_accepted versions request chosen [] h = tt
-all_accepted versions request chosen (t ∷ turns) h = (accepts versions request (chosen ++ members versions t.chosen.now) t.wish h.0, all_accepted versions request (chosen ++ members versions t.chosen.now) turns h.1)
+all_accepted versions request chosen (t ∷ turns) h =
+    (turn_accepts versions request (chosen ++ chosen_by (turn_of versions t)) t h.0, all_accepted versions request (chosen ++ chosen_by (turn_of versions t)) turns h.1)
 
 -- What the turns up to turn i list.
 pub record ListsTurns (catalogue request : List Line) (turns : List Turn) (i : ℕ) (x : Listing) : Type 0 where
@@ -130,7 +137,7 @@ pub record ListsTurns (catalogue request : List Line) (turns : List Turn) (i : �
   pub turns_listed : AreTurns catalogue request [] [] (turns_of (listed catalogue) (take i turns)) (answers_in catalogue x)
 
 pub lists_more : (catalogue request : List Line) (turns : List Turn) (i : ℕ) (t : Turn) (before after : Listing) → i < length turns → t ≡ get_or turns i t → ListsTurns catalogue request turns i before
-    → TakesTurn catalogue request (chosen_in (turns_of (listed catalogue) (take (i + 1) turns))) (turn_of (listed catalogue) t).wish before after → ListsTurns catalogue request turns (i + 1) after
+    → TakesTurn catalogue request (chosen_in (turns_of (listed catalogue) (take (i + 1) turns))) (turn_of (listed catalogue) t) before after → ListsTurns catalogue request turns (i + 1) after
 lists_more catalogue request turns i t before after lt is h took =
     let vs = listed catalogue in
     let next = turns_next vs turns i t lt is in
@@ -139,7 +146,7 @@ lists_more catalogue request turns i t before after lt is h took =
       turns_listed = subst (λ (ts : List order.Turn). AreTurns catalogue request [] [] ts (answers_in catalogue after)) (sym next)
           (subst (AreTurns catalogue request [] [] (turns_of vs (take i turns) ++ turn_of vs t ∷ [])) (sym took.more)
           (turns_more catalogue request [] [] (turns_of vs (take i turns)) (answers_in catalogue before) (turn_of vs t) took.others h.turns_listed
-          (subst (λ (ts : List order.Turn). IsTurn catalogue request (chosen_in ts) (entries_in catalogue before) (turn_of vs t).wish took.others) next took.turn)));
+          (subst (λ (ts : List order.Turn). IsOneTurn catalogue request (chosen_in ts) (entries_in catalogue before) (turn_of vs t) took.others) next took.is_turn)));
     }
 
 -- an element that is there, whatever the default

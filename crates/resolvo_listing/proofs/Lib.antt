@@ -6,4 +6,5 @@ pub mod Following
 pub mod Giving
 pub mod Looking
 pub mod TurnLemmas
+pub mod Parting
 pub mod Finishing

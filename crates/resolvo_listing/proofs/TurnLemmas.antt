@@ -1,5 +1,5 @@
 -- What one turn after the other lists.
-use Rattle.std.proofs.Common.{◌≡◌, ◌⊎◌, ◌↔◌, inl, inr, ℕ, Bool, true, false, if◌then◌else◌, List, [], ◌∷◌, ◌++◌, Option, Some, None, refl, sym, ap, subst, ◌∙◌, append_assoc}
+use Rattle.std.proofs.Common.{◌≡◌, ◌↔◌, inl, inr, ℕ, Bool, true, false, if◌then◌else◌, List, [], ◌∷◌, ◌++◌, Option, Some, None, refl, sym, ap, subst, ◌∙◌, append_assoc}
 use Rattle.std.specs.Prelude.{Contains, ⊤}
 use Rattle.std.proofs.lemmas.Bool.{cases_Bool}
 use Rattle.std.proofs.lemmas.Grind.{flat_map-append}
@@ -9,7 +9,7 @@ use Rattle.resolvo_text.specs.Line.{Version, Line, Wish}
 use Rattle.resolvo_text.specs.Matching.{Set, is_member}
 use Rattle.resolvo_catalogue.specs.Answers.{Reason, ForRequest, ForVersion, Wished, Answer, Entry, LeftOut, entry_of, entries_of, IsReason, IsReasoned, IsNeededBy}
 use Rattle.resolvo_catalogue.specs.Grammar.{line_at}
-use Rattle.resolvo_listing.specs.Order.{line_named, IsAsked, MayGive, IsNext, AreInOrder, IsComplete, Turn, chosen_in, wish_entry, IsTurn, AreTurns, wished_by, wishes_in, IsClosed, AreReached}
+use Rattle.resolvo_listing.specs.Order.{line_named, IsAsked, MayGive, IsNext, AreInOrder, IsComplete, Turn, Chose, LeavesOut, chosen_by, chosen_in, wish_entry, IsOneTurn, AreTurns, accepted_by, wished_by, wishes_in, IsClosed, AreReached}
 use Rattle.resolvo_listing.proofs.Elements.{no_element, first_element, element_cases, from_member, none_from_member}
 
 -- the entries, part by part
@@ -32,26 +32,26 @@ in_order_more catalogue request chosen entries (Entry w other ∷ answers) reaso
 in_order_more catalogue request chosen entries (LeftOut w n step ∷ answers) reason v h next = absurd h
 
 pub turns_more : (catalogue request : List Line) (chosen entries : Set) (turns : List Turn) (answers : List Answer) (t : Turn) (more : List Answer) → AreTurns catalogue request chosen entries turns answers
-    → IsTurn catalogue request (chosen ++ chosen_in (turns ++ t ∷ [])) (entries ++ entries_of answers) t.wish more → AreTurns catalogue request chosen entries (turns ++ t ∷ []) (answers ++ more)
+    → IsOneTurn catalogue request (chosen ++ chosen_in (turns ++ t ∷ [])) (entries ++ entries_of answers) t more → AreTurns catalogue request chosen entries (turns ++ t ∷ []) (answers ++ more)
 turns_more catalogue request chosen entries [] answers t more h turn =
-    let all : chosen ++ chosen_in (t ∷ []) ≡ chosen ++ t.chosen = ap (λ (set : Set). chosen ++ set) (append-nil t.chosen) in
-    let none : entries ++ entries_of answers ≡ entries = ap (λ (as' : List Answer). entries ++ entries_of as') h ∙ append-nil entries in (
+    let all : chosen ++ chosen_in (t ∷ []) ≡ chosen ++ chosen_by t = ap (λ (set : Set). chosen ++ set) (append-nil (chosen_by t)) in
+    let none : entries ++ entries_of answers ≡ entries = ap (λ (xs : List Answer). entries ++ entries_of xs) h ∙ append-nil entries in (
       more,
       [],
-      ap (λ (as' : List Answer). as' ++ more) h ∙ sym (append-nil more),
-      subst (λ (set : Set). IsTurn catalogue request set entries t.wish more) all (subst (λ (set : Set). IsTurn catalogue request (chosen ++ chosen_in (t ∷ [])) set t.wish more) none turn),
+      ap (λ (xs : List Answer). xs ++ more) h ∙ sym (append-nil more),
+      subst (λ (set : Set). IsOneTurn catalogue request set entries t more) all (subst (λ (set : Set). IsOneTurn catalogue request (chosen ++ chosen_in (t ∷ [])) set t more) none turn),
       refl,
     )
 turns_more catalogue request chosen entries (u ∷ turns) answers t more h turn =
-    let all : chosen ++ chosen_in (u ∷ (turns ++ t ∷ [])) ≡ (chosen ++ u.chosen) ++ chosen_in (turns ++ t ∷ []) = sym (append_assoc chosen u.chosen (chosen_in (turns ++ t ∷ []))) in
-    let those : entries ++ entries_of answers ≡ (entries ++ entries_of h.0) ++ entries_of h.1 = ap (λ (as' : List Answer). entries ++ entries_of as') h.2 ∙ after_both entries h.0 h.1 in (
+    let all : chosen ++ chosen_in (u ∷ (turns ++ t ∷ [])) ≡ (chosen ++ chosen_by u) ++ chosen_in (turns ++ t ∷ []) = sym (append_assoc chosen (chosen_by u) (chosen_in (turns ++ t ∷ []))) in
+    let those : entries ++ entries_of answers ≡ (entries ++ entries_of h.0) ++ entries_of h.1 = ap (λ (xs : List Answer). entries ++ entries_of xs) h.2 ∙ after_both entries h.0 h.1 in (
       h.0,
       h.1 ++ more,
-      ap (λ (as' : List Answer). as' ++ more) h.2 ∙ append_assoc h.0 h.1 more,
+      ap (λ (xs : List Answer). xs ++ more) h.2 ∙ append_assoc h.0 h.1 more,
       h.3,
-      turns_more catalogue request (chosen ++ u.chosen) (entries ++ entries_of h.0) turns h.1 t more h.4
-          (subst (λ (set : Set). IsTurn catalogue request set ((entries ++ entries_of h.0) ++ entries_of h.1) t.wish more) all
-          (subst (λ (set : Set). IsTurn catalogue request (chosen ++ chosen_in (u ∷ (turns ++ t ∷ []))) set t.wish more) those turn)),
+      turns_more catalogue request (chosen ++ chosen_by u) (entries ++ entries_of h.0) turns h.1 t more h.4
+          (subst (λ (set : Set). IsOneTurn catalogue request set ((entries ++ entries_of h.0) ++ entries_of h.1) t more) all
+          (subst (λ (set : Set). IsOneTurn catalogue request (chosen ++ chosen_in (u ∷ (turns ++ t ∷ []))) set t more) those turn)),
     )
 
 -- ---- accepted wishes
@@ -62,7 +62,7 @@ Accepts request chosen (Some w) = (line_at request w.0 ≡ Some (Wish w.1)) × C
 
 abbrev pub AllAccepted : List Line → Set → List Turn → Type 0
 AllAccepted request chosen [] = ⊤
-AllAccepted request chosen (t ∷ turns) = Accepts request (chosen ++ t.chosen) t.wish × AllAccepted request (chosen ++ t.chosen) turns
+AllAccepted request chosen (t ∷ turns) = Accepts request (chosen ++ chosen_by t) (accepted_by t) × AllAccepted request (chosen ++ chosen_by t) turns
 
 -- ---- each entry has its reason
 
@@ -91,15 +91,19 @@ reasoned_wish catalogue request chosen entries (Some w) h = by_test (is_member w
     by_test true e = tt
     by_test false e = (none_from_member entries w.1 e, h.0, tt)
 
+reasoned_turn : (catalogue request : List Line) (chosen entries : Set) (t : Turn) (answers : List Answer) → IsOneTurn catalogue request chosen entries t answers → Accepts request chosen (accepted_by t) → IsReasoned catalogue request entries answers
+reasoned_turn catalogue request chosen entries (Chose wish more) answers turn accepted =
+    let first = wish_entry wish entries in
+    subst (IsReasoned catalogue request entries) (sym turn.wish_first)
+    (reasoned_both catalogue request entries first turn.others (reasoned_wish catalogue request chosen entries wish accepted) (reasoned_order catalogue request chosen (entries ++ entries_of first) turn.others turn.in_order))
+reasoned_turn catalogue request chosen entries (LeavesOut wish step) answers is accepted = subst (IsReasoned catalogue request entries) (sym is) tt
+
 pub reasoned_turns : (catalogue request : List Line) (chosen entries : Set) (turns : List Turn) (answers : List Answer) → AreTurns catalogue request chosen entries turns answers → AllAccepted request chosen turns → IsReasoned catalogue request entries answers
 reasoned_turns catalogue request chosen entries [] answers h accepted = subst (IsReasoned catalogue request entries) (sym h) tt
 reasoned_turns catalogue request chosen entries (t ∷ turns) answers h accepted =
-    let wish = wish_entry t.wish entries in
-    let turn = h.3 in
-    let one = subst (IsReasoned catalogue request entries) (sym turn.wish_first)
-    (reasoned_both catalogue request entries wish turn.others (reasoned_wish catalogue request (chosen ++ t.chosen) entries t.wish accepted.0) (reasoned_order catalogue request (chosen ++ t.chosen) (entries ++ entries_of wish) turn.others turn.in_order)) in
     subst (IsReasoned catalogue request entries) (sym h.2)
-    (reasoned_both catalogue request entries h.0 h.1 one (reasoned_turns catalogue request (chosen ++ t.chosen) (entries ++ entries_of h.0) turns h.1 h.4 accepted.1))
+    (reasoned_both catalogue request entries h.0 h.1 (reasoned_turn catalogue request (chosen ++ chosen_by t) entries t h.0 h.3 accepted.0)
+    (reasoned_turns catalogue request (chosen ++ chosen_by t) (entries ++ entries_of h.0) turns h.1 h.4 accepted.1))
 
 -- ---- the entries are chosen
 
@@ -126,11 +130,16 @@ wish_within request chosen entries (Some w) h within = by_test (is_member w.1 en
     by_test true = subst (λ (set : Set). Within set chosen) (sym (append-nil entries)) within
     by_test false = within_more entries chosen w.1 within h.1
 
-turn_within : (catalogue request : List Line) (chosen entries : Set) (wish : Option (ℕ × Version)) (answers : List Answer) → IsTurn catalogue request chosen entries wish answers → Accepts request chosen wish → Within entries chosen → Within (entries ++ entries_of answers) chosen
-turn_within catalogue request chosen entries wish answers turn accepted within =
+-- the entries above a wish that is left out are those below it
+after_left_out : (entries : Set) (wish : ℕ × Version) (step : ℕ) (answers : List Answer) → answers ≡ LeftOut wish.1 wish.0 step ∷ [] → entries ++ entries_of answers ≡ entries
+after_left_out entries wish step answers is = ap (λ (xs : List Answer). entries ++ entries_of xs) is ∙ append-nil entries
+
+turn_within : (catalogue request : List Line) (chosen entries : Set) (t : Turn) (answers : List Answer) → IsOneTurn catalogue request chosen entries t answers → Accepts request chosen (accepted_by t) → Within entries chosen → Within (entries ++ entries_of answers) chosen
+turn_within catalogue request chosen entries (Chose wish more) answers turn accepted within =
     let first = wish_entry wish entries in
-    subst (λ (set : Set). Within set chosen) (sym (ap (λ (as' : List Answer). entries ++ entries_of as') turn.wish_first ∙ after_both entries first turn.others))
+    subst (λ (set : Set). Within set chosen) (sym (ap (λ (xs : List Answer). entries ++ entries_of xs) turn.wish_first ∙ after_both entries first turn.others))
     (order_within catalogue request chosen (entries ++ entries_of first) turn.others turn.in_order (wish_within request chosen entries wish accepted within))
+turn_within catalogue request chosen entries (LeavesOut wish step) answers is accepted within = subst (λ (set : Set). Within set chosen) (sym (after_left_out entries wish step answers is)) within
 
 -- ---- the wishes are entries
 
@@ -142,63 +151,66 @@ wish_is_listed entries (Some w) v c = elim (element_cases w.1 [] v c) [ inl same
     by_test true e = Contains-append_left entries [] w.1 (from_member entries w.1 e)
     by_test false e = Contains-append_right entries (w.1 ∷ []) w.1 (first_element w.1 [])
 
+turn_wished : (catalogue request : List Line) (chosen entries : Set) (t : Turn) (answers : List Answer) → IsOneTurn catalogue request chosen entries t answers → (v : Version) → Contains (wished_by (accepted_by t)) v → Contains (entries ++ entries_of answers) v
+turn_wished catalogue request chosen entries (Chose wish more) answers turn v c =
+    let first = wish_entry wish entries in
+    subst (λ (set : Set). Contains set v) (sym (ap (λ (xs : List Answer). entries ++ entries_of xs) turn.wish_first ∙ after_both entries first turn.others))
+    (Contains-append_left (entries ++ entries_of first) (entries_of turn.others) v (wish_is_listed entries wish v c))
+turn_wished catalogue request chosen entries (LeavesOut wish step) answers is v c = absurd (no_element v c)
+
 -- ---- at the end of all turns
+
+-- No line gives anything more after a turn, where none did before it.
+turn_complete : (catalogue request : List Line) (chosen entries : Set) (t : Turn) (answers : List Answer) → IsOneTurn catalogue request (chosen ++ chosen_by t) entries t answers → IsComplete catalogue request chosen entries
+    → IsComplete catalogue request (chosen ++ chosen_by t) (entries ++ entries_of answers)
+turn_complete catalogue request chosen entries (Chose wish more) answers turn done = turn.complete
+turn_complete catalogue request chosen entries (LeavesOut wish step) answers is done =
+    subst (λ (set : Set). IsComplete catalogue request set (entries ++ entries_of answers)) (sym (append-nil chosen)) (subst (IsComplete catalogue request chosen) (sym (after_left_out entries wish step answers is)) done)
 
 -- What the turns list is chosen, has their wishes, and is complete.
 pub record IsListed (catalogue request : List Line) (chosen entries : Set) (turns : List Turn) (answers : List Answer) : Type 0 where
   pub within : Within (entries ++ entries_of answers) (chosen ++ chosen_in turns)
   pub wishes : (v : Version) → Contains (wishes_in turns) v → Contains (entries ++ entries_of answers) v
-  pub complete : (turns ≡ []) ⊎ IsComplete catalogue request (chosen ++ chosen_in turns) (entries ++ entries_of answers)
-
-at_end : (catalogue request : List Line) (chosen entries : Set) (turns : List Turn) (answers : List Answer) → AreTurns catalogue request chosen entries turns answers → IsComplete catalogue request chosen entries
-    → (turns ≡ []) ⊎ IsComplete catalogue request (chosen ++ chosen_in turns) (entries ++ entries_of answers) → IsComplete catalogue request (chosen ++ chosen_in turns) (entries ++ entries_of answers)
-at_end catalogue request chosen entries turns answers h done (inr complete) = complete
-at_end catalogue request chosen entries [] answers h done (inl none) =
-    subst (λ (set : Set). IsComplete catalogue request set (entries ++ entries_of answers)) (sym (append-nil chosen))
-    (subst (IsComplete catalogue request chosen) (sym (ap (λ (as' : List Answer). entries ++ entries_of as') h ∙ append-nil entries)) done)
-at_end catalogue request chosen entries (t ∷ turns) answers h done (inl none) = absurd cc
+  pub complete : IsComplete catalogue request (chosen ++ chosen_in turns) (entries ++ entries_of answers)
 
 pub are_listed : (catalogue request : List Line) (chosen entries : Set) (turns : List Turn) (answers : List Answer) → AreTurns catalogue request chosen entries turns answers → AllAccepted request chosen turns → Within entries chosen
-    → IsListed catalogue request chosen entries turns answers
-are_listed catalogue request chosen entries [] answers h accepted within = record {
-  within = subst (λ (set : Set). Within set (chosen ++ [])) (sym (ap (λ (as' : List Answer). entries ++ entries_of as') h ∙ append-nil entries)) (subst (Within entries) (sym (append-nil chosen)) within);
-  wishes = λ v c. absurd (no_element v c);
-  complete = inl refl;
-}
-are_listed catalogue request chosen entries (t ∷ turns) answers h accepted within =
-    let C = chosen ++ t.chosen in
+    → IsComplete catalogue request chosen entries → IsListed catalogue request chosen entries turns answers
+are_listed catalogue request chosen entries [] answers h accepted within done =
+    let none : entries ++ entries_of answers ≡ entries = ap (λ (xs : List Answer). entries ++ entries_of xs) h ∙ append-nil entries in
+    record {
+      within = subst (λ (set : Set). Within set (chosen ++ [])) (sym none) (subst (Within entries) (sym (append-nil chosen)) within);
+      wishes = λ v c. absurd (no_element v c);
+      complete = subst (λ (set : Set). IsComplete catalogue request set (entries ++ entries_of answers)) (sym (append-nil chosen)) (subst (IsComplete catalogue request chosen) (sym none) done);
+    }
+are_listed catalogue request chosen entries (t ∷ turns) answers h accepted within done =
+    let C = chosen ++ chosen_by t in
     let E = entries ++ entries_of h.0 in
-    let turn = h.3 in
-    let wide : Within entries C = (λ v c. Contains-append_left chosen t.chosen v (within v c)) in
-    let rest = are_listed catalogue request C E turns h.1 h.4 accepted.1 (turn_within catalogue request C entries t.wish h.0 turn accepted.0 wide) in
-    let all : (chosen ++ t.chosen) ++ chosen_in turns ≡ chosen ++ (t.chosen ++ chosen_in turns) = append_assoc chosen t.chosen (chosen_in turns) in
-    let those : (entries ++ entries_of h.0) ++ entries_of h.1 ≡ entries ++ entries_of answers = sym (ap (λ (as' : List Answer). entries ++ entries_of as') h.2 ∙ after_both entries h.0 h.1) in
+    let wide : Within entries C = (λ v c. Contains-append_left chosen (chosen_by t) v (within v c)) in
+    let rest = are_listed catalogue request C E turns h.1 h.4 accepted.1 (turn_within catalogue request C entries t h.0 h.3 accepted.0 wide) (turn_complete catalogue request chosen entries t h.0 h.3 done) in
+    let all : (chosen ++ chosen_by t) ++ chosen_in turns ≡ chosen ++ (chosen_by t ++ chosen_in turns) = append_assoc chosen (chosen_by t) (chosen_in turns) in
+    let those : (entries ++ entries_of h.0) ++ entries_of h.1 ≡ entries ++ entries_of answers = sym (ap (λ (xs : List Answer). entries ++ entries_of xs) h.2 ∙ after_both entries h.0 h.1) in
     record {
       within = subst (Within (entries ++ entries_of answers)) all (subst (λ (set : Set). Within set (C ++ chosen_in turns)) those rest.within);
-      wishes = λ v c. subst (λ (set : Set). Contains set v) those (elim (Contains-append_cases (wished_by t.wish) (wishes_in turns) v c) [
-        | inl here ↦ Contains-append_left E (entries_of h.1) v
-            (subst (λ (set : Set). Contains set v) (sym (ap (λ (as' : List Answer). entries ++ entries_of as') turn.wish_first ∙ after_both entries (wish_entry t.wish entries) turn.others))
-            (Contains-append_left (entries ++ entries_of (wish_entry t.wish entries)) (entries_of turn.others) v (wish_is_listed entries t.wish v here)))
+      wishes = λ v c. subst (λ (set : Set). Contains set v) those (elim (Contains-append_cases (wished_by (accepted_by t)) (wishes_in turns) v c) [
+        | inl here ↦ Contains-append_left E (entries_of h.1) v (turn_wished catalogue request C entries t h.0 h.3 v here)
         | inr there ↦ rest.wishes v there
       ]);
-      complete = inr (subst (λ (set : Set). IsComplete catalogue request set (entries ++ entries_of answers)) all (subst (IsComplete catalogue request (C ++ chosen_in turns)) those (at_end catalogue request C E turns h.1 h.4 turn.complete rest.complete)));
+      complete = subst (λ (set : Set). IsComplete catalogue request set (entries ++ entries_of answers)) all (subst (IsComplete catalogue request (C ++ chosen_in turns)) those rest.complete);
     }
 
 -- Where all chosen versions are reached, they are the entries.
 pub exact_entries : (catalogue request : List Line) (turns : List Turn) (answers : List Answer) → AreTurns catalogue request [] [] turns answers → AllAccepted request [] turns
     → AreReached catalogue request (chosen_in turns) (wishes_in turns) → (v : Version) → Contains (chosen_in turns) v ↔ Contains (entries_of answers) v
-exact_entries catalogue request turns answers h accepted reached = λ v. (λ c. reached (entries_of answers) closed v c, λ c. listed.within v c)
+exact_entries catalogue request turns answers h accepted reached = λ v. (λ c. reached (entries_of answers) closed v c, λ c. all.within v c)
   where
-    listed : IsListed catalogue request [] [] turns answers
-    listed = are_listed catalogue request [] [] turns answers h accepted (λ v c. absurd (no_element v c))
+    all : IsListed catalogue request [] [] turns answers
+    all = are_listed catalogue request [] [] turns answers h accepted (λ v c. absurd (no_element v c)) (λ reason v g. no_element v g.is_chosen)
 
-    needed : (reason : Reason) (v : Version) → IsAsked catalogue (entries_of answers) reason → IsNeededBy (entries_of answers) (line_named catalogue request reason) v → Contains (chosen_in turns) v
-        → (turns ≡ []) ⊎ IsComplete catalogue request (chosen_in turns) (entries_of answers) → Contains (entries_of answers) v
-    needed reason v asked need c (inl none) = absurd (no_element v (subst (λ (ts : List Turn). Contains (chosen_in ts) v) none c))
-    needed reason v asked need c (inr complete) = elim (cases_Bool (is_member v (entries_of answers))) [
+    needed : (reason : Reason) (v : Version) → IsAsked catalogue (entries_of answers) reason → IsNeededBy (entries_of answers) (line_named catalogue request reason) v → Contains (chosen_in turns) v → Contains (entries_of answers) v
+    needed reason v asked need c = elim (cases_Bool (is_member v (entries_of answers))) [
       | inl e ↦ from_member (entries_of answers) v e
-      | inr e ↦ absurd (complete reason v (record { asked = asked; needed = need; is_chosen = c; unlisted = none_from_member (entries_of answers) v e }))
+      | inr e ↦ absurd (all.complete reason v (record { asked = asked; needed = need; is_chosen = c; unlisted = none_from_member (entries_of answers) v e }))
     ]
 
     closed : IsClosed catalogue request (chosen_in turns) (wishes_in turns) (entries_of answers)
-    closed = record { within = listed.within; wished = listed.wishes; needed = λ reason v asked need c. needed reason v asked need c listed.complete }
+    closed = record { within = all.within; wished = all.wishes; needed = needed }

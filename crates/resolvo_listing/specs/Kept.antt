@@ -12,7 +12,7 @@ use Rattle.resolvo_catalogue.specs.Questions.{States, is_rule}
 use Rattle.resolvo_catalogue.specs.Table.{nth}
 use Rattle.resolvo_catalogue.specs.declared.rule.VersionNo.{VersionNo}
 use Rattle.resolvo_catalogue.specs.declared.rule.Rule.{Rule}
-use Rattle.resolvo_listing.specs.Order.{line_named, IsAsked, Precedes, IsOfFirst, IsNext, IsComplete, AreInOrder, IsTurn}
+use Rattle.resolvo_listing.specs.Order.{line_named, IsAsked, Precedes, IsOfFirst, IsNext, IsComplete, AreInOrder, Turn, IsOneTurn}
 use Rattle.resolvo_listing.specs.View.{reason_of, answers_of, AreNumbered}
 use Rattle.resolvo_listing.specs.declared.chosen.Chosen.{Chosen}
 use Rattle.resolvo_listing.specs.declared.chosen.Look.{Look}
@@ -114,7 +114,7 @@ pub record AreLines (catalogue request : List Line) (entries : Set) (lines : Lis
   pub ordered : AreOrdered (λ a b. Precedes entries (reason_of (listed catalogue) a) (reason_of (listed catalogue) b)) lines
 
 abbrev pub answers_in : List Line → Listing → List answers.Answer
-answers_in catalogue x = answers_of (listed catalogue) x.entries.items
+answers_in catalogue x = answers_of (listed catalogue) x.answers.items
 
 abbrev pub entries_in : List Line → Listing → Set
 entries_in catalogue x = entries_of (answers_in catalogue x)
@@ -122,7 +122,7 @@ entries_in catalogue x = entries_of (answers_in catalogue x)
 pub record IsListing (catalogue request : List Line) (x : Listing) (chosen : Set) : Type 0 where
   pub holds : Holds (listed catalogue) x.chosen chosen (entries_in catalogue x)
   pub lines : AreLines catalogue request (entries_in catalogue x) x.lines.items
-  pub numbered : AreNumbered (listed catalogue) x.entries.items
+  pub numbered : AreNumbered (listed catalogue) x.answers.items
 
 -- ---- what is left to look at
 
@@ -165,11 +165,11 @@ pub record Extends (catalogue request : List Line) (chosen : Set) (before after 
   pub in_order : AreInOrder catalogue request chosen (entries_in catalogue before) others
 
 -- The second has what the turn lists besides the answers of the first.
-pub record TakesTurn (catalogue request : List Line) (chosen : Set) (wish : Option (ℕ × Version)) (before after : Listing) : Type 0 where
+pub record TakesTurn (catalogue request : List Line) (chosen : Set) (t : Turn) (before after : Listing) : Type 0 where
   pub listing : IsListing catalogue request after chosen
   pub others : List answers.Answer
   pub more : answers_in catalogue after ≡ answers_in catalogue before ++ others
-  pub turn : IsTurn catalogue request chosen (entries_in catalogue before) wish others
+  pub is_turn : IsOneTurn catalogue request chosen (entries_in catalogue before) t others
 
 -- the request's lines up to line n
 abbrev pub lines_to : ℕ → List Reason

@@ -70,15 +70,20 @@ IsComplete catalogue request chosen entries = (reason : Reason) (v : Version) �
 
 -- ---- turns
 
--- A turn of a search: its accepted wish, by its line of the request, and the versions that it chose besides those of the
--- turns before it.
-pub record Turn : Type 0 where
-  pub wish : Option (ℕ × Version)
-  pub chosen : Set
+-- A turn of a search. Chose has its accepted wish, by its line of the request, and the versions that it chose besides
+-- those of the turns before it. LeavesOut has a wish that is left out, and the step of the report that bars it.
+pub data Turn : Type 0 where
+  Chose : Option (ℕ × Version) → Set → Turn
+  LeavesOut : ℕ × Version → ℕ → Turn
+
+-- what a turn chose
+abbrev pub chosen_by : Turn → Set
+chosen_by (Chose wish chosen) = chosen
+chosen_by (LeavesOut wish step) = []
 
 -- what all turns chose
 abbrev pub chosen_in : List Turn → Set
-chosen_in turns = flat_map (λ t. t.chosen) turns
+chosen_in turns = flat_map chosen_by turns
 
 -- the wish, unless it is an entry
 abbrev pub wish_entry : Option (ℕ × Version) → Set → List Answer
@@ -93,22 +98,32 @@ pub record IsTurn (catalogue request : List Line) (chosen entries : Set) (wish :
   pub in_order : AreInOrder catalogue request chosen (entries ++ entries_of (wish_entry wish entries)) others
   pub complete : IsComplete catalogue request chosen (entries ++ entries_of answers)
 
+-- the same of each turn: one that leaves a wish out tells that alone
+abbrev pub IsOneTurn : List Line → List Line → Set → Set → Turn → List Answer → Type 0
+IsOneTurn catalogue request chosen entries (Chose wish more) answers = IsTurn catalogue request chosen entries wish answers
+IsOneTurn catalogue request chosen entries (LeavesOut wish step) answers = answers ≡ LeftOut wish.1 wish.0 step ∷ []
+
 -- what the turns list, one after the other
 abbrev pub AreTurns : List Line → List Line → Set → Set → List Turn → List Answer → Type 0
 AreTurns catalogue request chosen entries [] answers = answers ≡ []
 AreTurns catalogue request chosen entries (t ∷ turns) answers = (first : List Answer) × (rest : List Answer) × (answers ≡ first ++ rest)
-    × IsTurn catalogue request (chosen ++ t.chosen) entries t.wish first
-    × AreTurns catalogue request (chosen ++ t.chosen) (entries ++ entries_of first) turns rest
+    × IsOneTurn catalogue request (chosen ++ chosen_by t) entries t first
+    × AreTurns catalogue request (chosen ++ chosen_by t) (entries ++ entries_of first) turns rest
 
 -- ---- reached versions
 
--- the wishes of the turns
+-- the accepted wish of a turn
+abbrev pub accepted_by : Turn → Option (ℕ × Version)
+accepted_by (Chose wish chosen) = wish
+accepted_by (LeavesOut wish step) = None
+
 abbrev pub wished_by : Option (ℕ × Version) → List Version
 wished_by None = []
 wished_by (Some w) = w.1 ∷ []
 
+-- the accepted wishes of the turns
 abbrev pub wishes_in : List Turn → Set
-wishes_in turns = flat_map (λ t. wished_by t.wish) turns
+wishes_in turns = flat_map (λ t. wished_by (accepted_by t)) turns
 
 -- The part of the chosen versions holds the wishes, and each chosen match of a line of the request or of a member whose
 -- condition holds in the part.

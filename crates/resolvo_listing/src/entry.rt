@@ -1,5 +1,5 @@
-//! Entries of a report, why they are listed, and the turns of a search.
-//! Turns come from who ran the search; entries are made by `listing`.
+//! Entries of a report, why they are listed, wishes that are left out, and the turns of a search.
+//! Turns come from who ran the search; answers are made by `listing`.
 
 use resolvo_catalogue::VersionNo;
 
@@ -21,10 +21,28 @@ pub struct Entry {
     pub reason: Reason,
 }
 
-/// A turn of a search: its accepted wish, by its line of the request, and the versions that it chose besides those of
-/// the turns before it. The first turn serves the request's needs, and has no wish.
+/// A line of the report: an entry, or a wish of this line of the request that is left out, since the step bars it.
 #[derive(Clone, Copy, Debug)]
-pub struct Turn<'a> {
-    pub wish: Option<(u32, VersionNo)>,
-    pub chosen: &'a [VersionNo],
+pub enum Answer {
+    Entry(Entry),
+    LeftOut {
+        version: VersionNo,
+        line: u32,
+        step: u32,
+    },
+}
+
+/// A turn of a search. Wishes are told by their lines of the request.
+#[derive(Clone, Copy, Debug)]
+pub enum Turn<'a> {
+    /// The needs of the request, or an accepted wish: the versions that were chosen besides those of the turns before.
+    Chose {
+        wish: Option<(u32, VersionNo)>,
+        chosen: &'a [VersionNo],
+    },
+    /// A wish that is left out. The step of the report, from 1, bars it.
+    LeftOut {
+        wish: (u32, VersionNo),
+        step: u32,
+    },
 }

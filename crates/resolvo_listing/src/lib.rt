@@ -6,5 +6,5 @@ mod entry;
 mod listing;
 mod places;
 
-pub use entry::{Entry, Reason, Turn};
+pub use entry::{Answer, Entry, Reason, Turn};
 pub use listing::list;

@@ -1,13 +1,17 @@
 //! What no clause says: that there is an answer where there is memory, and rows of the order.
 
 use resolvo_catalogue::{Catalogue, MemorySource, Request, VersionNo};
-use resolvo_listing::{Entry, Reason, Turn, list};
+use resolvo_listing::{Answer, Entry, Reason, Turn, list};
 use std::alloc::{AllocError, Global};
 use std::process::Abort;
 use std::test::Fail;
 
-/// What a turn of a row chose: its wish, by the line of the request, and versions by name and number.
-type Told<'a> = (Option<u32>, &'a [(&'a str, u32)]);
+/// A turn of a row: its wish, by the line of the request, and versions by name and number that it chose; or the line of
+/// a wish that is left out, and its step.
+enum Told<'a> {
+    Chose(Option<u32>, &'a [(&'a str, u32)]),
+    LeftOut(u32, u32),
+}
 
 fn name_of(alloc: Global, catalogue: &Catalogue, version: VersionNo) -> Result<String, AllocError> {
     match catalogue.versions().get(version.0 as usize) {
@@ -16,7 +20,21 @@ fn name_of(alloc: Global, catalogue: &Catalogue, version: VersionNo) -> Result<S
     }
 }
 
-fn line_of(alloc: Global, catalogue: &Catalogue, entry: &Entry) -> Result<String, AllocError> {
+fn line_of(alloc: Global, catalogue: &Catalogue, answer: &Answer) -> Result<String, AllocError> {
+    match answer {
+        Answer::Entry(entry) => entry_line(alloc, catalogue, entry),
+        Answer::LeftOut {
+            version,
+            line,
+            step,
+        } => {
+            let version = name_of(alloc, catalogue, *version)?;
+            format!(in alloc; "left out {version} line {line} by {step}\n")
+        }
+    }
+}
+
+fn entry_line(alloc: Global, catalogue: &Catalogue, entry: &Entry) -> Result<String, AllocError> {
     let version = name_of(alloc, catalogue, entry.version)?;
     match entry.reason {
         Reason::ForRequest { line } => format!(in alloc; "{version} for request line {line}\n"),
@@ -54,14 +72,26 @@ fn numbers_of(
     Ok(numbers)
 }
 
+/// The numbers of what a turn chose.
+fn chosen_by(
+    alloc: Global,
+    catalogue: &Catalogue,
+    turn: &Told<'_>,
+) -> Result<Vec<VersionNo>, AllocError> {
+    match turn {
+        Told::Chose(_, versions) => numbers_of(alloc, catalogue, versions),
+        Told::LeftOut(_, _) => Ok(Vec::new(alloc)),
+    }
+}
+
 fn add_chosen(
     alloc: Global,
     catalogue: &Catalogue,
     chosen: &mut Vec<Vec<VersionNo>>,
     told: &[Told<'_>],
 ) -> Result<(), AllocError> {
-    for (_, versions) in told {
-        chosen.push(numbers_of(alloc, catalogue, versions)?)?;
+    for turn in told {
+        chosen.push(chosen_by(alloc, catalogue, turn)?)?;
     }
     Ok(())
 }
@@ -80,12 +110,31 @@ fn chosen_of(
 fn wish_of(
     catalogue: &Catalogue,
     request: &Request,
-    line: Option<u32>,
+    line: u32,
 ) -> Option<(u32, VersionNo)> {
-    let line = line?;
     let wish = request.wish(line)?;
     let version = catalogue.find(&wish.name, wish.number)?;
     Some((line, version))
+}
+
+/// The turn of a row. A wish that the request doesn't have is passed over.
+fn turn_of<'a>(
+    catalogue: &Catalogue,
+    request: &Request,
+    turn: &Told<'_>,
+    chosen: &'a [VersionNo],
+) -> Option<Turn<'a>> {
+    match turn {
+        Told::Chose(None, _) => Some(Turn::Chose { wish: None, chosen }),
+        Told::Chose(Some(line), _) => Some(Turn::Chose {
+            wish: Some(wish_of(catalogue, request, *line)?),
+            chosen,
+        }),
+        Told::LeftOut(line, step) => Some(Turn::LeftOut {
+            wish: wish_of(catalogue, request, *line)?,
+            step: *step,
+        }),
+    }
 }
 
 fn add_turns<'a>(
@@ -95,9 +144,10 @@ fn add_turns<'a>(
     told: &[Told<'_>],
     chosen: &'a [Vec<VersionNo>],
 ) -> Result<(), AllocError> {
-    for ((wish, _), chosen) in told.iter().zip(chosen) {
-        let wish = wish_of(catalogue, request, *wish);
-        turns.push(Turn { wish, chosen })?;
+    for (turn, chosen) in told.iter().zip(chosen) {
+        if let Some(turn) = turn_of(catalogue, request, turn, chosen) {
+            turns.push(turn)?;
+        }
     }
     Ok(())
 }
@@ -118,15 +168,15 @@ fn add_lines(
     alloc: Global,
     catalogue: &Catalogue,
     text: &mut String,
-    entries: &[Entry],
+    answers: &[Answer],
 ) -> Result<(), AllocError> {
-    for entry in entries {
-        text.push_str(&line_of(alloc, catalogue, entry)?)?;
+    for answer in answers {
+        text.push_str(&line_of(alloc, catalogue, answer)?)?;
     }
     Ok(())
 }
 
-/// The lines of the entries that the turns list.
+/// The lines of what the turns list.
 fn add_listed(
     alloc: Global,
     catalogue: &Catalogue,
@@ -134,8 +184,8 @@ fn add_listed(
     text: &mut String,
     turns: &[Turn<'_>],
 ) -> Result<(), AllocError> {
-    let entries = list(alloc, catalogue, request, turns)?;
-    add_lines(alloc, catalogue, text, &entries)
+    let answers = list(alloc, catalogue, request, turns)?;
+    add_lines(alloc, catalogue, text, &answers)
 }
 
 fn add_told(
@@ -182,7 +232,7 @@ fn add_all(
     add_told_over(alloc, &catalogue, request, text, told)
 }
 
-/// The entries that these turns list.
+/// What these turns list.
 fn listed(
     alloc: Global,
     catalogue: &str,
@@ -194,7 +244,7 @@ fn listed(
     Ok(text)
 }
 
-/// These turns list these entries.
+/// These turns list these lines.
 fn are_listed(
     rt: &impl Abort,
     alloc: Global,
@@ -217,7 +267,7 @@ fn lines_in_order(rt: HostRuntime) -> Result<(), Fail> {
         &rt,
         rt.alloc(),
         (MARKET, "#\nneeds b\nneeds a 1\n"),
-        &[(
+        &[Told::Chose(
             None,
             &[("e", 2), ("d", 1), ("c", 1), ("b", 1), ("a", 1), ("f", 1)],
         )],
@@ -234,7 +284,10 @@ fn conditions_in_time(rt: HostRuntime) -> Result<(), Fail> {
             "version a 1\nneeds b\nneeds e\nversion b 1\nversion c 1\nversion d 1\nversion e 1\n",
             "needs c | d if b\nneeds e if c\nneeds a\n",
         ),
-        &[(None, &[("a", 1), ("b", 1), ("c", 1), ("d", 1), ("e", 1)])],
+        &[Told::Chose(
+            None,
+            &[("a", 1), ("b", 1), ("c", 1), ("d", 1), ("e", 1)],
+        )],
         "a=1 for request line 3\nb=1 for a=1 line 2\nc=1 for request line 1\nd=1 for request line 1\ne=1 for request line 2\n",
     )
 }
@@ -249,11 +302,31 @@ fn wishes_in_turn(rt: HostRuntime) -> Result<(), Fail> {
             "wish b 1\nneeds a\nwish c 1\nneeds z if c\n",
         ),
         &[
-            (None, &[("b", 1), ("a", 1)]),
-            (Some(1), &[]),
-            (Some(3), &[("d", 1), ("z", 1), ("c", 1)]),
+            Told::Chose(None, &[("b", 1), ("a", 1)]),
+            Told::Chose(Some(1), &[]),
+            Told::Chose(Some(3), &[("d", 1), ("z", 1), ("c", 1)]),
         ],
         "a=1 for request line 2\nb=1 for a=1 line 2\nc=1 wished line 3\nz=1 for request line 4\nd=1 for c=1 line 5\n",
+    )
+}
+
+#[test]
+fn wishes_left_out_in_turn(rt: HostRuntime) -> Result<(), Fail> {
+    are_listed(
+        &rt,
+        rt.alloc(),
+        (
+            "version a 1\nversion a 2\nversion b 1\nversion b 2\nversion c 1\n",
+            "wish a 2\nneeds a 1\nwish c 1\nwish b 1\nwish b 2\n",
+        ),
+        &[
+            Told::Chose(None, &[("a", 1)]),
+            Told::LeftOut(1, 4),
+            Told::Chose(Some(3), &[("c", 1)]),
+            Told::LeftOut(4, 2),
+            Told::Chose(Some(5), &[("b", 2)]),
+        ],
+        "a=1 for request line 2\nleft out a=2 line 1 by 4\nc=1 wished line 3\nleft out b=1 line 4 by 2\nb=2 wished line 5\n",
     )
 }
 
@@ -264,7 +337,7 @@ fn nothing_to_list(rt: HostRuntime) -> Result<(), Fail> {
         &rt,
         rt.alloc(),
         ("version a 1\n", "needs a\n"),
-        &[(None, &[])],
+        &[Told::Chose(None, &[])],
         "",
     )
 }

@@ -33,7 +33,7 @@ use Rattle.resolvo_proof.specs.Steps.{literal_in, clause_at as step_at}
 use Rattle.resolvo_proof.specs.Members.{HaveOneSign}
 use Rattle.resolvo_proof.specs.Drawn.{AreDrawn, HaveOneSigns}
 use Rattle.resolvo_proof.specs.Proof.{DenyRoot}
-use Rattle.resolvo_proof.specs.Trimmed.{IsRenumbered, IsTrimmed}
+use Rattle.resolvo_proof.specs.Trimmed.{IsRenumbered, IsTrimmedTo}
 use Rattle.resolvo_proof.specs.Written.{IsStepOf, IsStepAt, AreSteps, AreStepsThen}
 use Rattle.resolvo_proof.proofs.Parts.{clause_in_range}
 use Rattle.resolvo_proof.proofs.Proving.{kept_false, map_none, none_meant, refusal_in_range, spells_step, step_clause}
@@ -143,8 +143,8 @@ module _ {N S : Type 0} (c : Coding N S) (coding : IsCoding c) where
     ]
 
 -- what is left of steps says no more of an atom
-pub trimmed_signs : {N S : Type 0} (steps kept : List (ProofStep N S)) → IsTrimmed steps kept → HaveOneSigns steps → HaveOneSigns kept
-trimmed_signs {N} {S} steps kept trimmed signs n literals causes here = let (place, x, at, there, is) = stood steps kept trimmed n (Derived literals causes) here in go place x there is
+pub trimmed_signs : {N S : Type 0} {Wanted : ℕ → Type 0} (steps kept : List (ProofStep N S)) → IsTrimmedTo Wanted steps kept → HaveOneSigns steps → HaveOneSigns kept
+trimmed_signs {N} {S} {Wanted} steps kept trimmed signs n literals causes here = let (place, x, at, there, is) = stood steps kept trimmed n (Derived literals causes) here in go place x there is
   where
     go : (place : ℕ) (x : ProofStep N S) → slice_get steps place ≡ Some x → IsRenumbered trimmed.from place x (Derived literals causes) → HaveOneSign (map literal_in literals.items)
     go place (Rule r) there is = absurd (not_rule r literals causes is)

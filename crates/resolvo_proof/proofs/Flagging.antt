@@ -1,15 +1,13 @@
--- Flags of the steps that lead to a proof's last one, found from the back.
-use Rattle.std.proofs.Common.{◌≡◌, ℕ, zero, suc, ◌-◌, ◌<◌, ◌≤◌, inl, inr, Bool, true, false, List, [], ◌∷◌, ◌++◌, length, take, replicate, Some, Vec, Global, refl, sym, ◌∙◌, ap, subst, arith}
+-- Flags of the steps that lead to wanted ones of a proof, found from the back.
+use Rattle.std.proofs.Common.{◌≡◌, ℕ, zero, suc, ◌-◌, ◌<◌, ◌≤◌, inl, inr, Bool, true, false, List, [], ◌∷◌, ◌++◌, length, take, replicate, Some, refl, sym, ◌∙◌, ap, subst, arith}
 use Rattle.std.specs.Prelude.{slice_get, slice_set, Contains}
 use Rattle.std.proofs.lemmas.Option.{slice_get_within}
-use Rattle.std.proofs.lemmas.List.{length-set, length-replicate, take_all}
+use Rattle.std.proofs.lemmas.List.{length-set, length-replicate}
 use Rattle.std.proofs.lemmas.Bool.{cases_eq}
 use Rattle.std.proofs.Math.Seq.{take-nil}
 use Rattle.resolvo_rules.proofs.Lists.{contains_none, contains_one, contains_left, contains_right, contains_parts, contains_first}
 use Rattle.resolvo_coding.proofs.Positions.{get_set_here, get_set_other}
 use Rattle.resolvo_proof.specs.declared.step.ProofStep.{ProofStep}
-use Rattle.resolvo_proof.specs.declared.step.ProofLiteral.{ProofLiteral}
-use Rattle.resolvo_proof.specs.declared.step.ProofStep.TheVariants.{Derived}
 use Rattle.resolvo_proof.specs.Trimmed.{Names, IsFlagged, Flags, AreLeadingFrom}
 
 -- no steps are named at first
@@ -50,10 +48,10 @@ flags_skip xs c place old new past (same, kept, named, only) = (
 )
 
 -- one step further to the front, which is flagged
-pub leads_more : {N S : Type 0} (steps : List (ProofStep N S)) (p : ℕ) (step : ProofStep N S) (old new : List Bool) → slice_get steps p ≡ Some step → IsFlagged old p → Flags (Names step) p old new → AreLeadingFrom (suc p) steps old → AreLeadingFrom p steps new
+pub leads_more : {N S : Type 0} {Wanted : ℕ → Type 0} (steps : List (ProofStep N S)) (p : ℕ) (step : ProofStep N S) (old new : List Bool) → slice_get steps p ≡ Some step → IsFlagged old p → Flags (Names step) p old new → AreLeadingFrom (suc p) Wanted steps old → AreLeadingFrom p Wanted steps new
 leads_more {N} {S} steps p step old new at flagged (same, kept, marked, only) leads = record {
   count = same ∙ leads.count;
-  final = λ k last. kept k (leads.final k last);
+  wanted = λ k is within. kept k (leads.wanted k is within);
   closed = λ k cause s from is there names below. elim (cases_eq k p) [
     | inl e ↦ marked cause (subst (λ (x : ProofStep N S). Names x cause) (one_step k s e there) names) (omega arith)
     | inr other ↦ elim (only k is) [
@@ -61,9 +59,12 @@ leads_more {N} {S} steps p step old new at flagged (same, kept, marked, only) le
       | inr (n, small) ↦ absurd (omega arith)
     ]
   ];
-  named = λ k is early. elim (only k is) [
-    | inl was ↦ let (later, s, after, f, there, names) = leads.named k was early in (later, s, after, kept later f, there, names)
-    | inr (n, small) ↦ (p, step, small, kept p flagged, at, n)
+  named = λ k is. elim (only k is) [
+    | inl was ↦ elim (leads.named k was) [
+      | inl is_wanted ↦ inl is_wanted
+      | inr (later, s, after, f, there, names) ↦ inr (later, s, after, kept later f, there, names)
+    ]
+    | inr (n, small) ↦ inr (p, step, small, kept p flagged, at, n)
   ];
 }
   where
@@ -71,10 +72,10 @@ leads_more {N} {S} steps p step old new at flagged (same, kept, marked, only) le
     one_step k s e there = let both : Some s ≡ Some step = sym there ∙ (ap (slice_get steps) e ∙ at) in cc
 
 -- one that is not
-pub leads_skip : {N S : Type 0} (steps : List (ProofStep N S)) (p : ℕ) (flags : List Bool) → (IsFlagged flags p → ⊥) → AreLeadingFrom (suc p) steps flags → AreLeadingFrom p steps flags
+pub leads_skip : {N S : Type 0} {Wanted : ℕ → Type 0} (steps : List (ProofStep N S)) (p : ℕ) (flags : List Bool) → (IsFlagged flags p → ⊥) → AreLeadingFrom (suc p) Wanted steps flags → AreLeadingFrom p Wanted steps flags
 leads_skip steps p flags out leads = record {
   count = leads.count;
-  final = leads.final;
+  wanted = leads.wanted;
   closed = λ k cause s from is there names below. elim (cases_eq k p) [
     | inl e ↦ absurd (out (subst (IsFlagged flags) e is))
     | inr other ↦ leads.closed k cause s (omega (arith, other)) is there names below
@@ -82,38 +83,13 @@ leads_skip steps p flags out leads = record {
   named = leads.named;
 }
 
--- all causes of the step
-pub flags_done : {N S : Type 0} (step : ProofStep N S) (literals : Vec (ProofLiteral N S) Global) (causes : Vec ℕ Global) (xs : List ℕ) (i place : ℕ) (old new : List Bool) → step ≡ Derived literals causes → xs ≡ causes.items → length xs ≤ i
-    → Flags (Contains (take i xs)) place old new → Flags (Names step) place old new
-flags_done step literals causes xs i place old new is items all flags =
-    subst (λ (x : ProofStep _ _). Flags (Names x) place old new) (sym is)
-    (subst (λ (ys : List ℕ). Flags (Contains ys) place old new) (take_all i xs all ∙ items) flags)
-
--- at first the last step alone is flagged
-pub leads_first : {N S : Type 0} (steps : List (ProofStep N S)) (last : ℕ) (flags : List Bool) → length steps ≡ suc last → length flags ≡ length steps → ((k : ℕ) → IsFlagged flags k → ⊥) → AreLeadingFrom (length steps) steps (slice_set flags last true)
-leads_first steps last flags long many none = record {
-  count = count;
-  final = λ place e. subst (IsFlagged (slice_set flags last true)) (omega arith) here;
+-- at first the wanted steps alone are flagged
+pub leads_first : {N S : Type 0} {Wanted : ℕ → Type 0} (steps : List (ProofStep N S)) (none new : List Bool) → length none ≡ length steps → ((k : ℕ) → IsFlagged none k → ⊥) → Flags Wanted (length steps) none new → AreLeadingFrom (length steps) Wanted steps new
+leads_first steps none new many empty (same, kept, marked, only) = record {
+  count = same ∙ many;
+  wanted = marked;
   closed = λ place cause s from is there names below. absurd (let within : place < length steps = slice_get_within steps place s there in omega arith);
-  named = λ place is early. absurd (not_yet place is early);
-}
-  where
-    count : length (slice_set flags last true) ≡ length steps
-    count = length-set flags last true ∙ many
-
-    here : IsFlagged (slice_set flags last true) last
-    here = get_set_here flags last true (omega arith)
-
-    not_yet : (place : ℕ) → IsFlagged (slice_set flags last true) place → suc place < length steps → ⊥
-    not_yet place is early = none place (sym (get_set_other flags last place true (λ e. omega arith)) ∙ is)
-
--- no step leads to one of none
-pub leads_none : {N S : Type 0} (steps : List (ProofStep N S)) (flags : List Bool) → length steps ≡ 0 → length flags ≡ length steps → AreLeadingFrom (length steps) steps flags
-leads_none steps flags none count = record {
-  count = count;
-  final = λ place e. absurd (omega arith);
-  closed = λ place cause s from is there names below. absurd (let within : place < length steps = slice_get_within steps place s there in omega arith);
-  named = λ place is early. absurd (omega arith);
+  named = λ place is. elim (only place is) [ inl was ↦ absurd (empty place was) | inr (is_wanted, within) ↦ inl is_wanted ];
 }
 
 get_replicate : (n k : ℕ) → IsFlagged (replicate n false) k → ⊥

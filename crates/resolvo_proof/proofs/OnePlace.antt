@@ -1,5 +1,5 @@
 -- The steps of a coding tell one place of each solvable.
-use Rattle.std.proofs.Common.{◌≡◌, ℕ, zero, suc, ◌⊎◌, inl, inr, Bool, true, false, List, [], ◌∷◌, ◌++◌, length, Option, Some, None, refl, sym, ◌∙◌, ap, subst}
+use Rattle.std.proofs.Common.{◌≡◌, ℕ, suc, inl, inr, List, Some, sym, ◌∙◌, ap, subst}
 use Rattle.std.specs.Prelude.{slice_get}
 use Rattle.resolvo_pool.specs.declared.id.VariableId.{VariableId}
 use Rattle.resolvo_pool.specs.declared.id.ClauseId.{ClauseId}
@@ -11,8 +11,7 @@ use Rattle.resolvo_coding.specs.declared.registry.Registry.{Registry}
 use Rattle.resolvo_coding.specs.declared.stated.Stated.{Stated}
 use Rattle.resolvo_coding.specs.declared.stated.Stated.TheVariants as Says
 use Rattle.resolvo_coding.specs.Coding.{IsCoding}
-use Rattle.resolvo_coding.specs.Registered.{IsPlaced, AreTied, IsTied, IsTracked, IsRegistered}
-use Rattle.resolvo_coding.specs.Statements.{stated_at}
+use Rattle.resolvo_coding.specs.Registered.{IsPlaced, AreTied, IsTied, IsRegistered}
 use Rattle.resolvo_coding.proofs.Growth.{stands_once}
 use Rattle.resolvo_coding.proofs.Positions.{get_contains, get_push}
 use Rattle.resolvo_proof.specs.declared.step.ProofRule.{ProofRule}
@@ -20,7 +19,7 @@ use Rattle.resolvo_proof.specs.declared.step.ProofRule.TheVariants.{Digit}
 use Rattle.resolvo_proof.specs.declared.step.ProofStep.{ProofStep}
 use Rattle.resolvo_proof.specs.declared.step.ProofStep.TheVariants.{Rule, Derived}
 use Rattle.resolvo_proof.specs.Places.{HaveOnePlace, AreNamedBy}
-use Rattle.resolvo_proof.specs.Trimmed.{IsRenumbered, IsTrimmed}
+use Rattle.resolvo_proof.specs.Trimmed.{IsRenumbered, IsTrimmedTo}
 use Rattle.resolvo_proof.specs.Written.{IsTold, IsStepOf, IsStepAt, AreSteps, AreStepsThen}
 use Rattle.resolvo_proof.proofs.Numbering.{one_place}
 use Rattle.resolvo_proof.proofs.Shortened.{stood}
@@ -87,8 +86,8 @@ module _ {N S : Type 0} (c : Coding N S) (r : Registry N) (coding : IsCoding c) 
       ]
 
 -- what is left of steps tells no other places
-pub trimmed_one_place : {N S : Type 0} (steps kept : List (ProofStep N S)) → IsTrimmed steps kept → HaveOnePlace steps → HaveOnePlace kept
-trimmed_one_place {N} {S} steps kept trimmed one m n s k l bit other a b = let (i, at) = old m s k bit a in let (j, there) = old n s l other b in one i j s k l bit other at there
+pub trimmed_one_place : {N S : Type 0} {Wanted : ℕ → Type 0} (steps kept : List (ProofStep N S)) → IsTrimmedTo Wanted steps kept → HaveOnePlace steps → HaveOnePlace kept
+trimmed_one_place {N} {S} {Wanted} steps kept trimmed one m n s k l bit other a b = let (i, at) = old m s k bit a in let (j, there) = old n s l other b in one i j s k l bit other at there
   where
     rule_was : (from : List ℕ) (place : ℕ) (x : ProofStep N S) (t : S) (at low : ℕ) → IsRenumbered from place x (Rule (Digit t at low)) → x ≡ Rule (Digit t at low)
     rule_was from place (Rule y) t at low h = sym h

@@ -13,7 +13,7 @@ use Rattle.resolvo_proof.specs.declared.step.ProofStep.{ProofStep}
 use Rattle.resolvo_proof.specs.declared.step.ProofStep.TheVariants.{Rule, Derived}
 use Rattle.resolvo_proof.specs.Steps.{literal_in, clause_of, clause_at}
 use Rattle.resolvo_proof.specs.Proof.{IsStep, IsRefuted, IsProof, EndsEmpty}
-use Rattle.resolvo_proof.specs.Trimmed.{IsRenumbered, IsTrimmed, StaysProof}
+use Rattle.resolvo_proof.specs.Trimmed.{IsRenumbered, IsTrimmedTo, IsTrimmed, StaysProof}
 use Rattle.resolvo_proof.proofs.Numbering.{one_place, falls_back, order}
 use Rattle.resolvo_proof.proofs.Proving.{step_clause}
 
@@ -22,7 +22,7 @@ clause_kept : {N S : Type 0} (same : S → S → Bool) (p : Packages N S) (from 
 clause_kept same p from place (Rule r) step is = ap (clause_of same p) is
 clause_kept same p from place (Derived literals causes) step (renumbered, is, zip) = ap (clause_of same p) is
 
-module _ {N S : Type 0} (steps kept : List (ProofStep N S)) (trimmed : IsTrimmed steps kept) where
+module _ {N S : Type 0} {Wanted : ℕ → Type 0} (steps kept : List (ProofStep N S)) (trimmed : IsTrimmedTo Wanted steps kept) where
   -- the place that a kept step had, and the step there
   pub stood : (k : ℕ) (step : ProofStep N S) → slice_get kept k ≡ Some step → (place : ℕ) × (old : ProofStep N S) × (slice_get trimmed.from k ≡ Some place) × (slice_get steps place ≡ Some old) × IsRenumbered trimmed.from place old step
   stood k step at =
@@ -87,7 +87,7 @@ module _ {N S : Type 0} (steps kept : List (ProofStep N S)) (trimmed : IsTrimmed
     trimmed_proof k step at = let (place, old, here, there, is) = stood k step at in stands k place old step here is (proof place old there)
 
 -- what is left of a proof is one
-pub trimmed_proves : {N S : Type 0} (steps kept : List (ProofStep N S)) → IsTrimmed steps kept → StaysProof steps kept
+pub trimmed_proves : {N S : Type 0} {Wanted : ℕ → Type 0} (steps kept : List (ProofStep N S)) → IsTrimmedTo Wanted steps kept → StaysProof steps kept
 trimmed_proves steps kept trimmed same_atom same p root proof = trimmed_proof steps kept trimmed same_atom same p root proof
 
 -- a list is what stands before its last item, and that item
@@ -103,7 +103,7 @@ trimmed_empty {N} {S} steps kept trimmed ends =
     let last : ProofStep N S = Derived ends.literals ends.causes in
     let at : slice_get steps (length ends.earlier) ≡ Some last = subst (λ (xs : List (ProofStep N S)). slice_get xs (length ends.earlier) ≡ Some last) (sym ends.ends) (get_last ends.earlier last) in
     let long : length steps ≡ length ends.earlier + 1 = ap length ends.ends ∙ length-append ends.earlier (last ∷ []) in
-    let (k, here) = trimmed.final (length ends.earlier) (omega arith) in
+    let (k, here) = trimmed.wanted (length ends.earlier) (omega arith) (omega arith) in
     let within : k < length trimmed.from = slice_get_within trimmed.from k (length ends.earlier) here in
     let count : length kept ≡ length trimmed.from = trimmed.count in
     let (step, new) = get_below kept k (omega arith) in

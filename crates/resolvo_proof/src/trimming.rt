@@ -1,16 +1,25 @@
-//! Steps that don't lead to the last one are left out of a proof. Those that do are found from the last
-//! one back, by their causes; what is left is numbered anew. Whoever writes a proof down trims it first.
-ghost use Rattle.std.specs.Prelude.{◌≡◌, ◌≤◌, length, map, IfOk, OnOk, IsOkUnless};
+//! Steps that don't lead to the wanted ones are left out of a proof. Those that do are found from the last
+//! one back, by their causes; what is left is numbered anew. Whoever writes a proof down trims it first: a
+//! refusal wants the last step alone, an answer each step by which a wish is left out.
+ghost use Rattle.std.specs.Prelude.{◌≡◌, ◌≤◌, length, map, Contains, IfOk, OnOk, IsOkUnless};
 ghost use Rattle.resolvo_pool.specs.declared.want.Want.TheVariants.{Memory};
 ghost use Rattle.resolvo_proof.specs.Proof.{EndsEmpty};
 ghost use Rattle.resolvo_proof.specs.Drawn.{HaveOneSigns};
 ghost use Rattle.resolvo_proof.specs.Places.{HaveOnePlace};
-ghost use Rattle.resolvo_proof.specs.Trimmed.{number_of, Names, AreLeading, Flags, IsNumbered, Keeps, IsTrimmed, AreNamed, StaysProof};
+ghost use Rattle.resolvo_proof.specs.Trimmed.{number_of, Names, AreLeading, Flags, IsNumbered, Keeps, IsTrimmed, IsTrimmedWith, AreNamed, StaysProof};
 
 use crate::step::ProofStep;
 use resolvo_pool::solver_id::SolverId;
 use resolvo_pool::want::R;
 use std::alloc::Global;
+
+/// Steps of which some were left out.
+#[derive(Debug, Drop)]
+pub struct Trimmed<N, S> {
+    pub steps: Vec<ProofStep<N, S>>,
+    /// For each step's old place, how many of those that stay stood before it.
+    pub numbers: Vec<usize>,
+}
 
 /// The steps that lead to the last one, in their order, with their causes renumbered.
 pub fn trim<N: SolverId, S: SolverId>(
@@ -25,7 +34,25 @@ pub fn trim<N: SolverId, S: SolverId>(
     ensures signs { IfOk result (λ v. HaveOneSigns steps.items → HaveOneSigns v.items) }
     ensures refusal { IsOkUnless result Memory }
 {
-    let leading = leading(alloc, steps.as_slice())?;
+    let last = steps.len().saturating_sub(1);
+    let Trimmed { steps, .. } = trim_to(alloc, steps, &[last])?;
+    Ok(steps)
+}
+
+/// The steps that lead to those at these places, in their order, with their causes renumbered. A place
+/// where no step stands is passed over.
+pub fn trim_to<N: SolverId, S: SolverId>(
+    alloc: Global,
+    steps: Vec<ProofStep<N, S>>,
+    wanted: &[usize],
+) -> R<Trimmed<N, S>>
+    ensures kept { IfOk result (λ t. IsTrimmedWith (Contains wanted.now) steps.items t.steps.items t.numbers.items) }
+    ensures proof { IfOk result (λ t. StaysProof steps.items t.steps.items) }
+    ensures places { IfOk result (λ t. HaveOnePlace steps.items → HaveOnePlace t.steps.items) }
+    ensures signs { IfOk result (λ t. HaveOneSigns steps.items → HaveOneSigns t.steps.items) }
+    ensures refusal { IsOkUnless result Memory }
+{
+    let leading = leading(alloc, steps.as_slice(), wanted)?;
     let mut numbers = Vec::new(alloc);
     let mut kept = Vec::new(alloc);
     for step in steps {
@@ -33,19 +60,24 @@ pub fn trim<N: SolverId, S: SolverId>(
         keep(&mut kept, numbers.as_slice(), leading[numbers.len()], step)?;
         numbers.push(number)?;
     }
-    Ok(kept)
+    Ok(Trimmed {
+        steps: kept,
+        numbers,
+    })
 }
 
-/// For each step, whether it leads to the last one.
-fn leading<N: SolverId, S: SolverId>(alloc: Global, steps: &[ProofStep<N, S>]) -> R<Vec<bool>>
-    ensures leads { IfOk result (λ v. AreLeading steps.now v.items) }
+/// For each step, whether it leads to one of those at these places.
+fn leading<N: SolverId, S: SolverId>(
+    alloc: Global,
+    steps: &[ProofStep<N, S>],
+    wanted: &[usize],
+) -> R<Vec<bool>>
+    ensures leads { IfOk result (λ v. AreLeading (Contains wanted.now) steps.now v.items) }
     ensures refusal { IsOkUnless result Memory }
 {
     let mut flags = Vec::new(alloc);
     flags.resize(steps.len(), false)?;
-    if let Some(last) = steps.len().checked_sub(1) {
-        flags[last] = true;
-    }
+    flag(wanted, steps.len(), &mut flags);
     let mut place = steps.len();
     while place > 0 {
         place -= 1;
@@ -62,15 +94,23 @@ fn flag_causes<N, S>(step: &ProofStep<N, S>, place: usize, flags: &mut Vec<bool>
     ensures { Flags (Names step.now) place flags.old.items flags.new.items }
 {
     if let ProofStep::Derived { causes, .. } = step {
-        for cause in causes {
-            if *cause < place {
-                flags[*cause] = true;
-            }
+        flag(causes.as_slice(), place, flags);
+    }
+}
+
+/// Flags the steps at those of these places that stand before this one.
+fn flag(places: &[usize], end: usize, flags: &mut Vec<bool>)
+    requires { end ≤ length flags.old.items }
+    ensures { Flags (Contains places.now) end flags.old.items flags.new.items }
+{
+    for place in places {
+        if *place < end {
+            flags[*place] = true;
         }
     }
 }
 
-/// Puts the step behind those that are kept, where it leads to the last one.
+/// Puts the step behind those that are kept, where it leads to a wanted one.
 fn keep<N: SolverId, S: SolverId>(
     kept: &mut Vec<ProofStep<N, S>>,
     numbers: &[usize],

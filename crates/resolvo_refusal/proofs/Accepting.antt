@@ -116,14 +116,14 @@ module _ (catalogue : List Line) (said : Said) (provider : Provider) (steps : Li
       let (k, is, below, (t, there, rests_on)) = (all.all n).0 h in
       let (m, e) = at_from_contains written t there in
       let (s, at, tells) = zip_right (IsToldBy catalogue provider.ids said.lines) steps written each m t e in
-      let (l, stated, rule) = line_stated catalogue said provider steps refuted of s t n tells rests_on in
+      let (l, stated, rule) = line_stated catalogue said provider steps refuted.proves of s t n tells rests_on in
       ap states_rule stated ∙ rule
 
   -- the line that a step rests on is named
   names : (of : Text) (numbers : List ℕ) (m : ℕ) (t : Step) (n : ℕ) → AreAll numbers (IsNamedBy of (length (lines_in catalogue said.lines of)) written) → slice_get written m ≡ Some t → line_in of t ≡ Some n → is_named numbers n ≡ true
   names of numbers m t n all e rests_on =
       let (s, at, tells) = zip_right (IsToldBy catalogue provider.ids said.lines) steps written each m t e in
-      let (l, stated, rule) = line_stated catalogue said provider steps refuted of s t n tells rests_on in
+      let (l, stated, rule) = line_stated catalogue said provider steps refuted.proves of s t n tells rests_on in
       let (k, is, below) = number_within (lines_in catalogue said.lines of) n l stated in
       listed_named numbers n ((all.all n).1 (k, is, below, (t, contains_from_at written t m e, rests_on)))
 
@@ -136,7 +136,7 @@ module _ (catalogue : List Line) (said : Said) (provider : Provider) (steps : Li
           let (number, t, step, is, before) = numbered_at 1 written k l at in
           let whole : take n (lines_to in_catalogue in_request written) ≡ lines_to in_catalogue in_request (take k written) =
           above ∙ ap (λ ls. map (λ x. CatalogueLine x) in_catalogue ++ ls) (over ∙ ap (λ ls. map (λ x. RequestLine x) in_request ++ ls) before) in
-          let may = stands catalogue said provider steps refuted written each (is_named in_catalogue) (is_named in_request) k t step
+          let may = stands catalogue said provider steps refuted.proves written each (is_named in_catalogue) (is_named in_request) k t step
           (rests (is_named in_catalogue) (is_named in_request) t (λ x g. names text.Catalogue in_catalogue k t x named step g) (λ x g. names text.Request in_request k t x asked step g)) in
           ap (passes catalogue said.lines (RefusedHead ∷ take n (lines_to in_catalogue in_request written))) is
           ∙ (ap (λ ls. passes catalogue said.lines (RefusedHead ∷ ls) (Numbered number t)) whole

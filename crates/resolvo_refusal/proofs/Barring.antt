@@ -3,7 +3,7 @@ use Rattle.std.proofs.Common.{◌≡◌, ◌==◌, ◌<◌, ◌⊎◌, inl, inr,
 use Rattle.std.specs.Prelude.{IfSome, IfNone, ◌||◌, not, ◌≢◌, unwrap_or, Contains, slice_get}
 use Rattle.std.specs.List.{list_any, find, flat_map}
 use Rattle.std.specs.Cmp.Lexicographic.{bytes_decides}
-use Rattle.std.proofs.lemmas.Bool.{false≢true, eq-eqb, eqb-true, and_parts, or_cases}
+use Rattle.std.proofs.lemmas.Bool.{cases_Bool, false≢true, eq-eqb, eqb-true, and_parts, or_cases}
 use Rattle.resolvo_text.specs.Line.{Version, Line, Skipped, Listed, Needs, Limits, Unknown, Lock, Favour, Exclude, Wish}
 use Rattle.resolvo_text.specs.Matching.{same_package}
 use Rattle.resolvo_catalogue.specs.Grammar.{line_at, owner_of}
@@ -33,7 +33,7 @@ use Rattle.resolvo_report.specs.Value as told
 use Rattle.resolvo_steps.specs.StepClauses as judge
 use Rattle.resolvo_refusal.specs.declared.named.Text.{Text}
 use Rattle.resolvo_refusal.specs.Named.{line_in, in_catalogue}
-use Rattle.resolvo_refusal.specs.Lines.{locks, marks_unknown, IsFree, IsUnknownLine, IsBarringLine}
+use Rattle.resolvo_refusal.specs.Lines.{locks, marks_unknown, IsFree, IsUnknownLine, IsBarredLine, IsBarredLineOf, IsBarringLine}
 use Rattle.resolvo_refusal.specs.Writing as refusal
 use Rattle.resolvo_refusal.specs.declared.lines.BarringLine.{BarringLine}
 use Rattle.resolvo_refusal.specs.declared.lines.BarringLine.TheVariants as barring
@@ -149,13 +149,24 @@ module _ (catalogue : List Line) (p : Provider) (over : IsOver catalogue p) (sam
       let (k, at) = at_from_contains catalogue (Lock w) has in
       (suc k, (Lock w, at, (sym name, λ number. other (λ i. record { name = name i; number = sym number i }))))
 
+  -- a line that locks it out or excludes it is none that leaves it free
+  free_bars : (s : SolvableId) (v : Version) → slice_get (listed catalogue) s.raw ≡ Some v → is_barred same (packages_of p) s ≡ true → IsFree catalogue v → ⊥
+  free_bars s v e barred free = elim (barred_from s v e barred) [
+    | inl (w, has, name, other) ↦ (let (n, lock) = lock_line v w has name other in free n (inl lock))
+    | inr (word, has) ↦ (let (k, at) = at_from_contains catalogue (Exclude v word) has in free (suc k) (inr (λ m lock. free m (inl lock), (Exclude v word, at, refl))))
+  ]
+
+  -- a version that no line locks out or excludes isn't barred
+  pub free_unbarred : (s : SolvableId) (v : Version) → slice_get (listed catalogue) s.raw ≡ Some v → IsFree catalogue v → is_barred same (packages_of p) s ≡ false
+  free_unbarred s v e free = elim (cases_Bool (is_barred same (packages_of p) s)) [
+    | inl barred ↦ absurd (free_bars s v e barred free)
+    | inr none ↦ none
+  ]
+
   -- some line bars the version
   pub some_bars : (s : SolvableId) (v : Version) → slice_get (listed catalogue) s.raw ≡ Some v → (is_barred same (packages_of p) s || is_unknown (dependencies_of p s)) ≡ true → IsFree catalogue v → IsUnknownLine catalogue v None → ⊥
   some_bars s v e h free known = elim (or_cases (is_barred same (packages_of p) s) (is_unknown (dependencies_of p s)) h) [
-    | inl barred ↦ elim (barred_from s v e barred) [
-      | inl (w, has, name, other) ↦ (let (n, lock) = lock_line v w has name other in free n (inl lock))
-      | inr (word, has) ↦ (let (k, at) = at_from_contains catalogue (Exclude v word) has in free (suc k) (inr (λ m lock. free m (inl lock), (Exclude v word, at, refl))))
-    ]
+    | inl barred ↦ free_bars s v e barred free
     | inr lost ↦
         let tells = told_of_it p catalogue over same apart s v e in
         let r = unknown_from p.ids (told_at p s) (told_at p s).unknown (flat_map reason_in (lines_at catalogue tells.0)) tells.2.unknown lost in
@@ -230,6 +241,19 @@ exclusion_found catalogue k v line lock at only tells free = elim (line_bars cat
 -- nothing bars where no such line is
 pub none_found : (catalogue : List Line) (k : ℕ) (v : Version) → slice_get (listed catalogue) k ≡ Some v → IsOnly None (λ n. (w : Version) × (version_at catalogue k ≡ Some w) × Bars catalogue w n) → IsFree catalogue v
 none_found catalogue k v at only m bars = (let e : None ≡ Some m = (only m).1 (v, at, bars) in absurd cc)
+
+-- the version that a line bars is listed
+pub barred_listed : (catalogue : List Line) (k line : ℕ) → IsOnly (Some line) (λ n. (w : Version) × (version_at catalogue k ≡ Some w) × Bars catalogue w n) → (v : Version) × (slice_get (listed catalogue) k ≡ Some v)
+barred_listed catalogue k line only = (let (w, there, bars) = (only line).0 refl in (w, there))
+
+-- a line that bars the version of this number bars it
+pub line_of_it : (catalogue : List Line) (k : ℕ) (v : Version) (line : BarringLine) → slice_get (listed catalogue) k ≡ Some v → IsBarredLineOf catalogue k (Some line) → IsBarringLine catalogue v (Some line)
+line_of_it catalogue k v line at (w, there, bars) = by_line line (subst (λ (x : Version). IsBarredLine catalogue x (Some line)) (one_some (sym there ∙ at)) bars)
+  where
+    by_line : (l : BarringLine) → IsBarredLine catalogue v (Some l) → IsBarringLine catalogue v (Some l)
+    by_line (barring.Lock n) h = h
+    by_line (barring.Exclude n) h = h
+    by_line (barring.Unknown n) h = absurd h
 
 unknown_line : (l : Line) (v : Version) (owner : Option Version) → marks_unknown l ≡ true → BelongsTo v owner l → MarksUnknownOf v owner l
 unknown_line (Unknown reason) v owner e h = h

@@ -1,9 +1,9 @@
 -- Each step that tells one of a proof has a text, and so has the report.
-use Rattle.std.proofs.Common.{inl, inr, ◌≡◌, ◌<◌, ℕ, zero, suc, List, [], ◌∷◌, ◌++◌, map, length, Option, Some, None, refl, sym, ap, subst, ◌∙◌, arith, Vec, Global}
+use Rattle.std.proofs.Common.{inl, inr, ◌⊎◌, ◌≡◌, ◌<◌, ℕ, zero, suc, List, [], ◌∷◌, ◌++◌, map, length, Option, Some, None, refl, sym, ap, subst, ◌∙◌, arith, Vec, Global}
 use Rattle.std.specs.Prelude.{IsTrue, ◌&&◌, not, Contains, slice_get}
 use Rattle.std.specs.List.{AllZip}
 use Rattle.std.proofs.lemmas.Option.{slice_get_within}
-use Rattle.resolvo_text.specs.Line.{Spec, Line, Needs}
+use Rattle.resolvo_text.specs.Line.{Version, Spec, Line, Needs}
 use Rattle.resolvo_text.specs.Spelling.{IsNumber}
 use Rattle.resolvo_text.specs.Spelling as form
 use Rattle.resolvo_catalogue.specs.Grammar.{line_at}
@@ -34,7 +34,7 @@ use Rattle.resolvo_refusal.specs.declared.named.Text.TheVariants as text
 use Rattle.resolvo_refusal.specs.Named.{IsNamedBy}
 use Rattle.resolvo_refusal.specs.Writing.{version_at, place_at, IsWritten}
 use Rattle.resolvo_refusal.specs.Telling.{Tells}
-use Rattle.resolvo_refusal.specs.Refusal.{IsVersion, IsKnownAtom, AreLiterals, IsBarredBy, IsToldBy, Refutes, IsRefusalOf}
+use Rattle.resolvo_refusal.specs.Refusal.{IsVersion, IsKnownAtom, AreLiterals, IsBarredBy, IsToldBy, IsProofOver, Refutes, IsRefusalOf}
 use Rattle.resolvo_refusal.proofs.Renaming.{named_once}
 use Rattle.resolvo_refusal.proofs.Clauses.{Spells, spelled_members, asked_for, gate_asked, limited, is_out, candidate_of, literals_spelled}
 use Rattle.resolvo_refusal.proofs.Taken.{out_says}
@@ -65,7 +65,26 @@ some_last : {X : Type 0} (xs : List X) (x : X) → 0 < length (xs ++ x ∷ [])
 some_last [] x = omega arith
 some_last (y ∷ xs) x = omega arith
 
-module _ (catalogue : List Line) (said : Said) (provider : Provider) (steps : List (ProofStep NameId SolvableId)) (refuted : Refutes catalogue said provider steps)
+-- a step that bars a version has a text
+pub bar_text : (catalogue : List Line) → length catalogue < 4294967296 → (v : Version) (t : Step) → form.IsVersion v → IsBarredBy catalogue v t → IsStep t
+bar_text catalogue long v t fits = λ by. (let (line, l, at, is) = by_line by in text line l at is)
+  where
+    -- each step that bars names a line of the catalogue
+    by_line : IsBarredBy catalogue v t → (line : ℕ) × (l : Line) × (line_at catalogue line ≡ Some l) × ((t ≡ told.Lock line v) ⊎ ((t ≡ told.Exclude line) ⊎ (t ≡ told.Unknown line)))
+    by_line (line, inl (is, (l, at, locks))) = (line, l, at, inl is)
+    by_line (line, inr (inl (is, none, (l, at, out)))) = (line, l, at, inr (inl is))
+    by_line (line, inr (inr (is, none, (l, at, unknown)))) = (line, l, at, inr (inr is))
+
+    text : (line : ℕ) (l : Line) → line_at catalogue line ≡ Some l → (t ≡ told.Lock line v) ⊎ ((t ≡ told.Exclude line) ⊎ (t ≡ told.Unknown line)) → IsStep t
+    text line l at is =
+        let (first, last) = within_line catalogue line l at in
+        let numbered : IsLineNumber line = (first, omega (arith, last, long)) in
+        elim is [
+          | inl e ↦ subst (λ (x : Step). IsStep x) (sym e) (numbered, fits)
+          | inr other ↦ elim other [ inl e ↦ subst (λ (x : Step). IsStep x) (sym e) numbered | inr e ↦ subst (λ (x : Step). IsStep x) (sym e) numbered ]
+        ]
+
+module _ (catalogue : List Line) (said : Said) (provider : Provider) (steps : List (ProofStep NameId SolvableId)) (proves : IsProofOver catalogue said provider steps)
     (few : length steps < 4294967296) (long : length catalogue < 4294967296) (asked : length said.lines < 4294967296) where
   -- a line of a place has a number of a line
   line_fits : (place : Place) (n : ℕ) (l : Line) → judge.line_of catalogue said.lines place n ≡ Some l → IsLineNumber n
@@ -74,7 +93,7 @@ module _ (catalogue : List Line) (said : Said) (provider : Provider) (steps : Li
 
   parent_fits : (parent : Option SolvableId) → ((s : SolvableId) → parent ≡ Some s → IsVersion catalogue provider.ids s) → IsPlace (place_at catalogue parent)
   parent_fits None known = tt
-  parent_fits (Some s) known = version_fits catalogue provider refuted.over s (known s refl)
+  parent_fits (Some s) known = version_fits catalogue provider proves.over s (known s refl)
 
   -- the literals of a derived clause: each atom once
   clause_fits : (n : ℕ) (literals : Vec (ProofLiteral NameId SolvableId) Global) (causes : Vec ℕ Global) (written : List Literal) → slice_get steps n ≡ Some (Derived literals causes)
@@ -86,77 +105,72 @@ module _ (catalogue : List Line) (said : Said) (provider : Provider) (steps : Li
   }
     where
       known : (l : ProofLiteral NameId SolvableId) → Contains literals.items l → IsKnownAtom catalogue provider.ids l.atom
-      known = refuted.known n _ at
+      known = proves.known n _ at
 
       fits : (l : Literal) → Contains written l → IsAtom l.atom
-      fits l h = (let (k, has, is) = (are l).0 h in subst (λ (x : Literal). IsAtom x.atom) (sym is) (atom_fits catalogue provider refuted.over k.atom (known k has)))
+      fits l h = (let (k, has, is) = (are l).0 h in subst (λ (x : Literal). IsAtom x.atom) (sym is) (atom_fits catalogue provider proves.over k.atom (known k has)))
 
-      spelled : Spells catalogue provider refuted.over (map literal_in literals.items) (map judge.literal_of written)
-      spelled = literals_spelled catalogue provider refuted.over literals.items written known are
+      spelled : Spells catalogue provider proves.over (map literal_in literals.items) (map judge.literal_of written)
+      spelled = literals_spelled catalogue provider proves.over literals.items written known are
 
       signs : (l m : Literal) → Contains written l → Contains written m → l.atom ≡ m.atom → l.positive ≡ m.positive
       signs l m h k e =
-          let same = spelled_members catalogue provider refuted.over _ _ spelled in
-          named_once catalogue provider refuted.over refuted.same_atom refuted.exact_atom (map literal_in literals.items) spelled.known (refuted.one_sign n literals causes at) (judge.literal_of l) (judge.literal_of m)
+          let same = spelled_members catalogue provider proves.over _ _ spelled in
+          named_once catalogue provider proves.over proves.same_atom proves.exact_atom (map literal_in literals.items) spelled.known (proves.one_sign n literals causes at) (judge.literal_of l) (judge.literal_of m)
           (same.each (judge.literal_of l) (contains_map judge.literal_of l written h)) (same.each (judge.literal_of m) (contains_map judge.literal_of m written k)) e
 
   -- a line of the catalogue has a form
   catalogue_form : (n : ℕ) (l : Line) → line_at catalogue n ≡ Some l → form.HasForm l
   catalogue_form zero l e = absurd cc
-  catalogue_form (suc k) l e = (let (bytes, line) = refuted.over.grammatical k l e in line.says.form)
+  catalogue_form (suc k) l e = (let (bytes, line) = proves.over.grammatical k l e in line.says.form)
 
-  catalogue_fits : (n : ℕ) (l : Line) → line_at catalogue n ≡ Some l → IsLineNumber n
-  catalogue_fits n l e = (let (first, last) = within_line catalogue n l e in (first, omega (arith, last, long)))
-
-  -- so has one that bars a version
+  -- so has a step that bars a version
   bar_fits : (s : SolvableId) (t : Step) → IsVersion catalogue provider.ids s → IsBarredBy catalogue (version_at catalogue s) t → IsStep t
-  bar_fits s t version (line, inl (is, (l, at, locks))) = subst (λ (x : Step). IsStep x) (sym is) (catalogue_fits line l at, version_fits catalogue provider refuted.over s version)
-  bar_fits s t version (line, inr (inl (is, none, (l, at, out)))) = subst (λ (x : Step). IsStep x) (sym is) (catalogue_fits line l at)
-  bar_fits s t version (line, inr (inr (is, none, (l, at, unknown)))) = subst (λ (x : Step). IsStep x) (sym is) (catalogue_fits line l at)
+  bar_fits s t version by = bar_text catalogue long (version_at catalogue s) t (version_fits catalogue provider proves.over s version) by
 
   -- the step has a text
   pub step_fits : (n : ℕ) (s : ProofStep NameId SolvableId) (t : Step) → slice_get steps n ≡ Some s → Tells catalogue said.lines provider.ids s t → IsToldBy catalogue provider.ids said.lines s t → IsStep t
   step_fits n (Rule (NeedsRule parent r case)) t at tells told_so =
-      let (condition, (needs, cases)) = refuted.proof n _ at in
-      let (versions, known) = asked_for catalogue provider refuted.over refuted.same refuted.exact said refuted.ids refuted.asked parent (record { condition = condition; requirement = r }) needs in
-      let (line, k, number, is, first) = need_told catalogue said provider steps refuted few n parent r case t at tells in
+      let (condition, (needs, cases)) = proves.proof n _ at in
+      let (versions, known) = asked_for catalogue provider proves.over proves.same proves.exact said proves.ids proves.asked parent (record { condition = condition; requirement = r }) needs in
+      let (line, k, number, is, first) = need_told catalogue said provider steps proves few n parent r case t at tells in
       let (l, says, needing) = first.says in
       subst (λ (x : Step). IsStep x) (sym is) (parent_fits parent versions, line_fits (place_at catalogue parent) line l says, number)
   step_fits n (Rule (GateOf s r)) t at tells (line, is, first) =
-      let (condition, asks) = refuted.proof n _ at in
-      let (version, known) = gate_asked catalogue provider refuted.over refuted.same refuted.exact s r asks in
-      subst (λ (x : Step). IsStep x) (sym is) (version_fits catalogue provider refuted.over s version, line_fits (OfVersion (version_at catalogue s)) line _ first.says)
+      let (condition, asks) = proves.proof n _ at in
+      let (version, known) = gate_asked catalogue provider proves.over proves.same proves.exact s r asks in
+      subst (λ (x : Step). IsStep x) (sym is) (version_fits catalogue provider proves.over s version, line_fits (OfVersion (version_at catalogue s)) line _ first.says)
   step_fits n (Rule (Shared r)) t at tells is =
-      let (condition, (s, asks)) = refuted.proof n _ at in
+      let (condition, (s, asks)) = proves.proof n _ at in
       let (need, has, same) = any_contained (λ (need : ConditionalRequirement). not (has_condition need.condition) && same_requirement r need.requirement) (rules_of (dependencies_of provider s)).requirements asks in
-      let (c, stated, m, of, there) = version_line catalogue provider refuted.over s need has in
+      let (c, stated, m, of, there) = version_line catalogue provider proves.over s need has in
       let spelled : form_of.AreAlternatives (alternatives_at provider.ids need.requirement) = catalogue_form m (Needs (alternatives_at provider.ids need.requirement) c) there in
       subst (λ (x : Step). IsStep x) (sym is) (subst (λ (q : Requirement). form_of.AreAlternatives (alternatives_at provider.ids q)) (ap (λ (x : ConditionalRequirement). x.requirement) (same_need need r same)) spelled)
   step_fits n (Rule (Limit parent v None)) t at tells (line, is, first) =
-      let (condition, has) = refuted.proof n _ at in
-      let (versions, known) = limited catalogue provider refuted.over refuted.same refuted.exact said refuted.ids refuted.asked parent v has in
+      let (condition, has) = proves.proof n _ at in
+      let (versions, known) = limited catalogue provider proves.over proves.same proves.exact said proves.ids proves.asked parent v has in
       subst (λ (x : Step). IsStep x) (sym is) (parent_fits parent versions, line_fits (place_at catalogue parent) line _ first.says)
   step_fits n (Rule (Limit parent v (Some s))) t at tells (line, is, first) =
-      let (condition, (has, out)) = refuted.proof n _ at in
-      let (versions, (spec, named)) = limited catalogue provider refuted.over refuted.same refuted.exact said refuted.ids refuted.asked parent v has in
-      let (version, outside) = is_out catalogue provider refuted.over refuted.same refuted.exact v spec s named out in
-      subst (λ (x : Step). IsStep x) (sym is) (parent_fits parent versions, line_fits (place_at catalogue parent) line _ first.says, version_fits catalogue provider refuted.over s version)
+      let (condition, (has, out)) = proves.proof n _ at in
+      let (versions, (spec, named)) = limited catalogue provider proves.over proves.same proves.exact said proves.ids proves.asked parent v has in
+      let (version, outside) = is_out catalogue provider proves.over proves.same proves.exact v spec s named out in
+      subst (λ (x : Step). IsStep x) (sym is) (parent_fits parent versions, line_fits (place_at catalogue parent) line _ first.says, version_fits catalogue provider proves.over s version)
   step_fits n (Rule (Outside v s)) t at tells is =
-      let (condition, out) = refuted.proof n _ at in
-      let (spec, named, fits) = refuted.known n _ at in
-      let (version, outside) = is_out catalogue provider refuted.over refuted.same refuted.exact v spec s named (out_says refuted.same (packages_of provider) (root_of refuted.ids) v s out) in
-      subst (λ (x : Step). IsStep x) (sym is) (subst (λ (x : Spec). form.IsSpec x) (sym (spec_stands provider.ids v spec named)) fits, version_fits catalogue provider refuted.over s version)
-  step_fits n (Rule (Locked locked s)) t at tells by = (let (condition, bars) = refuted.proof n _ at in bar_fits s t (barred_version catalogue provider refuted.over refuted.same refuted.exact s bars) by)
-  step_fits n (Rule (Excluded s reason)) t at tells by = (let (condition, bars) = refuted.proof n _ at in bar_fits s t (barred_version catalogue provider refuted.over refuted.same refuted.exact s bars) by)
+      let (condition, out) = proves.proof n _ at in
+      let (spec, named, fits) = proves.known n _ at in
+      let (version, outside) = is_out catalogue provider proves.over proves.same proves.exact v spec s named (out_says proves.same (packages_of provider) (root_of proves.ids) v s out) in
+      subst (λ (x : Step). IsStep x) (sym is) (subst (λ (x : Spec). form.IsSpec x) (sym (spec_stands provider.ids v spec named)) fits, version_fits catalogue provider proves.over s version)
+  step_fits n (Rule (Locked locked s)) t at tells by = (let (condition, bars) = proves.proof n _ at in bar_fits s t (barred_version catalogue provider proves.over proves.same proves.exact s bars) by)
+  step_fits n (Rule (Excluded s reason)) t at tells by = (let (condition, bars) = proves.proof n _ at in bar_fits s t (barred_version catalogue provider proves.over proves.same proves.exact s bars) by)
   step_fits n (Rule (Digit s place bit)) t at tells is =
-      let (version, below) = digit_known catalogue said provider steps refuted n s place bit at in
-      subst (λ (x : Step). IsStep x) (sym is) (version_fits catalogue provider refuted.over s version, tells, below)
+      let (version, below) = digit_known catalogue said provider steps proves n s place bit at in
+      subst (λ (x : Step). IsStep x) (sym is) (version_fits catalogue provider proves.over s version, tells, below)
   step_fits n (Rule (AtLeastOne m s)) t at tells is =
-      let (condition, there) = refuted.proof n _ at in
-      let (version, packaged) = candidate_of catalogue provider refuted.over refuted.same refuted.exact m s there in
-      subst (λ (x : Step). IsStep x) (sym is) (version_fits catalogue provider refuted.over s version)
+      let (condition, there) = proves.proof n _ at in
+      let (version, packaged) = candidate_of catalogue provider proves.over proves.same proves.exact m s there in
+      subst (λ (x : Step). IsStep x) (sym is) (version_fits catalogue provider proves.over s version)
   step_fits n (Derived literals causes) t at (v, of, same, rising) (written, is, are) =
-      let refutes = refuted.proof n _ at in
+      let refutes = proves.proof n _ at in
       let one : v ≡ written = one_clause (sym of ∙ is) in
       let within : n < length steps = slice_get_within steps n _ at in
       subst (λ (x : Step). IsStep x) (sym is) (
@@ -164,21 +178,23 @@ module _ (catalogue : List Line) (said : Said) (provider : Provider) (steps : Li
         numbers_fit n causes.items refutes.some (omega (arith, few, within)) refutes.earlier,
       )
 
-  -- named lines have numbers of lines
-  named_fit : (of : Text) (count : ℕ) (numbers : List ℕ) (written : List Step) → count < 4294967296 → AreAll numbers (IsNamedBy of count written) → (n : ℕ) → Contains numbers n → IsLineNumber n
-  named_fit of count numbers written fits all n h = (let (k, is, below, rests) = (all.all n).0 h in (omega (arith, is), omega (arith, is, below, fits)))
+-- named lines have numbers of lines
+named_fit : (of : Text) (count : ℕ) (numbers : List ℕ) (written : List Step) → count < 4294967296 → AreAll numbers (IsNamedBy of count written) → (n : ℕ) → Contains numbers n → IsLineNumber n
+named_fit of count numbers written fits all n h = (let (k, is, below, rests) = (all.all n).0 h in (omega (arith, is), omega (arith, is, below, fits)))
 
+module _ (catalogue : List Line) (said : Said) (provider : Provider) (steps : List (ProofStep NameId SolvableId)) (refutes : Refutes catalogue said provider steps)
+    (few : length steps < 4294967296) (long : length catalogue < 4294967296) (asked : length said.lines < 4294967296) where
   -- the steps that tell the proof's are those of a report
   is_report : (in_catalogue in_request : List ℕ) (written : List Step) → AllZip (Tells catalogue said.lines provider.ids) steps written → AllZip (IsToldBy catalogue provider.ids said.lines) steps written
       → AreAll in_catalogue (IsNamedBy text.Catalogue (length catalogue) written) → AreAll in_request (IsNamedBy text.Request (length said.lines) written) → IsReport (Refused in_catalogue in_request written [])
   is_report in_catalogue in_request written tells are of_catalogue of_request = in_grammar in_catalogue in_request steps written of_catalogue.rising of_request.rising
       (named_fit text.Catalogue (length catalogue) in_catalogue written long of_catalogue) (named_fit text.Request (length said.lines) in_request written asked of_request)
-      (zipped steps written step_fits tells are) (let end = refuted.empty in subst (λ (xs : List (ProofStep NameId SolvableId)). 0 < length xs) (sym end.ends) (some_last end.earlier (Derived end.literals end.causes))) few
+      (zipped steps written (step_fits catalogue said provider steps refutes.proves few long asked) tells are) (let end = refutes.empty in subst (λ (xs : List (ProofStep NameId SolvableId)). 0 < length xs) (sym end.ends) (some_last end.earlier (Derived end.literals end.causes))) few
 
   -- A report whose steps are written so, and which names the lines that they rest on, is a refusal of the proof.
   pub refusal : (in_catalogue in_request : List ℕ) (written : List Step) (r : Report) → r ≡ Refused in_catalogue in_request written [] → AllZip (Tells catalogue said.lines provider.ids) steps written → AllZip (IsWritten catalogue provider.ids) steps written
       → AreAll in_catalogue (IsNamedBy text.Catalogue (length catalogue) written) → AreAll in_request (IsNamedBy text.Request (length said.lines) written) → IsRefusalOf catalogue said.lines provider.ids steps r
   refusal in_catalogue in_request written r is tells wrote of_catalogue of_request =
-      let each = steps_told catalogue said provider steps refuted few written tells wrote in
-      refusal_of catalogue said provider steps refuted r (record { in_catalogue = in_catalogue; in_request = in_request; written = written; is = is; each = wrote; named = of_catalogue; asked = of_request }) each
+      let each = steps_told catalogue said provider steps refutes.proves few written tells wrote in
+      refusal_of catalogue said provider steps refutes r (record { in_catalogue = in_catalogue; in_request = in_request; written = written; is = is; each = wrote; named = of_catalogue; asked = of_request }) each
       (subst (λ (x : Report). IsReport x) (sym is) (is_report in_catalogue in_request written tells each of_catalogue of_request))

@@ -34,7 +34,7 @@ use Rattle.resolvo_refusal.specs.declared.named.Text.TheVariants as text
 use Rattle.resolvo_refusal.specs.Named.{line_in, in_catalogue}
 use Rattle.resolvo_refusal.specs.Named as named
 use Rattle.resolvo_refusal.specs.Writing.{version_at, place_at}
-use Rattle.resolvo_refusal.specs.Refusal.{IsVersion, IsToldBy, AreLiterals, Refutes}
+use Rattle.resolvo_refusal.specs.Refusal.{IsVersion, IsToldBy, AreLiterals, IsProofOver, Refutes}
 use Rattle.resolvo_refusal.proofs.Renaming.{IsKnownClause, name_clause, version_is, pass_told}
 use Rattle.resolvo_refusal.proofs.Taken.{out_says}
 use Rattle.resolvo_refusal.proofs.Cases.{case_said}
@@ -102,7 +102,7 @@ place_stated catalogue request text.Request (told.OfVersion v) line n l at e = a
 gate_stated : (catalogue request : List Line) (of : Text) (v : Version) (line n : ℕ) (l : Line) → judge.line_of catalogue request (told.OfVersion v) line ≡ Some l → in_catalogue of line ≡ Some n → line_at (lines_in catalogue request of) n ≡ Some l
 gate_stated catalogue request of v line n l at e = catalogue_stated catalogue request of line n l (owned _ (line_at catalogue line) l at) e
 
-module _ (catalogue : List Line) (said : Said) (provider : Provider) (steps : List (ProofStep NameId SolvableId)) (refuted : Refutes catalogue said provider steps) where
+module _ (catalogue : List Line) (said : Said) (provider : Provider) (steps : List (ProofStep NameId SolvableId)) (proves : IsProofOver catalogue said provider steps) where
   -- the line that a written step rests on states a rule
   pub line_stated : (of : Text) (s : ProofStep NameId SolvableId) (t : told.Step) (n : ℕ) → IsToldBy catalogue provider.ids said.lines s t → line_in of t ≡ Some n → (l : Line) × (line_at (lines_in catalogue said.lines of) n ≡ Some l) × (is_rule l ≡ true)
   line_stated of (Rule (NeedsRule parent r case)) t n (line, k, is, first) e =
@@ -122,79 +122,79 @@ module _ (catalogue : List Line) (said : Said) (provider : Provider) (steps : Li
   -- ---- clauses
 
   abbrev IsClauseOf : ProofStep NameId SolvableId → told.Step → Type 0
-  IsClauseOf s t = IsSpelled catalogue provider refuted.over refuted.same refuted.exact said.lines (clause_of refuted.same (packages_of provider) s) t
+  IsClauseOf s t = IsSpelled catalogue provider proves.over proves.same proves.exact said.lines (clause_of proves.same (packages_of provider) s) t
 
   -- the digit of a step is one of the first 32, of a version's place
   pub digit_known : (n : ℕ) (s : SolvableId) (place bit : ℕ) → slice_get steps n ≡ Some (Rule (Digit s place bit)) → IsVersion catalogue provider.ids s × (bit < 32)
   digit_known n s place bit at =
-      let (condition, (among, below)) = refuted.proof n _ at in
-      let (version, packaged) = candidate_of catalogue provider refuted.over refuted.same refuted.exact (name_of provider.ids s) s among in
+      let (condition, (among, below)) = proves.proof n _ at in
+      let (version, packaged) = candidate_of catalogue provider proves.over proves.same proves.exact (name_of provider.ids s) s among in
       (version, below)
 
   -- the clause of a written step spells that of the step which it tells
   step_spelled : (n : ℕ) (s : ProofStep NameId SolvableId) (t : told.Step) → slice_get steps n ≡ Some s → IsToldBy catalogue provider.ids said.lines s t → IsClauseOf s t
   step_spelled n (Rule (NeedsRule parent r case)) t at (line, k, is, first) =
-      let (condition, (needs, cases)) = refuted.proof n _ at in
-      let (versions, (x, (alternatives, conditioned))) = asked_for catalogue provider refuted.over refuted.same refuted.exact said refuted.ids refuted.asked parent (record { condition = condition; requirement = r }) needs in
-      let (specs, among, each) = case_said provider.ids refuted.over.once.below condition x.1 conditioned case.items cases in
+      let (condition, (needs, cases)) = proves.proof n _ at in
+      let (versions, (x, (alternatives, conditioned))) = asked_for catalogue provider proves.over proves.same proves.exact said proves.ids proves.asked parent (record { condition = condition; requirement = r }) needs in
+      let (specs, among, each) = case_said provider.ids proves.over.once.below condition x.1 conditioned case.items cases in
       subst (λ (y : told.Step). IsClauseOf (Rule (NeedsRule parent r case)) y) (sym is)
-      (need_spelled catalogue provider refuted.over refuted.same refuted.exact said.lines parent r case.items line k versions (x.0, alternatives) (specs, each) first.says)
+      (need_spelled catalogue provider proves.over proves.same proves.exact said.lines parent r case.items line k versions (x.0, alternatives) (specs, each) first.says)
   step_spelled n (Rule (GateOf s r)) t at (line, is, first) =
-      let (condition, asks) = refuted.proof n _ at in
-      let (version, known) = gate_asked catalogue provider refuted.over refuted.same refuted.exact s r asks in
-      subst (λ (x : told.Step). IsClauseOf (Rule (GateOf s r)) x) (sym is) (gate_spelled catalogue provider refuted.over refuted.same refuted.exact said.lines s r line version known first.says)
+      let (condition, asks) = proves.proof n _ at in
+      let (version, known) = gate_asked catalogue provider proves.over proves.same proves.exact s r asks in
+      subst (λ (x : told.Step). IsClauseOf (Rule (GateOf s r)) x) (sym is) (gate_spelled catalogue provider proves.over proves.same proves.exact said.lines s r line version known first.says)
   step_spelled n (Rule (Shared r)) t at is =
-      let (condition, (s, asks)) = refuted.proof n _ at in
-      let (version, known) = gate_asked catalogue provider refuted.over refuted.same refuted.exact s r asks in
-      subst (λ (x : told.Step). IsClauseOf (Rule (Shared r)) x) (sym is) (shared_spelled catalogue provider refuted.over refuted.same refuted.exact said.lines r known)
+      let (condition, (s, asks)) = proves.proof n _ at in
+      let (version, known) = gate_asked catalogue provider proves.over proves.same proves.exact s r asks in
+      subst (λ (x : told.Step). IsClauseOf (Rule (Shared r)) x) (sym is) (shared_spelled catalogue provider proves.over proves.same proves.exact said.lines r known)
   step_spelled n (Rule (Limit parent v None)) t at (line, is, first) =
-      let (condition, has) = refuted.proof n _ at in
-      let (versions, known) = limited catalogue provider refuted.over refuted.same refuted.exact said refuted.ids refuted.asked parent v has in
-      subst (λ (x : told.Step). IsClauseOf (Rule (Limit parent v None)) x) (sym is) (limit_spelled catalogue provider refuted.over refuted.same refuted.exact said.lines parent v line versions known first.says)
+      let (condition, has) = proves.proof n _ at in
+      let (versions, known) = limited catalogue provider proves.over proves.same proves.exact said proves.ids proves.asked parent v has in
+      subst (λ (x : told.Step). IsClauseOf (Rule (Limit parent v None)) x) (sym is) (limit_spelled catalogue provider proves.over proves.same proves.exact said.lines parent v line versions known first.says)
   step_spelled n (Rule (Limit parent v (Some s))) t at (line, is, first) =
-      let (condition, (has, out)) = refuted.proof n _ at in
-      let (versions, known) = limited catalogue provider refuted.over refuted.same refuted.exact said refuted.ids refuted.asked parent v has in
-      subst (λ (x : told.Step). IsClauseOf (Rule (Limit parent v (Some s))) x) (sym is) (limit_bars_spelled catalogue provider refuted.over refuted.same refuted.exact said.lines parent v s line versions known out first.says)
+      let (condition, (has, out)) = proves.proof n _ at in
+      let (versions, known) = limited catalogue provider proves.over proves.same proves.exact said proves.ids proves.asked parent v has in
+      subst (λ (x : told.Step). IsClauseOf (Rule (Limit parent v (Some s))) x) (sym is) (limit_bars_spelled catalogue provider proves.over proves.same proves.exact said.lines parent v s line versions known out first.says)
   step_spelled n (Rule (Outside v s)) t at is =
-      let (condition, out) = refuted.proof n _ at in
-      let (spec, known, fits) = refuted.known n _ at in
-      subst (λ (x : told.Step). IsClauseOf (Rule (Outside v s)) x) (sym is) (outside_spelled catalogue provider refuted.over refuted.same refuted.exact said.lines v s (spec, known) (out_says refuted.same (packages_of provider) (root_of refuted.ids) v s out))
-  step_spelled n (Rule (Locked locked s)) t at by = (let (condition, bars) = refuted.proof n _ at in bar_spelled catalogue provider refuted.over refuted.same refuted.exact said.lines s t (barred_version catalogue provider refuted.over refuted.same refuted.exact s bars) by)
-  step_spelled n (Rule (Excluded s reason)) t at by = (let (condition, bars) = refuted.proof n _ at in bar_spelled catalogue provider refuted.over refuted.same refuted.exact said.lines s t (barred_version catalogue provider refuted.over refuted.same refuted.exact s bars) by)
+      let (condition, out) = proves.proof n _ at in
+      let (spec, known, fits) = proves.known n _ at in
+      subst (λ (x : told.Step). IsClauseOf (Rule (Outside v s)) x) (sym is) (outside_spelled catalogue provider proves.over proves.same proves.exact said.lines v s (spec, known) (out_says proves.same (packages_of provider) (root_of proves.ids) v s out))
+  step_spelled n (Rule (Locked locked s)) t at by = (let (condition, bars) = proves.proof n _ at in bar_spelled catalogue provider proves.over proves.same proves.exact said.lines s t (barred_version catalogue provider proves.over proves.same proves.exact s bars) by)
+  step_spelled n (Rule (Excluded s reason)) t at by = (let (condition, bars) = proves.proof n _ at in bar_spelled catalogue provider proves.over proves.same proves.exact said.lines s t (barred_version catalogue provider proves.over proves.same proves.exact s bars) by)
   step_spelled n (Rule (Digit s place bit)) t at is =
       let (version, below) = digit_known n s place bit at in
-      subst (λ (x : told.Step). IsClauseOf (Rule (Digit s place bit)) x) (sym is) (digit_spelled catalogue provider refuted.over refuted.same refuted.exact said.lines s place bit version below)
+      subst (λ (x : told.Step). IsClauseOf (Rule (Digit s place bit)) x) (sym is) (digit_spelled catalogue provider proves.over proves.same proves.exact said.lines s place bit version below)
   step_spelled n (Rule (AtLeastOne m s)) t at is =
-      let (condition, there) = refuted.proof n _ at in
-      subst (λ (x : told.Step). IsClauseOf (Rule (AtLeastOne m s)) x) (sym is) (any_spelled catalogue provider refuted.over refuted.same refuted.exact said.lines m s there)
+      let (condition, there) = proves.proof n _ at in
+      subst (λ (x : told.Step). IsClauseOf (Rule (AtLeastOne m s)) x) (sym is) (any_spelled catalogue provider proves.over proves.same proves.exact said.lines m s there)
   step_spelled n (Derived literals causes) t at (written, is, are) =
-      let known = refuted.known n _ at in
+      let known = proves.known n _ at in
       subst (λ (x : told.Step). IsClauseOf (Derived literals causes) x) (sym is)
-      (map judge.literal_of written, derived_spelled catalogue provider refuted.over said.lines literals.items written (map suc causes.items) known are, literals_spelled catalogue provider refuted.over literals.items written known are)
+      (map judge.literal_of written, derived_spelled catalogue provider proves.over said.lines literals.items written (map suc causes.items) known are, literals_spelled catalogue provider proves.over literals.items written known are)
 
   module _ (written : List told.Step) (each : AllZip (IsToldBy catalogue provider.ids said.lines) steps written) where
     -- the clause at a place
-    clause_there : (xs : List (ProofStep NameId SolvableId)) (k : ℕ) (s : ProofStep NameId SolvableId) → slice_get xs k ≡ Some s → clause_at refuted.same (packages_of provider) xs k ≡ clause_of refuted.same (packages_of provider) s
+    clause_there : (xs : List (ProofStep NameId SolvableId)) (k : ℕ) (s : ProofStep NameId SolvableId) → slice_get xs k ≡ Some s → clause_at proves.same (packages_of provider) xs k ≡ clause_of proves.same (packages_of provider) s
     clause_there [] k s e = absurd cc
-    clause_there (x ∷ xs) zero s e = ap (clause_of refuted.same (packages_of provider)) (one_some e)
+    clause_there (x ∷ xs) zero s e = ap (clause_of proves.same (packages_of provider)) (one_some e)
     clause_there (x ∷ xs) (suc k) s e = clause_there xs k s e
 
     -- the clause of an earlier step spells that of its cause
     cause_spelled : (n k : ℕ) (t : told.Step) → slice_get written n ≡ Some t → k < n
-        → Spells catalogue provider refuted.over (clause_at refuted.same (packages_of provider) steps k) (cause_of catalogue said.lines (take n written) (suc k))
+        → Spells catalogue provider proves.over (clause_at proves.same (packages_of provider) steps k) (cause_of catalogue said.lines (take n written) (suc k))
     cause_spelled n k t at below =
         let (u, there) = get_below written n k t at below in
         let (s, is, tells) = zip_right (IsToldBy catalogue provider.ids said.lines) steps written each k u there in
         let (d, says, spells) = step_spelled k s u is tells in
         let cause : cause_of catalogue said.lines (take n written) (suc k) ≡ d = ap (λ (o : Option told.Step). unwrap_or (option_and_then (judge.clause_of catalogue said.lines) o) []) (below_take written k n u below there) ∙ ap (λ (o : Option judge.Clause). unwrap_or o []) says in
-        subst (λ c. Spells catalogue provider refuted.over c (cause_of catalogue said.lines (take n written) (suc k))) (sym (clause_there steps k s is))
-        (subst (λ x. Spells catalogue provider refuted.over (clause_of refuted.same (packages_of provider) s) x) (sym cause) spells)
+        subst (λ c. Spells catalogue provider proves.over c (cause_of catalogue said.lines (take n written) (suc k))) (sym (clause_there steps k s is))
+        (subst (λ x. Spells catalogue provider proves.over (clause_of proves.same (packages_of provider) s) x) (sym cause) spells)
 
     causes_alike : (n : ℕ) (t : told.Step) → slice_get written n ≡ Some t → (causes : List ℕ) → ((k : ℕ) → Contains causes k → k < n)
-        → AllZip SameMembers (map (name_clause catalogue provider refuted.over) (map (clause_at refuted.same (packages_of provider) steps) causes)) (map (cause_of catalogue said.lines (take n written)) (map suc causes))
+        → AllZip SameMembers (map (name_clause catalogue provider proves.over) (map (clause_at proves.same (packages_of provider) steps) causes)) (map (cause_of catalogue said.lines (take n written)) (map suc causes))
     causes_alike n t at [] earlier = tt
     causes_alike n t at (k ∷ causes) earlier = (
-      spelled_members catalogue provider refuted.over _ _ (cause_spelled n k t at (earlier k (contains_first k k causes refl))),
+      spelled_members catalogue provider proves.over _ _ (cause_spelled n k t at (earlier k (contains_first k k causes refl))),
       causes_alike n t at causes (λ j h. earlier j (contains_later j k causes h)),
     )
 
@@ -217,15 +217,15 @@ module _ (catalogue : List Line) (said : Said) (provider : Provider) (steps : Li
         one_version e =
             let ((v, a), below) = digit_known m q other digit there in
             let ((w, b), within) = digit_known n s place bit at in
-            let same : v ≡ w = sym (version_is catalogue provider refuted.over q v a) ∙ (e ∙ version_is catalogue provider refuted.over s w b) in
-            let raw : q.raw ≡ s.raw = refuted.over.distinct w q.raw s.raw (a ∙ ap (λ (y : Version). Some y) same) b in
+            let same : v ≡ w = sym (version_is catalogue provider proves.over q v a) ∙ (e ∙ version_is catalogue provider proves.over s w b) in
+            let raw : q.raw ≡ s.raw = proves.over.distinct w q.raw s.raw (a ∙ ap (λ (y : Version). Some y) same) b in
             λ i. record { raw = raw i; tag = q.tag }
 
         go : (b : Bool) → same_version (version_at catalogue q) (version_at catalogue s) ≡ b → (not b || (other == place)) ≡ true
         go false e = refl
         go true e =
             let same : q ≡ s = one_version (same_is (version_at catalogue q) (version_at catalogue s) e) in
-            eq-eqb other place (refuted.one_place m n s other place digit bit (subst (λ (y : SolvableId). slice_get steps m ≡ Some (Rule (Digit y other digit))) same there) at)
+            eq-eqb other place (proves.one_place m n s other place digit bit (subst (λ (y : SolvableId). slice_get steps m ≡ Some (Rule (Digit y other digit))) same there) at)
 
     -- what a step owes to the earlier ones
     step_follows : (n : ℕ) (s : ProofStep NameId SolvableId) (t : told.Step) → slice_get steps n ≡ Some s → slice_get written n ≡ Some t → IsToldBy catalogue provider.ids said.lines s t → follows catalogue said.lines (take n written) t ≡ true
@@ -244,20 +244,20 @@ module _ (catalogue : List Line) (said : Said) (provider : Provider) (steps : Li
         no_other_place n k s place bit x u at a tells
         ))
     step_follows n (Derived literals causes) t at there (w, is, are) =
-        let refutes = refuted.proof n _ at in
+        let refutes = proves.proof n _ at in
         let long : length (take n written) ≡ n = length-take-le n written (let b : n < length written = slice_get_within written n t there in omega (arith, b)) in
-        let known = (literals_spelled catalogue provider refuted.over literals.items w (refuted.known n _ at) are) in
+        let known = (literals_spelled catalogue provider proves.over literals.items w (proves.known n _ at) are) in
         ap (follows catalogue said.lines (take n written)) is
         ∙ and_from _ _
         (contained_all (is_earlier (length (take n written))) (map suc causes.items) (λ m h. (
         let (k, a, e) = map_contains suc m causes.items h in
         subst (λ (j : ℕ). is_earlier (length (take n written)) j ≡ true) (sym e) (and_from _ _ (lt-ltb 0 (suc k) (omega arith)) (le-leb (suc k) (length (take n written)) (let b : k < n = refutes.earlier k a in omega (arith, b, long))))
         )))
-        (pass_told catalogue provider refuted.over refuted.same_atom refuted.exact_atom (map literal_in literals.items) (map judge.literal_of w) (map (clause_at refuted.same (packages_of provider) steps) causes.items) (map (cause_of catalogue said.lines (take n written)) (map suc causes.items))
+        (pass_told catalogue provider proves.over proves.same_atom proves.exact_atom (map literal_in literals.items) (map judge.literal_of w) (map (clause_at proves.same (packages_of provider) steps) causes.items) (map (cause_of catalogue said.lines (take n written)) (map suc causes.items))
         known.known
-        (λ c h. (let (k, a, e) = map_contains (clause_at refuted.same (packages_of provider) steps) c causes.items h in subst (IsKnownClause catalogue provider refuted.over) (sym e) (cause_spelled n k t there (refutes.earlier k a)).known))
-        (refuted.one_sign n literals causes at)
-        (spelled_members catalogue provider refuted.over _ _ known)
+        (λ c h. (let (k, a, e) = map_contains (clause_at proves.same (packages_of provider) steps) c causes.items h in subst (IsKnownClause catalogue provider proves.over) (sym e) (cause_spelled n k t there (refutes.earlier k a)).known))
+        (proves.one_sign n literals causes at)
+        (spelled_members catalogue provider proves.over _ _ known)
         (causes_alike n t there causes.items refutes.earlier)
         ∙ refutes.refuted)
 
@@ -268,8 +268,9 @@ module _ (catalogue : List Line) (said : Said) (provider : Provider) (steps : Li
         let (d, says, spells) = step_spelled n s t at tells in
         and_from _ _ (ap is_some says) (and_from _ _ rested (step_follows n s t at there tells))
 
-  -- ---- the end
+-- ---- the end
 
+module _ (catalogue : List Line) (said : Said) (provider : Provider) (steps : List (ProofStep NameId SolvableId)) (refutes : Refutes catalogue said provider steps) where
   -- a written step derives the empty clause where the step that it tells does
   empty_told : (literals : Vec (ProofLiteral NameId SolvableId) Global) (causes : Vec ℕ Global) (t : told.Step) → literals.items ≡ [] → IsToldBy catalogue provider.ids said.lines (Derived literals causes) t → derives_empty t ≡ true
   empty_told literals causes t empty (w, is, are) = ap derives_empty is ∙ go w (subst (λ ls. AreLiterals catalogue provider.ids ls w) empty are)
@@ -289,5 +290,5 @@ module _ (catalogue : List Line) (said : Said) (provider : Provider) (steps : Li
 
   pub written_ends : (written : List told.Step) → AllZip (IsToldBy catalogue provider.ids said.lines) steps written → ends_empty written ≡ true
   written_ends written each =
-      let end = refuted.empty in
+      let end = refutes.empty in
       zip_ends end.earlier (Derived end.literals end.causes) written (subst (λ xs. AllZip (IsToldBy catalogue provider.ids said.lines) xs written) end.ends each) (λ t h. empty_told end.literals end.causes t end.empty h)

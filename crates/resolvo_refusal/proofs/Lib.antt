@@ -12,3 +12,4 @@ pub mod Spelled
 pub mod Telling
 pub mod Grammar
 pub mod Fitting
+pub mod Installing

@@ -1,9 +1,11 @@
 -- What is known has a text in a report.
-use Rattle.std.proofs.Common.{ℕ, List, sym, subst}
-use Rattle.std.specs.Prelude.{IsTrue, Contains}
+use Rattle.std.proofs.Common.{◌≡◌, ℕ, List, Some, sym, subst}
+use Rattle.std.specs.Prelude.{IsTrue, Contains, slice_get}
 use Rattle.resolvo_text.specs.Line.{Version, Spec, Line, Listed}
 use Rattle.resolvo_text.specs.Spelling.{is_name}
 use Rattle.resolvo_text.specs.Spelling as form
+use Rattle.resolvo_catalogue.specs.Grammar.{AreCatalogueLines}
+use Rattle.resolvo_catalogue.specs.Listed.{listed}
 use Rattle.resolvo_catalogue.proofs.Placing.{at_from_contains}
 use Rattle.resolvo_catalogue.proofs.TableLemmas.{listed_from}
 use Rattle.resolvo_coding.specs.declared.atom.ProofAtom.{ProofAtom}
@@ -19,13 +21,16 @@ use Rattle.resolvo_refusal.specs.Writing.{version_at}
 use Rattle.resolvo_refusal.specs.Refusal.{IsVersion, IsSpelledName, IsKnownAtom, atom_at, HaveForm}
 use Rattle.resolvo_refusal.proofs.Renaming.{version_is, name_is, spec_is}
 
+-- a listed version has a text
+pub listed_fits : (catalogue : List Line) → AreCatalogueLines catalogue → (number : ℕ) (v : Version) → slice_get (listed catalogue) number ≡ Some v → form.IsVersion v
+listed_fits catalogue grammatical number v e =
+    let (k, at) = at_from_contains catalogue (Listed v) (listed_from catalogue v number e) in
+    let (bytes, line) = grammatical k (Listed v) at in
+    line.says.form
+
 module _ (catalogue : List Line) (provider : Provider) (over : IsOver catalogue provider) where
-  -- a listed version has a text
   pub version_fits : (s : SolvableId) → IsVersion catalogue provider.ids s → form.IsVersion (version_at catalogue s)
-  version_fits s (v, e) =
-      let (k, at) = at_from_contains catalogue (Listed v) (listed_from catalogue v s.raw e) in
-      let (bytes, line) = over.grammatical k (Listed v) at in
-      subst (λ (w : Version). form.IsVersion w) (sym (version_is catalogue provider over s v e)) line.says.form
+  version_fits s (v, e) = subst (λ (w : Version). form.IsVersion w) (sym (version_is catalogue provider over s v e)) (listed_fits catalogue over.grammatical s.raw v e)
 
   name_fits : (n : NameId) → IsSpelledName catalogue provider.ids n → IsTrue (is_name (name_text provider.ids n))
   name_fits n (name, is, fits) = subst (λ (t : List ℕ). IsTrue (is_name t)) (sym (name_is catalogue provider over n name is)) fits

@@ -42,7 +42,7 @@ use Rattle.resolvo_refusal.specs.Writing.{version_at, place_at, number_of, IsWri
 use Rattle.resolvo_refusal.specs.declared.lines.NeedLine.{NeedLine}
 use Rattle.resolvo_refusal.specs.Lines.{IsLeast, IsLineOf, SaysAt, NeedsIn, IsNeedLine}
 use Rattle.resolvo_refusal.specs.Telling.{version_no, IsFirstLine, IsNeedLineOf, TellsNeed, TellsBar, Tells}
-use Rattle.resolvo_refusal.specs.Refusal.{IsVersion, PlaceSays, IsFirst, IsFirstNeed, IsBarredBy, IsToldBy, Refutes}
+use Rattle.resolvo_refusal.specs.Refusal.{IsVersion, PlaceSays, IsFirst, IsFirstNeed, IsBarredBy, IsToldBy, IsProofOver}
 use Rattle.resolvo_refusal.proofs.Cases.{case_said}
 use Rattle.resolvo_refusal.proofs.Renaming.{version_is, specs_are}
 use Rattle.resolvo_refusal.proofs.Clauses.{told_limits}
@@ -239,38 +239,38 @@ same_need need r e = (let (none, same) = and_parts (not (has_condition need.cond
     by_parts (Some c) q none same = absurd (false≢true none)
     by_parts None q none same = ap plain (sym (requirements_same r q same))
 
-module _ (catalogue : List Line) (said : Said) (p : Provider) (steps : List (ProofStep NameId SolvableId)) (refutes : Refutes catalogue said p steps) (fits : length steps < 4294967296) where
+module _ (catalogue : List Line) (said : Said) (p : Provider) (steps : List (ProofStep NameId SolvableId)) (proves : IsProofOver catalogue said p steps) (fits : length steps < 4294967296) where
   -- a limit is told by the first line that states it
-  limit_told : (parent : Option SolvableId) (v : VersionSetId) (line : ℕ) → IsFirstLine catalogue said.lines (option_map version_no parent) (Limits (spec_at p.ids v)) line → Contains (rules_for refutes.same (packages_of p) (root_of refutes.ids) parent).constraints v
+  limit_told : (parent : Option SolvableId) (v : VersionSetId) (line : ℕ) → IsFirstLine catalogue said.lines (option_map version_no parent) (Limits (spec_at p.ids v)) line → Contains (rules_for proves.same (packages_of p) (root_of proves.ids) parent).constraints v
       → IsFirst catalogue p.ids said.lines (place_at catalogue parent) (Limits (spec_at p.ids v)) line
-  limit_told None v line by has = first_asked catalogue p.ids said.lines (Limits (spec_at p.ids v)) line by (limit_in_lines p.ids refutes.ids.constraints.items said.lines refutes.asked.constraints v has)
+  limit_told None v line by has = first_asked catalogue p.ids said.lines (Limits (spec_at p.ids v)) line by (limit_in_lines p.ids proves.ids.constraints.items said.lines proves.asked.constraints v has)
   limit_told (Some s) v line by has =
-      let (m, of, there) = version_limit catalogue p refutes.over s v has in
+      let (m, of, there) = version_limit catalogue p proves.over s v has in
       first_told catalogue p.ids said.lines (Limits (spec_at p.ids v)) (limit_owned (spec_at p.ids v)) s line by m of there
 
   -- what bars a version is told by a line that does
-  bar_told : (s : SolvableId) (t : Step) → IsVersion catalogue p.ids s → TellsBar catalogue s t → (is_barred refutes.same (packages_of p) s || is_unknown (dependencies_of p s)) ≡ true → IsBarredBy catalogue (version_at catalogue s) t
+  bar_told : (s : SolvableId) (t : Step) → IsVersion catalogue p.ids s → TellsBar catalogue s t → (is_barred proves.same (packages_of p) s || is_unknown (dependencies_of p s)) ≡ true → IsBarredBy catalogue (version_at catalogue s) t
   bar_told s t (v, e) tells bars = elim (tells v e) [
-    | inl by ↦ subst (λ (w : Version). IsBarredBy catalogue w t) (sym (version_is catalogue p refutes.over s v e)) by
-    | inr none ↦ absurd (some_bars catalogue p refutes.over refutes.same refutes.exact s v e bars none.0 none.1)
+    | inl by ↦ subst (λ (w : Version). IsBarredBy catalogue w t) (sym (version_is catalogue p proves.over s v e)) by
+    | inr none ↦ absurd (some_bars catalogue p proves.over proves.same proves.exact s v e bars none.0 none.1)
   ]
 
   -- a need of a parent is told by the first line that states it
   need_found : (parent : Option SolvableId) (r : Requirement) (condition : Option ConditionId) (case : List VersionSetId) (found : Option NeedLine) → IsNeedLineOf catalogue said.lines p.ids parent r case found
-      → Contains (rules_for refutes.same (packages_of p) (root_of refutes.ids) parent).requirements (record { condition = condition; requirement = r }) → Contains (cases_under (condition_at p.ids) condition) case
+      → Contains (rules_for proves.same (packages_of p) (root_of proves.ids) parent).requirements (record { condition = condition; requirement = r }) → Contains (cases_under (condition_at p.ids) condition) case
       → (n : NeedLine) × (found ≡ Some n) × IsFirstNeed catalogue p.ids said.lines (place_at catalogue parent) (alternatives_at p.ids r) (map (spec_at p.ids) case) n.line n.case
   need_found None r condition case found by has among =
-      let (c, is, here) = line_from p.ids refutes.ids.requirements.items said.lines refutes.asked.requirements (record { condition = condition; requirement = r }) has in
-      first_need_asked catalogue p.ids said.lines (alternatives_at p.ids r) (map (spec_at p.ids) case) found by _ here (needs_in catalogue p refutes.over r condition c is case among)
+      let (c, is, here) = line_from p.ids proves.ids.requirements.items said.lines proves.asked.requirements (record { condition = condition; requirement = r }) has in
+      first_need_asked catalogue p.ids said.lines (alternatives_at p.ids r) (map (spec_at p.ids) case) found by _ here (needs_in catalogue p proves.over r condition c is case among)
   need_found (Some s) r condition case found by has among =
-      let (c, is, m, of, there) = version_line catalogue p refutes.over s (record { condition = condition; requirement = r }) has in
-      first_need_told catalogue p.ids said.lines (alternatives_at p.ids r) (map (spec_at p.ids) case) s found by m of _ there (needs_in catalogue p refutes.over r condition c is case among)
+      let (c, is, m, of, there) = version_line catalogue p proves.over s (record { condition = condition; requirement = r }) has in
+      first_need_told catalogue p.ids said.lines (alternatives_at p.ids r) (map (spec_at p.ids) case) s found by m of _ there (needs_in catalogue p proves.over r condition c is case among)
 
   -- a need that is written is told rightly
   pub need_told : (n : ℕ) (parent : Option SolvableId) (r : Requirement) (case : Vec VersionSetId Global) (t : Step) → slice_get steps n ≡ Some (Rule (NeedsRule parent r case)) → TellsNeed catalogue said.lines p.ids parent r case.items t
       → (line k : ℕ) × IsNumber k × (t ≡ told.Need (place_at catalogue parent) line k) × IsFirstNeed catalogue p.ids said.lines (place_at catalogue parent) (alternatives_at p.ids r) (map (spec_at p.ids) case.items) line k
   need_told n parent r case t at (found, by, tells) =
-      let (condition, (has, among)) = refutes.proof n _ at in
+      let (condition, (has, among)) = proves.proof n _ at in
       let (l, is, first) = need_found parent r condition case.items found by has among in
       let (number, told_so) = subst (λ (o : Option NeedLine). IfSome o (λ x. IsNumber x.case × (t ≡ told.Need (place_at catalogue parent) x.line x.case))) is tells in
       (l.line, l.case, number, told_so, first)
@@ -280,26 +280,26 @@ module _ (catalogue : List Line) (said : Said) (p : Provider) (steps : List (Pro
   step_told n (Rule (NeedsRule parent r case)) t at tells written = (let (line, k, number, is, first) = need_told n parent r case t at tells in (line, k, is, first))
   step_told n (Rule (GateOf s r)) t at tells written =
       let (line, is, by) = tells in
-      let (condition, asked) = refutes.proof n _ at in
+      let (condition, asked) = proves.proof n _ at in
       let (need, has, same) = any_contained (λ (need : ConditionalRequirement). not (has_condition need.condition) && same_requirement r need.requirement) (rules_of (dependencies_of p s)).requirements asked in
-      let (m, of, there) = plain_version_line catalogue p refutes.over s r (subst (λ (x : ConditionalRequirement). Contains (rules_of (dependencies_of p s)).requirements x) (same_need need r same) has) in
+      let (m, of, there) = plain_version_line catalogue p proves.over s r (subst (λ (x : ConditionalRequirement). Contains (rules_of (dependencies_of p s)).requirements x) (same_need need r same) has) in
       (line, is, first_told catalogue p.ids said.lines (Needs (alternatives_at p.ids r) None) (need_owned (alternatives_at p.ids r) None) s line by m of there)
   step_told n (Rule (Shared r)) t at tells written = written
   step_told n (Rule (Limit parent v None)) t at (line, is, by) written =
-      let (condition, has) = refutes.proof n _ at in
+      let (condition, has) = proves.proof n _ at in
       (line, is, limit_told parent v line by has)
   step_told n (Rule (Limit parent v (Some s))) t at (line, is, by) written =
-      let (condition, (has, out)) = refutes.proof n _ at in
+      let (condition, (has, out)) = proves.proof n _ at in
       (line, is, limit_told parent v line by has)
   step_told n (Rule (Outside v s)) t at tells written = written
-  step_told n (Rule (Locked locked s)) t at tells written = (let (condition, bars) = refutes.proof n _ at in bar_told s t (barred_version catalogue p refutes.over refutes.same refutes.exact s bars) tells (bars_says refutes.same (packages_of p) (root_of refutes.ids) s bars))
-  step_told n (Rule (Excluded s reason)) t at tells written = (let (condition, bars) = refutes.proof n _ at in bar_told s t (barred_version catalogue p refutes.over refutes.same refutes.exact s bars) tells (bars_says refutes.same (packages_of p) (root_of refutes.ids) s bars))
+  step_told n (Rule (Locked locked s)) t at tells written = (let (condition, bars) = proves.proof n _ at in bar_told s t (barred_version catalogue p proves.over proves.same proves.exact s bars) tells (bars_says proves.same (packages_of p) (root_of proves.ids) s bars))
+  step_told n (Rule (Excluded s reason)) t at tells written = (let (condition, bars) = proves.proof n _ at in bar_told s t (barred_version catalogue p proves.over proves.same proves.exact s bars) tells (bars_says proves.same (packages_of p) (root_of proves.ids) s bars))
   step_told n (Rule (Digit s place bit)) t at tells written = written
   step_told n (Rule (AtLeastOne name s)) t at tells written = written
   step_told n (Derived literals causes) t at tells written =
       let (clause, is, same, rising) = tells in
       let below : n < length steps = slice_get_within steps n _ at in
-      (clause, is ∙ ap (λ (ns : List ℕ). told.Derive clause ns) (numbers_from n causes.items (omega (arith, below, fits)) (λ k h. let e : k < n = (refutes.proof n _ at).earlier k h in omega (arith, e))), same (literals_fit catalogue p refutes.over literals.items (refutes.known n _ at)))
+      (clause, is ∙ ap (λ (ns : List ℕ). told.Derive clause ns) (numbers_from n causes.items (omega (arith, below, fits)) (λ k h. let e : k < n = (proves.proof n _ at).earlier k h in omega (arith, e))), same (literals_fit catalogue p proves.over literals.items (proves.known n _ at)))
 
   -- each step is told rightly
   pub steps_told : (written : List Step) → AllZip (Tells catalogue said.lines p.ids) steps written → AllZip (IsWritten catalogue p.ids) steps written → AllZip (IsToldBy catalogue p.ids said.lines) steps written

@@ -3,3 +3,4 @@ pub mod Writing
 pub mod Lines
 pub mod Refusal
 pub mod Telling
+pub mod Installing

@@ -1,5 +1,5 @@
 -- The line of a place by which a need or a limit is told, and the line by which a version is barred.
-use Rattle.std.specs.Prelude.{◌≡◌, ◌<◌, ◌≤◌, ◌+◌, ℕ, Bool, true, false, List, length, slice_index_or, Option, None, Some, Contains}
+use Rattle.std.specs.Prelude.{◌≡◌, ◌<◌, ◌≤◌, ◌+◌, ℕ, Bool, true, false, List, length, slice_index_or, slice_get, Option, None, Some, Contains}
 use Rattle.resolvo_text.specs.Line.{Version, Spec, Cond, Line, Skipped, Listed, Needs, Limits, Unknown, Lock, Favour, Exclude, Wish}
 use Rattle.resolvo_text.specs.Cases.{condition_cases}
 use Rattle.resolvo_catalogue.specs.Grammar.{line_at}
@@ -110,10 +110,23 @@ IsUnknownLine catalogue v (Some n) = LineIs catalogue n (MarksUnknownOf v)
 abbrev pub IsFree : List Line → Version → Type 0
 IsFree catalogue v = (m : ℕ) → Bars catalogue v m → ⊥
 
+-- The line bars the version before a search: one that locks another version of its package, else one that excludes it;
+-- or none does.
+abbrev pub IsBarredLine : List Line → Version → Option BarringLine → Type 0
+IsBarredLine catalogue v (Some (barring.Lock n)) = LineIs catalogue n (LocksAnother v)
+IsBarredLine catalogue v (Some (barring.Exclude n)) = ((m : ℕ) → LineIs catalogue m (LocksAnother v) → ⊥) × LineIs catalogue n (Excludes v)
+IsBarredLine catalogue v (Some (barring.Unknown n)) = ⊥
+IsBarredLine catalogue v None = IsFree catalogue v
+
+-- The version of this number is listed, and the line bars it so; or it isn't listed, or no line bars it so.
+abbrev pub IsBarredLineOf : List Line → ℕ → Option BarringLine → Type 0
+IsBarredLineOf catalogue number None = (v : Version) → slice_get (listed catalogue) number ≡ Some v → IsBarredLine catalogue v None
+IsBarredLineOf catalogue number (Some line) = (v : Version) × (slice_get (listed catalogue) number ≡ Some v) × IsBarredLine catalogue v (Some line)
+
 -- The line bars the version: one that locks another version of its package, else one that excludes it, else one that
 -- says that its needs are unknown; or none does.
 abbrev pub IsBarringLine : List Line → Version → Option BarringLine → Type 0
-IsBarringLine catalogue v (Some (barring.Lock n)) = LineIs catalogue n (LocksAnother v)
-IsBarringLine catalogue v (Some (barring.Exclude n)) = ((m : ℕ) → LineIs catalogue m (LocksAnother v) → ⊥) × LineIs catalogue n (Excludes v)
+IsBarringLine catalogue v (Some (barring.Lock n)) = IsBarredLine catalogue v (Some (barring.Lock n))
+IsBarringLine catalogue v (Some (barring.Exclude n)) = IsBarredLine catalogue v (Some (barring.Exclude n))
 IsBarringLine catalogue v (Some (barring.Unknown n)) = IsFree catalogue v × LineIs catalogue n (MarksUnknownOf v)
 IsBarringLine catalogue v None = IsFree catalogue v × IsUnknownLine catalogue v None

@@ -82,12 +82,18 @@ module _ (catalogue : List Line) (ids : Ids) where
 
 -- ---- how steps are told
 
+-- The step bars the version by this line, which locks another version of its package.
+abbrev pub IsLockStep : List Line → Version → Step → ℕ → Type 0
+IsLockStep catalogue v step line = (step ≡ told.Lock line v) × LineIs catalogue line (LocksAnother v)
+
+-- It does by this line, which excludes the version, and no line locks another one.
+abbrev pub IsExclusionStep : List Line → Version → Step → ℕ → Type 0
+IsExclusionStep catalogue v step line = (step ≡ told.Exclude line) × ((m : ℕ) → LineIs catalogue m (LocksAnother v) → ⊥) × LineIs catalogue line (Excludes v)
+
 -- The step bars the version: by a line that locks another version of its package, else by one that excludes it, else by
 -- one that says that its needs are unknown.
 abbrev pub IsBarredBy : List Line → Version → Step → Type 0
-IsBarredBy catalogue v step = (line : ℕ) × (((step ≡ told.Lock line v) × LineIs catalogue line (LocksAnother v))
-    ⊎ (((step ≡ told.Exclude line) × ((m : ℕ) → LineIs catalogue m (LocksAnother v) → ⊥) × LineIs catalogue line (Excludes v))
-    ⊎ ((step ≡ told.Unknown line) × ((m : ℕ) → Bars catalogue v m → ⊥) × LineIs catalogue line (MarksUnknownOf v))))
+IsBarredBy catalogue v step = (line : ℕ) × (IsLockStep catalogue v step line ⊎ (IsExclusionStep catalogue v step line ⊎ ((step ≡ told.Unknown line) × ((m : ℕ) → Bars catalogue v m → ⊥) × LineIs catalogue line (MarksUnknownOf v))))
 
 module _ (catalogue : List Line) (ids : Ids) where
   -- the atom in the words of a report
@@ -145,8 +151,8 @@ module _ (catalogue : List Line) (ids : Ids) where
 
 -- ---- reports
 
--- Over a provider of the catalogue, with what a request asks, the steps are a proof, and end with the empty clause.
-pub record Refutes (catalogue : List Line) (said : Said) (provider : Provider) (steps : List (ProofStep NameId SolvableId)) : Type 0 where
+-- Over a provider of the catalogue, with what a request asks, the steps are a proof whose ids have texts.
+pub record IsProofOver (catalogue : List Line) (said : Said) (provider : Provider) (steps : List (ProofStep NameId SolvableId)) : Type 0 where
   pub over : IsOver catalogue provider
   pub ids : RequestIds
   pub asked : AreAsked provider.ids said ids
@@ -155,11 +161,15 @@ pub record Refutes (catalogue : List Line) (said : Said) (provider : Provider) (
   pub same : SolvableId → SolvableId → Bool
   pub exact : IsExact same
   pub proof : IsProof same_atom same (packages_of provider) (root_of ids) steps
-  pub empty : EndsEmpty steps
   pub known : (n : ℕ) (s : ProofStep NameId SolvableId) → slice_get steps n ≡ Some s → IsKnownStep catalogue provider.ids s
   -- no derived clause has a literal beside its opposite, and no solvable has two places
   pub one_sign : (n : ℕ) (literals : Vec (ProofLiteral NameId SolvableId) Global) (causes : Vec ℕ Global) → slice_get steps n ≡ Some (Derived literals causes) → HaveOneSign (map literal_in literals.items)
   pub one_place : HaveOnePlace steps
+
+-- They are a proof, and end with the empty clause.
+pub record Refutes (catalogue : List Line) (said : Said) (provider : Provider) (steps : List (ProofStep NameId SolvableId)) : Type 0 where
+  pub proves : IsProofOver catalogue said provider steps
+  pub empty : EndsEmpty steps
 
 -- The report is a refusal of these steps that the judge accepts, so what it claims is true.
 pub record IsRefusalOf (catalogue request : List Line) (ids : Ids) (steps : List (ProofStep NameId SolvableId)) (r : Report) : Type 0 where

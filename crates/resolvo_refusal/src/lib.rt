@@ -1,14 +1,16 @@
-//! The refused report of a proof.
+//! The refused report of a proof, and the steps of an install report that leaves wishes out.
 //!
 //! A proof tells its steps by ids of a provider over a catalogue. Here each step becomes one of a report: packages,
 //! versions and SPECs by their texts, and each rule by the first line that states it. The program writes the report,
 //! and whoever asks the judge of `resolvo_judge` is told that it holds.
 #![tactic(auto)]
 
+mod install;
 mod lines;
 mod literals;
 mod named;
 mod report;
 mod steps;
 
+pub use install::{barring_step, install_steps};
 pub use report::refused_report;

@@ -8,7 +8,7 @@ ghost use Rattle.resolvo_text.specs.View.{spec_of, specs_of, cases_of};
 ghost use Rattle.resolvo_catalogue.specs.Grammar.{line_at};
 ghost use Rattle.resolvo_catalogue.specs.Listed.{listed};
 ghost use Rattle.resolvo_catalogue.specs.Questions.{States, is_rule};
-ghost use Rattle.resolvo_refusal.specs.Lines.{count_of, number_at, AreLines, IsLeast, text_of, IsLineOf, SaysAt, IsCaseOf, IsCaseAt, IsNeedLine, locks, marks_unknown, IsUnknownLine, IsBarringLine};
+ghost use Rattle.resolvo_refusal.specs.Lines.{count_of, number_at, AreLines, IsLeast, text_of, IsLineOf, SaysAt, IsCaseOf, IsCaseAt, IsNeedLine, locks, marks_unknown, IsUnknownLine, IsBarredLineOf, IsBarringLine};
 
 use resolvo_catalogue::{Catalogue, Request, Rule, Spec, VersionNo};
 use resolvo_pool::want::{R, Want};
@@ -177,28 +177,12 @@ impl<'a> Texts<'a> {
     pub fn barring_line(self, version: VersionNo) -> Option<BarringLine>
         ensures { (v : says.Version) → slice_get (listed self.entry.catalogue.now) version.0 ≡ Some v → IsBarringLine self.entry.catalogue.now v result }
     {
-        match self.catalogue.barred(version) {
-            Some(line) => {
-                if self.is_lock(line) {
-                    Some(BarringLine::Lock(line))
-                } else {
-                    Some(BarringLine::Exclude(line))
-                }
-            }
+        match barred_line(self.catalogue, version) {
+            Some(line) => Some(line),
             None => {
                 let line = self.unknown_line(version)?;
                 Some(BarringLine::Unknown(line))
             }
-        }
-    }
-
-    /// Whether this line of the catalogue locks a version.
-    fn is_lock(self, line: u32) -> bool
-        ensures { (l : says.Line) → line_at self.entry.catalogue.now line ≡ Some l → result ≡ locks l }
-    {
-        match self.catalogue.rule(line) {
-            Some(rule) => locks(rule),
-            None => false,
         }
     }
 
@@ -230,6 +214,29 @@ impl<'a> Texts<'a> {
             Some(rule) => marks_unknown(rule),
             None => false,
         }
+    }
+}
+
+/// The line that bars the version before a search: one that locks another version of its package, else one that
+/// excludes it.
+pub(crate) fn barred_line(catalogue: &Catalogue, version: VersionNo) -> Option<BarringLine>
+    ensures { IsBarredLineOf catalogue.now version.0 result }
+{
+    let line = catalogue.barred(version)?;
+    if is_lock(catalogue, line) {
+        Some(BarringLine::Lock(line))
+    } else {
+        Some(BarringLine::Exclude(line))
+    }
+}
+
+/// Whether this line of a catalogue locks a version.
+fn is_lock(catalogue: &Catalogue, line: u32) -> bool
+    ensures { (l : says.Line) → line_at catalogue.now line ≡ Some l → result ≡ locks l }
+{
+    match catalogue.rule(line) {
+        Some(rule) => locks(rule),
+        None => false,
     }
 }
 

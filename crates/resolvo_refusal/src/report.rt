@@ -56,7 +56,7 @@ pub fn refused_report(
 }
 
 /// The steps as they stand in a report.
-fn write_steps(
+pub(crate) fn write_steps(
     alloc: Global,
     texts: Texts,
     provider: &CatalogueProvider,

@@ -29,7 +29,7 @@ use Rattle.resolvo_provider.proofs.Marking.{one_some}
 use Rattle.resolvo_provider.proofs.Passing.{any_from}
 use Rattle.resolvo_provider.proofs.Places.{no_element, element_cases}
 use Rattle.resolvo_provider.proofs.RulesKept.{not_false}
-use Rattle.resolvo_reporting.specs.Served.{AllServed}
+use Rattle.resolvo_reporting.specs.Flat.{AllLines}
 use Rattle.resolvo_reporting.specs.First.{IsFirstMatchOf, IsMatch, IsNeeded, HoldsFirst, IsFirstChoices, is_flat_listing, is_flat_need, AreNewest, AreFirstChosen, orders_of}
 use Rattle.resolvo_reporting.proofs.FirstMatches.{IsSooner, first_match, none_sooner, needed_grows}
 use Rattle.resolvo_reporting.proofs.FirstTried.{sooner_from}
@@ -149,7 +149,7 @@ module _ (catalogue : List Line) (said : Said) (p : Provider) (asked : RequestId
 
   -- ---- flat texts
 
-  module _ (flat_listing : AllServed is_flat_listing catalogue) (flat_request : AllServed is_flat_need said.lines) where
+  module _ (flat_listing : AllLines is_flat_listing catalogue) (flat_request : AllLines is_flat_need said.lines) where
     need_met : (s : Spec) → Contains said.lines (Needs (s ∷ []) None) → (v : Version) × Contains entries v × (matches s v ≡ true)
     need_met s c =
         let v = entry_met (s ∷ []) (record { owner = None; condition = None; line = c; member = refl; holds = refl }) in

@@ -16,7 +16,7 @@ use Rattle.resolvo_provider.proofs.Places.{no_element, first_element, later_elem
 use Rattle.resolvo_provider.proofs.Passing.{any_to, all_from, all_to}
 use Rattle.resolvo_provider.proofs.Elements.{flat_from, flat_to, option_from}
 use Rattle.resolvo_provider.proofs.RulesKept.{bound_by, binding_by}
-use Rattle.resolvo_reporting.specs.Served.{AllServed}
+use Rattle.resolvo_reporting.specs.Flat.{AllLines}
 use Rattle.resolvo_reporting.specs.First.{IsFavoured, flat_need, is_flat_listing, is_flat_need, FitsRequest, IsLineOf, IsNeeded}
 use Rattle.resolvo_reporting.proofs.FirstMatches.{newest_of, among_listed, from_listed, IsSooner}
 
@@ -108,7 +108,7 @@ fits_to request v h = all_to (fits_one v) (needed_in request) (λ s c.
 
 -- ---- the newest versions that fit
 
-module _ (catalogue request : List Line) (flat_listing : AllServed is_flat_listing catalogue) (flat_request : AllServed is_flat_need request) where
+module _ (catalogue request : List Line) (flat_listing : AllLines is_flat_listing catalogue) (flat_request : AllLines is_flat_need request) where
   pub nothing_favoured : (v : Version) → IsFavoured catalogue v → ⊥
   nothing_favoured v c = let at = at_from_contains catalogue (Favour v) c in false≢true (flat_listing (suc at.0) (Favour v) at.1)
 

@@ -32,7 +32,7 @@ use Rattle.resolvo_proof.specs.declared.step.ProofStep.TheVariants.{Rule, Derive
 use Rattle.resolvo_proof.specs.Steps.{literal_in, rule_under, clause_of, clause_at}
 use Rattle.resolvo_proof.specs.Proof.{IsProof}
 use Rattle.resolvo_proof.specs.Drawn.{AreDrawn}
-use Rattle.resolvo_proof.specs.Trimmed.{IsTrimmed, IsRenumbered}
+use Rattle.resolvo_proof.specs.Trimmed.{IsTrimmedTo, IsRenumbered}
 use Rattle.resolvo_provider.specs.Ids.{NameId, SolvableId, AreEach, IsNeed, IsSpec, IsPackage}
 use Rattle.resolvo_provider.specs.Known.{name_of, set_at, members_of, condition_at}
 use Rattle.resolvo_provider.specs.Told.{Told, need_in, limit_in, lines_at}
@@ -306,8 +306,8 @@ module _ (catalogue : List Line) (said : Said) (provider : Provider) (over : IsO
         known_atom l.atom (known (literal_in l) (contains_map literal_in l literals.items h))
 
     -- and so where some steps were left out
-    pub known_kept : (kept : List (ProofStep NameId SolvableId)) → IsTrimmed steps kept → (k : ℕ) (s : ProofStep NameId SolvableId) → slice_get kept k ≡ Some s → IsKnownStep catalogue provider.ids s
-    known_kept kept trimmed k s e =
+    pub known_kept : (Wanted : ℕ → Type 0) (kept : List (ProofStep NameId SolvableId)) → IsTrimmedTo Wanted steps kept → (k : ℕ) (s : ProofStep NameId SolvableId) → slice_get kept k ≡ Some s → IsKnownStep catalogue provider.ids s
+    known_kept Wanted kept trimmed k s e =
         let below : k < length kept = slice_get_within kept k s e in
         let long : length kept ≡ length trimmed.from = trimmed.count in
         let at = slice_get-get_or trimmed.from k 0 (omega (arith, below, long)) in

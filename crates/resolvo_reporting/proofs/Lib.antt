@@ -1,4 +1,3 @@
-pub mod ServedLines
 pub mod CaseForms
 pub mod FirstMatches
 pub mod FirstTried
@@ -8,4 +7,6 @@ pub mod FirstChosen
 pub mod FirstExample
 pub mod Atoms
 pub mod Knowing
+pub mod Walking
+pub mod Serving
 pub mod Upheld

@@ -13,7 +13,7 @@ use Rattle.resolvo_provider.specs.Ids.{SolvableId}
 use Rattle.resolvo_provider.specs.Known.{set_at, members_of}
 use Rattle.resolvo_provider.specs.Provider.{Provider, candidates_of, IsSorted}
 use Rattle.resolvo_provider.specs.Trying.{matching}
-use Rattle.resolvo_reporting.specs.Served.{AllServed, wishes_nothing}
+use Rattle.resolvo_reporting.specs.Flat.{AllLines, wishes_nothing}
 
 -- ---- the first match of a SPEC
 
@@ -102,7 +102,7 @@ pub record AreFirstChosen (catalogue request : List Line) (entries : Set) : Type
   -- where there are first choices, they are the entries
   pub first : (set : Set) → IsFirstChoices catalogue request set → (v : Version) → Contains entries v ↔ Contains set v
   -- of flat texts the entries are the newest versions that fit
-  pub newest : AllServed is_flat_listing catalogue → AllServed is_flat_need request → AreNewest catalogue request entries
+  pub newest : AllLines is_flat_listing catalogue → AllLines is_flat_need request → AreNewest catalogue request entries
 
 -- ---- over a provider
 

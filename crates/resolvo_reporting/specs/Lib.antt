@@ -1,4 +1,6 @@
-pub mod Served
+pub mod Wishes
+pub mod Flat
 pub mod First
+pub mod Turning
 pub mod Solved
 pub mod Reported

@@ -2,4 +2,5 @@
 #![tactic(auto)]
 
 pub mod reporting;
-pub mod serving;
+mod turning;
+mod wishes;

@@ -1,27 +1,57 @@
-//! The report of the solver's answer: the install report of what it chose, or the refused report of its proof.
+//! The report of the solver's answer: the install report of its turns, or the refused report of its proof.
 
 ghost use Rattle.std.specs.Prelude.{◌≡◌, IfOk};
 ghost use Rattle.resolvo_catalogue.specs.Grammar.{AreRequestLines};
 ghost use Rattle.resolvo_report.specs.View.{report_of};
-ghost use Rattle.resolvo_reporting.specs.Served.{wishes_nothing, AllServed};
-ghost use Rattle.resolvo_reporting.specs.Solved.{IsSolvedOver};
+ghost use Rattle.resolvo_reporting.specs.Wishes.{AreWishesAt};
+ghost use Rattle.resolvo_reporting.specs.Solved.{IsInstalledOver, IsSolvedOver};
 ghost use Rattle.resolvo_reporting.specs.Reported.{IsReportOf};
 
+use crate::turning::{Outcome, report_turns, wanted_steps};
+use crate::wishes::{Wish, free_wishes, wishes_of};
 use resolvo::deciding::Activity;
 use resolvo::proving::{Solved, solve};
 use resolvo::search::Found;
+use resolvo::turns::Turn;
 use resolvo_answers::answers::Answers;
 use resolvo_cache::cache::CacheFault;
 use resolvo_catalogue::{Catalogue, Request};
-use resolvo_entries::install_report;
+use resolvo_entries::{install_report, numbers_of};
 use resolvo_pool::id::{NameId, SolvableId};
 use resolvo_pool::want::{R, Want};
-use resolvo_proof::trimming::trim;
+use resolvo_proof::step::ProofStep;
+use resolvo_proof::trimming::{Trimmed, trim, trim_to};
 use resolvo_provider::lawful::Never;
 use resolvo_provider::provider::{CatalogueProvider, Hint};
-use resolvo_refusal::refused_report;
+use resolvo_refusal::{install_steps, refused_report};
 use resolvo_report::Report;
 use std::alloc::Global;
+
+/// What the solver chose over the provider of a catalogue, as a report.
+fn installed(
+    alloc: Global,
+    catalogue: &Catalogue,
+    request: &Request,
+    provider: &CatalogueProvider,
+    wishes: Vec<Wish>,
+    solvables: &[SolvableId],
+    turns: &[Turn<SolvableId>],
+    proof: Vec<ProofStep<NameId, SolvableId>>,
+) -> R<Report>
+    ensures { IfOk result (λ r. AreRequestLines catalogue.now request.now.lines → IsInstalledOver catalogue.now request.now provider.now wishes.items solvables.now turns.now proof.items → IsReportOf catalogue.now request.now.lines (report_of r)) }
+{
+    let wanted = wanted_steps(alloc, turns)?;
+    let Trimmed { steps, numbers } = trim_to(alloc, proof, wanted.as_slice())?;
+    let mut written = install_steps(alloc, catalogue, request, provider, steps.as_slice())?;
+    let chosen = numbers_of(alloc, solvables)?;
+    let outcome = Outcome {
+        chosen: chosen.as_slice(),
+        turns,
+        places: numbers.as_slice(),
+    };
+    let told = report_turns(alloc, outcome, wishes, &mut written)?;
+    Ok(install_report(alloc, catalogue, request, told.as_slice(), written)?)
+}
 
 /// What the solver found over the provider of a catalogue, as a report.
 fn told(
@@ -29,13 +59,23 @@ fn told(
     catalogue: &Catalogue,
     request: &Request,
     provider: &CatalogueProvider,
+    wishes: Vec<Wish>,
     solved: Solved<NameId, SolvableId>,
 ) -> R<Report>
-    ensures { IfOk result (λ r. AreRequestLines catalogue.now request.now.lines → AllServed wishes_nothing request.now.lines → IsSolvedOver catalogue.now request.now provider.now solved → IsReportOf catalogue.now request.now.lines (report_of r)) }
+    ensures { IfOk result (λ r. AreRequestLines catalogue.now request.now.lines → IsSolvedOver catalogue.now request.now provider.now wishes.items solved → IsReportOf catalogue.now request.now.lines (report_of r)) }
 {
     let Solved { found, proof, .. } = solved;
     match found {
-        Found::Chosen(chosen) => Ok(install_report(alloc, catalogue, request, chosen.as_slice())?),
+        Found::Chosen { solvables, turns } => installed(
+            alloc,
+            catalogue,
+            request,
+            provider,
+            wishes,
+            solvables.as_slice(),
+            turns.as_slice(),
+            proof,
+        ),
         Found::Clash(_) => {
             let steps = trim(alloc, proof)?;
             refused_report(alloc, catalogue, request, provider, steps.as_slice())
@@ -55,10 +95,13 @@ fn stopped(fault: CacheFault<Never>) -> Want
     }
 }
 
-/// The report of a catalogue and a request over it, which wishes nothing: the solver's answer.
+/// The report of a catalogue and a request over it: the solver's answer. A wish that a lock or an exclusion bars is left out without
+/// a search.
 pub fn report_for(alloc: Global, catalogue: &Catalogue, request: &Request) -> R<Report>
-    ensures { IfOk result (λ r. AreRequestLines catalogue.now request.now.lines → AllServed wishes_nothing request.now.lines → IsReportOf catalogue.now request.now.lines (report_of r)) }
+    ensures { IfOk result (λ r. AreRequestLines catalogue.now request.now.lines → AreWishesAt catalogue.now request.now → IsReportOf catalogue.now request.now.lines (report_of r)) }
 {
+    let wishes = wishes_of(alloc, catalogue, request)?;
+    let free = free_wishes(alloc, wishes.as_slice())?;
     let mut provider = CatalogueProvider::new(alloc, catalogue, Hint::All)?;
     let asked = provider.intern_request(request)?;
     let mut answers = Answers::new(alloc, provider);
@@ -68,9 +111,17 @@ pub fn report_for(alloc: Global, catalogue: &Catalogue, request: &Request) -> R<
         Activity::standard(),
         asked.requirements.as_slice(),
         asked.constraints.as_slice(),
+        free.as_slice(),
     );
     match solved {
-        Ok(solved) => told(alloc, catalogue, request, answers.provider(), solved),
+        Ok(solved) => told(
+            alloc,
+            catalogue,
+            request,
+            answers.provider(),
+            wishes,
+            solved,
+        ),
         Err(fault) => Err(stopped(fault)),
     }
 }

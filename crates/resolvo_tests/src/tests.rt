@@ -41,9 +41,9 @@ fn versions(
 ) -> Result<Option<Vec<VersionNo>>, Fail> {
     match found {
         Found::Clash(_) => Ok(None),
-        Found::Chosen(chosen) => {
+        Found::Chosen { solvables, .. } => {
             let mut set = Vec::new(alloc);
-            for one in chosen {
+            for one in solvables {
                 set.push(answers.provider().version_of(*one))?;
             }
             Ok(Some(set))
@@ -65,6 +65,7 @@ fn chosen_of(
         Activity::standard(),
         requirements,
         constraints,
+        root.wishes.as_slice(),
     ) {
         Ok(done) => versions(alloc, answers, &done.found),
         Err(fault) => Err(failed(fault)),

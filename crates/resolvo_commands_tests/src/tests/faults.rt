@@ -1,4 +1,4 @@
-//! Texts with a faulty line, or one that isn't served yet: the line that is told, and the status.
+//! Texts with a faulty line: the line that is told, and the status.
 
 use super::prints;
 use std::test::Fail;
@@ -9,7 +9,7 @@ struct Row {
     printed: &'static str,
 }
 
-static ROWS: [Row; 11] = [
+static ROWS: [Row; 10] = [
     // a version twice
     Row {
         catalogue: "version a 1\nversion a 1\n",
@@ -34,13 +34,7 @@ static ROWS: [Row; 11] = [
         request: "needs  a\n",
         printed: "fault at catalogue line 1\n",
     },
-    // a wish isn't served yet
-    Row {
-        catalogue: "version a 1\n",
-        request: "needs a\nwish a 1\n",
-        printed: "fault at request line 2\n",
-    },
-    // a fault of the request comes before a line of it that isn't served
+    // a fault below a wish
     Row {
         catalogue: "version a 1\n",
         request: "wish a 1\nneeds  a\n",

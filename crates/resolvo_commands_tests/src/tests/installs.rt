@@ -9,7 +9,7 @@ struct Row {
     printed: &'static str,
 }
 
-static ROWS: [Row; 25] = [
+static ROWS: [Row; 34] = [
     // the newest version
     Row {
         catalogue: "version a 1\nversion a 2\n",
@@ -158,6 +158,60 @@ static ROWS: [Row; 25] = [
         catalogue: "version a 1\nversion b 1\nversion c 1\nversion c 2\n",
         request: "needs a\nneeds b\nneeds c 1 | c if x or ( a and b 1 )\n",
         printed: "install\na=1 for request line 1\nb=1 for request line 2\nc=1 for request line 3\n",
+    },
+    // a wish that a lock bars
+    Row {
+        catalogue: "version a 1\nversion a 2\nlock a 1\n",
+        request: "wish a 2\n",
+        printed: "install\nleft out a=2 line 1 by 1\nstep 1 lock line 3 bars a=2\n",
+    },
+    // a wish that is chosen already
+    Row {
+        catalogue: "version a 1\n",
+        request: "needs a\nwish a 1\n",
+        printed: "install\na=1 for request line 1\n",
+    },
+    // a wish with its needs; the newest versions stay
+    Row {
+        catalogue: "version a 1\nversion a 2\nversion w 1\nneeds x\nversion x 1\nversion x 2\nneeds a 1\n",
+        request: "needs a\nwish w 1\n",
+        printed: "install\na=2 for request line 1\nw=1 wished line 2\nx=1 for w=1 line 4\n",
+    },
+    // a wish that another one needs
+    Row {
+        catalogue: "version a 1\nversion w 1\nneeds a\n",
+        request: "wish w 1\nwish a 1\n",
+        printed: "install\nw=1 wished line 1\na=1 for w=1 line 3\n",
+    },
+    // a wish beside the first alternative
+    Row {
+        catalogue: "version a 1\nversion b 1\n",
+        request: "needs a | b\nwish b 1\n",
+        printed: "install\na=1 for request line 1\nb=1 wished line 2\n",
+    },
+    // a barred wish has its place among the others
+    Row {
+        catalogue: "version a 1\nversion a 2\nlock a 1\n",
+        request: "needs a\nwish a 2\n",
+        printed: "install\na=1 for request line 1\nleft out a=2 line 2 by 1\nstep 1 lock line 3 bars a=2\n",
+    },
+    // a wish of another version of a wished package
+    Row {
+        catalogue: "version b 1\nversion b 2\n",
+        request: "wish b 1\nwish b 2\n",
+        printed: "install\nb=1 wished line 1\nleft out b=2 line 2 by 3\nstep 1 digit b=1 place 0 bit 0\nstep 2 digit b=2 place 1 bit 0\nstep 3 derive [not b=1; not b=2] by 1 2\n",
+    },
+    // a wish whose limit bars what the needs chose
+    Row {
+        catalogue: "version a 1\nversion b 1\nlimits a 2\n",
+        request: "needs a\nwish b 1\n",
+        printed: "install\na=1 for request line 1\nleft out b=1 line 2 by 2\nstep 1 limit b=1 line 3 bars a=1\nstep 2 derive [not a=1; not b=1] by 1\n",
+    },
+    // a wish whose need nothing meets, and one behind it
+    Row {
+        catalogue: "version a 1\nversion b 1\nneeds a 9\n",
+        request: "wish b 1\nwish a 1\n",
+        printed: "install\nleft out b=1 line 1 by 2\na=1 wished line 2\nstep 1 need b=1 line 3 case 1\nstep 2 derive [not b=1] by 1\n",
     },
 ];
 

@@ -13,7 +13,7 @@ use resolvo_pool::requirement::{ConditionalRequirement, Requirement};
 use resolvo_pool::want::R;
 use resolvo_proof::proof::proof_of;
 use resolvo_proof::step::{ProofLiteral, ProofRule, ProofStep};
-use resolvo_proof::trimming::trim;
+use resolvo_proof::trimming::{Trimmed, trim, trim_to};
 use resolvo_search::advancing::Progress;
 use resolvo_search::state::SearchState;
 use resolvo_store::literal::Literal;
@@ -229,5 +229,54 @@ fn trimming(rt: HostRuntime) -> Result<(), Fail> {
     assert_eq!(rt; steps.len(), 2);
     assert_eq!(rt; excluded(&steps[0]), Some(SolvableId::from_raw(1)));
     assert_eq!(rt; causes(&steps[1]), Some([0].as_slice()));
+    Ok(())
+}
+
+/// A derived step with no literals, by one cause.
+fn derived(alloc: Global, cause: usize) -> R<TestStep> {
+    Ok(ProofStep::Derived {
+        literals: Vec::new(alloc),
+        causes: vec![in alloc; cause]?,
+    })
+}
+
+/// Three exclusions, and what follows of the second and of the third; then one more of the first.
+fn several(alloc: Global) -> R<Vec<TestStep>> {
+    let mut steps = Vec::new(alloc);
+    steps.push(exclusion(0))?;
+    steps.push(exclusion(1))?;
+    steps.push(exclusion(2))?;
+    steps.push(derived(alloc, 1)?)?;
+    steps.push(derived(alloc, 2)?)?;
+    steps.push(derived(alloc, 0)?)?;
+    Ok(steps)
+}
+
+/// Two steps are wanted, and a place that has none: they stay with their causes, and each old place has the number of those
+/// that stay before it.
+#[test]
+fn trimming_to_several(rt: HostRuntime) -> Result<(), Fail> {
+    let alloc = rt.alloc();
+    let Trimmed { steps, numbers } = trim_to(alloc, several(alloc)?, &[4, 3, 9])?;
+    assert_eq!(rt; steps.len(), 4);
+    assert_eq!(rt; excluded(&steps[0]), Some(SolvableId::from_raw(1)));
+    assert_eq!(rt; excluded(&steps[1]), Some(SolvableId::from_raw(2)));
+    assert_eq!(rt; causes(&steps[2]), Some([0].as_slice()));
+    assert_eq!(rt; causes(&steps[3]), Some([1].as_slice()));
+    assert_eq!(rt; numbers.as_slice(), [0, 0, 1, 2, 3, 4].as_slice());
+    Ok(())
+}
+
+/// A wanted step leads to another one, and is kept once. Where none is wanted, none is kept.
+#[test]
+fn trimming_to_a_cause(rt: HostRuntime) -> Result<(), Fail> {
+    let alloc = rt.alloc();
+    let Trimmed { steps, numbers } = trim_to(alloc, several(alloc)?, &[5, 0])?;
+    assert_eq!(rt; steps.len(), 2);
+    assert_eq!(rt; excluded(&steps[0]), Some(SolvableId::from_raw(0)));
+    assert_eq!(rt; causes(&steps[1]), Some([0].as_slice()));
+    assert_eq!(rt; numbers.as_slice(), [0, 1, 1, 1, 1, 1].as_slice());
+    let none = trim_to(alloc, several(alloc)?, &[])?;
+    assert!(rt; none.steps.is_empty());
     Ok(())
 }

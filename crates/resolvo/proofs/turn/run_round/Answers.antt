@@ -82,3 +82,36 @@ returns-else-branch-clause-turn g c =
     turn_then c.args.wish c.args.encoding.now c.add_chosen.new.encoding c.fire.new.encoding
     (turn_then c.args.wish c.args.encoding.now c.encode_and_decide.new.encoding c.add_chosen.new.encoding c.in_ok-decided.ensures.turn ((parents_needs c.encode_and_decide.new.encoding c.add_chosen.new.encoding c.in_ok-add_chosen.ensures.added).turn c.args.wish))
     (c.in_ok-fire.ensures.adds.turn c.args.wish)
+
+pub returns-in-Some-clause-same : goal.returns-in-Some-clause-same
+returns-in-Some-clause-same g c = c.in_ok-decided.ensures.same
+
+pub returns-in-Some-clause-stays : goal.returns-in-Some-clause-stays
+returns-in-Some-clause-stays g c = c.in_ok-decided.ensures.stays
+
+pub returns-in-Some-clause-adds : goal.returns-in-Some-clause-adds
+returns-in-Some-clause-adds g c = c.in_ok-decided.ensures.all.adds
+
+pub returns-in-Some-clause-turn : goal.returns-in-Some-clause-turn
+returns-in-Some-clause-turn g c = c.in_ok-decided.ensures.turn
+
+pub returns-in-Some-clause-built : goal.returns-in-Some-clause-built
+returns-in-Some-clause-built g c = c.in_ok-decided.ensures.built
+
+pub returns-in-Some-clause-round : goal.returns-in-Some-clause-round
+returns-in-Some-clause-round g c = subst (λ (o : Option Refusal). IsDecisionOf c.args.wish c.encode_and_decide.new.encoding o) c.in-Some.is c.in_ok-decided.ensures.decided
+
+pub returns-then-is_some-clause-same : goal.returns-then-is_some-clause-same
+returns-then-is_some-clause-same g c = c.in_ok-decided.ensures.same
+
+pub returns-then-branch-clause-same : goal.returns-then-branch-clause-same
+returns-then-branch-clause-same g c = c.in_ok-fire.ensures.same ∙ c.in_ok-decided.ensures.same
+
+pub returns-then-branch-clause-built : goal.returns-then-branch-clause-built
+returns-then-branch-clause-built g c = c.in_ok-fire.ensures.built
+
+pub returns-else-branch-clause-same : goal.returns-else-branch-clause-same
+returns-else-branch-clause-same g c = c.in_ok-fire.ensures.same ∙ c.in_ok-decided.ensures.same
+
+pub returns-else-branch-clause-built : goal.returns-else-branch-clause-built
+returns-else-branch-clause-built g c = c.in_ok-fire.ensures.built

@@ -1,3 +1,4 @@
+use Rattle.std.proofs.Common.{refl}
 use Rattle.resolvo.proofs.Outcomes.{undone_bars, undone_untaken, refuse_rest, refuse_turned}
 use Rattle.resolvo.proofs.wishing.refuse.Goals as goal
 
@@ -17,4 +18,4 @@ returns-clause-rest g c =
 
 pub returns-clause-refused : goal.returns-clause-refused
 returns-clause-refused g c =
-    refuse_turned c.args.encoding.now c.undo_turn.new.self c.undo_turn.ensures.undone c.undo_turn.ensures.turn c.undo_turn.ensures.goes_on c.learn_refusal.new.self c.in_ok-clause.ensures.goes_on _ _ c.in_ok-clause.clause c.in_ok-clause.ensures.barred g.S.PartialEq.eq c.drop_wish.new.self c.drop_wish.ensures c.args.refusal c.requires.refused
+    refuse_turned c.args.encoding.now c.undo_turn.new.self c.undo_turn.ensures.undone c.undo_turn.ensures.turn c.undo_turn.ensures.goes_on c.learn_refusal.new.self c.in_ok-clause.ensures.goes_on _ _ c.in_ok-clause.clause c.in_ok-clause.ensures.barred g.S.PartialEq.eq c.drop_wish.new.self c.drop_wish.ensures c.undo_turn.ensures.built.coding c.args.refusal refl c.requires.refused

@@ -1,9 +1,10 @@
 use Rattle.std.proofs.Common.{◌≡◌, ℕ, [], take}
 use Rattle.resolvo_pool.specs.RuleKeeping.{Rules}
+use Rattle.resolvo_store.specs.AtMostOne.{IsFrontOf}
 use Rattle.resolvo_encoding.specs.Steps.{IsBuilt}
 use Rattle.resolvo.specs.Encoder.{IsInOrder, IsRoot}
 use Rattle.resolvo.specs.Turn.{IsRooted}
-use Rattle.resolvo.specs.Turns.{AreAt, AreRight}
+use Rattle.resolvo.specs.Turns.{AreAt, AreRight, HaveReasons}
 use Rattle.resolvo.specs.Wished.{AreCandidates}
 use Rattle.resolvo.proofs.wishing.run_wishes.Given as goal
 
@@ -13,7 +14,8 @@ invariant-loop-wish g l = record {
   same : l.answers ≡ l.initial.answers;
   right : (root : Rules) (first : ℕ) → IsRoot l.requirements l.constraints root → AreCandidates g.A.SolvableId.PartialEq.eq (g.A.Answering.packages l.initial.answers) l.wishes
       → IsInOrder g.A.SolvableId.PartialEq.eq (g.A.Answering.packages l.initial.answers) (g.A.Answering.orders l.initial.answers) root l.initial.encoding → AreRight g.A.SolvableId.PartialEq.eq (g.A.Answering.packages l.initial.answers) root first [] l.initial.turns
-      → IsInOrder g.A.SolvableId.PartialEq.eq (g.A.Answering.packages l.initial.answers) (g.A.Answering.orders l.initial.answers) root l.encoding × AreRight g.A.SolvableId.PartialEq.eq (g.A.Answering.packages l.initial.answers) root first (take l.wish-index l.wishes) l.turns;
+      → HaveReasons l.initial.encoding.coding l.initial.turns → IsInOrder g.A.SolvableId.PartialEq.eq (g.A.Answering.packages l.initial.answers) (g.A.Answering.orders l.initial.answers) root l.encoding × AreRight g.A.SolvableId.PartialEq.eq (g.A.Answering.packages l.initial.answers) root first (take l.wish-index l.wishes) l.turns × HaveReasons l.encoding.coding l.turns;
+  front : IsFrontOf l.initial.turns.chosen.keys l.turns.chosen.keys;
   at : AreAt l.encoding l.turns;
   rooted : IsRooted l.encoding;
   built : IsBuilt l.encoding;

@@ -13,7 +13,7 @@ pub returns-in-Err-read-clause-err : goal.returns-in-Err-read-clause-err
 returns-in-Err-read-clause-err g c = told_err _ _ c.in-Err-read.fault _ c.not_read-in-Err-read.result c.not_read-in-Err-read.ensures (in_request _ c.in-Ok.ensures.ok c.in-Err-read.ensures.fault)
 
 pub returns-clause-ok : goal.returns-clause-ok
-returns-clause-ok g c = if_ok c.report.result (λ a h. of_texts _ _ _ _ a.outcome _ c.in-Ok.ensures.ok c.in-Ok-read.ensures.ok (h c.in-Ok-read.ensures.lines)) c.report.ensures.ok
+returns-clause-ok g c = if_ok c.report.result (λ a h. of_texts _ _ _ _ a.outcome _ c.in-Ok.ensures.ok c.in-Ok-read.ensures.ok (h c.in-Ok-read.ensures.lines c.in-Ok-read.ensures.wishes)) c.report.ensures.ok
 
 pub returns-clause-err : goal.returns-clause-err
 returns-clause-err g c = if_err c.report.result (λ e lack. lacked e _ _ lack (record { catalogue_lines = _; request_lines = _; catalogue_read = c.in-Ok.ensures.ok; request_read = c.in-Ok-read.ensures.ok })) c.report.ensures.err

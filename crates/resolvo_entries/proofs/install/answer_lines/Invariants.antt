@@ -8,5 +8,5 @@ use Rattle.resolvo_judge.specs.Refusal.{answer_of}
 use Rattle.resolvo_entries.specs.Install.{line_of}
 use Rattle.resolvo_entries.proofs.install.answer_lines.Given as goal
 
-abbrev pub invariant-loop-entry : goal.invariant-loop-entry
-invariant-loop-entry l = (map answer_of (answer_lines_of l.lines.items) ≡ answers_of (listed l.catalogue) (take l.entry-index l.entries)) × AllByRecursion (λ a. IsNumber (line_of a)) (answer_lines_of l.lines.items)
+abbrev pub invariant-loop-answer : goal.invariant-loop-answer
+invariant-loop-answer l = (map answer_of (answer_lines_of l.lines.items) ≡ answers_of (listed l.catalogue) (take l.answer-index l.answers)) × AllByRecursion (λ a. IsNumber (line_of a)) (answer_lines_of l.lines.items)

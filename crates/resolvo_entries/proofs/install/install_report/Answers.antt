@@ -1,14 +1,24 @@
-use Rattle.std.proofs.Common.{◌∙◌, None, refl, ap}
+use Rattle.std.proofs.Common.{◌∙◌, [], List, sym, ap, subst}
+use Rattle.resolvo_catalogue.specs.Answers as answers
+use Rattle.resolvo_catalogue.specs.Answers.{IsReasoned}
 use Rattle.resolvo_catalogue.specs.Listed.{listed}
-use Rattle.resolvo_listing.specs.View.{answers_of}
-use Rattle.resolvo_listing.specs.declared.entry.Turn.{Turn}
-use Rattle.resolvo_report.specs.View.{answer_lines_of}
-use Rattle.resolvo_entries.proofs.Installing.{listed_is}
+use Rattle.resolvo_listing.specs.Order.{AreTurns}
+use Rattle.resolvo_listing.specs.View.{answers_of, turns_of}
+use Rattle.resolvo_report.specs.View.{answer_lines_of, steps_of}
+use Rattle.resolvo_entries.proofs.Installing.{install_is}
+use Rattle.resolvo_entries.proofs.Turning.{are_turns}
 use Rattle.resolvo_entries.proofs.install.install_report.Goals as goal
 
 pub returns : goal.returns
-returns c = λ asks nothing serve.
-    let turn : Turn = record { wish = None; chosen = c.deref.result } in
-    let entries = c.in_ok-entries.ensures in
-    rw c.new.ensures.items (listed_is c.args.catalogue.now c.args.request.now c.args.chosen.now asks serve turn refl (c.deref.ensures.value ∙ c.in_ok-numbers.ensures) c.in_ok-entries.entries.items (answer_lines_of c.in_ok-answer_lines.field-0.items)
-    (c.in_ok-answer_lines.ensures.say ∙ ap (answers_of (listed c.args.catalogue.now)) c.deref-2.ensures.value) c.in_ok-answer_lines.ensures.numbered entries.order entries.reasoned entries.reached nothing)
+returns c = λ serve.
+    let catalogue = c.args.catalogue.now in
+    let request = c.args.request.now.lines in
+    let turns = c.args.turns.now in
+    let steps = steps_of c.args.steps.items in
+    let told = c.in_ok-answers.ensures in
+    let are = are_turns catalogue request turns steps serve in
+    let say = c.in_ok-answer_lines.ensures.say ∙ ap (answers_of (listed catalogue)) c.deref.ensures.value in
+    install_is catalogue request turns steps serve (answer_lines_of c.in_ok-answer_lines.field-0.items)
+    (subst (λ (xs : List answers.Answer). AreTurns catalogue request [] [] (turns_of (listed catalogue) turns) xs) (sym say) (told.order are))
+    (subst (λ (xs : List answers.Answer). IsReasoned catalogue request [] xs) (sym say) (told.reasoned are))
+    c.lines_are_in_place.ensures c.in_ok-answer_lines.ensures.numbered

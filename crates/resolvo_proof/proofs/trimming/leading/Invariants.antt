@@ -1,4 +1,5 @@
 use Rattle.std.proofs.Common.{◌≤◌, length}
+use Rattle.std.specs.Prelude.{Contains}
 use Rattle.resolvo_proof.specs.Trimmed.{AreLeadingFrom}
 use Rattle.resolvo_proof.proofs.trimming.leading.Given as goal
 
@@ -6,7 +7,7 @@ use Rattle.resolvo_proof.proofs.trimming.leading.Given as goal
 abbrev pub invariant-loop-place : goal.invariant-loop-place
 invariant-loop-place g l = record {
   in_range : l.place ≤ length l.steps;
-  leads : AreLeadingFrom l.place l.steps l.flags.items;
+  leads : AreLeadingFrom l.place (Contains l.wanted) l.steps l.flags.items;
 }
 
 abbrev pub decreases-loop-place : goal.decreases-loop-place

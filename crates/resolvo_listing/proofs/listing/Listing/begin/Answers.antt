@@ -2,10 +2,9 @@ use Rattle.std.proofs.Common.{◌≡◌, ◌∙◌, ◌++◌, sym, subst}
 use Rattle.std.specs.Prelude.{Contains}
 use Rattle.std.specs.Option.{option_map}
 use Rattle.resolvo_catalogue.specs.Listed.{listed}
-use Rattle.resolvo_catalogue.specs.Table.{nth}
 use Rattle.resolvo_catalogue.proofs.TableSteps.{numbered}
 use Rattle.resolvo_listing.specs.Order.{wish_entry}
-use Rattle.resolvo_listing.specs.View.{IsAccepted}
+use Rattle.resolvo_listing.specs.View.{wish_at, IsAccepted}
 use Rattle.resolvo_listing.specs.Kept.{answers_in, entries_in}
 use Rattle.resolvo_listing.proofs.Giving.{answers_more, wish_listed, wish_is_entry}
 use Rattle.resolvo_listing.proofs.listing.Listing.begin.Goals as goal
@@ -22,14 +21,14 @@ returns-in_ok-give-clause-listed c = λ request chosen h accepted.
     let catalogue = c.args.catalogue.now in
     let vs = listed catalogue in
     let x = c.args.self.now in
-    subst (λ wish. answers_in catalogue c.give.new.self ≡ answers_in catalogue x ++ wish_entry (option_map (λ w. (w.0, nth vs w.1)) wish) (entries_in catalogue x)) (sym c.in-Some.is)
+    subst (λ wish. answers_in catalogue c.give.new.self ≡ answers_in catalogue x ++ wish_entry (option_map (wish_at vs) wish) (entries_in catalogue x)) (sym c.in-Some.is)
     (wish_listed catalogue request chosen x c.give.new.self c.in-Some.line c.in-Some.version h (subst (IsAccepted vs request chosen) c.in-Some.is accepted)
-    (sym c.is_unlisted.ensures ∙ c.if-is_unlisted.true) (answers_more catalogue x c.give.new.self _ c.in_ok-give.ensures.entries))
+    (sym c.is_unlisted.ensures ∙ c.if-is_unlisted.true) (answers_more catalogue x c.give.new.self _ c.in_ok-give.ensures.answers))
 
 pub returns-else-is_unlisted-clause-listed : goal.returns-else-is_unlisted-clause-listed
 returns-else-is_unlisted-clause-listed c = λ request chosen h accepted.
     let catalogue = c.args.catalogue.now in
     let vs = listed catalogue in
     let x = c.args.self.now in
-    subst (λ wish. answers_in catalogue x ≡ answers_in catalogue x ++ wish_entry (option_map (λ w. (w.0, nth vs w.1)) wish) (entries_in catalogue x)) (sym c.in-Some.is)
+    subst (λ wish. answers_in catalogue x ≡ answers_in catalogue x ++ wish_entry (option_map (wish_at vs) wish) (entries_in catalogue x)) (sym c.in-Some.is)
     (wish_is_entry catalogue request chosen x c.in-Some.line c.in-Some.version h (subst (IsAccepted vs request chosen) c.in-Some.is accepted) (sym c.is_unlisted.ensures ∙ c.if-is_unlisted.false))

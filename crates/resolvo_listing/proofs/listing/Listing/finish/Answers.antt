@@ -27,8 +27,8 @@ loop-places-preserved c = λ chosen h.
     let left = subst (λ o. IfSome o (λ y. IsLeft catalogue request x chosen c.next.new.places)) c.in-Some.is (c.in_ok-entry.ensures.left chosen before.0.listing before.1) in
     let at = number_at catalogue e.version found.0 in
     let given = c.in_ok-give.ensures in (
-      extends_more catalogue request chosen c.args.self.now x c.give.new.self e before.0 found given.entries (given.listing request chosen v at found.1.gives.is_chosen before.0.listing),
-      left_more catalogue request x c.give.new.self chosen v given.lines.0 c.next.new.places (entries_more catalogue x c.give.new.self e v at given.entries) given.lines.1 left,
+      extends_more catalogue request chosen c.args.self.now x c.give.new.self e before.0 found given.answers (given.listing request chosen v at found.1.gives.is_chosen before.0.listing),
+      left_more catalogue request x c.give.new.self chosen v given.lines.0 c.next.new.places (entries_more catalogue x c.give.new.self e v at given.answers) given.lines.1 left,
     )
 
 pub loop-places-smaller : goal.loop-places-smaller

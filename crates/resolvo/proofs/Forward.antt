@@ -1,0 +1,46 @@
+-- The turns of the wishes, from the first one on.
+use Rattle.std.proofs.Common.{◌≡◌, ℕ, suc, Bool, reverse, List, [], ◌∷◌, ◌++◌, length, refl, sym, ◌∙◌, ap, subst, append_assoc, arith}
+use Rattle.std.proofs.lemmas.List.{append-nil, length-reverse, reverse-append}
+use Rattle.resolvo_pool.specs.RuleKeeping.{Packages, Rules}
+use Rattle.resolvo.specs.declared.turns.Turn.{Turn}
+use Rattle.resolvo.specs.Turns.{AreInTurn, AreTurns, AreWished, accepted_of, end_of}
+
+reverse_shift : {X : Type 0} (x : X) (xs ys : List X) → reverse (x ∷ xs) ++ ys ≡ reverse xs ++ x ∷ ys
+reverse_shift x xs ys = ap (λ zs. zs ++ ys) (reverse-append (x ∷ []) xs) ∙ append_assoc (reverse xs) (x ∷ []) ys
+
+module _ {N S : Type 0} (same : S → S → Bool) (p : Packages N S) (root : Rules) (chosen : List S) (first : ℕ) where
+  same_long : (ws : List S) (ts : List (Turn S)) → AreTurns same p root chosen first ws ts → length ws ≡ length ts
+  same_long [] [] h = refl
+  same_long [] (t ∷ ts) h = absurd h
+  same_long (w ∷ ws) [] h = absurd h
+  same_long (w ∷ ws) (t ∷ ts) (begin, one, rest) = ap suc (same_long ws ts rest)
+
+  from_first : (ws before : List S) (ts earlier : List (Turn S)) → length ws ≡ length ts → AreTurns same p root chosen first (reverse ws ++ before) (reverse ts ++ earlier)
+      → AreTurns same p root chosen first before earlier × AreInTurn same p root chosen (end_of first earlier) (accepted_of earlier) ws ts
+  from_first [] before [] earlier long h = (h, tt)
+  from_first [] before (t ∷ ts) earlier long h = absurd cc
+  from_first (w ∷ ws) before [] earlier long h = absurd cc
+  from_first (w ∷ ws) before (t ∷ ts) earlier long h =
+      let shifted = subst (λ (xs : List S). AreTurns same p root chosen first xs (reverse ts ++ t ∷ earlier)) (reverse_shift w ws before) (subst (λ (xs : List (Turn S)). AreTurns same p root chosen first (reverse (w ∷ ws) ++ before) xs) (reverse_shift t ts earlier) h) in
+      let ((begin, one, rest), later) = from_first ws (w ∷ before) ts (t ∷ earlier) (let x : suc (length ws) ≡ suc (length ts) = long in omega arith) shifted in
+      (rest, (begin, one, later))
+
+  -- the turns of the wishes stand in their order
+  pub wished_in_turn : (wishes : List S) (turns : List (Turn S)) → AreWished same p root chosen first wishes turns → AreInTurn same p root chosen first [] wishes turns
+  wished_in_turn wishes turns h =
+      let long : length (reverse wishes) ≡ length (reverse turns) = same_long (reverse wishes) (reverse turns) h.turns in
+      let (none, all) = from_first wishes [] turns [] (sym (length-reverse wishes) ∙ long ∙ length-reverse turns)
+      (subst (λ (xs : List S). AreTurns same p root chosen first xs (reverse turns ++ [])) (sym (append-nil (reverse wishes))) (subst (λ (xs : List (Turn S)). AreTurns same p root chosen first (reverse wishes) xs) (sym (append-nil (reverse turns))) h.turns)) in
+      all
+
+-- how many were chosen after these turns, and before them so many
+abbrev pub end_after : {S : Type 0} → ℕ → List (Turn S) → ℕ
+end_after n [] = n
+end_after n (t ∷ later) = end_after t.end later
+
+ends_after : {S : Type 0} (first : ℕ) (ts earlier : List (Turn S)) → end_of first (reverse ts ++ earlier) ≡ end_after (end_of first earlier) ts
+ends_after first [] earlier = refl
+ends_after {S} first (t ∷ ts) earlier = ap (λ (xs : List (Turn S)). end_of first xs) (reverse_shift t ts earlier) ∙ ends_after first ts (t ∷ earlier)
+
+pub end_is : {S : Type 0} (first : ℕ) (ts : List (Turn S)) → end_of first (reverse ts) ≡ end_after first ts
+end_is {S} first ts = ap (λ (xs : List (Turn S)). end_of first xs) (sym (append-nil (reverse ts))) ∙ ends_after first ts []

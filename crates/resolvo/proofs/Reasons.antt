@@ -1,0 +1,70 @@
+-- The step of a turn is the proof's step of its reason.
+use Rattle.std.proofs.Common.{◌≡◌, ℕ, suc, ◌+◌, ◌<◌, inl, inr, true, false, List, length, Some, None, sym, ◌∙◌, ap, subst, arith}
+use Rattle.std.specs.Prelude.{Contains, slice_get}
+use Rattle.std.proofs.lemmas.Option.{same_Some, slice_get_within}
+use Rattle.resolvo_store.specs.Signed.{Signed, has}
+use Rattle.resolvo_search.specs.declared.state.HeldClause.{HeldClause}
+use Rattle.resolvo_pool.specs.OnePass.{Literal}
+use Rattle.resolvo_rules.specs.Encoding.{Atom}
+use Rattle.resolvo_rules.specs.Numbered.{meanings, Means}
+use Rattle.resolvo_rules.proofs.Lists.{contains_map}
+use Rattle.resolvo_rules.proofs.Meanings.{stands_meaning}
+use Rattle.resolvo_coding.specs.declared.atom.ProofAtom.TheVariants.{Solvable}
+use Rattle.resolvo_coding.specs.declared.coding.Coding.{Coding}
+use Rattle.resolvo_coding.specs.declared.stated.Stated.{Stated}
+use Rattle.resolvo_coding.specs.declared.stated.Stated.TheVariants as Says
+use Rattle.resolvo_coding.specs.Atoms.{origin}
+use Rattle.resolvo_coding.proofs.Origins.{atom_of_one, origin_stands}
+use Rattle.resolvo_coding.proofs.Positions.{get_below}
+use Rattle.resolvo_proof.specs.declared.step.ProofLiteral.{ProofLiteral}
+use Rattle.resolvo_proof.specs.declared.step.ProofStep.{ProofStep}
+use Rattle.resolvo_proof.specs.Steps.{literal_in}
+use Rattle.resolvo_proof.specs.Written.{AreSteps, IsDerivation, IsStepAt, IsStepOf, IsTold}
+use Rattle.resolvo.specs.declared.turns.Turn.{Turn}
+use Rattle.resolvo.specs.Wished.{DeniesOne, IsReasonOf}
+use Rattle.resolvo.specs.Turns.{HasReason, IsDeniable}
+use Rattle.resolvo.specs.Solving.{DeniesOnly, HasProof}
+
+module _ {N S : Type 0} (c : Coding N S) (steps : List (ProofStep N S)) (are : AreSteps c steps) where
+  -- a literal whose meaning is that of one that denies a solvable denies it
+  denies_one : (among : S → Type 0) (x : Signed) (l : ProofLiteral N S) → DeniesOne c among x → Means (origin c.atoms.keys) x (literal_in l) → (l.positive ≡ false) × ((s : S) × (l.atom ≡ Solvable s) × among s)
+  denies_one among x l (inl root) (other, is) = absurd (let later : 0 < x.variable.0 = other in let first : x.variable.0 ≡ 0 = ap (λ (y : Signed). y.variable.0) root in omega arith)
+  denies_one among x l (inr (s, u, no_u, stands, inside)) (other, is) = (
+    ap (λ (m : Literal (Atom N S)). m.positive) is ∙ ap (λ (y : Signed). y.positive) no_u,
+    (s, atom_of_one l.atom (Solvable s) (ap (λ (m : Literal (Atom N S)). m.atom) is ∙ ap (λ (y : Signed). origin c.atoms.keys y.variable.0) no_u ∙ origin_stands c.atoms.keys u (Solvable s) stands), inside),
+  )
+
+  -- a derived step of such a clause
+  denies_only : (among : S → Type 0) (k : ℕ) (step : ProofStep N S) → slice_get steps k ≡ Some step → (held : HeldClause) → ((l : Signed) → has held.literals.items l ≡ true → DeniesOne c among l) → IsDerivation c.atoms.keys held.literals.items held.causes.items step
+      → DeniesOnly steps among k
+  denies_only among k step at held denies d = record {
+    literals = d.literals;
+    causes = d.causes;
+    derived = at ∙ ap Some d.derived;
+    denies = λ l h. (
+        let stands : Contains (meanings (origin c.atoms.keys) held.literals.items) (literal_in l) = subst (λ ms. Contains ms (literal_in l)) d.means (contains_map literal_in l d.literals.items h) in
+        let (x, known, means) = stands_meaning (origin c.atoms.keys) held.literals.items (literal_in l) stands in
+        denies_one among x l (denies x known) means);
+  }
+
+  -- what a learnt clause states is no rule
+  learnt_step : (x : Stated N S) (held : HeldClause) (step : ProofStep N S) → x ≡ Says.Learnt → IsStepOf c.atoms.keys x held step → IsDerivation c.atoms.keys held.literals.items held.causes.items step
+  learnt_step x held step is (inl (r, rule, told)) = absurd (let none : Some r ≡ None = subst (λ (y : Stated N S). IsTold y (Some r)) is told in cc)
+  learnt_step x held step is (inr (learnt, derivation)) = derivation
+
+  -- the step of a reason denies what it denies
+  reason_step : (among : S → Type 0) (k : ℕ) → IsReasonOf c among (suc k) → DeniesOnly steps among k
+  reason_step among k reason =
+      let low : suc k < length c.search.clauses = slice_get_within c.search.clauses (suc k) reason.held reason.stands in
+      let count : length steps + 1 ≡ length c.search.clauses = are.count in
+      let (step, at) = get_below steps k (omega arith) in
+      let its : IsStepAt c (suc k) step = are.each k step at in
+      let is : its.stated ≡ Says.Learnt = same_Some its.stated Says.Learnt (sym its.states ∙ reason.learnt) in
+      let held : its.clause ≡ reason.held = same_Some its.clause reason.held (sym its.stands ∙ reason.stands) in
+      denies_only among k step at its.clause (λ l h. reason.denies l (subst (λ (x : HeldClause). has x.literals.items l ≡ true) held h)) (learnt_step its.stated its.clause step is its.writes)
+
+  pub reason_proof : (chosen : List S) (t : Turn S) → HasReason c chosen t → HasProof steps chosen t
+  reason_proof chosen t r = record {
+    accepted = r.accepted;
+    refused = λ so. (let (k, is, reason) = r.refused so in (k, is, reason_step (IsDeniable chosen t) k reason));
+  }
