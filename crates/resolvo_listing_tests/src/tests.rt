@@ -107,11 +107,7 @@ fn chosen_of(
     Ok(chosen)
 }
 
-fn wish_of(
-    catalogue: &Catalogue,
-    request: &Request,
-    line: u32,
-) -> Option<(u32, VersionNo)> {
+fn wish_of(catalogue: &Catalogue, request: &Request, line: u32) -> Option<(u32, VersionNo)> {
     let wish = request.wish(line)?;
     let version = catalogue.find(&wish.name, wish.number)?;
     Some((line, version))
@@ -284,10 +280,7 @@ fn conditions_in_time(rt: HostRuntime) -> Result<(), Fail> {
             "version a 1\nneeds b\nneeds e\nversion b 1\nversion c 1\nversion d 1\nversion e 1\n",
             "needs c | d if b\nneeds e if c\nneeds a\n",
         ),
-        &[Told::Chose(
-            None,
-            &[("a", 1), ("b", 1), ("c", 1), ("d", 1), ("e", 1)],
-        )],
+        &[Told::Chose(None, &[("a", 1), ("b", 1), ("c", 1), ("d", 1), ("e", 1)])],
         "a=1 for request line 3\nb=1 for a=1 line 2\nc=1 for request line 1\nd=1 for request line 1\ne=1 for request line 2\n",
     )
 }
