@@ -89,7 +89,7 @@ after_both (l ∷ ls) ms p m q e f = go (λ z at. after_both ls ms z m q at f) (
     go again (Some z) at = again z at
 
 -- the part is one below `refused`
-is_refusing : Part → Bool
+abbrev is_refusing : Part → Bool
 is_refusing part.Start = false
 is_refusing part.Answers = false
 is_refusing (part.InstallSteps n) = false
