@@ -10,6 +10,7 @@ use Rattle.resolvo_report.specs.Value.{Literal, Step, Derive, Report, Install, R
 use Rattle.resolvo_report.specs.Text.{report_text}
 use Rattle.resolvo_judge.specs.Judgement.{IsUpheld, IsClaimTrue}
 use Rattle.resolvo_judge.specs.Refusal.{answer_of}
+use Rattle.resolvo_reporting.specs.Message.{IsMessageOf}
 use Rattle.resolvo_reporting.specs.First.{AreFirstChosen}
 
 -- the wish of a turn: the accepted one, or the one that it leaves out
@@ -50,11 +51,11 @@ LeavesOutBy answers number = (v : Version) × (line : ℕ) × Contains answers (
 abbrev pub AreUsed : List Answer → List Step → Type 0
 AreUsed answers steps = (k : ℕ) → k < length steps → LeavesOutBy answers (suc k) ⊎ IsNamedLater steps k
 
--- An install report lists the turns of a search, and each of its steps is used; of a refused one each step leads to the last, and it
--- has no message.
+-- An install report lists the turns of a search, and each of its steps is used; of a refused one each step leads to the last, and
+-- its message is that of their conflict.
 abbrev pub IsAnswer : List Line → List Line → Report → Type 0
 IsAnswer catalogue request (Install lines steps) = AreListed catalogue request (map answer_of lines) × AreUsed (map answer_of lines) steps
-IsAnswer catalogue request (Refused catalogue_lines request_lines steps message) = AreNamed steps × (message ≡ [])
+IsAnswer catalogue request (Refused catalogue_lines request_lines steps message) = AreNamed steps × IsMessageOf catalogue request steps message
 
 -- The report is one that the judge says yes to by its text, and its claim is true. So it installs exactly if some set keeps
 -- the rules of both texts.

@@ -1,8 +1,9 @@
 //! The message of a refusal, for people: the text of its conflict's graph, line by line.
 
-ghost use Rattle.std.specs.Prelude.{◌≡◌, IfOk, ◌++◌};
+ghost use Rattle.std.specs.Prelude.{IfOk};
 ghost use Rattle.resolvo_report.specs.View.{messages_of};
-ghost use Rattle.resolvo_reporting.specs.Message.{AreLinesOf, IsText};
+ghost use Rattle.resolvo_reporting.specs.Message.{AreLinesOf, IsTextOf};
+ghost use Rattle.resolvo_conflict.specs.Offered.{offered_by};
 
 use resolvo_conflict::graph::conflict_graph;
 use resolvo_conflict::offers::Offers;
@@ -37,6 +38,7 @@ pub(crate) fn message_of(
     offers: &Offers<SolvableId>,
     steps: &[ProofStep<NameId, SolvableId>],
 ) -> R<Vec<Vec<u8>>>
+    ensures { IfOk result (λ v. IsTextOf ⟦<NameId as PartialEq>⟧.eq ⟦<SolvableId as PartialEq>⟧.eq provider.now (offered_by offers.now) steps.now (messages_of v.items)) }
 {
     let graph = conflict_graph(alloc, provider, offers, steps)?;
     let display = DisplayUnsat::new(alloc, &graph, provider)?;
