@@ -45,7 +45,7 @@ use Rattle.resolvo_encoding.specs.declared.encoding.Noted.{Noted}
 use Rattle.resolvo_encoding.specs.Encoded.{IsEncoding, IsNoted, IsParentVariable, HasOrder}
 use Rattle.resolvo_encoding.specs.Encoded as E
 use Rattle.resolvo_encoding.specs.Steps.{IsBuilt, Extends}
-use Rattle.resolvo_encoding.specs.Telling.{IsRestraint, IsPair, StatesPair, Tells, bar_rules, limit_rules, out_rules}
+use Rattle.resolvo_encoding.specs.Telling.{bar_of, IsRestraint, IsPair, StatesPair, Tells, bar_rules, limit_rules, out_rules}
 use Rattle.resolvo_encoding.proofs.Building.{built_grows, built_rest}
 use Rattle.resolvo_encoding.proofs.Denials.{Reads, pair_members, pair_spells, one_spells, not_digit}
 use Rattle.resolvo_encoding.proofs.Needing.{gives_keeps, clause_keeps}
