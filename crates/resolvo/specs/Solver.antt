@@ -9,6 +9,12 @@ use Rattle.resolvo_proof.specs.Proof.{EndsEmpty}
 use Rattle.resolvo_proof.specs.declared.step.ProofStep.{ProofStep}
 use Rattle.resolvo_search.specs.declared.analysis.Refusal.{Refusal}
 use Rattle.resolvo.specs.Solution.{IsUnsolvable}
+use Rattle.resolvo_graph.specs.Graph.{Graph}
+use Rattle.resolvo_graph.specs.Message.{IsMessage}
+use Rattle.resolvo_graph.specs.declared.line.MessageLine.{MessageLine}
+use Rattle.resolvo_conflict.specs.Drawing.{conflict_drawing}
+use Rattle.resolvo_conflict.specs.Offered.{offered_by}
+use Rattle.resolvo_conflict.specs.Order.{conflict_rules}
 use Rattle.resolvo.specs.Conflicts.{Left, AreOffers}
 use Rattle.resolvo.specs.Turns.{AreWished, first_of}
 use Rattle.resolvo.specs.Solving.{AreProved, HasProof}
@@ -37,7 +43,7 @@ HoldsConflict {P} {N} {S} k clauses = (l : Left S) × (k.conflict ≡ Some l) ×
 
 -- The graph is that of the conflict that is kept, with what was offered.
 abbrev pub IsGraphOf : {P N S : Type 0} → (N → N → Bool) → (S → S → Bool) → (S → N) → Kept P N S → Graph S → Type 0
-IsGraphOf {P} {N} {S} same_name same name_of k g = (l : Left S) → k.conflict ≡ Some l → g ≡ conflict_graph same_name same name_of (offered_by l.offers) k.proof
+IsGraphOf {P} {N} {S} same_name same name_of k g = (l : Left S) → k.conflict ≡ Some l → g ≡ conflict_drawing same_name same name_of (offered_by l.offers) (conflict_rules k.proof)
 
 -- the lines are those of that graph's message
 abbrev pub TellsConflict : {P N S : Type 0} → (N → N → Bool) → (S → S → Bool) → (S → N) → Kept P N S → List (MessageLine S) → Type 0

@@ -90,7 +90,7 @@ barring_told numbers turns places (w ∷ ws) m steps told after (u, rest, are, n
   where
     go : ((j : ℕ) (before : List Step) → length before ≤ k → AreTold numbers turns places ws j before rest after → (x : ℕ × VersionNo) × Contains rest (LeftOut x (suc k))) → (b : Option code.Step)
         → MatchOption b (IsWishedTurn numbers places (asked_by w) (slice_get turns m) u × AreTold numbers turns places ws (suc m) steps rest after)
-            (λ step. (suc (length steps) < 4294967296) × (u ≡ LeftOut (asked_by w) (suc (length steps))) × AreTold numbers turns places ws m (steps ++ step_of step ∷ []) rest after) → (x : ℕ × VersionNo) × Contains (u ∷ rest) (LeftOut x (suc k))
+        (λ step. (suc (length steps) < 4294967296) × (u ≡ LeftOut (asked_by w) (suc (length steps))) × AreTold numbers turns places ws m (steps ++ step_of step ∷ []) rest after) → (x : ℕ × VersionNo) × Contains (u ∷ rest) (LeftOut x (suc k))
     go again None (told_as, on) = (let (x, h) = again (suc m) steps behind on in (x, contains_later _ u rest h))
     go again (Some step) (few, out, on) = elim (lt-or-ge (length steps) k) [
       | inl low ↦ (
@@ -113,7 +113,7 @@ refused_told numbers turns places (w ∷ ws) m steps told after (u, rest, are, n
 
     go : ((j : ℕ) (before : List Step) → j ≤ n → n < j + length (free_of ws) → AreTold numbers turns places ws j before rest after → (x : ℕ × VersionNo) × Contains rest (LeftOut x (number_at places t.step))) → (b : Option code.Step) → w.bar ≡ b
         → MatchOption b (IsWishedTurn numbers places (asked_by w) (slice_get turns m) u × AreTold numbers turns places ws (suc m) steps rest after)
-            (λ step. (suc (length steps) < 4294967296) × (u ≡ LeftOut (asked_by w) (suc (length steps))) × AreTold numbers turns places ws m (steps ++ step_of step ∷ []) rest after) → (x : ℕ × VersionNo) × Contains (u ∷ rest) (LeftOut x (number_at places t.step))
+        (λ step. (suc (length steps) < 4294967296) × (u ≡ LeftOut (asked_by w) (suc (length steps))) × AreTold numbers turns places ws m (steps ++ step_of step ∷ []) rest after) → (x : ℕ × VersionNo) × Contains (u ∷ rest) (LeftOut x (number_at places t.step))
     go again None is (told_as, on) = elim (lt-or-ge m n) [
       | inl low ↦ (
           let long : n < m + length (unless_barred None (solvable_id w.version.0) ++ free_of ws) = subst (λ (b : Option code.Step). n < m + length (unless_barred b (solvable_id w.version.0) ++ free_of ws)) is below in

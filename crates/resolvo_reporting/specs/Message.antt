@@ -16,7 +16,8 @@ use Rattle.resolvo_provider.specs.Known.{name_of, set_at, members_of}
 use Rattle.resolvo_provider.specs.Provider.{Provider, packages_of}
 use Rattle.resolvo_report.specs.Value.{Report, Step, Install, Refused}
 use Rattle.resolvo_refusal.specs.Refusal.{IsProofOver, IsToldBy}
-use Rattle.resolvo_conflict.specs.Drawing.{conflict_graph}
+use Rattle.resolvo_conflict.specs.Drawing.{conflict_drawing}
+use Rattle.resolvo_conflict.specs.Order.{conflict_rules}
 use Rattle.resolvo_conflict.specs.Offered.{offered_by}
 use Rattle.resolvo_conflict.specs.declared.offers.Offers.{Offers}
 use Rattle.resolvo.specs.Conflicts.{AreOffers}
@@ -57,7 +58,7 @@ module _ (same_name : NameId → NameId → Bool) (same : SolvableId → Solvabl
   -- The lines are the text of the graph that is drawn of the rules which the end of these steps rests on, with what was offered.
   pub record IsTextOf (p : Provider) (offered : Requirement → List SolvableId) (steps : List (ProofStep NameId SolvableId)) (message : List (List ℕ)) : Type 0 where
     pub lines : List (MessageLine SolvableId)
-    pub tells : IsMessage same_name same (name_of p.ids) (conflict_graph same_name same (name_of p.ids) offered steps) lines
+    pub tells : IsMessage same_name same (name_of p.ids) (conflict_drawing same_name same (name_of p.ids) offered (conflict_rules steps)) lines
     pub text : joined message ≡ text_of (meaning_of p) lines
     pub plain : AllByRecursion IsPlain message
 
