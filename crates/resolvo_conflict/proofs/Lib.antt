@@ -1,0 +1,5 @@
+pub mod LinkLemmas
+pub mod OrderLemmas
+pub mod OrderWalk
+pub mod RuleLemmas
+pub mod TestLemmas

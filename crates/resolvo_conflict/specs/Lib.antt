@@ -1,2 +1,5 @@
+pub mod Tests
 pub mod Offered
+pub mod Order
 pub mod Links
+pub mod Linking

@@ -1,5 +1,13 @@
 //! The links of a conflict's rules, rule by rule in the conflict's order, one function a kind.
-ghost use Rattle.std.specs.Prelude.{◌≡◌, ◌∷◌, [], ◌++◌, map, Some, None, IfOk, OnOk, IsOkUnless};
+ghost use Rattle.std.specs.Prelude.{◌≡◌, ◌++◌, Option, map, cond, Some, IfOk, OnOk, IsOkUnless};
+ghost use Rattle.std.specs.List.{flat_map, filter_map};
+ghost use Rattle.std.specs.Option.{option_to_list, option_or};
+ghost use Rattle.std.specs.HashMap.{get};
+ghost use Rattle.resolvo_pool.specs.declared.want.Want.TheVariants.{Memory};
+ghost use Rattle.resolvo_conflict.specs.declared.link.Link.TheVariants.{Constrains};
+ghost use Rattle.resolvo_conflict.specs.Offered.{offered_by};
+ghost use Rattle.resolvo_conflict.specs.Order.{rules_at};
+ghost use Rattle.resolvo_conflict.specs.Linking.{gate_in, limit_in, outside_in, instance_in, named, before_in, requirers, under_set, needed, links_at, all_links, limited_in, is_new, each_limit_once};
 
 use crate::link::Link;
 use crate::offers::Offers;
@@ -30,7 +38,12 @@ pub(crate) fn shares_of<N: SolverId, S: SolverId>(
     alloc: Global,
     steps: &[ProofStep<N, S>],
     order: &[usize],
-) -> R<Shares<S>> {
+) -> R<Shares<S>>
+    ensures gates { IfOk result (λ h. h.gates.items ≡ filter_map gate_in (rules_at steps.now order.now)) }
+    ensures limits { IfOk result (λ h. h.limits.items ≡ filter_map limit_in (rules_at steps.now order.now)) }
+    ensures outsides { IfOk result (λ h. h.outsides.items ≡ filter_map outside_in (rules_at steps.now order.now)) }
+    ensures refusal { IsOkUnless result Memory }
+{
     let mut shares = Shares {
         gates: Vec::new(alloc),
         limits: Vec::new(alloc),
@@ -45,7 +58,12 @@ pub(crate) fn shares_of<N: SolverId, S: SolverId>(
 }
 
 /// Notes a rule that is drawn together with others.
-fn share<N: SolverId, S: SolverId>(shares: &mut Shares<S>, rule: &ProofRule<N, S>) -> R<()> {
+fn share<N: SolverId, S: SolverId>(shares: &mut Shares<S>, rule: &ProofRule<N, S>) -> R<()>
+    ensures gates { OnOk result (shares.new.gates.items ≡ shares.old.gates.items ++ option_to_list (gate_in rule.now)) }
+    ensures limits { OnOk result (shares.new.limits.items ≡ shares.old.limits.items ++ option_to_list (limit_in rule.now)) }
+    ensures outsides { OnOk result (shares.new.outsides.items ≡ shares.old.outsides.items ++ option_to_list (outside_in rule.now)) }
+    ensures refusal { IsOkUnless result Memory }
+{
     match rule {
         ProofRule::GateOf {
             parent,
@@ -76,47 +94,54 @@ pub(crate) fn links_of<I: Interner>(
     offers: &Offers<I::SolvableId>,
     steps: &[ProofStep<I::NameId, I::SolvableId>],
     order: &[usize],
-) -> R<Vec<Link<I::SolvableId>>> {
+) -> R<Vec<Link<I::SolvableId>>>
+    ensures links { IfOk result (λ v. v.items ≡ all_links I.NameId.eq (I.name_of_solvable interner.now) (offered_by offers.now) (rules_at steps.now order.now)) }
+    ensures refusal { IsOkUnless result Memory }
+{
     let shares = shares_of(alloc, steps, order)?;
     let mut instances = HashMap::new(alloc);
     let mut links = Vec::new(alloc);
     for place in order {
         if let Some(rule) = rule_at(steps, *place) {
-            if let ProofRule::Digit { solvable, .. } = rule {
-                link_instance(interner, *solvable, &mut instances, &mut links)?;
-            } else {
-                link(offers, &shares, rule, &mut links)?;
-            }
+            let before = note_instance(interner, rule, &mut instances)?;
+            link(offers, &shares, before, rule, &mut links)?;
         }
     }
     Ok(links)
 }
 
-/// Links a version to the one of its package that came before it, and notes it as the last that came.
-fn link_instance<I: Interner>(
+/// Notes the version of which a rule tells a digit as the last of its package, and answers the one before it.
+fn note_instance<I: Interner>(
     interner: &I,
-    solvable: I::SolvableId,
+    rule: &ProofRule<I::NameId, I::SolvableId>,
     instances: &mut HashMap<I::NameId, I::SolvableId>,
-    links: &mut Vec<Link<I::SolvableId>>,
-) -> R<()> {
-    let name = interner.solvable_name(solvable);
-    let before = instances.insert(name, solvable)?;
-    links.push(Link::Instance { before, solvable })?;
-    Ok(())
+) -> R<Option<I::SolvableId>>
+    ensures before { IfOk result (λ b. b ≡ before_in I.NameId.eq (I.name_of_solvable interner.now) (get I.NameId.eq instances.old) rule.now) }
+    ensures noted { OnOk result ((n : I.NameId) → get I.NameId.eq instances.new n ≡ option_or (named I.NameId.eq (I.name_of_solvable interner.now) n (instance_in rule.now)) (get I.NameId.eq instances.old n)) }
+    ensures refusal { IsOkUnless result Memory }
+{
+    if let ProofRule::Digit { solvable, .. } = rule {
+        let name = interner.solvable_name(*solvable);
+        let before = instances.insert(name, *solvable)?;
+        Ok(before)
+    } else {
+        Ok(None)
+    }
 }
 
-/// Adds the links of a rule other than a digit.
+/// Adds the links of a rule. A digit is linked to the version before it.
 fn link<N: SolverId, S: SolverId>(
     offers: &Offers<S>,
     shares: &Shares<S>,
+    before: Option<S>,
     rule: &ProofRule<N, S>,
     links: &mut Vec<Link<S>>,
-) -> R<()> {
+) -> R<()>
+    ensures links { OnOk result (links.new.items ≡ links.old.items ++ links_at (offered_by offers.now) shares.now.gates.items shares.now.limits.items shares.now.outsides.items before rule.now) }
+    ensures refusal { IsOkUnless result Memory }
+{
     match rule {
-        ProofRule::Excluded { solvable, reason } => links.push(Link::Excluded {
-            solvable: *solvable,
-            reason: *reason,
-        })?,
+        ProofRule::GateOf { .. } | ProofRule::AtLeastOne { .. } => {}
         ProofRule::Needs {
             parent,
             requirement,
@@ -126,21 +151,6 @@ fn link<N: SolverId, S: SolverId>(
         }
         ProofRule::Shared { requirement } => {
             link_gate(offers, shares.gates.as_slice(), *requirement, links)?;
-        }
-        ProofRule::Locked { locked, barred } => links.push(Link::Locked {
-            locked: *locked,
-            barred: *barred,
-        })?,
-        ProofRule::Limit {
-            parent,
-            version_set,
-            barred: Some(solvable),
-        } => {
-            links.push(Link::Constrains {
-                parent: *parent,
-                version_set: *version_set,
-                solvable: *solvable,
-            })?;
         }
         ProofRule::Limit {
             parent,
@@ -155,7 +165,29 @@ fn link<N: SolverId, S: SolverId>(
         } => {
             link_outside(*version_set, *solvable, shares.limits.as_slice(), links)?;
         }
-        _ => {}
+        ProofRule::Limit {
+            parent,
+            version_set,
+            barred: Some(solvable),
+        } => {
+            links.push(Link::Constrains {
+                parent: *parent,
+                version_set: *version_set,
+                solvable: *solvable,
+            })?;
+        }
+        ProofRule::Locked { locked, barred } => links.push(Link::Locked {
+            locked: *locked,
+            barred: *barred,
+        })?,
+        ProofRule::Excluded { solvable, reason } => links.push(Link::Excluded {
+            solvable: *solvable,
+            reason: *reason,
+        })?,
+        ProofRule::Digit { solvable, .. } => links.push(Link::Instance {
+            before,
+            solvable: *solvable,
+        })?,
     }
     Ok(())
 }
@@ -166,7 +198,10 @@ fn link_need<S: SolverId>(
     parent: Option<S>,
     requirement: Requirement,
     links: &mut Vec<Link<S>>,
-) -> R<()> {
+) -> R<()>
+    ensures links { OnOk result (links.new.items ≡ links.old.items ++ needed parent requirement (offered_by offers.now requirement)) }
+    ensures refusal { IsOkUnless result Memory }
+{
     let candidates = offers.candidates(requirement);
     if candidates.is_empty() {
         links.push(Link::Requires {
@@ -174,6 +209,7 @@ fn link_need<S: SolverId>(
             requirement,
             candidate: None,
         })?;
+        return Ok(());
     }
     for candidate in candidates {
         links.push(Link::Requires {
@@ -191,7 +227,10 @@ fn link_gate<S: SolverId>(
     gates: &[(Requirement, S)],
     requirement: Requirement,
     links: &mut Vec<Link<S>>,
-) -> R<()> {
+) -> R<()>
+    ensures links { OnOk result (links.new.items ≡ links.old.items ++ flat_map (λ s. needed (Some s) requirement (offered_by offers.now requirement)) (requirers gates.now requirement)) }
+    ensures refusal { IsOkUnless result Memory }
+{
     for (shared, parent) in gates {
         if *shared == requirement {
             link_need(offers, Some(*parent), requirement, links)?;
@@ -206,7 +245,10 @@ fn link_limit<S: SolverId>(
     version_set: VersionSetId,
     outsides: &[(VersionSetId, S)],
     links: &mut Vec<Link<S>>,
-) -> R<()> {
+) -> R<()>
+    ensures links { OnOk result (links.new.items ≡ links.old.items ++ map (λ s. Constrains parent version_set s) (under_set outsides.now version_set)) }
+    ensures refusal { IsOkUnless result Memory }
+{
     for (limited, solvable) in outsides {
         if *limited == version_set {
             links.push(Link::Constrains {
@@ -225,7 +267,10 @@ fn link_outside<S: SolverId>(
     solvable: S,
     limits: &[(VersionSetId, Option<S>)],
     links: &mut Vec<Link<S>>,
-) -> R<()> {
+) -> R<()>
+    ensures links { OnOk result (links.new.items ≡ links.old.items ++ map (λ parent. Constrains parent version_set solvable) (under_set limits.now version_set)) }
+    ensures refusal { IsOkUnless result Memory }
+{
     for (limited, parent) in limits {
         if *limited == version_set {
             links.push(Link::Constrains {
@@ -242,7 +287,10 @@ fn link_outside<S: SolverId>(
 type Limited<S> = (Option<S>, VersionSetId, S);
 
 /// The links, of those of limits that join the same only the first.
-pub(crate) fn each_limit_once<S: SolverId>(alloc: Global, links: &[Link<S>]) -> R<Vec<Link<S>>> {
+pub(crate) fn each_limit_once<S: SolverId>(alloc: Global, links: &[Link<S>]) -> R<Vec<Link<S>>>
+    ensures links { IfOk result (λ v. v.items ≡ each_limit_once S.eq links.now) }
+    ensures refusal { IsOkUnless result Memory }
+{
     let mut limits = IndexSet::new(alloc);
     let mut kept = Vec::new(alloc);
     for link in links {
@@ -254,7 +302,11 @@ pub(crate) fn each_limit_once<S: SolverId>(alloc: Global, links: &[Link<S>]) -> 
 }
 
 /// Whether a link is no limit's, or that of a limit that is not among these, which it then joins.
-fn is_new<S: SolverId>(limits: &mut IndexSet<Limited<S>>, link: Link<S>) -> R<bool> {
+fn is_new<S: SolverId>(limits: &mut IndexSet<Limited<S>>, link: Link<S>) -> R<bool>
+    ensures new { IfOk result (λ b. b ≡ is_new S.eq limits.old.keys (limited_in link)) }
+    ensures noted { OnOk result (limits.new.keys ≡ cond (is_new S.eq limits.old.keys (limited_in link)) (limits.old.keys ++ option_to_list (limited_in link)) limits.old.keys) }
+    ensures refusal { IsOkUnless result Memory }
+{
     match link {
         Link::Constrains {
             parent,
