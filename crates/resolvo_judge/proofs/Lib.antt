@@ -12,3 +12,4 @@ pub mod BarredLemmas
 pub mod EndLemmas
 pub mod JudgeLemmas
 pub mod PlaceLaws
+pub mod MessageLaws

@@ -1,11 +1,13 @@
 //! What a proof and a verdict show, for those who rest on them. Each is a function that does nothing.
 
-ghost use Rattle.std.specs.Prelude.{◌≡◌, ℕ, List, Some, true, slice_get, ◌∷◌};
+ghost use Rattle.std.specs.Prelude.{◌≡◌, ℕ, List, Some, true, slice_get, ◌∷◌, map};
+ghost use Rattle.std.specs.List.{AllByRecursion};
 ghost use Rattle.resolvo_text.specs.Line.{Version, Line};
 ghost use Rattle.resolvo_text.specs.Matching.{Set};
 ghost use Rattle.resolvo_catalogue.specs.Sets.{AreRefuted};
 ghost use Rattle.resolvo_catalogue.specs.Answers.{ClaimsInstall, ClaimsRefusal};
-ghost use Rattle.resolvo_report.specs.Value.{Step, ReportLine, InstallHead, RefusedHead};
+ghost use Rattle.resolvo_report.specs.Value.{Step, ReportLine, InstallHead, RefusedHead, Message, Refused};
+ghost use Rattle.resolvo_report.specs.Text.{HasText, report_text};
 ghost use Rattle.resolvo_judge.specs.Refusal.{IsAccepted, answers_claimed, catalogue_lines_in, request_lines_in};
 ghost use Rattle.resolvo_steps.specs.StepClauses.{Clause, clause_of};
 ghost use Rattle.resolvo_steps.specs.Proof.{IsProof, is_named, every_line, ends_empty, bars, AreApart, ObeysLines, IsTrueIn};
@@ -48,4 +50,9 @@ pub fn places_are_one()
 /// A text that holds is refused nowhere. So a verdict is yes exactly where there is no place of refusal, and else tells it.
 pub fn upheld_texts_are_refused_nowhere()
     ensures { (catalogue request : List Line) (text : List ℕ) (r : Report) (n : ℕ) → IsUpheld catalogue request text r → IsRefusedAt catalogue request text n → ⊥ }
+{}
+
+/// The message of a refused report changes nothing: with other lines of message in its place, or with none, the judge says the same.
+pub fn messages_change_nothing()
+    ensures { (catalogue request : List Line) (catalogue_lines request_lines : List ℕ) (steps : List Step) (message other : List (List ℕ)) → AllByRecursion HasText (map Message other) → IsUpheld catalogue request (report_text (Refused catalogue_lines request_lines steps message)) (Refused catalogue_lines request_lines steps message) → IsUpheld catalogue request (report_text (Refused catalogue_lines request_lines steps other)) (Refused catalogue_lines request_lines steps other) }
 {}

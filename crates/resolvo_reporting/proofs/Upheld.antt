@@ -7,7 +7,10 @@ use Rattle.resolvo_catalogue.specs.Grammar.{AreRequestLines}
 use Rattle.resolvo_catalogue.specs.Listed.{listed, members}
 use Rattle.resolvo_catalogue.specs.Questions.{Said, AreAll, IsWish, LineIs}
 use Rattle.resolvo_catalogue.specs.declared.rule.VersionNo.{VersionNo}
+use Rattle.resolvo_catalogue.specs.Answers.{Answer}
+use Rattle.resolvo_listing.specs.Order.{AreTurns}
 use Rattle.resolvo_listing.specs.View.{turns_of}
+use Rattle.resolvo_judge.specs.Refusal.{answer_of}
 use Rattle.resolvo_listing.specs.declared.entry.Turn.{Turn}
 use Rattle.resolvo_listing.specs.declared.entry.Turn.TheVariants.{Chose}
 use Rattle.resolvo_search.specs.declared.analysis.Refusal.{Refusal}
@@ -41,15 +44,18 @@ use Rattle.resolvo.specs.Encoder.{IsRoot}
 use Rattle.resolvo.specs.Solving.{HaveProofs, Holds, IsPreferred, IsSolved, EndsSo}
 use Rattle.resolvo.specs.Wished.{AreCandidates}
 use Rattle.resolvo.specs.declared.turns.Turn as Solver
+use Rattle.resolvo.proofs.Forward.{one_each}
+use Rattle.resolvo.specs.Turns.{first_of}
 use Rattle.resolvo_reporting.specs.Wishes.{AreWishesAt, AreWishesOf, free_of}
 use Rattle.resolvo_reporting.specs.Turning.{AreTold, AreWanted, IsFirstTurn}
 use Rattle.resolvo_reporting.specs.declared.wishes.Wish.{Wish}
 use Rattle.resolvo_reporting.specs.First.{orders_of, AreFirstChosen}
 use Rattle.resolvo_reporting.specs.Solved.{IsInstalledOver, IsSolvedOver}
-use Rattle.resolvo_reporting.specs.Reported.{AreNamed, IsAnswer, IsReportOf}
+use Rattle.resolvo_reporting.specs.Reported.{AreNamed, AreUsed, AreWishTurns, IsAnswer, IsReportOf}
 use Rattle.resolvo_reporting.proofs.Atoms.{same_atom, exact_atom}
 use Rattle.resolvo_reporting.proofs.Knowing.{known_kept}
 use Rattle.resolvo_reporting.proofs.Serving.{AreSteps, first_entries, free_candidates, one_step_more, refused_bars, serve_is, steps_hold, written_steps}
+use Rattle.resolvo_reporting.proofs.Using.{told_later, wish_turns, steps_used, zip_length}
 use Rattle.resolvo_reporting.proofs.Walking.{steps_front}
 
 pub if_ok : {A E : Type 0} {P Q : A → Type 0} (r : Result A E) → ((a : A) → P a → Q a) → IfOk r P → IfOk r Q
@@ -57,39 +63,21 @@ if_ok (Ok a) f h = f a h
 if_ok (Err e) f h = tt
 
 -- the install report of the turns of a search
-pub install_reported : (catalogue request : List Line) (part : Bor (List VersionNo)) (rest : List Turn) (steps : List Step) (r : Report) → IsInstallOf catalogue request (Chose None part ∷ rest) steps r → AreFirstChosen catalogue request (members (listed catalogue) part.now) → IsReportOf catalogue request r
-install_reported catalogue request part rest steps r i first = record {
+pub install_reported : (catalogue request : List Line) (part : Bor (List VersionNo)) (rest : List Turn) (steps : List Step) (r : Report) → IsInstallOf catalogue request (Chose None part ∷ rest) steps r → AreWishTurns request (turns_of (listed catalogue) rest) → AreFirstChosen catalogue request (members (listed catalogue) part.now)
+    → ((answers : List Answer) → AreTurns catalogue request [] [] (turns_of (listed catalogue) (Chose None part ∷ rest)) answers → AreUsed answers steps) → IsReportOf catalogue request r
+install_reported catalogue request part rest steps r i wished first used = record {
   upheld = record { report = i.report; is = refl; accepted = i.accepted };
   claim = i.claim;
-  answer = subst (λ (x : Report). IsAnswer catalogue request x) (sym i.installs) (record { chosen = members (listed catalogue) part.now; later = turns_of (listed catalogue) rest; order = i.order; all = i.entries; first = first });
+  answer = subst (λ (x : Report). IsAnswer catalogue request x) (sym i.installs) (record { chosen = members (listed catalogue) part.now; later = turns_of (listed catalogue) rest; wished = wished; order = i.order; all = i.entries; first = first }, used (map answer_of i.lines) i.order);
 }
 
 -- ---- refusals
-
-zip_left : {X Y : Type 0} (R : X → Y → Type 0) (xs : List X) (ys : List Y) → AllZip R xs ys → (n : ℕ) (x : X) → slice_get xs n ≡ Some x → (y : Y) × (slice_get ys n ≡ Some y) × R x y
-zip_left R [] ys all n x e = absurd cc
-zip_left R (z ∷ xs) [] all n x e = absurd all
-zip_left R (z ∷ xs) (y ∷ ys) all zero x e = (y, refl, subst (λ w. R w y) (one_some e) all.0)
-zip_left R (z ∷ xs) (y ∷ ys) all (suc n) x e = zip_left R xs ys all.1 n x e
-
-zip_length : {X Y : Type 0} (R : X → Y → Type 0) (xs : List X) (ys : List Y) → AllZip R xs ys → length ys ≡ length xs
-zip_length R [] [] all = refl
-zip_length R [] (y ∷ ys) all = absurd all
-zip_length R (z ∷ xs) [] all = absurd all
-zip_length R (z ∷ xs) (y ∷ ys) all = ap suc (zip_length R xs ys all.1)
 
 -- steps that are told lead to the last one where those of the proof do
 told_named : (catalogue request : List Line) (ids : Ids) (steps : List (ProofStep NameId SolvableId)) (written : List Step) → AllZip (IsToldBy catalogue ids request) steps written → proof.AreNamed steps → AreNamed written
 told_named catalogue request ids steps written each named k below =
     let long : length written ≡ length steps = zip_length (IsToldBy catalogue ids request) steps written each in
-    let (later, step, after, at, names) = named k (omega (arith, below, long)) in
-    go later step after at names
-  where
-    go : (later : ℕ) (step : ProofStep NameId SolvableId) → k < later → slice_get steps later ≡ Some step → Names step k → (later : ℕ) × (literals : List Literal) × (causes : List ℕ) × (k < later) × (slice_get written later ≡ Some (Derive literals causes)) × Contains causes (suc k)
-    go later (Rule r) after at names = absurd names
-    go later (Derived literals causes) after at names =
-        let (t, there, told) = zip_left (IsToldBy catalogue ids request) steps written each later (Derived literals causes) at in
-        (later, told.0, map suc causes.items, after, there ∙ ap (λ (x : Step). Some x) told.1, contains_map suc k causes.items names)
+    told_later catalogue request ids steps written each k (named k (omega (arith, below, long)))
 
 -- the refused report of a proof whose steps lead to the last one
 pub refusal_reported : (catalogue request : List Line) (ids : Ids) (steps : List (ProofStep NameId SolvableId)) (r : Report) → IsRefusalOf catalogue request ids steps r → proof.AreNamed steps → IsReportOf catalogue request r
@@ -133,8 +121,9 @@ module _ (catalogue : List Line) (said : Said) (provider : Provider) (wishes : L
         let steps : AreSteps catalogue said.lines after = steps_hold catalogue (AreSteps catalogue said.lines) (one_step_more catalogue said.lines) numbers turns places wishes 0 written rest after is.told.bars (written_steps catalogue said.lines provider.ids kept written install) told in
         let serve = serve_is catalogue said provider is.over is.ids is.asked asks_rightly is.same is.exact is.are_wishes wishes is.told chosen turns is.wished numbers numbers_are places after written t rest first_turn told refuses steps in
         let (part, is_first, between) = first_turn in
-        install_reported catalogue said.lines part rest after r (subst (λ (u : Turn). IsInstallOf catalogue said.lines (u ∷ rest) after r) is_first (reports serve))
+        install_reported catalogue said.lines part rest after r (subst (λ (u : Turn). IsInstallOf catalogue said.lines (u ∷ rest) after r) is_first (reports serve)) (wish_turns catalogue said.lines t rest after serve)
         (first_entries catalogue said provider is.over is.ids is.asked asks_rightly is.same is.exact is.are_wishes wishes is.told chosen turns is.wished numbers numbers_are part between is.preferred)
+        (steps_used catalogue said.lines provider.ids turns chosen proof kept wanted places are_wanted numbered is.proofs written install.each numbers wishes (Chose None part) rest after told (one_each is.same (packages_of provider) (root_of is.ids) chosen (first_of chosen turns) (free_of wishes) turns is.wished))
 
   module _ (solved : Solved NameId SolvableId) (is : IsSolvedOver catalogue said provider wishes solved) where
     -- what was chosen
