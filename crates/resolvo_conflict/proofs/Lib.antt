@@ -1,3 +1,4 @@
+pub mod GraphLemmas
 pub mod LinkLemmas
 pub mod OrderLemmas
 pub mod OrderWalk

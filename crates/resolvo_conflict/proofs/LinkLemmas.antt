@@ -62,7 +62,7 @@ module _ {N S : Type 0} (same_name : N → N → Bool) (package_of : S → N) wh
   links_more offered rules earlier rest r old new gates limits outsides before last g l o b noted put =
       let known : last ≡ last_instance same_name package_of earlier = λ i n. noted n i in
       let own : links_at offered gates limits outsides before r ≡ links_at offered (filter_map gate_in rules) (filter_map limit_in rules) (filter_map outside_in rules) (before_in same_name package_of (last_instance same_name package_of earlier) r) r =
-          λ i. links_at offered (g i) (l i) (o i) ((b ∙ ap (λ f. before_in same_name package_of f r) known) i) r in
+      λ i. links_at offered (g i) (l i) (o i) ((b ∙ ap (λ f. before_in same_name package_of f r) known) i) r in
       ap (λ xs. xs ++ links_after same_name package_of offered rules (earlier ++ r ∷ []) rest) (put ∙ ap (λ xs. old ++ xs) own) ∙ append_assoc old _ _
 
 module _ {S : Type 0} (same : S → S → Bool) where
@@ -77,7 +77,7 @@ module _ {S : Type 0} (same : S → S → Bool) where
   once_new joined next links kept more i x l at new noted put =
       let now : next ≡ joined ++ option_to_list (limited_in x) = noted ∙ ap (λ b. cond b (joined ++ option_to_list (limited_in x)) joined) new in
       let left : once_after same joined (drop i links) ≡ x ∷ once_after same (joined ++ option_to_list (limited_in x)) (drop (i + 1) links) =
-          once_more joined links i x l at ∙ ap (λ b. cond b (x ∷ once_after same (joined ++ option_to_list (limited_in x)) (drop (i + 1) links)) (once_after same joined (drop (i + 1) links))) new in
+      once_more joined links i x l at ∙ ap (λ b. cond b (x ∷ once_after same (joined ++ option_to_list (limited_in x)) (drop (i + 1) links)) (once_after same joined (drop (i + 1) links))) new in
       (λ j. put j ++ once_after same (now j) (drop (i + 1) links)) ∙ append_assoc kept (x ∷ []) _ ∙ ap (λ xs. kept ++ xs) (sym left)
 
   -- another is passed over
@@ -87,5 +87,5 @@ module _ {S : Type 0} (same : S → S → Bool) where
   once_again joined next links kept i x l at old noted =
       let now : next ≡ joined = noted ∙ ap (λ b. cond b (joined ++ option_to_list (limited_in x)) joined) old in
       let left : once_after same joined (drop i links) ≡ once_after same joined (drop (i + 1) links) =
-          once_more joined links i x l at ∙ ap (λ b. cond b (x ∷ once_after same (joined ++ option_to_list (limited_in x)) (drop (i + 1) links)) (once_after same joined (drop (i + 1) links))) old in
+      once_more joined links i x l at ∙ ap (λ b. cond b (x ∷ once_after same (joined ++ option_to_list (limited_in x)) (drop (i + 1) links)) (once_after same joined (drop (i + 1) links))) old in
       ap (λ js. kept ++ once_after same js (drop (i + 1) links)) now ∙ ap (λ xs. kept ++ xs) (sym left)

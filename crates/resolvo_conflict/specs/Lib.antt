@@ -3,3 +3,4 @@ pub mod Offered
 pub mod Order
 pub mod Links
 pub mod Linking
+pub mod Drawing

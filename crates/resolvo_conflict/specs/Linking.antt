@@ -8,7 +8,9 @@ use Rattle.resolvo_proof.specs.declared.step.ProofRule.{ProofRule}
 use Rattle.resolvo_proof.specs.declared.step.ProofRule.TheVariants.{Needs, GateOf, Shared, Limit, Outside, Locked, Excluded, Digit, AtLeastOne}
 use Rattle.resolvo_conflict.specs.declared.link.Link.{Link}
 use Rattle.resolvo_conflict.specs.declared.link.Link.TheVariants as Links
-use Rattle.resolvo_conflict.specs.Tests.{same_set, same_requirement, same_limited}
+use Rattle.resolvo_graph.specs.Tree.{same_set}
+use Rattle.resolvo_rules.specs.Encoding.{same_requirement}
+use Rattle.resolvo_conflict.specs.Tests.{same_limited}
 
 -- who opens the gate of which requirement
 abbrev pub gate_in : {N S : Type 0} → ProofRule N S → Option (Requirement × S)

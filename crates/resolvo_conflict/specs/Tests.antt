@@ -1,19 +1,9 @@
--- Which requirements, version sets, limits and nodes are one.
+-- Which limits and nodes are one.
 use Rattle.std.specs.Prelude.{◌==◌, ◌&&◌, Bool, true, false, Option, Some, None}
 use Rattle.resolvo_pool.specs.declared.id.VersionSetId.{VersionSetId}
-use Rattle.resolvo_pool.specs.declared.requirement.Requirement.{Requirement}
-use Rattle.resolvo_pool.specs.declared.requirement.Requirement.TheVariants.{Single, Union}
 use Rattle.resolvo_graph.specs.declared.graph.ConflictNode.{ConflictNode}
 use Rattle.resolvo_graph.specs.declared.graph.ConflictNode.TheVariants.{Root, Solvable, UnresolvedDependency, Excluded}
-
-abbrev pub same_set : VersionSetId → VersionSetId → Bool
-same_set v w = v.0 == w.0
-
-abbrev pub same_requirement : Requirement → Requirement → Bool
-same_requirement (Single v) (Single w) = v.0 == w.0
-same_requirement (Single v) (Union w) = false
-same_requirement (Union v) (Single w) = false
-same_requirement (Union v) (Union w) = v.0 == w.0
+use Rattle.resolvo_graph.specs.Tree.{same_set}
 
 -- the same parent: the root, or one solvable
 abbrev pub same_parent : {S : Type 0} → (S → S → Bool) → Option S → Option S → Bool

@@ -37,7 +37,7 @@ loop-place-preserved g c =
             links =
                 ap (λ rs. c.match-rule_at.links.items ++ links_after eq name offered rules rs rest) more
                 ∙ links_more eq name offered rules (rules_at steps (take k places)) rest r c.loop-place.links.items c.match-rule_at.links.items c.in_ok-shares.shares.gates.items c.in_ok-shares.shares.limits.items c.in_ok-shares.shares.outsides.items w.in_ok-before.before (get eq c.loop-place.instances)
-                  c.in_ok-shares.ensures.gates c.in_ok-shares.ensures.limits c.in_ok-shares.ensures.outsides w.in_ok-before.ensures.before c.loop-place.invariant.noted (ap (λ v. v.items) w.links-is ∙ w.in_ok-link.ensures.links)
+                c.in_ok-shares.ensures.gates c.in_ok-shares.ensures.limits c.in_ok-shares.ensures.outsides w.in_ok-before.ensures.before c.loop-place.invariant.noted (ap (λ v. v.items) w.links-is ∙ w.in_ok-link.ensures.links)
                 ∙ ap (λ rs. c.loop-place.links.items ++ links_after eq name offered rules (rules_at steps (take k places)) rs) (sym (rules_left_some steps places k r c.loop-place-test.true at))
                 ∙ c.loop-place.invariant.links;
             noted = λ n.
