@@ -53,11 +53,6 @@ fn lists_versions(
     Ok(())
 }
 
-#[test]
-fn names_and_numbers(rt: HostRuntime) -> Result<(), Fail> {
-    lists_versions(&rt, rt.alloc(), &provider_of(rt.alloc(), MIXED)?)
-}
-
 /// The candidates of the package of a version, or none.
 fn candidates(alloc: Global, provider: &CatalogueProvider, number: u32) -> R<Candidates> {
     let name = provider.solvable_name(SolvableId::from_raw(number));
@@ -100,12 +95,6 @@ fn lists_candidates(rt: &impl Abort, alloc: Global, provider: &CatalogueProvider
     Ok(())
 }
 
-#[test]
-fn candidates_of_packages(rt: HostRuntime) -> Result<(), Fail> {
-    lists_candidates(&rt, rt.alloc(), &provider_of(rt.alloc(), MIXED)?)?;
-    Ok(())
-}
-
 /// Whether nothing is handed out but the word.
 fn is_unknown(provider: &CatalogueProvider, dependencies: &Dependencies, word: &str) -> bool {
     match dependencies {
@@ -136,8 +125,15 @@ fn hands_out(rt: &impl Abort, alloc: Global, provider: &CatalogueProvider) -> R<
     Ok(())
 }
 
-#[test]
-fn unknown_needs_are_kept_back(rt: HostRuntime) -> Result<(), Fail> {
-    hands_out(&rt, rt.alloc(), &provider_of(rt.alloc(), MIXED)?)?;
+/// Names and numbers, candidates, what is handed out of needs.
+fn answers(rt: &impl Abort, alloc: Global, provider: &CatalogueProvider) -> Result<(), Fail> {
+    lists_versions(rt, alloc, provider)?;
+    lists_candidates(rt, alloc, provider)?;
+    hands_out(rt, alloc, provider)?;
     Ok(())
+}
+
+#[test]
+fn over_a_mixed_catalogue(rt: HostRuntime) -> Result<(), Fail> {
+    answers(&rt, rt.alloc(), &provider_of(rt.alloc(), MIXED)?)
 }

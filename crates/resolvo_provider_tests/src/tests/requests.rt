@@ -135,30 +135,46 @@ fn left_out(
     }
 }
 
-/// Whether the candidates of the first need are tried in this order, and the second leaves out version 0 alone.
-fn tries(cache: &mut SolverCache<CatalogueProvider>, asked: &RequestIds, want: &[u32]) -> bool {
-    match asked.requirements.as_slice() {
-        [all, newest] => {
-            tried(cache, all.requirement, want) && left_out(cache, newest.requirement, &[0])
-        }
-        _ => false,
-    }
+/// The first two needs of a request's text.
+fn two_needs(
+    alloc: Global,
+    catalogue: &Catalogue,
+    provider: &mut CatalogueProvider,
+    text: &str,
+) -> Result<Option<(Requirement, Requirement)>, Fail> {
+    let asked = asked(alloc, catalogue, provider, text)?;
+    Ok(match asked.requirements.as_slice() {
+        [first, second] => Some((first.requirement, second.requirement)),
+        _ => None,
+    })
 }
 
-fn tries_by(alloc: Global, provider: CatalogueProvider, asked: &RequestIds, want: &[u32]) -> bool {
-    tries(&mut SolverCache::new(alloc, provider), asked, want)
+/// Whether the candidates of the first need are tried in this order, and the second leaves out version 0 alone.
+fn tries(
+    cache: &mut SolverCache<CatalogueProvider>,
+    needs: Option<(Requirement, Requirement)>,
+    want: &[u32],
+) -> bool {
+    let Some((all, newest)) = needs else {
+        return false;
+    };
+    tried(cache, all, want) && left_out(cache, newest, &[0])
 }
 
 /// Whether the candidates of `a` are tried in this order.
 fn tries_over(alloc: Global, catalogue: &Catalogue, want: &[u32]) -> Result<bool, Fail> {
     let mut provider = provider(alloc, catalogue)?;
-    let asked = asked(alloc, catalogue, &mut provider, "needs a\nneeds a 2\n")?;
-    Ok(tries_by(alloc, provider, &asked, want))
+    let needs = two_needs(alloc, catalogue, &mut provider, "needs a\nneeds a 2\n")?;
+    Ok(tries(&mut SolverCache::new(alloc, provider), needs, want))
+}
+
+fn tries_text(alloc: Global, text: &str, want: &[u32]) -> Result<bool, Fail> {
+    tries_over(alloc, &catalogue(alloc, text)?, want)
 }
 
 #[test]
 fn favoured_ones_are_tried_first(rt: HostRuntime) -> Result<(), Fail> {
-    assert!(rt; tries_over(rt.alloc(), &catalogue(rt.alloc(), FAVOURED)?, &[0, 1])?);
-    assert!(rt; tries_over(rt.alloc(), &catalogue(rt.alloc(), LISTED)?, &[1, 0])?);
+    assert!(rt; tries_text(rt.alloc(), FAVOURED, &[0, 1])?);
+    assert!(rt; tries_text(rt.alloc(), LISTED, &[1, 0])?);
     Ok(())
 }
