@@ -1,4 +1,4 @@
-use Rattle.std.proofs.Common.{◌++◌, ap, refl, map}
+use Rattle.std.proofs.Common.{◌++◌, refl, map}
 use Rattle.resolvo_graph.specs.declared.walk.Step.TheVariants.{Enter}
 use Rattle.resolvo_graph.proofs.ListLemmas.{map_more, whole}
 use Rattle.resolvo_graph.proofs.walk.enter_targets.Goals as goal
