@@ -19,10 +19,14 @@ pub record Left (S : Type 0) : Type 0 where
 abbrev pub left_of : {S : Type 0} → KeptConflict S → Left S
 left_of k = record { clauses = k.clauses.items; offers = k.offers }
 
--- for each requirement that the conflict's rules name the solvables that meet it were offered, in an order in which they may be tried
-pub record AreOffers {N S : Type 0} (same : S → S → Bool) (p : Packages N S) (orders : Requirement → List S → Type 0) (steps : List (ProofStep N S)) (offers : Offers S) : Type 0 where
-  pub ordered : (r : Requirement) → Contains (requirements_in (conflict_rules steps)) r → orders r (offered_by offers r)
-  pub matches : (r : Requirement) (s : S) → Contains (requirements_in (conflict_rules steps)) r → is_in same p (offered_by offers r) s ≡ meets same p r s
+-- The list holds the solvables that meet the requirement, in an order in which they may be tried.
+pub record IsRightOffer {N S : Type 0} (same : S → S → Bool) (p : Packages N S) (orders : Requirement → List S → Type 0) (r : Requirement) (list : List S) : Type 0 where
+  pub ordered : orders r list
+  pub matches : (s : S) → is_in same p list s ≡ meets same p r s
+
+-- such a list was offered for each requirement that the rules of the steps' conflict name
+abbrev pub AreOffers : {N S : Type 0} → (S → S → Bool) → Packages N S → (Requirement → List S → Type 0) → List (ProofStep N S) → Offers S → Type 0
+AreOffers same p orders steps offers = (r : Requirement) → Contains (requirements_in (conflict_rules steps)) r → IsRightOffer same p orders r (offered_by offers r)
 
 -- what is left of what was found: of a clash its clauses and the offers, else nothing
 abbrev pub IsLeft : {N S : Type 0} → (S → S → Bool) → Packages N S → (Requirement → List S → Type 0) → Found S → List (ProofStep N S) → Option (KeptConflict S) → Type 0
