@@ -4,3 +4,5 @@ pub mod OrderLemmas
 pub mod OrderWalk
 pub mod RuleLemmas
 pub mod TestLemmas
+pub mod TruthEdges
+pub mod TruthLemmas

@@ -4,3 +4,4 @@ pub mod Order
 pub mod Links
 pub mod Linking
 pub mod Drawing
+pub mod Truth

@@ -8,6 +8,7 @@ ghost use Rattle.resolvo_conflict.specs.Offered.{offered_by};
 ghost use Rattle.resolvo_conflict.specs.Order.{conflict_rules};
 ghost use Rattle.resolvo_conflict.specs.Tests.{same_node};
 ghost use Rattle.resolvo_conflict.specs.Links.{ends_of};
+ghost use Rattle.resolvo_conflict.specs.Truth.{TellsTruth};
 ghost use Rattle.resolvo_conflict.specs.Drawing.{index_among, edges_in, drawn, conflict_drawing};
 
 use crate::link::Link;
@@ -21,7 +22,8 @@ use resolvo_pool::want::R;
 use resolvo_proof::step::ProofStep;
 use std::alloc::Global;
 
-/// The graph of the conflict that a refusal's steps end in, with the candidates that were offered.
+/// The graph of the conflict that a refusal's steps end in, with the candidates that were offered. Its edges are true where
+/// the steps' rules are, and exactly what meets a requirement was offered for it.
 pub fn conflict_graph<I: Interner>(
     alloc: Global,
     interner: &I,
@@ -29,6 +31,7 @@ pub fn conflict_graph<I: Interner>(
     steps: &[ProofStep<I::NameId, I::SolvableId>],
 ) -> R<ConflictGraph<I::SolvableId>>
     ensures graph { IfOk result (λ g. g ≡ conflict_drawing I.NameId.eq I.SolvableId.eq (I.name_of_solvable interner.now) (offered_by offers.now) (conflict_rules steps.now)) }
+    ensures truth { IfOk result (TellsTruth I.SolvableId.eq (I.name_of_solvable interner.now) (offered_by offers.now) (conflict_rules steps.now)) }
     ensures refusal { IsOkUnless result Memory }
 {
     let order = conflict_rules(alloc, steps)?;
