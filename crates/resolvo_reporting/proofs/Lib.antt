@@ -12,3 +12,4 @@ pub mod Using
 pub mod Serving
 pub mod Upheld
 pub mod Joining
+pub mod Messaging

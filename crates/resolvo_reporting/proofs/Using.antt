@@ -68,8 +68,8 @@ wish_turns catalogue request t rest steps serve = record {
   versions = λ w h. (
       let (u, there, is) = map_contains (wish_at (listed catalogue)) w serve.wishes h in
       let (i, at) = contains_get serve.wishes u there in
-      let (v, of, line) = serve.are_wishes.versions i u at in
-      subst (λ (x : ℕ × Version). line_at request x.0 ≡ Some (line.Wish x.1)) (sym is) (line ∙ ap (λ x. Some (line.Wish x)) (sym (nth_is (listed catalogue) u.1 v of))));
+      let (v, of, stated) = serve.are_wishes.versions i u at in
+      subst (λ (x : ℕ × Version). line_at request x.0 ≡ Some (line.Wish x.1)) (sym is) (stated ∙ ap (λ x. Some (line.Wish x)) (sym (nth_is (listed catalogue) u.1 v of))));
 }
   where
     later : map install.wish_of rest ≡ map Some serve.wishes
@@ -202,8 +202,8 @@ module _ (catalogue request : List Line) (ids : Ids) (turns : List Solved) (chos
       let (n, at) = contains_get turns s there in
       let low : n < length turns = slice_get_within turns n s at in
       let refused : s.accepted ≡ false = elim (cases_Bool s.accepted) [
-        | inl yes ↦ absurd (let none : None ≡ Some place = sym ((proofs s there).accepted yes) ∙ step in cc)
-        | inr no ↦ no
+        | inl accepted ↦ absurd (let none : None ≡ Some place = sym ((proofs s there).accepted accepted) ∙ step in cc)
+        | inr refused ↦ refused
       ] in
       let number : number_at places s.step ≡ suc k = ap (number_at places) step ∙ ap past (wanted_place (Contains wanted) proof kept places numbered k place from h) in
       subst IsLeftOutIn number (refused_told numbers turns places wishes 0 written rest after told n (omega arith) (omega (arith, low, long)) s at refused)
