@@ -30,7 +30,7 @@ wants_more before t (Some j) old new some is are = subst (λ (xs : List ℕ). Ar
     one_of (Some i) = i ∷ []
 
 pub loop-turn-init : goal.loop-turn-init
-loop-turn-init c = record { are = record { each = λ t k h e. absurd (contains_none t h); only = λ k h. absurd (contains_none k h) } }
+loop-turn-init c = record { are = record { each = λ t k h e. absurd (contains_none t h); only = λ k h. absurd (contains_none k (subst (λ (ks : List ℕ). Contains ks k) c.new-wanted.ensures.items h)) } }
 
 pub loop-turn-preserved : goal.loop-turn-preserved
 loop-turn-preserved c =
