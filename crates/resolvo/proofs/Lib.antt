@@ -11,4 +11,3 @@ pub mod Next
 pub mod Outcomes
 pub mod Reasons
 pub mod Forward
-pub mod Offering

@@ -4,4 +4,3 @@ pub mod First
 pub mod Turning
 pub mod Solved
 pub mod Reported
-pub mod Message
