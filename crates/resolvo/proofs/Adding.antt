@@ -13,10 +13,9 @@ use Rattle.resolvo_pool.specs.declared.provider.KnownDependencies.{KnownDependen
 use Rattle.resolvo_pool.specs.declared.provider.Dependencies.TheVariants.{Known, Unknown}
 use Rattle.resolvo_pool.specs.Provider.{Needs as Asked, needs_of}
 use Rattle.resolvo_pool.specs.RuleKeeping.{Packages, Rules, rules_of as rules_in, is_unknown}
-use Rattle.std.proofs.lemmas.Bool.{or_right}
 use Rattle.resolvo_rules.proofs.Lists.{contains_none, contains_one, contains_only, contains_parts, contains_left, contains_right, contains_map}
 use Rattle.resolvo_store.specs.Cases.{cases_of}
-use Rattle.resolvo_rules.specs.Encoding.{IsExact, Rule, IsRule}
+use Rattle.resolvo_rules.specs.Encoding.{IsExact, Rule, Bar, IsRule, HasBar}
 use Rattle.resolvo_rules.specs.Ending.{IsNeedEncoded}
 use Rattle.resolvo_coding.proofs.Growth.{grows_same, grows_then}
 use Rattle.resolvo_coding.proofs.Positions.{front_equal, front_get, front_same, front_then}
@@ -244,17 +243,17 @@ known_rules same p root s known requirements constraints asked needs limits = re
 }
 
 -- a solvable whose dependencies are unknown is kept out
-pub bars_rule : {N S : Type 0} (same : S → S → Bool) (p : Packages N S) (root : Rules) (s : S) (why : StringId) → p.dependencies_of s ≡ needs_of (Unknown why) → (r : Rule N S) → Contains (Rule.bars s ∷ []) r → IsRule same p root r
-bars_rule same p root s why asked r h = subst (IsRule same p root) (sym (contains_one r (Rule.bars s) h)) (or_right _ _ (ap is_unknown asked))
+pub bars_rule : {N S : Type 0} (same : S → S → Bool) (p : Packages N S) (root : Rules) (s : S) (why : StringId) → p.dependencies_of s ≡ needs_of (Unknown why) → (r : Rule N S) → Contains (Rule.bars (Bar.word why) s ∷ []) r → IsRule same p root r
+bars_rule same p root s why asked r h = subst (IsRule same p root) (sym (contains_one r (Rule.bars (Bar.word why) s) h)) (inr asked)
 
 -- and has no other rules
-pub unknown_encoded : {N S : Type 0} (same : S → S → Bool) (p : Packages N S) (root : Rules) (e : Encoding N S) (s : S) (why : StringId) → p.dependencies_of s ≡ needs_of (Unknown why) → ((r : Rule N S) → Contains (Rule.bars s ∷ []) r → rules_of e r)
+pub unknown_encoded : {N S : Type 0} (same : S → S → Bool) (p : Packages N S) (root : Rules) (e : Encoding N S) (s : S) (why : StringId) → p.dependencies_of s ≡ needs_of (Unknown why) → ((r : Rule N S) → Contains (Rule.bars (Bar.word why) s ∷ []) r → rules_of e r)
     → IsParentEncoded same p e root (Some s)
 unknown_encoded same p root e s why asked stated = record {
   needs = λ need case h one. absurd (contains_none need (subst (λ (n : Asked). Contains (rules_in n).requirements need) asked h));
   limits = λ v h. absurd (contains_none v (subst (λ (n : Asked). Contains (rules_in n).constraints v) asked h));
   guarded = λ v h. absurd (contains_none v (subst (λ (n : Asked). Contains (rules_in n).constraints v) asked h));
-  unknown = λ t is h. subst (λ x. rules_of e (Rule.bars x)) (some_one s t is) (stated (Rule.bars s) (contains_only (Rule.bars s)));
+  unknown = λ t is h. subst (λ x. HasBar (rules_of e) x) (some_one s t is) (Bar.word why, stated (Rule.bars (Bar.word why) s) (contains_only (Rule.bars (Bar.word why) s)));
 }
 
 -- ---- encoded parents

@@ -25,11 +25,14 @@ module _ {N S : Type 0} (same : S → S → Bool) (p : Packages N S) (root : Rul
       let ((begin, one, rest), later) = from_first ws (w ∷ before) ts (t ∷ earlier) (let x : suc (length ws) ≡ suc (length ts) = long in omega arith) shifted in
       (rest, (begin, one, later))
 
+  -- there is a turn for each wish
+  pub one_each : (wishes : List S) (turns : List (Turn S)) → AreWished same p root chosen first wishes turns → length wishes ≡ length turns
+  one_each wishes turns h = sym (length-reverse wishes) ∙ same_long (reverse wishes) (reverse turns) h.turns ∙ length-reverse turns
+
   -- the turns of the wishes stand in their order
   pub wished_in_turn : (wishes : List S) (turns : List (Turn S)) → AreWished same p root chosen first wishes turns → AreInTurn same p root chosen first [] wishes turns
   wished_in_turn wishes turns h =
-      let long : length (reverse wishes) ≡ length (reverse turns) = same_long (reverse wishes) (reverse turns) h.turns in
-      let (none, all) = from_first wishes [] turns [] (sym (length-reverse wishes) ∙ long ∙ length-reverse turns)
+      let (none, all) = from_first wishes [] turns [] (one_each wishes turns h)
       (subst (λ (xs : List S). AreTurns same p root chosen first xs (reverse turns ++ [])) (sym (append-nil (reverse wishes))) (subst (λ (xs : List (Turn S)). AreTurns same p root chosen first (reverse wishes) xs) (sym (append-nil (reverse turns))) h.turns)) in
       all
 

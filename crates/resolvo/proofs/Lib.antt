@@ -11,3 +11,4 @@ pub mod Next
 pub mod Outcomes
 pub mod Reasons
 pub mod Forward
+pub mod Offering

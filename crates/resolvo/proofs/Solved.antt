@@ -13,10 +13,14 @@ use Rattle.resolvo_proof.specs.Proof.{Proves}
 use Rattle.resolvo_proof.specs.declared.step.ProofStep.{ProofStep}
 use Rattle.resolvo.specs.declared.search.Found.{Found}
 use Rattle.resolvo.specs.declared.search.Found.TheVariants.{Chosen, Clash}
-use Rattle.resolvo.specs.declared.search.Searched.{Searched}
 use Rattle.resolvo.specs.declared.proving.Solved.{Solved}
 use Rattle.resolvo.specs.Solving.{HasSteps, HaveProofs, IsFound, IsPreferred, IsSearch, Holds, IsSolved}
 use Rattle.resolvo.proofs.Reasons.{reason_proof}
+
+-- what follows from what is so of an answer
+pub ok_then : {X E : Type 0} (P Q : X → Type 0) (r : Result X E) → ((x : X) → P x → Q x) → IfOk r P → IfOk r Q
+ok_then P Q (Ok v) so h = so v h
+ok_then P Q (Err e) so h = tt
 
 -- what is so of an answer where something else is so
 pub with_given : {X E : Type 0} (r : Result X E) (G : Type 0) (P : X → Type 0) → IfOk r (λ v. G → P v) → G → IfOk r P
@@ -34,15 +38,15 @@ module _ {N S : Type 0} (same : S → S → Bool) (p : Packages N S) (orders : R
   found_proofs e (Clash r) steps are h = tt
 
   -- what was found, with the steps of its clauses
-  pub search_solved : (s : Searched N S) (x : Solved N S) → IsSearch same p orders root wishes s → x.found ≡ s.found → Proves s.encoding.coding x.proof.items
-      → ((alike : S → S → Bool) (q : Packages N S) → Spelled alike q s.encoding.coding → AreDrawn alike q x.proof.items) → HaveOneSigns x.proof.items
-      → ((r : Registry N) (package_of : S → N) → AreTied r s.encoding.coding → AreNamedBy r s.encoding.coding package_of → HaveOnePlace x.proof.items) → HasSteps s.encoding.coding s.found x.proof.items → IsSolved same p orders root wishes x
-  search_solved s x search is proves drawn signs places clauses = record {
-    found = subst (λ (f : Found S). Holds same p root wishes f) (sym is) (found_holds s.encoding s.found search.found);
+  pub search_solved : (e : Encoding N S) (f : Found S) (x : Solved N S) → IsSearch same p orders root wishes e f → x.found ≡ f → Proves e.coding x.proof.items
+      → ((alike : S → S → Bool) (q : Packages N S) → Spelled alike q e.coding → AreDrawn alike q x.proof.items) → HaveOneSigns x.proof.items
+      → ((r : Registry N) (package_of : S → N) → AreTied r e.coding → AreNamedBy r e.coding package_of → HaveOnePlace x.proof.items) → HasSteps e.coding f x.proof.items → IsSolved same p orders root wishes x
+  search_solved e f x search is proves drawn signs places clauses = record {
+    found = subst (λ (g : Found S). Holds same p root wishes g) (sym is) (found_holds e f search.found);
     proof = λ same_atom exact. proves same_atom exact same p root search.encoding.spelled search.encoding.rule;
     drawn = drawn same p search.encoding.spelled;
     signs = signs;
-    one_place = places s.encoding.registry p.package_of search.encoding.tied search.encoding.named;
-    preferred = subst (λ (f : Found S). IsPreferred same p orders root f) (sym is) search.preferred;
-    proofs = subst (λ (f : Found S). HaveProofs x.proof.items f) (sym is) (found_proofs s.encoding s.found x.proof.items clauses search.found);
+    one_place = places e.registry p.package_of search.encoding.tied search.encoding.named;
+    preferred = subst (λ (g : Found S). IsPreferred same p orders root g) (sym is) search.preferred;
+    proofs = subst (λ (g : Found S). HaveProofs x.proof.items g) (sym is) (found_proofs e f x.proof.items clauses search.found);
   }

@@ -4,4 +4,5 @@ pub mod Solution
 pub mod Wished
 pub mod Turns
 pub mod Solving
+pub mod Conflicts
 pub mod Solver

@@ -1,6 +1,7 @@
 -- What a solver keeps, and what a search leaves in it.
-use Rattle.std.specs.Prelude.{◌≡◌, ℕ, ◌+◌, ⊤, Bool, List, [], length, take, Contains, Result, Ok, Err}
+use Rattle.std.specs.Prelude.{◌≡◌, ℕ, ◌+◌, ⊤, Bool, List, [], length, take, Contains, Option, Some, None, Result, Ok, Err}
 use Rattle.std.specs.Global.{Vec}
+use Rattle.resolvo_pool.specs.declared.id.ClauseId.{ClauseId}
 use Rattle.resolvo_pool.specs.RuleKeeping.{Packages, Rules}
 use Rattle.resolvo_pool.specs.declared.requirement.Requirement.{Requirement}
 use Rattle.resolvo_rules.specs.First.{ArePreferred}
@@ -8,6 +9,14 @@ use Rattle.resolvo_proof.specs.Proof.{EndsEmpty}
 use Rattle.resolvo_proof.specs.declared.step.ProofStep.{ProofStep}
 use Rattle.resolvo_search.specs.declared.analysis.Refusal.{Refusal}
 use Rattle.resolvo.specs.Solution.{IsUnsolvable}
+use Rattle.resolvo_graph.specs.Graph.{Graph}
+use Rattle.resolvo_graph.specs.Message.{IsMessage}
+use Rattle.resolvo_graph.specs.declared.line.MessageLine.{MessageLine}
+use Rattle.resolvo_conflict.specs.Drawing.{conflict_drawing}
+use Rattle.resolvo_conflict.specs.Offered.{offered_by}
+use Rattle.resolvo_conflict.specs.Order.{conflict_rules}
+use Rattle.resolvo_conflict.specs.Truth.{TellsTruth}
+use Rattle.resolvo.specs.Conflicts.{Left, AreOffers}
 use Rattle.resolvo.specs.Turns.{AreWished, first_of}
 use Rattle.resolvo.specs.Solving.{AreProved, HasProof}
 use Rattle.resolvo.specs.declared.proving.Solved.{Solved}
@@ -20,20 +29,39 @@ use Rattle.resolvo.specs.declared.solver.UnsolvableOrCancelled.{UnsolvableOrCanc
 use Rattle.resolvo.specs.declared.solver.UnsolvableOrCancelled.TheVariants.{Unsolvable, Cancelled, Memory, Ids}
 
 -- The provider, and of the last search the number of clauses, of cases that still wait, the turns of its wishes, and the steps of
--- the proof.
+-- the proof; and of the conflict that it came to, if it came to one, what tells of it.
 pub record Kept (P N S : Type 0) : Type 0 where
   pub provider : P
   pub clause_count : ℕ
   pub deferred_count : ℕ
   pub turns : List (Turn S)
   pub proof : List (ProofStep N S)
+  pub conflict : Option (Left S)
 
--- no clause, no case, no turn and no step are left
+-- The solver keeps a conflict of these clauses.
+abbrev pub HoldsConflict : {P N S : Type 0} → Kept P N S → List ClauseId → Type 0
+HoldsConflict {P} {N} {S} k clauses = (l : Left S) × (k.conflict ≡ Some l) × (l.clauses ≡ clauses)
+
+-- The graph is that of the conflict that is kept, with what was offered.
+abbrev pub IsGraphOf : {P N S : Type 0} → (N → N → Bool) → (S → S → Bool) → (S → N) → Kept P N S → Graph S → Type 0
+IsGraphOf {P} {N} {S} same_name same name_of k g = (l : Left S) → k.conflict ≡ Some l → g ≡ conflict_drawing same_name same name_of (offered_by l.offers) (conflict_rules k.proof)
+
+-- Each edge of the graph is true: over packages whose names these are, and a root, of which the steps that are kept are a proof,
+-- where what was offered is right.
+abbrev pub IsTrueOf : {P N S : Type 0} → (S → S → Bool) → (S → N) → Kept P N S → Graph S → Type 0
+IsTrueOf {P} {N} {S} same name_of k g = (l : Left S) → k.conflict ≡ Some l → TellsTruth same name_of (offered_by l.offers) k.proof g
+
+-- the lines are those of that graph's message
+abbrev pub TellsConflict : {P N S : Type 0} → (N → N → Bool) → (S → S → Bool) → (S → N) → Kept P N S → List (MessageLine S) → Type 0
+TellsConflict {P} {N} {S} same_name same name_of k lines = (g : Graph S) × IsGraphOf same_name same name_of k g × IsMessage same_name same name_of g lines
+
+-- no clause, no case, no turn, no step and no conflict are left
 pub record HasNothing {P N S : Type 0} (k : Kept P N S) : Type 0 where
   pub clauses : k.clause_count ≡ 0
   pub deferred : k.deferred_count ≡ 0
   pub turns : k.turns ≡ []
   pub steps : k.proof ≡ []
+  pub unkept : k.conflict ≡ None
 
 -- the rules of a problem's root
 abbrev pub root_of : {Id I : Type 0} → Problem Id I → Rules
@@ -58,31 +86,31 @@ IsStopped may (Err Ids) = ⊤
 module _ {N S : Type 0} (same : S → S → Bool) (p : Packages N S) (root : Rules) (orders : Requirement → List S → Type 0) (wishes : List S) where
   -- What is said for these wishes: these solvables were chosen in their turns, those of the root's turn by an order in which each
   -- requirement's candidates may be tried, and each refused wish has a step that tells why; or there is no solution. Each step
-  -- of the proof may stand at its place.
+  -- of the proof may stand at its place. Of the conflict that is kept the offers are right.
   abbrev pub IsAnswer : {C P : Type 0} → Result (Vec S) (UnsolvableOrCancelled C) → Kept P N S → Type 0
   IsAnswer (Ok v) k = AreWished same p root v.items (first_of v.items k.turns) wishes k.turns × ArePreferred same p orders root (take (first_of v.items k.turns) v.items)
       × ((t : Turn S) → Contains k.turns t → HasProof k.proof v.items t) × AreProved same p root k.proof
-  IsAnswer (Err (Unsolvable conflict)) k = IsUnsolvable same p root × AreProved same p root k.proof
+  IsAnswer (Err (Unsolvable conflict)) k = IsUnsolvable same p root × AreProved same p root k.proof × ((l : Left S) × (k.conflict ≡ Some l) × AreOffers same p orders k.proof l.offers)
   IsAnswer (Err (Cancelled value)) k = ⊤
   IsAnswer (Err Memory) k = ⊤
   IsAnswer (Err Ids) k = ⊤
 
--- What is left: a step for each clause but the root's; where there is no solution one more, which has no literals, and no turn; and
--- nothing where the search stopped.
+-- What is left: a step for each clause but the root's; where there is no solution one more, which has no literals, no turn, and the
+-- conflict; and nothing where the search stopped.
 abbrev pub Leaves : {N S C P : Type 0} → Result (Vec S) (UnsolvableOrCancelled C) → Kept P N S → Type 0
-Leaves (Ok v) k = k.clause_count ≡ length k.proof + 1
-Leaves (Err (Unsolvable conflict)) k = (k.clause_count ≡ length k.proof) × EndsEmpty k.proof × (k.turns ≡ [])
+Leaves (Ok v) k = (k.clause_count ≡ length k.proof + 1) × (k.conflict ≡ None)
+Leaves (Err (Unsolvable conflict)) k = (k.clause_count ≡ length k.proof) × EndsEmpty k.proof × (k.turns ≡ []) × HoldsConflict k conflict.clauses.items
 Leaves (Err (Cancelled value)) k = HasNothing k
 Leaves (Err Memory) k = HasNothing k
 Leaves (Err Ids) k = HasNothing k
 
--- what a search found is kept, and said
-abbrev pub Keeps : {P N S C : Type 0} → Solved N S → Kept P N S → Result (Vec S) (UnsolvableOrCancelled C) → Kept P N S → Type 0
-Keeps {P} {N} {S} {C} s old (Ok v) new = (turns : Vec (Turn S)) × (s.found ≡ Chosen v turns) × (new ≡ record old { clause_count = s.clause_count; deferred_count = s.deferred_count; turns = turns.items; proof = s.proof.items })
-Keeps {P} {N} {S} {C} s old (Err (Unsolvable conflict)) new = (r : Refusal) × (s.found ≡ Clash r) × (conflict.clauses ≡ r.causes) × (new ≡ record old { clause_count = s.clause_count; deferred_count = s.deferred_count; proof = s.proof.items })
-Keeps {P} {N} {S} {C} s old (Err (Cancelled value)) new = ⊥
-Keeps {P} {N} {S} {C} s old (Err Memory) new = ⊥
-Keeps {P} {N} {S} {C} s old (Err Ids) new = ⊥
+-- what a search found and left is kept, and said
+abbrev pub Keeps : {P N S C : Type 0} → Solved N S → Option (Left S) → Kept P N S → Result (Vec S) (UnsolvableOrCancelled C) → Kept P N S → Type 0
+Keeps {P} {N} {S} {C} s left old (Ok v) new = (turns : Vec (Turn S)) × (s.found ≡ Chosen v turns) × (new ≡ record old { clause_count = s.clause_count; deferred_count = s.deferred_count; turns = turns.items; proof = s.proof.items; conflict = left })
+Keeps {P} {N} {S} {C} s left old (Err (Unsolvable conflict)) new = (r : Refusal) × (s.found ≡ Clash r) × (conflict.clauses ≡ r.causes) × (new ≡ record old { clause_count = s.clause_count; deferred_count = s.deferred_count; proof = s.proof.items; conflict = left })
+Keeps {P} {N} {S} {C} s left old (Err (Cancelled value)) new = ⊥
+Keeps {P} {N} {S} {C} s left old (Err Memory) new = ⊥
+Keeps {P} {N} {S} {C} s left old (Err Ids) new = ⊥
 
 -- the same reason
 abbrev pub stopped_by : {C : Type 0} → CacheFault C → UnsolvableOrCancelled C

@@ -25,7 +25,6 @@ use Rattle.resolvo.specs.declared.turns.Turn.{Turn}
 use Rattle.resolvo.specs.declared.turns.Turns.{Turns}
 use Rattle.resolvo.specs.declared.search.Found.{Found}
 use Rattle.resolvo.specs.declared.search.Found.TheVariants.{Chosen, Clash}
-use Rattle.resolvo.specs.declared.search.Searched.{Searched}
 use Rattle.resolvo.specs.declared.proving.Solved.{Solved}
 
 -- what is told of turns: what was chosen in them, or why nothing can be
@@ -41,9 +40,9 @@ IsDenial c (Chosen v turns) = ⊤
 IsDenial c (Clash r) = IsRefusal c.search r.literals.items r.causes.items × DenyRoot r.literals.items
 
 -- What was encoded is built, whatever the packages are, and a clash is one of its clauses: its proof can be written.
-pub record IsProvable {N S : Type 0} (s : Searched N S) : Type 0 where
-  pub built : IsBuilt s.encoding
-  pub denial : IsDenial s.encoding.coding s.found
+pub record IsProvable {N S : Type 0} (e : Encoding N S) (f : Found S) : Type 0 where
+  pub built : IsBuilt e
+  pub denial : IsDenial e.coding f
 
 -- The step of this number is derived, and denies nothing but these solvables.
 pub record DeniesOnly {N S : Type 0} (steps : List (ProofStep N S)) (among : S → Type 0) (k : ℕ) : Type 0 where
@@ -92,10 +91,10 @@ module _ {N S : Type 0} (same : S → S → Bool) (p : Packages N S) (orders : R
 
   -- The encoding is the problem's, and so is what was found, by an order in which each requirement's candidates may be
   -- tried.
-  pub record IsSearch (wishes : List S) (s : Searched N S) : Type 0 where
-    pub encoding : IsEncoding same p root s.encoding
-    pub found : IsFound same p root wishes s.encoding s.found
-    pub preferred : IsPreferred s.found
+  pub record IsSearch (wishes : List S) (e : Encoding N S) (f : Found S) : Type 0 where
+    pub encoding : IsEncoding same p root e
+    pub found : IsFound same p root wishes e f
+    pub preferred : IsPreferred f
 
   -- What was found holds, each step of the proof may stand, each literal of a derived one stands in an earlier one, an atom has
   -- one sign in it, each solvable has one place, candidates were chosen in the order in which they are tried, and each refused

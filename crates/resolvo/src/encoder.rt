@@ -6,7 +6,7 @@ ghost use Rattle.resolvo_pool.specs.RuleKeeping.{Rules, rules_for};
 ghost use Rattle.resolvo_pool.specs.Text.{solvable_of};
 ghost use Rattle.resolvo_pool.specs.declared.requirement.ConditionalRequirement.{ConditionalRequirement};
 ghost use Rattle.resolvo_pool.specs.declared.requirement.Requirement.TheVariants.{Single};
-ghost use Rattle.resolvo_rules.specs.Encoding.{Rule, IsBarredIn};
+ghost use Rattle.resolvo_rules.specs.Encoding.{IsBarredIn, HasBar};
 ghost use Rattle.resolvo_rules.specs.Ending.{IsNeedEncoded};
 ghost use Rattle.resolvo_encoding.specs.Encoded.{IsGuarded, IsLimitEncoded, IsParentEncoded, rules_of};
 ghost use Rattle.resolvo_encoding.specs.Base.{KeepsTurns};
@@ -49,7 +49,7 @@ fn bar_package<A: Answering>(
 ) -> Result<(), CacheFault<A::Cancel>>
     requires { IsBuilt encoding.old }
     ensures same { answers.new ≡ answers.old }
-    ensures encoded { OnOk result ((root : Rules) → IsInOrder A.SolvableId.eq (A.packages answers.old) (A.orders answers.old) root encoding.old → IsInOrder A.SolvableId.eq (A.packages answers.old) (A.orders answers.old) root encoding.new × ((s : A.SolvableId) → IsBarredIn A.SolvableId.eq (A.packages answers.old) name s → rules_of encoding.new (Rule.bars s))) }
+    ensures encoded { OnOk result ((root : Rules) → IsInOrder A.SolvableId.eq (A.packages answers.old) (A.orders answers.old) root encoding.old → IsInOrder A.SolvableId.eq (A.packages answers.old) (A.orders answers.old) root encoding.new × ((s : A.SolvableId) → IsBarredIn A.SolvableId.eq (A.packages answers.old) name s → HasBar (rules_of encoding.new) s)) }
     ensures kept { OnOk result (AddsNeeds encoding.old encoding.new) }
     ensures fired { OnOk result (encoding.new.fired ≡ encoding.old.fired) }
     ensures built { OnOk result (IsBuilt encoding.new) }
@@ -72,7 +72,7 @@ fn bar_packages<A: Answering>(
 ) -> Result<(), CacheFault<A::Cancel>>
     requires { IsBuilt encoding.old }
     ensures same { answers.new ≡ answers.old }
-    ensures encoded { OnOk result ((root : Rules) → IsInOrder A.SolvableId.eq (A.packages answers.old) (A.orders answers.old) root encoding.old → IsInOrder A.SolvableId.eq (A.packages answers.old) (A.orders answers.old) root encoding.new × ((name : A.NameId) (s : A.SolvableId) → Contains names.now name → IsBarredIn A.SolvableId.eq (A.packages answers.old) name s → rules_of encoding.new (Rule.bars s))) }
+    ensures encoded { OnOk result ((root : Rules) → IsInOrder A.SolvableId.eq (A.packages answers.old) (A.orders answers.old) root encoding.old → IsInOrder A.SolvableId.eq (A.packages answers.old) (A.orders answers.old) root encoding.new × ((name : A.NameId) (s : A.SolvableId) → Contains names.now name → IsBarredIn A.SolvableId.eq (A.packages answers.old) name s → HasBar (rules_of encoding.new) s)) }
     ensures kept { OnOk result (AddsNeeds encoding.old encoding.new) }
     ensures fired { OnOk result (encoding.new.fired ≡ encoding.old.fired) }
     ensures built { OnOk result (IsBuilt encoding.new) }

@@ -2,6 +2,7 @@
 //! until every need is met or none can be.
 #![tactic(auto)]
 
+pub mod conflict;
 pub mod deciding;
 pub mod deferring;
 pub mod encoder;

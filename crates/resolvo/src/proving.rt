@@ -7,6 +7,8 @@ ghost use Rattle.resolvo_coding.specs.Coding.{IsCoding};
 ghost use Rattle.resolvo_coding.specs.Registered.{AreTied};
 ghost use Rattle.resolvo_coding.specs.Spelled.{Spelled};
 ghost use Rattle.resolvo_encoding.specs.Casing.{waiting_count};
+ghost use Rattle.resolvo_encoding.specs.Encoded.{IsEncoding};
+ghost use Rattle.resolvo_encoding.specs.Steps.{IsBegunEncoding};
 ghost use Rattle.resolvo_proof.specs.Drawn.{AreDrawn, HaveOneSigns};
 ghost use Rattle.resolvo_proof.specs.Places.{HaveOnePlace, AreNamedBy};
 ghost use Rattle.resolvo_proof.specs.Proof.{Proves};
@@ -15,10 +17,11 @@ ghost use Rattle.resolvo.specs.Wished.{AreCandidates};
 ghost use Rattle.resolvo.specs.Solving.{IsDenial, IsProvable, IsSolved, EndsSo, Counts, HasSteps};
 
 use crate::deciding::Activity;
-use crate::search::{Found, Searched, search};
+use crate::search::{Found, search};
 use resolvo_answers::answering::Answering;
 use resolvo_cache::cache::CacheFault;
 use resolvo_coding::coding::Coding;
+use resolvo_encoding::encoding::Encoding;
 use resolvo_pool::id::VersionSetId;
 use resolvo_pool::requirement::ConditionalRequirement;
 use resolvo_pool::solver_id::SolverId;
@@ -62,20 +65,20 @@ fn steps_of<N: SolverId, S: SolverId>(
 /// Writes the proof of what was found.
 fn prove<N: SolverId + Drop, S: SolverId>(
     alloc: Global,
-    searched: Searched<N, S>,
+    encoding: &Encoding<N, S>,
+    found: Found<S>,
 ) -> R<Solved<N, S>>
-    requires { IsProvable searched }
-    ensures found { IfOk result (λ s. s.found ≡ searched.found) }
+    requires { IsProvable encoding.now found }
+    ensures found { IfOk result (λ s. s.found ≡ found) }
     ensures count { IfOk result (λ s. Counts s.found s.clause_count (length s.proof.items)) }
-    ensures deferred { IfOk result (λ s. s.deferred_count ≡ waiting_count searched.encoding) }
-    ensures proof { IfOk result (λ s. Proves searched.encoding.coding s.proof.items) }
-    ensures drawn { IfOk result (λ s. (same : S → S → Bool) (p : Packages N S) → Spelled same p searched.encoding.coding → AreDrawn same p s.proof.items) }
+    ensures deferred { IfOk result (λ s. s.deferred_count ≡ waiting_count encoding.now) }
+    ensures proof { IfOk result (λ s. Proves encoding.now.coding s.proof.items) }
+    ensures drawn { IfOk result (λ s. (same : S → S → Bool) (p : Packages N S) → Spelled same p encoding.now.coding → AreDrawn same p s.proof.items) }
     ensures signs { IfOk result (λ s. HaveOneSigns s.proof.items) }
-    ensures places { IfOk result (λ s. (r : Registry N) (package_of : S → N) → AreTied r searched.encoding.coding → AreNamedBy r searched.encoding.coding package_of → HaveOnePlace s.proof.items) }
+    ensures places { IfOk result (λ s. (r : Registry N) (package_of : S → N) → AreTied r encoding.now.coding → AreNamedBy r encoding.now.coding package_of → HaveOnePlace s.proof.items) }
     ensures ends { IfOk result (λ s. EndsSo s.found s.proof.items) }
-    ensures clauses { IfOk result (λ s. HasSteps searched.encoding.coding searched.found s.proof.items) }
+    ensures clauses { IfOk result (λ s. HasSteps encoding.now.coding found s.proof.items) }
 {
-    let Searched { encoding, found } = searched;
     let proof = steps_of(alloc, &encoding.coding, &found)?;
     Ok(Solved {
         found,
@@ -83,6 +86,40 @@ fn prove<N: SolverId + Drop, S: SolverId>(
         deferred_count: encoding.deferred_count(),
         proof,
     })
+}
+
+/// Searches over an encoding that has just begun, and writes the proof.
+fn solve_in<A: Answering>(
+    alloc: Global,
+    answers: &mut A,
+    encoding: &mut Encoding<A::NameId, A::SolvableId>,
+    activity: Activity,
+    requirements: &[ConditionalRequirement],
+    constraints: &[VersionSetId],
+    wishes: &[A::SolvableId],
+) -> Result<Solved<A::NameId, A::SolvableId>, CacheFault<A::Cancel>>
+    requires { IsBegunEncoding encoding.old }
+    ensures same { answers.new ≡ answers.old }
+    ensures solved { IfOk result (λ s. (root : Rules) → IsRoot requirements.now constraints.now root → AreCandidates A.SolvableId.eq (A.packages answers.old) wishes.now → IsEncoding A.SolvableId.eq (A.packages answers.old) root encoding.old → IsSolved A.SolvableId.eq (A.packages answers.old) (A.orders answers.old) root wishes.now s) }
+    ensures ends { IfOk result (λ s. EndsSo s.found s.proof.items) }
+    ensures count { IfOk result (λ s. Counts s.found s.clause_count (length s.proof.items)) }
+    ensures cancelled { IfErr result (IsCancelledBy (A.may_cancel answers.old)) }
+{
+    match search(
+        alloc,
+        answers,
+        encoding,
+        activity,
+        requirements,
+        constraints,
+        wishes,
+    ) {
+        Ok(found) => {
+            let solved = prove(alloc, encoding, found)?;
+            Ok(solved)
+        }
+        Err(fault) => Err(fault),
+    }
 }
 
 /// Searches for solvables that keep the rules of a root with these requirements and constraints, and of each other, then for the
@@ -101,11 +138,14 @@ pub fn solve<A: Answering>(
     ensures count { IfOk result (λ s. Counts s.found s.clause_count (length s.proof.items)) }
     ensures cancelled { IfErr result (IsCancelledBy (A.may_cancel answers.old)) }
 {
-    match search(alloc, answers, activity, requirements, constraints, wishes) {
-        Ok(searched) => {
-            let solved = prove(alloc, searched)?;
-            Ok(solved)
-        }
-        Err(fault) => Err(fault),
-    }
+    let mut encoding = Encoding::begin(alloc)?;
+    solve_in(
+        alloc,
+        answers,
+        &mut encoding,
+        activity,
+        requirements,
+        constraints,
+        wishes,
+    )
 }

@@ -2,6 +2,7 @@
 ghost use Rattle.std.specs.Prelude.{◌≡◌, [], None, IfOk, IfErr, OnOk};
 ghost use Rattle.resolvo_cache.specs.Cached.{IsCancelledBy};
 ghost use Rattle.resolvo_pool.specs.RuleKeeping.{Rules};
+ghost use Rattle.resolvo_encoding.specs.Encoded.{IsEncoding};
 ghost use Rattle.resolvo_encoding.specs.Steps.{IsBegunEncoding, IsBuilt};
 ghost use Rattle.resolvo.specs.Encoder.{IsInOrder, IsRoot};
 ghost use Rattle.resolvo.specs.Turn.{IsRooted, IsTurn};
@@ -22,7 +23,6 @@ use resolvo_pool::solver_id::SolverId;
 use resolvo_pool::want::R;
 use resolvo_search::analysis::Refusal;
 use std::alloc::Global;
-use std::hash::Hash;
 
 /// What was found.
 #[derive(Debug, Drop)]
@@ -34,13 +34,6 @@ pub enum Found<S> {
     },
     /// The clauses can't be true together: no solvables keep all rules.
     Clash(Refusal),
-}
-
-/// What was encoded, and what was found.
-#[derive(Drop)]
-pub struct Searched<N: Eq + Hash, S: Eq + Hash> {
-    pub encoding: Encoding<N, S>,
-    pub found: Found<S>,
 }
 
 /// What was chosen in the turns; or why nothing can be.
@@ -141,34 +134,32 @@ fn run_turns<A: Answering>(
 }
 
 /// Searches for solvables that keep the rules of a root with these requirements and constraints, and of each other, and
-/// takes candidates in the order in which they are tried; then for the wishes, in their order. It stops with `Memory`, `Ids`, or a
-/// value with which the answers are cancelled.
+/// takes candidates in the order in which they are tried; then for the wishes, in their order. What it encodes stands in the
+/// encoding, which has just begun. It stops with `Memory`, `Ids`, or a value with which the answers are cancelled.
 pub fn search<A: Answering>(
     alloc: Global,
     answers: &mut A,
+    encoding: &mut Encoding<A::NameId, A::SolvableId>,
     activity: Activity,
     requirements: &[ConditionalRequirement],
     constraints: &[VersionSetId],
     wishes: &[A::SolvableId],
-) -> Result<Searched<A::NameId, A::SolvableId>, CacheFault<A::Cancel>>
+) -> Result<Found<A::SolvableId>, CacheFault<A::Cancel>>
+    requires { IsBegunEncoding encoding.old }
     ensures same { answers.new ≡ answers.old }
-    ensures found { IfOk result (λ s. (root : Rules) → IsRoot requirements.now constraints.now root → AreCandidates A.SolvableId.eq (A.packages answers.old) wishes.now → IsSearch A.SolvableId.eq (A.packages answers.old) (A.orders answers.old) root wishes.now s) }
-    ensures provable { IfOk result IsProvable }
+    ensures found { IfOk result (λ f. (root : Rules) → IsRoot requirements.now constraints.now root → AreCandidates A.SolvableId.eq (A.packages answers.old) wishes.now → IsEncoding A.SolvableId.eq (A.packages answers.old) root encoding.old → IsSearch A.SolvableId.eq (A.packages answers.old) (A.orders answers.old) root wishes.now encoding.new f) }
+    ensures provable { IfOk result (IsProvable encoding.new) }
     ensures cancelled { IfErr result (IsCancelledBy (A.may_cancel answers.old)) }
 {
-    let mut encoding = Encoding::begin(alloc)?;
-    let mut scores = <A::NameId as SolverId>::Scores::new(alloc);
-    match run_turns(
+    let found = run_turns(
         alloc,
         answers,
-        &mut encoding,
-        &mut scores,
+        encoding,
+        &mut <A::NameId as SolverId>::Scores::new(alloc),
         activity,
         requirements,
         constraints,
         wishes,
-    ) {
-        Ok(found) => Ok(Searched { encoding, found }),
-        Err(fault) => Err(fault),
-    }
+    )?;
+    Ok(found)
 }

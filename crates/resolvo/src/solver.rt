@@ -1,30 +1,28 @@
 //! The solver: a provider with its answers, and what the last search left.
-ghost use Rattle.std.specs.Prelude.{◌≡◌, ◌≤◌, List, []};
+ghost use Rattle.std.specs.Prelude.{◌≡◌, ◌≤◌, List, [], None, Some, IsSome};
+ghost use Rattle.std.specs.Bool.{Decides};
+ghost use Rattle.std.specs.Option.{option_map};
 ghost use Rattle.std.specs.Iterator.{IsFinite};
 ghost use Rattle.std.specs.Iterator.Runs.{WholeRun};
 ghost use Rattle.resolvo_answers.specs.Answering.{packages_by, orders_by};
 ghost use Rattle.resolvo.specs.Wished.{AreCandidates};
-ghost use Rattle.resolvo.specs.Solver.{Kept, IfEnded, IsAnswer, IsStopped, Keeps, Leaves, root_of, stopped_by};
+ghost use Rattle.resolvo.specs.Conflicts.{Left, left_of};
+ghost use Rattle.resolvo.specs.Solver.{HoldsConflict, Kept, IfEnded, IsAnswer, IsStopped, Keeps, Leaves, root_of, stopped_by};
 
+use crate::conflict::{Conflict, KeptConflict, solve_to_conflict};
 use crate::deciding::Activity;
 use crate::problem::Problem;
-use crate::proving::{Solved, solve};
+use crate::proving::Solved;
 use crate::search::Found;
 use crate::turns::Turn;
 use resolvo_answers::answers::Answers;
 use resolvo_cache::cache::CacheFault;
-use resolvo_pool::id::ClauseId;
+use resolvo_conflict::offers::Offers;
 use resolvo_pool::provider::DependencyProvider;
 use resolvo_proof::step::ProofStep;
 use std::alloc::Global;
 use std::marker::Model;
 use thiserror::Error;
-
-/// The clauses that can't be true together.
-#[derive(Debug, Drop)]
-pub struct Conflict {
-    pub clauses: Vec<ClauseId>,
-}
 
 /// Why nothing was chosen.
 #[derive(Debug, Drop, Error)]
@@ -65,31 +63,34 @@ pub struct Solver<D: DependencyProvider> {
     deferred_count: usize,
     turns: Vec<Turn<D::SolvableId>>,
     proof: Vec<ProofStep<D::NameId, D::SolvableId>>,
+    conflict: Option<KeptConflict<D::SolvableId>>,
 }
 
 impl<D: DependencyProvider> Model for Solver<D> {
     ghost Value = { Kept D D.NameId D.SolvableId };
 
-    ghost view = { λ s. record { provider = s.answers; clause_count = s.clause_count; deferred_count = s.deferred_count; turns = s.turns.items; proof = s.proof.items } };
+    ghost view = { λ s. record { provider = s.answers; clause_count = s.clause_count; deferred_count = s.deferred_count; turns = s.turns.items; proof = s.proof.items; conflict = option_map left_of s.conflict } };
 }
 
 impl<D: DependencyProvider> Solver<D> {
     /// Forgets the last search.
     fn forget(&mut self)
-        ensures { self.new ≡ record self.old { clause_count = 0; deferred_count = 0; turns = []; proof = [] } }
+        ensures { self.new ≡ record self.old { clause_count = 0; deferred_count = 0; turns = []; proof = []; conflict = None } }
     {
         self.clause_count = 0;
         self.deferred_count = 0;
         self.turns = Vec::new(self.alloc);
         self.proof = Vec::new(self.alloc);
+        self.conflict = None;
     }
 
     /// Keeps what a search left, and tells what it found.
     fn keep(
         &mut self,
         solved: Solved<D::NameId, D::SolvableId>,
+        conflict: Option<KeptConflict<D::SolvableId>>,
     ) -> Result<Vec<D::SolvableId>, UnsolvableOrCancelled<D::Cancel>>
-        ensures { Keeps solved self.old result self.new }
+        ensures { Keeps solved (option_map left_of conflict) self.old result self.new }
     {
         let Solved {
             found,
@@ -100,6 +101,7 @@ impl<D: DependencyProvider> Solver<D> {
         self.clause_count = clause_count;
         self.deferred_count = deferred_count;
         self.proof = proof;
+        self.conflict = conflict;
         match found {
             Found::Chosen { solvables, turns } => {
                 self.turns = turns;
@@ -113,7 +115,7 @@ impl<D: DependencyProvider> Solver<D> {
 
     /// A solver that was asked nothing yet.
     pub fn new(alloc: Global, provider: D) -> Solver<D>
-        ensures { result ≡ record { provider = provider; clause_count = 0; deferred_count = 0; turns = []; proof = [] } }
+        ensures { result ≡ record { provider = provider; clause_count = 0; deferred_count = 0; turns = []; proof = []; conflict = None } }
     {
         Solver {
             alloc,
@@ -123,6 +125,7 @@ impl<D: DependencyProvider> Solver<D> {
             deferred_count: 0,
             turns: Vec::new(alloc),
             proof: Vec::new(alloc),
+            conflict: None,
         }
     }
 
@@ -163,6 +166,28 @@ impl<D: DependencyProvider> Solver<D> {
         self.proof.as_slice()
     }
 
+    /// Whether the solver keeps this conflict: the one that the last search came to. A new solver keeps none, and so does one whose
+    /// last search came to another end.
+    pub fn holds(&self, conflict: &Conflict) -> bool
+        ensures { Decides result (HoldsConflict self.now conflict.now.clauses.items) }
+    {
+        match &self.conflict {
+            Some(kept) => kept.clauses.as_slice() == conflict.clauses.as_slice(),
+            None => false,
+        }
+    }
+
+    /// What was offered for the requirements of the conflict that the solver keeps.
+    pub(crate) fn offers(&self) -> &Offers<D::SolvableId>
+        requires { IsSome self.now.conflict }
+        ensures { (l : Left D.SolvableId) → self.now.conflict ≡ Some l → result.now ≡ l.offers }
+    {
+        match &self.conflict {
+            Some(kept) => &kept.offers,
+            None => unreachable!(),
+        }
+    }
+
     /// The solver with other scores: so much is added for each literal of a learnt clause, in millionths, and so many
     /// millionths of each score are left after it.
     pub fn with_activity_params(self, add: u64, decay: u64) -> Solver<D>
@@ -177,6 +202,7 @@ impl<D: DependencyProvider> Solver<D> {
             deferred_count,
             turns,
             proof,
+            conflict,
         } = self;
         Solver {
             alloc,
@@ -186,6 +212,7 @@ impl<D: DependencyProvider> Solver<D> {
             deferred_count,
             turns,
             proof,
+            conflict,
         }
     }
 
@@ -213,7 +240,7 @@ impl<D: DependencyProvider> Solver<D> {
             Ok(wishes) => wishes,
             Err(_) => return Err(UnsolvableOrCancelled::Memory),
         };
-        match solve(
+        match solve_to_conflict(
             self.alloc,
             &mut self.answers,
             self.activity,
@@ -221,7 +248,7 @@ impl<D: DependencyProvider> Solver<D> {
             constraints.as_slice(),
             wishes.as_slice(),
         ) {
-            Ok(solved) => self.keep(solved),
+            Ok((solved, conflict)) => self.keep(solved, conflict),
             Err(fault) => Err(UnsolvableOrCancelled::from(fault)),
         }
     }

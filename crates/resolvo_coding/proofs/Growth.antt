@@ -21,7 +21,7 @@ use Rattle.resolvo_search.specs.Advancing.{IsProgress}
 use Rattle.resolvo_search.proofs.Jumping.{undone_on}
 use Rattle.resolvo_search.proofs.Clauses.{length-lists, literals_at}
 use Rattle.resolvo_search.proofs.StepLemmas.{lists-append, reverse_push}
-use Rattle.resolvo_rules.specs.Encoding.{Atom, Rule, plus, literals_of}
+use Rattle.resolvo_rules.specs.Encoding.{Atom, Rule, plus, literals_of, HasBar}
 use Rattle.resolvo_rules.specs.Numbered.{meaning, Means, known_of, Spells, AreCalledFor, IsAccounted, AreCoded}
 use Rattle.resolvo_rules.proofs.Growing.{clause_stays, called_kept, called_choice, called_grows, spells_agree}
 use Rattle.resolvo_rules.proofs.Meanings.{clause_in_range}
@@ -65,6 +65,10 @@ stands_once c u v a coding f g = one_variable c.atoms.keys u v a coding.distinct
 -- rules stay stated
 pub rules_grow : {N S : Type 0} (old new : Coding N S) → Grows old new → (r : Rule N S) → rules_in old.stated.items r → rules_in new.stated.items r
 rules_grow old new grows r h = rules_front old.stated.items new.stated.items r grows.stated h
+
+-- what is barred goes on to be
+pub bar_grows : {N S : Type 0} (old new : Coding N S) → Grows old new → (s : S) → HasBar (rules_in old.stated.items) s → HasBar (rules_in new.stated.items) s
+bar_grows old new grows s (w, h) = (w, rules_grow old new grows (Rule.bars w s) h)
 
 pub stated_grows : {N S : Type 0} (old new : Coding N S) → Grows old new → (n : ℕ) (x : Stated N S) → stated_at old.stated.items n ≡ Some x → stated_at new.stated.items n ≡ Some x
 stated_grows old new grows n x h = front_get old.stated.items new.stated.items n x grows.stated h

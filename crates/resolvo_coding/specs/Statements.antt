@@ -1,7 +1,7 @@
 -- What clauses state.
 use Rattle.std.specs.Prelude.{◌≡◌, ℕ, zero, suc, List, [], ◌∷◌, Option, Some, None, slice_get}
 use Rattle.resolvo_store.specs.AtMostOne.{digit}
-use Rattle.resolvo_rules.specs.Encoding.{Rule}
+use Rattle.resolvo_rules.specs.Encoding.{Rule, Bar}
 use Rattle.resolvo_coding.specs.declared.stated.Stated.{Stated}
 use Rattle.resolvo_coding.specs.declared.stated.Stated.TheVariants.{Root, Needs, Gated, Shared, Limits, LimitsOutside, IsOut, Locked, Excluded, Digit, IsThere, Learnt}
 
@@ -14,8 +14,8 @@ rule_of (Shared r) = Some (Rule.shared r)
 rule_of (Limits parent v s) = Some (Rule.limits parent v s)
 rule_of (LimitsOutside parent v) = Some (Rule.limits_outside parent v)
 rule_of (IsOut v s) = Some (Rule.is_out v s)
-rule_of (Locked locked s) = Some (Rule.bars s)
-rule_of (Excluded s reason) = Some (Rule.bars s)
+rule_of (Locked locked s) = Some (Rule.bars (Bar.lock locked) s)
+rule_of (Excluded s reason) = Some (Rule.bars (Bar.word reason) s)
 rule_of (Digit n s place bit) = Some (Rule.has_digit s bit (digit place bit))
 rule_of (IsThere n s) = Some (Rule.is_there n s)
 rule_of Learnt = None

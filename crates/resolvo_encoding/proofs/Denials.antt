@@ -39,7 +39,7 @@ module _ {N S : Type 0} where
   asks_none (Rule.limits parent v s) d a = a
   asks_none (Rule.limits_outside parent v) d a = a
   asks_none (Rule.is_out v s) d a = a
-  asks_none (Rule.bars s) d a = a
+  asks_none (Rule.bars w s) d a = a
   asks_none (Rule.has_digit s bit b) d a = a
   asks_none (Rule.is_there n s) d a = a
 
@@ -56,7 +56,7 @@ module _ {N S : Type 0} where
       none (Rule.limits_outside None v) d = refl
       none (Rule.limits_outside (Some parent) v) d = refl
       none (Rule.is_out v s) d = refl
-      none (Rule.bars s) d = refl
+      none (Rule.bars w s) d = refl
       none (Rule.has_digit s bit b) d = absurd d
       none (Rule.is_there n s) d = refl
 

@@ -21,7 +21,7 @@ digit_in same (Some (Rule.shared r)) s bit = None
 digit_in same (Some (Rule.limits parent v t)) s bit = None
 digit_in same (Some (Rule.limits_outside parent v)) s bit = None
 digit_in same (Some (Rule.is_out v t)) s bit = None
-digit_in same (Some (Rule.bars t)) s bit = None
+digit_in same (Some (Rule.bars w t)) s bit = None
 digit_in same (Some (Rule.has_digit t k b)) s bit = cond (same t s && (k == bit)) (Some b) None
 digit_in same (Some (Rule.is_there n t)) s bit = None
 
@@ -63,7 +63,7 @@ module _ {N S : Type 0} (same : S → S → Bool) (exact : IsExact same) where
       go (Some (Rule.limits parent v t)) e (m, i) = (suc m, i)
       go (Some (Rule.limits_outside parent v)) e (m, i) = (suc m, i)
       go (Some (Rule.is_out v t)) e (m, i) = (suc m, i)
-      go (Some (Rule.bars t)) e (m, i) = (suc m, i)
+      go (Some (Rule.bars w t)) e (m, i) = (suc m, i)
       go (Some (Rule.is_there name t)) e (m, i) = (suc m, i)
       go (Some (Rule.has_digit t k v)) e (m, i) = elim (cases_Bool (same t s && (k == bit))) [
         | inl y ↦

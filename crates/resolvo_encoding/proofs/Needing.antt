@@ -66,7 +66,7 @@ requirement_in r (Rule.shared q) = q
 requirement_in r (Rule.limits parent v s) = r
 requirement_in r (Rule.limits_outside parent v) = r
 requirement_in r (Rule.is_out v s) = r
-requirement_in r (Rule.bars s) = r
+requirement_in r (Rule.bars w s) = r
 requirement_in r (Rule.has_digit s bit b) = r
 requirement_in r (Rule.is_there n s) = r
 

@@ -53,7 +53,7 @@ use Rattle.resolvo_coding.proofs.Origins.{solvable_stands}
 use Rattle.resolvo_coding.proofs.Positions.{front_get, front_equal}
 use Rattle.resolvo_coding.proofs.Registering.{KeepsDigits, ties_grow}
 use Rattle.resolvo_coding.proofs.Rules.{rule_stated}
-use Rattle.resolvo_coding.proofs.Growth.{grows_same, grows_then, stands_grow, rules_grow, stated_grows, rule_split, rules_split, spelled_grows, registered_grows, called_grows_trail, trail_same, trail_then}
+use Rattle.resolvo_coding.proofs.Growth.{grows_same, grows_then, stands_grow, rules_grow, bar_grows, stated_grows, rule_split, rules_split, spelled_grows, registered_grows, called_grows_trail, trail_same, trail_then}
 
 module _ {N S : Type 0} (same : S → S → Bool) (exact : IsExact same) (p : Packages N S) (root : Rules) where
   -- what came with the clause of this number
@@ -134,7 +134,7 @@ module _ {N S : Type 0} (same : S → S → Bool) (exact : IsExact same) (p : Pa
 
   -- what bars candidates of a requirement's packages goes on to be stated
   pub guard_grows : (old new : Encoding N S) (r : Requirement) → Grows old.coding new.coding → IsGuarded same p (E.rules_of old) r → IsGuarded same p (E.rules_of new) r
-  guard_grows old new r grows h v s a barred = rules_grow old.coding new.coding grows (Rule.bars s) (h v s a barred)
+  guard_grows old new r grows h v s a barred = bar_grows old.coding new.coding grows s (h v s a barred)
 
   -- a limit that is encoded stays so
   pub limit_grows : (old new : Encoding N S) (parent : Option S) (v : VersionSetId) → Grows old.coding new.coding → IsLimitEncoded same p (E.rules_of old) parent v → IsLimitEncoded same p (E.rules_of new) parent v
@@ -158,13 +158,13 @@ module _ {N S : Type 0} (same : S → S → Bool) (exact : IsExact same) (p : Pa
     needs = λ need case a b. case_grows old new parent need case grows front (h.needs need case a b);
     limits = λ v a. limit_grows old new parent v grows (h.limits v a);
     guarded = λ v a. guard_grows old new (Single v) grows (h.guarded v a);
-    unknown = λ s is a. rules_grow old.coding new.coding grows (Rule.bars s) (h.unknown s is a);
+    unknown = λ s is a. bar_grows old.coding new.coding grows s (h.unknown s is a);
   }
 
   -- what is noted goes on to be stated
   pub noted_grows : (old new : Encoding N S) → Grows old.coding new.coding → new.noted ≡ old.noted → IsNoted same p (E.rules_of old) old.noted → IsNoted same p (E.rules_of new) new.noted
   noted_grows old new grows noted h = record {
-    packages = λ n s a barred. rules_grow old.coding new.coding grows (Rule.bars s) (h.packages n s (subst (λ (x : Noted N S). Contains x.packages.keys n) noted a) barred);
+    packages = λ n s a barred. bar_grows old.coding new.coding grows s (h.packages n s (subst (λ (x : Noted N S). Contains x.packages.keys n) noted a) barred);
     version_sets = λ v s a outside. rules_grow old.coding new.coding grows (Rule.is_out v s) (h.version_sets v s (subst (λ (x : Noted N S). Contains x.version_sets.keys v) noted a) outside);
   }
 

@@ -12,7 +12,7 @@ use Rattle.resolvo_pool.specs.declared.id.VariableId.{VariableId}
 use Rattle.resolvo_pool.specs.declared.id.VersionSetId.{VersionSetId}
 use Rattle.resolvo_pool.specs.Provider.{listing_or_empty}
 use Rattle.resolvo_pool.specs.Text.{solvable_of}
-use Rattle.resolvo_pool.specs.RuleKeeping.{Packages, Rules, rules_for, is_in, is_outside, locks_out}
+use Rattle.resolvo_pool.specs.RuleKeeping.{Packages, Rules, rules_for, is_in, is_outside, listing_for}
 use Rattle.resolvo_store.specs.Signed.{Signed}
 use Rattle.resolvo_store.specs.Clauses.{yes, no}
 use Rattle.resolvo_search.specs.Steps.{AreInRange}
@@ -22,7 +22,8 @@ use Rattle.resolvo_answers.specs.declared.answering.Why.{Why}
 use Rattle.resolvo_answers.specs.declared.answering.Why.TheVariants.{Locked, Excluded}
 use Rattle.resolvo_answers.specs.Answering.{offered_solvables, AreOutside}
 use Rattle.resolvo_answers.specs.Barring.{KeepsOut, barred_solvables, AreBarred}
-use Rattle.resolvo_rules.specs.Encoding.{IsExact, Atom, Rule, plus, minus, is_kept_out, IsRule, IsBarredIn, literals_of, parent_literals}
+use Rattle.resolvo_rules.specs.Encoding as rules
+use Rattle.resolvo_rules.specs.Encoding.{IsExact, Atom, Rule, Bar, plus, minus, IsRule, IsBarredIn, HasBar, literals_of, parent_literals}
 use Rattle.resolvo_rules.specs.Numbered.{Spells, AreCalledFor}
 use Rattle.resolvo_rules.proofs.Lists.{contains_none, contains_only, contains_left, contains_right, contains_parts, contains_one, contains_map, map_contains, contained_any}
 use Rattle.resolvo_rules.proofs.Members.{in_contained, contained_in}
@@ -44,7 +45,7 @@ use Rattle.resolvo_encoding.specs.declared.encoding.Noted.{Noted}
 use Rattle.resolvo_encoding.specs.Encoded.{IsEncoding, IsNoted, IsParentVariable, HasOrder}
 use Rattle.resolvo_encoding.specs.Encoded as E
 use Rattle.resolvo_encoding.specs.Steps.{IsBuilt, Extends}
-use Rattle.resolvo_encoding.specs.Telling.{IsRestraint, IsPair, StatesPair, Tells, bar_rules, limit_rules, out_rules}
+use Rattle.resolvo_encoding.specs.Telling.{bar_of, IsRestraint, IsPair, StatesPair, Tells, bar_rules, limit_rules, out_rules}
 use Rattle.resolvo_encoding.proofs.Building.{built_grows, built_rest}
 use Rattle.resolvo_encoding.proofs.Denials.{Reads, pair_members, pair_spells, one_spells, not_digit}
 use Rattle.resolvo_encoding.proofs.Needing.{gives_keeps, clause_keeps}
@@ -158,31 +159,31 @@ module _ {N S : Type 0} (same : S → S → Bool) (exact : IsExact same) where
       (inr (minus (Atom.solvable s), refl, means_atom old.coding.atoms.keys (no first) (Solvable s) is)) (inr (plus (Atom.any_of n), refl, means_atom old.coding.atoms.keys (yes second) (AtLeastOne n) stands)))
 
   -- a solvable is kept out
-  pub bar_tells : (x : Stated N S) (s : S) (v : VariableId) (old new : Encoding N S) → IsBuilt old → rule_of x ≡ Some (Rule.bars s) → StandsFor old.coding.atoms.keys v (Solvable s) → StatesPair x (no v) (no v) old new → Tells same (Rule.bars s ∷ []) old new
-  bar_tells x s v old new built is stands = pair_tells x (Rule.bars s) (no v) (no v) old new built is tt
+  pub bar_tells : (x : Stated N S) (w : Bar S) (s : S) (v : VariableId) (old new : Encoding N S) → IsBuilt old → rule_of x ≡ Some (Rule.bars w s) → StandsFor old.coding.atoms.keys v (Solvable s) → StatesPair x (no v) (no v) old new → Tells same (Rule.bars w s ∷ []) old new
+  bar_tells x w s v old new built is stands = pair_tells x (Rule.bars w s) (no v) (no v) old new built is tt
       (λ p literals pair. one_spells (origin old.coding.atoms.keys) (no v) literals (minus (Atom.solvable s)) pair (means_atom old.coding.atoms.keys (no v) (Solvable s) stands))
 
   -- ---- what is noted
 
   -- what is kept out of a package is so by its listing
-  pub kept_by_listing : (p : Packages N S) (n : N) (b : Barred S) → (p.package_of b.solvable ≡ n) × KeepsOut same (listing_or_empty (p.candidates_of n)) b.solvable b.why → is_kept_out same p b.solvable ≡ true
-  kept_by_listing p n b (named, kept) = subst (λ m. ((is_in same p (listing_or_empty (p.candidates_of m)).candidates b.solvable && locks_out same (listing_or_empty (p.candidates_of m)).locked b.solvable) || list_any (λ e. same e.0 b.solvable) (listing_or_empty (p.candidates_of m)).excluded) ≡ true) (sym named) (go b.why kept)
+  pub kept_by_listing : (p : Packages N S) (n : N) (b : Barred S) → (p.package_of b.solvable ≡ n) × KeepsOut same (listing_or_empty (p.candidates_of n)) b.solvable b.why → rules.KeepsOut same p (bar_of b.why) b.solvable
+  kept_by_listing p n b (named, kept) = go b.why (subst (λ m. KeepsOut same (listing_or_empty (p.candidates_of m)) b.solvable b.why) (sym named) kept)
     where
-      go : (why : Why S) → KeepsOut same (listing_or_empty (p.candidates_of n)) b.solvable why → ((is_in same p (listing_or_empty (p.candidates_of n)).candidates b.solvable && locks_out same (listing_or_empty (p.candidates_of n)).locked b.solvable) || list_any (λ e. same e.0 b.solvable) (listing_or_empty (p.candidates_of n)).excluded) ≡ true
-      go (Locked l) (is, other, there) = or_left _ _ (and_from _ _ (contained_in same exact p (listing_or_empty (p.candidates_of n)).candidates b.solvable there) (ap (λ o. locks_out same o b.solvable) is ∙ ap not other))
-      go (Excluded reason) h = or_right _ _ (contained_any (λ (e : S × StringId). same e.0 b.solvable) (b.solvable, reason) (listing_or_empty (p.candidates_of n)).excluded h (exact.own b.solvable))
+      go : (why : Why S) → KeepsOut same (listing_for same p b.solvable) b.solvable why → rules.KeepsOut same p (bar_of why) b.solvable
+      go (Locked l) (is, other, there) = (is, other, contained_in same exact p (listing_for same p b.solvable).candidates b.solvable there)
+      go (Excluded reason) h = inl h
 
   module _ (p : Packages N S) (root : Rules) where
     -- what is barred of a package are rules of the problem
     pub bars_are_rules : (n : N) (list : List (Barred S)) → AreBarred same p n list → (r : Rule N S) → Contains (bar_rules list) r → IsRule same p root r
     bars_are_rules n list barred r h =
-        let (b, there, is) = map_contains (λ (x : Barred S). Rule.bars x.solvable) r list h in
-        subst (IsRule same p root) (sym is) (or_left _ _ (kept_by_listing p n b (each_of _ list b barred.all there)))
+        let (b, there, is) = map_contains (λ (x : Barred S). Rule.bars (bar_of x.why) x.solvable) r list h in
+        subst (IsRule same p root) (sym is) (kept_by_listing p n b (each_of _ list b barred.all there))
 
-    pub bars_stated : (n : N) (list : List (Barred S)) (rules : Rule N S → Type 0) → AreBarred same p n list → ((r : Rule N S) → Contains (bar_rules list) r → rules r) → (s : S) → IsBarredIn same p n s → rules (Rule.bars s)
+    pub bars_stated : (n : N) (list : List (Barred S)) (rules : Rule N S → Type 0) → AreBarred same p n list → ((r : Rule N S) → Contains (bar_rules list) r → rules r) → (s : S) → IsBarredIn same p n s → HasBar rules s
     bars_stated n list rules barred each s (listed, bars) =
         let (b, there, is) = map_contains (λ (x : Barred S). x.solvable) s list (in_contained same exact p (barred_solvables list) s (barred.each s listed bars)) in
-        subst (λ y. rules (Rule.bars y)) (sym is) (each (Rule.bars b.solvable) (contains_map (λ (x : Barred S). Rule.bars x.solvable) b list there))
+        subst (λ y. HasBar rules y) (sym is) (bar_of b.why, each (Rule.bars (bar_of b.why) b.solvable) (contains_map (λ (x : Barred S). Rule.bars (bar_of x.why) x.solvable) b list there))
 
     -- what is offered as outside a version set is, and nothing else is
     offered_outside : (v : VersionSetId) (list : List (Offered N S)) (o : Offered N S) → AreOutside same p v list → Contains list o → is_outside same p v o.solvable ≡ true
@@ -239,7 +240,7 @@ module _ {N S : Type 0} (same : S → S → Bool) (exact : IsExact same) where
     }
 
     pub package_noted : (old : Encoding N S) (x : Noted N S) (n : N) → IsEncoding same p root old → ((m : N) → Contains x.packages.keys m → Contains old.noted.packages.keys m ⊎ (m ≡ n)) → x ≡ record old.noted { packages = x.packages }
-        → ((s : S) → IsBarredIn same p n s → E.rules_of old (Rule.bars s)) → IsEncoding same p root (record old { noted = x })
+        → ((s : S) → IsBarredIn same p n s → HasBar (E.rules_of old) s) → IsEncoding same p root (record old { noted = x })
     package_noted old x n e only others bars = subst (λ (y : Noted N S). IsEncoding same p root (record old { noted = y })) (sym others) (noted_keeps old (record old.noted { packages = x.packages }) e (record {
       packages = λ m s h barred. elim (only m h) [ inl a ↦ e.noted.packages m s a barred | inr is ↦ bars s (subst (λ y. IsBarredIn same p y s) is barred) ];
       version_sets = e.noted.version_sets;

@@ -20,7 +20,7 @@ use Rattle.resolvo_store.specs.Lists.{has_candidates, candidates_in, condition_i
 use Rattle.resolvo_search.specs.State.{history}
 use Rattle.resolvo_search.specs.Steps.{AreInRange}
 use Rattle.resolvo_pool.specs.OnePass.{Literal}
-use Rattle.resolvo_rules.specs.Encoding.{Atom, Rule, case_literals, cases_for, IsRule, IsBarredIn}
+use Rattle.resolvo_rules.specs.Encoding.{Atom, Rule, case_literals, cases_for, IsRule, IsBarredIn, HasBar}
 use Rattle.resolvo_rules.specs.Ending.{IsNeedEncoded, HasClause, IsWished}
 use Rattle.resolvo_rules.specs.First.{IsFirstPick}
 use Rattle.resolvo_rules.specs.Numbered.{Spells, AreCalledFor}
@@ -103,14 +103,14 @@ Asks (Rule.shared r) = Unit {0}
 Asks (Rule.limits parent v s) = ⊥
 Asks (Rule.limits_outside parent v) = ⊥
 Asks (Rule.is_out v s) = ⊥
-Asks (Rule.bars s) = ⊥
+Asks (Rule.bars w s) = ⊥
 Asks (Rule.has_digit s bit b) = ⊥
 Asks (Rule.is_there n s) = ⊥
 
 module _ {N S : Type 0} (same : S → S → Bool) (p : Packages N S) (rules : Rule N S → Type 0) where
   -- what locks and exclusions bar in the requirement's packages is stated
   abbrev pub IsGuarded : Requirement → Type 0
-  IsGuarded r = (v : VersionSetId) (s : S) → Contains (alternatives_of p.members_of r) v → IsBarredIn same p (p.set_package v) s → rules (Rule.bars s)
+  IsGuarded r = (v : VersionSetId) (s : S) → Contains (alternatives_of p.members_of r) v → IsBarredIn same p (p.set_package v) s → HasBar rules s
 
   -- a clause keeps out each candidate outside the parent's version set, or two clauses do
   abbrev pub IsLimitEncoded : Option S → VersionSetId → Type 0
@@ -118,7 +118,7 @@ module _ {N S : Type 0} (same : S → S → Bool) (p : Packages N S) (rules : Ru
 
   -- What locks and exclusions bar in the noted packages is stated, and what is outside the noted version sets.
   pub record IsNoted (noted : Noted N S) : Type 0 where
-    pub packages : (n : N) (s : S) → Contains noted.packages.keys n → IsBarredIn same p n s → rules (Rule.bars s)
+    pub packages : (n : N) (s : S) → Contains noted.packages.keys n → IsBarredIn same p n s → HasBar rules s
     pub version_sets : (v : VersionSetId) (s : S) → Contains noted.version_sets.keys v → is_outside same p v s ≡ true → rules (Rule.is_out v s)
 
 module _ {N S : Type 0} (same : S → S → Bool) (p : Packages N S) where
@@ -132,7 +132,7 @@ module _ {N S : Type 0} (same : S → S → Bool) (p : Packages N S) where
     pub needs : (need : ConditionalRequirement) (case : List VersionSetId) → Contains (rules_for same p root parent).requirements need → Contains (cases_for same p need) case → IsCaseEncoded e parent need case
     pub limits : (v : VersionSetId) → Contains (rules_for same p root parent).constraints v → IsLimitEncoded same p (rules_of e) parent v
     pub guarded : (v : VersionSetId) → Contains (rules_for same p root parent).constraints v → IsGuarded same p (rules_of e) (Single v)
-    pub unknown : (s : S) → parent ≡ Some s → is_unknown (p.dependencies_of s) ≡ true → rules_of e (Rule.bars s)
+    pub unknown : (s : S) → parent ≡ Some s → is_unknown (p.dependencies_of s) ≡ true → HasBar (rules_of e) s
 
 module _ {N S : Type 0} (same : S → S → Bool) (p : Packages N S) (root : Rules) where
   -- the solvable is registered as one of its package's

@@ -4,9 +4,11 @@ use Rattle.resolvo_pool.specs.declared.id.ClauseId.{ClauseId}
 use Rattle.resolvo_pool.specs.declared.id.VersionSetId.{VersionSetId}
 use Rattle.resolvo_answers.specs.declared.answering.Barred.{Barred}
 use Rattle.resolvo_answers.specs.declared.answering.Offered.{Offered}
+use Rattle.resolvo_answers.specs.declared.answering.Why.{Why}
+use Rattle.resolvo_answers.specs.declared.answering.Why.TheVariants.{Locked, Excluded}
 use Rattle.resolvo_pool.specs.RuleKeeping.{Packages, Rules, IsLawful}
 use Rattle.resolvo_store.specs.Signed.{Signed}
-use Rattle.resolvo_rules.specs.Encoding.{Rule, IsRule}
+use Rattle.resolvo_rules.specs.Encoding.{Rule, Bar, IsRule}
 use Rattle.resolvo_coding.specs.declared.stated.Stated.{Stated}
 use Rattle.resolvo_coding.specs.Coding.{States}
 use Rattle.resolvo_encoding.specs.declared.encoding.Encoding.{Encoding}
@@ -21,7 +23,7 @@ IsRestraint (Rule.shared r) = ⊥
 IsRestraint (Rule.limits parent v s) = Unit {0}
 IsRestraint (Rule.limits_outside parent v) = Unit {0}
 IsRestraint (Rule.is_out v s) = Unit {0}
-IsRestraint (Rule.bars s) = Unit {0}
+IsRestraint (Rule.bars w s) = Unit {0}
 IsRestraint (Rule.has_digit s bit b) = ⊥
 IsRestraint (Rule.is_there n s) = Unit {0}
 
@@ -46,9 +48,14 @@ pub record Tells {N S : Type 0} (same : S → S → Bool) (rules : List (Rule N 
   pub noted : new.noted ≡ old.noted
   pub encoding : (p : Packages N S) (root : Rules) → IsLawful p → IsEncoding same p root old → ((r : Rule N S) → Contains rules r → IsRule same p root r) → IsEncoding same p root new × ((r : Rule N S) → Contains rules r → rules_of new r)
 
+-- what keeps a solvable out, as a rule names it
+abbrev pub bar_of : {S : Type 0} → Why S → Bar S
+bar_of (Locked locked) = Bar.lock locked
+bar_of (Excluded reason) = Bar.word reason
+
 -- the rules that keep each of these out
 abbrev pub bar_rules : {N S : Type 0} → List (Barred S) → List (Rule N S)
-bar_rules list = map (λ b. Rule.bars b.solvable) list
+bar_rules list = map (λ b. Rule.bars (bar_of b.why) b.solvable) list
 
 -- the rules that a parent's version set keeps each of these out
 abbrev pub limit_rules : {N S : Type 0} → Option S → VersionSetId → List (Offered N S) → List (Rule N S)

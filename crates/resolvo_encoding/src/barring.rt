@@ -6,13 +6,13 @@ ghost use Rattle.resolvo_store.specs.Clauses.{no};
 ghost use Rattle.resolvo_search.specs.State.{count_of};
 ghost use Rattle.resolvo_answers.specs.Answering.{AreOutside};
 ghost use Rattle.resolvo_answers.specs.Barring.{AreBarred};
-ghost use Rattle.resolvo_rules.specs.Encoding.{Rule, IsBarredIn};
+ghost use Rattle.resolvo_rules.specs.Encoding.{Rule, Bar, IsBarredIn, HasBar};
 ghost use Rattle.resolvo_coding.specs.Atoms.{StandsFor};
 ghost use Rattle.resolvo_coding.specs.Coding.{IsCoding};
 ghost use Rattle.resolvo_coding.specs.Statements.{rule_of};
 ghost use Rattle.resolvo_encoding.specs.Encoded.{rules_of, IsEncoding, IsParentVariable, IsLimitEncoded};
 ghost use Rattle.resolvo_encoding.specs.Steps.{IsBuilt, Extends};
-ghost use Rattle.resolvo_encoding.specs.Telling.{IsPair, StatesPair, Tells, bar_rules, limit_rules, out_rules};
+ghost use Rattle.resolvo_encoding.specs.Telling.{IsPair, StatesPair, Tells, bar_of, bar_rules, limit_rules, out_rules};
 
 use crate::encoding::{Encoding, GATED, add_key};
 use resolvo_answers::answering::{Barred, Offered, Why};
@@ -35,7 +35,7 @@ impl<N: SolverId + Drop, S: SolverId> Encoding<N, S> {
     /// States what locks and exclusions keep out of a package.
     pub fn bar(&mut self, alloc: Global, name: N, barred: &[Barred<S>]) -> R<()>
         requires { IsBuilt self.old }
-        ensures encoded { OnOk result ((p : Packages N S) (root : Rules) → IsLawful p → IsEncoding S.eq p root self.old → AreBarred S.eq p name barred.now → IsEncoding S.eq p root self.new × ((s : S) → IsBarredIn S.eq p name s → rules_of self.new (Rule.bars s))) }
+        ensures encoded { OnOk result ((p : Packages N S) (root : Rules) → IsLawful p → IsEncoding S.eq p root self.old → AreBarred S.eq p name barred.now → IsEncoding S.eq p root self.new × ((s : S) → IsBarredIn S.eq p name s → HasBar (rules_of self.new) s)) }
         ensures lists { OnOk result (self.new.lists ≡ self.old.lists) }
         ensures kept { OnOk result (Extends self.old self.new) }
         ensures built { OnOk result (IsBuilt self.new) }
@@ -48,7 +48,7 @@ impl<N: SolverId + Drop, S: SolverId> Encoding<N, S> {
     /// States that a solvable is kept out, since its dependencies are unknown.
     pub fn exclude(&mut self, alloc: Global, solvable: S, reason: StringId) -> R<()>
         requires { IsBuilt self.old }
-        ensures { OnOk result (Tells S.eq (Rule.bars solvable ∷ []) self.old self.new) }
+        ensures { OnOk result (Tells S.eq (Rule.bars (Bar.word reason) solvable ∷ []) self.old self.new) }
     {
         self.deny(alloc, solvable, Stated::Excluded { solvable, reason })?;
         Ok(())
@@ -146,8 +146,8 @@ impl<N: SolverId + Drop, S: SolverId> Encoding<N, S> {
     /// States by a clause of one literal that a solvable is kept out.
     fn deny(&mut self, alloc: Global, solvable: S, stated: Stated<N, S>) -> R<()>
         requires built { IsBuilt self.old }
-        requires rule { rule_of stated ≡ Some (Rule.bars solvable) }
-        ensures { OnOk result (Tells S.eq (Rule.bars solvable ∷ []) self.old self.new) }
+        requires rule { IsSome (rule_of stated) }
+        ensures { OnOk result ((w : Bar S) → rule_of stated ≡ Some (Rule.bars w solvable) → Tells S.eq (Rule.bars w solvable ∷ []) self.old self.new) }
     {
         let variable = self.give(ProofAtom::Solvable(solvable))?;
         self.state_pair(alloc, stated, variable, Literal::new(variable, true))?;
@@ -273,7 +273,7 @@ fn pair_of(alloc: Global, first: VariableId, second: Literal) -> R<Vec<Literal>>
 
 /// What a clause states that keeps this out.
 fn barred_by<N, S: Copy>(barred: Barred<S>) -> Stated<N, S>
-    ensures { rule_of result ≡ Some (Rule.bars barred.solvable) }
+    ensures { rule_of result ≡ Some (Rule.bars (bar_of barred.why) barred.solvable) }
 {
     match barred.why {
         Why::Locked { locked } => Stated::Locked {

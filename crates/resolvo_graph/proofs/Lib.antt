@@ -1,8 +1,12 @@
 pub mod CopyLemmas
+pub mod GraphLemmas
 pub mod IndentLemmas
+pub mod ListLemmas
 pub mod MergeLemmas
 pub mod MessageLemmas
+pub mod OutlookLemmas
 pub mod RemovalLemmas
+pub mod ResultLemmas
 pub mod RunLemmas
 pub mod TreeLemmas
 pub mod WalkLemmas

@@ -1,9 +1,7 @@
--- The parts of the message, and lists that are filtered one by one.
-use Rattle.std.proofs.Common.{◌≡◌, ℕ, ◌+◌, ◌<◌, Bool, true, false, cond, List, [], ◌∷◌, ◌++◌, length, take, filter, get_or, sym, ap, subst, ◌∙◌, arith}
+-- The parts of the message.
+use Rattle.std.proofs.Common.{◌≡◌, ◌+◌, Bool, true, false, List, [], ◌∷◌, ◌++◌, length, filter, sym, ap, subst, ◌∙◌, arith}
 use Rattle.std.specs.Prelude.{◌==◌, Option}
 use Rattle.std.proofs.lemmas.Bool.{false≢true, eqb-true}
-use Rattle.std.proofs.lemmas.List.{take_more, append-nil}
-use Rattle.std.proofs.lemmas.List.Elements.{filter-append}
 use Rattle.resolvo_graph.specs.declared.graph.NodeIndex.{NodeIndex}
 use Rattle.resolvo_graph.specs.declared.graph.Edge.{Edge}
 use Rattle.resolvo_graph.specs.declared.line.MessageLine.{MessageLine}
@@ -14,15 +12,6 @@ use Rattle.resolvo_graph.specs.Walk.{IsPostOrder}
 use Rattle.resolvo_graph.specs.Message.{heading, conflict_lines, misses, fits, IsSecondPart, AreParts, IsMessage}
 use Rattle.resolvo_graph.specs.Runs.{runs_of}
 use Rattle.resolvo_graph.specs.Tree.{Findings, IsTree}
-
-one_more : {X : Type 0} (p : X → Bool) (xs : List X) (i : ℕ) (x : X) → i < length xs → x ≡ get_or xs i x → filter p (take (i + 1) xs) ≡ filter p (take i xs) ++ cond (p x) (x ∷ []) []
-one_more p xs i x h at = ap (filter p) (take_more xs i x h ∙ ap (λ y. take i xs ++ y ∷ []) (sym at)) ∙ filter-append p (take i xs) (x ∷ [])
-
-pub filter_more : {X : Type 0} (p : X → Bool) (xs : List X) (i : ℕ) (x : X) (found now : List X) → i < length xs → x ≡ get_or xs i x → found ≡ filter p (take i xs) → p x ≡ true → now ≡ found ++ x ∷ [] → now ≡ filter p (take (i + 1) xs)
-filter_more p xs i x found now h at so holds put = put ∙ ap (λ ys. ys ++ x ∷ []) so ∙ ap (λ b. filter p (take i xs) ++ cond b (x ∷ []) []) (sym holds) ∙ sym (one_more p xs i x h at)
-
-pub filter_same : {X : Type 0} (p : X → Bool) (xs : List X) (i : ℕ) (x : X) (found now : List X) → i < length xs → x ≡ get_or xs i x → found ≡ filter p (take i xs) → p x ≡ false → now ≡ found → now ≡ filter p (take (i + 1) xs)
-filter_same p xs i x found now h at so fails put = put ∙ so ∙ sym (append-nil (filter p (take i xs))) ∙ ap (λ b. filter p (take i xs) ++ cond b (x ∷ []) []) (sym fails) ∙ sym (one_more p xs i x h at)
 
 module _ {S : Type 0} (f : Findings S) where
   -- no edge is left for the second part
@@ -48,15 +37,18 @@ pub headed : {S : Type 0} (start pushed grown lines tree own conflicts : List (M
 headed start pushed grown lines tree own conflicts l none put more last is same =
     last ∙ ap (λ xs. xs ++ own) (more ∙ ap (λ xs. xs ++ tree) (put ∙ ap (λ xs. xs ++ l ∷ []) none)) ∙ ap (λ x. (x ∷ tree) ++ own) is ∙ ap (λ xs. (heading ∷ tree) ++ xs) same
 
--- the message, where lists go by several names
-pub message : {N S : Type 0} (same_name : N → N → Bool) (same : S → S → Bool) (name_of : S → N) (g : Graph S) (order to_missing to_installable missing installable : List NodeIndex) (merged : S → Option (List S)) (lines : List (MessageLine S)) → to_missing ≡ order → to_installable ≡ order → missing ≡ missing_in g to_missing → installable ≡ installable_in g to_installable → IsPostOrder g order → IsMerged same_name same g name_of merged → AreParts (record { graph = g; same = same; installable = installable; merged = merged }) missing (edges_of g (record { 0 = 0 })) lines → IsMessage same_name same name_of g lines
-message same_name same name_of g order to_missing to_installable missing installable merged lines a b m i walked as_one told =
-    let misses_are : missing ≡ missing_in g order = m ∙ ap (missing_in g) a in
-    let can_be : installable ≡ installable_in g order = i ∙ ap (installable_in g) b in
+-- the parts, where nodes go by another name
+pub parts_along : {S : Type 0} (g : Graph S) (same : S → S → Bool) (merged : S → Option (List S)) (can installable miss missing : List NodeIndex) (lines : List (MessageLine S)) → can ≡ installable → miss ≡ missing → AreParts (record { graph = g; same = same; installable = can; merged = merged }) miss (edges_of g (record { 0 = 0 })) lines → AreParts (record { graph = g; same = same; installable = installable; merged = merged }) missing (edges_of g (record { 0 = 0 })) lines
+parts_along g same merged can installable miss missing lines a b told =
+    subst (λ ns. AreParts (record { graph = g; same = same; installable = installable; merged = merged }) ns (edges_of g (record { 0 = 0 })) lines) b (subst (λ ns. AreParts (record { graph = g; same = same; installable = ns; merged = merged }) miss (edges_of g (record { 0 = 0 })) lines) a told)
+
+-- the message along a walk, which goes by two names
+pub message : {N S : Type 0} (same_name : N → N → Bool) (same : S → S → Bool) (name_of : S → N) (g : Graph S) (order along : List NodeIndex) (merged : S → Option (List S)) (lines : List (MessageLine S)) → along ≡ order → IsPostOrder g order → IsMerged same_name same g name_of merged → AreParts (record { graph = g; same = same; installable = installable_in g along; merged = merged }) (missing_in g along) (edges_of g (record { 0 = 0 })) lines → IsMessage same_name same name_of g lines
+message same_name same name_of g order along merged lines is walked as_one told =
     record {
       order = order;
       merged = merged;
       walked = walked;
       told_as_one = as_one;
-      parts = subst (λ ns. AreParts (record { graph = g; same = same; installable = installable_in g order; merged = merged }) ns (edges_of g (record { 0 = 0 })) lines) misses_are (subst (λ ns. AreParts (record { graph = g; same = same; installable = ns; merged = merged }) missing (edges_of g (record { 0 = 0 })) lines) can_be told);
+      parts = parts_along g same merged (installable_in g along) (installable_in g order) (missing_in g along) (missing_in g order) lines (ap (installable_in g) is) (ap (missing_in g) is) told;
     }

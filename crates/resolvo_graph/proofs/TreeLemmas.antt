@@ -1,5 +1,5 @@
 -- The trees: what the stack has yet to tell follows what was told, and each step leaves less to tell.
-use Rattle.std.proofs.Common.{◌≡◌, ℕ, zero, suc, ◌+◌, ◌*◌, ◌<◌, ◌≤◌, Bool, true, false, cond, List, [], ◌∷◌, ◌++◌, map, reverse, length, All, refl, sym, ap, subst, ◌∙◌, arith, append_assoc, map-id}
+use Rattle.std.proofs.Common.{◌≡◌, ℕ, zero, suc, ◌+◌, ◌*◌, ◌<◌, ◌≤◌, Bool, true, false, cond, List, [], ◌∷◌, ◌++◌, map, reverse, drop, length, All, refl, sym, ap, subst, ◌∙◌, arith, append_assoc, map-id}
 use Rattle.std.specs.Prelude.{◌||◌, ◌==◌, not, filter, Option, None, Some, slice_get}
 use Rattle.std.proofs.lemmas.List.{append-nil, reverse-append, length-reverse}
 use Rattle.std.proofs.lemmas.List.Folds.{list_any-append}
@@ -17,6 +17,8 @@ use Rattle.resolvo_graph.specs.declared.line.Outlook.{Outlook}
 use Rattle.resolvo_graph.specs.declared.line.Outlook.TheVariants.{Missing, Installable, Hopeless}
 use Rattle.resolvo_graph.specs.declared.line.Verdict.{Verdict}
 use Rattle.resolvo_graph.specs.declared.line.Verdict.TheVariants.{Alone, Excluded, Conflicts, Constrains, Requires, Locked}
+use Rattle.resolvo_graph.specs.declared.indenter.ChildOrder.{ChildOrder}
+use Rattle.resolvo_graph.specs.declared.indenter.ChildOrder.TheVariants.{HasRemainingSiblings}
 use Rattle.resolvo_graph.specs.declared.line.MessageLine.{MessageLine}
 use Rattle.resolvo_graph.specs.declared.tree.DisplayOp.{DisplayOp}
 use Rattle.resolvo_graph.specs.declared.tree.DisplayOp.TheVariants.{Requirement, Candidate}
@@ -393,7 +395,29 @@ reached_own g es = targets_among es (reached g es) (λ n h. list_any-append (sam
 pub reached_edges : {S : Type 0} (g : Graph S) (es : List (Edge S)) (n : NodeIndex) → All (λ e. is_among (reached g es) e.target ≡ true) (edges_of g n)
 reached_edges g es n = edges_among g (reached g es) (λ m h. list_any-append (same_node m) (map (λ e. e.target) es) (map (λ e. e.target) g.edges) ∙ or_right (is_among (map (λ e. e.target) es) m) (is_among (map (λ e. e.target) g.edges) m) h) n
 
--- the runs of a tree are the first on the stack
-pub put_first : {S : Type 0} (stack old : List (Entry S)) (i j : Indent) (a : List NodeIndex) (os qs : List (DisplayOp S)) → stack ≡ old ++ reverse (siblings i a (reverse os)) → old ≡ [] → i ≡ j → a ≡ [] → os ≡ qs → stack ≡ [] ++ reverse (siblings j [] (reverse qs))
-put_first stack old i j a os qs put none same top ops =
-    put ∙ ap (λ xs. xs ++ reverse (siblings i a (reverse os))) none ∙ ap (λ k. [] ++ reverse (siblings k a (reverse os))) same ∙ ap (λ ns. [] ++ reverse (siblings j ns (reverse os))) top ∙ ap (λ xs. [] ++ reverse (siblings j [] (reverse xs))) ops
+-- the runs of a tree are put on the stack
+pub put_top : {S : Type 0} (stack old : List (Entry S)) (i j : Indent) (a : List NodeIndex) (os qs : List (DisplayOp S)) → stack ≡ old ++ reverse (siblings i a (reverse os)) → i ≡ j → a ≡ [] → os ≡ qs → stack ≡ old ++ reverse (siblings j [] (reverse qs))
+put_top stack old i j a os qs put same top ops =
+    put ∙ ap (λ k. old ++ reverse (siblings k a (reverse os))) same ∙ ap (λ ns. old ++ reverse (siblings j ns (reverse os))) top ∙ ap (λ xs. old ++ reverse (siblings j [] (reverse xs))) ops
+
+-- a sibling more lies on the stack
+pub sibling_more : {S : Type 0} (i : Indent) (above : List NodeIndex) (ys : List (DisplayOp S)) (o : DisplayOp S) (old stack now : List (Entry S)) (order : ChildOrder) (e : Entry S) → stack ≡ old ++ reverse (siblings i above (reverse ys)) → order ≡ order_before (reverse ys) → e ≡ record { op = o; indent = level_below i order; above = above } → now ≡ stack ++ e ∷ [] → now ≡ old ++ reverse (siblings i above (reverse (ys ++ o ∷ [])))
+sibling_more {S} i above ys o old stack now order e so last is put =
+    let it : Entry S = record { op = o; indent = level_below i (order_before (reverse ys)); above = above } in
+    let same : e ≡ it = is ∙ ap (λ (q : ChildOrder). record { op = o; indent = level_below i q; above = above }) last in
+    put ∙ ap (λ x. stack ++ x ∷ []) same ∙ ap (λ xs. xs ++ it ∷ []) so ∙ append_assoc old (reverse (siblings i above (reverse ys))) (it ∷ [])
+    ∙ ap (λ xs. old ++ xs) (sym (ap (λ zs. reverse (siblings i above zs)) (reverse-append ys (o ∷ [])) ∙ reverse-append (it ∷ []) (siblings i above (reverse ys))))
+
+pub more_before : {S : Type 0} (ys : List (DisplayOp S)) (o : DisplayOp S) → HasRemainingSiblings ≡ order_before (reverse (ys ++ o ∷ []))
+more_before ys o = sym (ap order_before (reverse-append ys (o ∷ [])))
+
+-- one candidate more was looked at
+pub first_more : {S : Type 0} (f : Findings S) (cs : List (NodeIndex × S)) (i : ℕ) (c : NodeIndex × S) (told told_now : List S) (all found now : List (DisplayOp S)) → drop i cs ≡ c ∷ drop (i + 1) cs → all ≡ found ++ firsts_after f told (drop i cs) → told_now ≡ cond (was_told f told c.1) told (told_with f told c.1) → now ≡ found ++ cond (was_told f told c.1) [] (Candidate c.0 c.1 ∷ []) → all ≡ now ++ firsts_after f told_now (drop (i + 1) cs)
+first_more {S} f cs i c told told_now all found now here so with put =
+    so ∙ ap (λ xs. found ++ firsts_after f told xs) here ∙ go (was_told f told c.1)
+    ∙ ap (λ xs. xs ++ firsts_after f (cond (was_told f told c.1) told (told_with f told c.1)) (drop (i + 1) cs)) (sym put)
+    ∙ ap (λ ts. now ++ firsts_after f ts (drop (i + 1) cs)) (sym with)
+  where
+    go : (b : Bool) → found ++ cond b (firsts_after f told (drop (i + 1) cs)) (Candidate c.0 c.1 ∷ firsts_after f (told_with f told c.1) (drop (i + 1) cs)) ≡ (found ++ cond b [] (Candidate c.0 c.1 ∷ [])) ++ firsts_after f (cond b told (told_with f told c.1)) (drop (i + 1) cs)
+    go true = ap (λ xs. xs ++ firsts_after f told (drop (i + 1) cs)) (sym (append-nil found))
+    go false = sym (append_assoc found (Candidate c.0 c.1 ∷ []) (firsts_after f (told_with f told c.1) (drop (i + 1) cs)))

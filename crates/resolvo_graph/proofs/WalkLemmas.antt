@@ -13,6 +13,7 @@ use Rattle.resolvo_graph.specs.declared.graph.Edge.{Edge}
 use Rattle.resolvo_graph.specs.declared.walk.Step.{Step}
 use Rattle.resolvo_graph.specs.declared.walk.Step.TheVariants.{Enter, Leave}
 use Rattle.resolvo_graph.specs.Graph.{Graph, same_node, leaves, edges_of, neighbours}
+use Rattle.resolvo_graph.specs.Steps.{steps_into}
 use Rattle.resolvo_graph.specs.Walk.{is_among, Visits, done, again, first, IsPostOrder}
 
 -- the root, and where edges lead
@@ -172,3 +173,38 @@ module _ {S : Type 0} (g : Graph S) where
       let bound : length (edges_of g n) ≤ length g.edges = few n in
       let times : (length g.edges + 2) * (unseen (entered g) after_it + 1) ≤ (length g.edges + 2) * unseen (entered g) seen = mul-le-mul_left (length g.edges + 2) less in
       omega arith
+
+  -- a node is given
+  pub leaves_next : (stack below : List Step) (seen order now : List NodeIndex) (n : NodeIndex) → Gives stack seen order → stack ≡ below ++ Leave n ∷ [] → now ≡ order ++ n ∷ [] → Gives below seen now
+  leaves_next stack below seen order now n gives at put rest after c =
+      let from : Continues (reverse stack) seen (n ∷ rest) after = subst (λ xs. Continues xs seen (n ∷ rest) after) (sym (ap reverse at ∙ reverse-push below (Leave n))) (rest, refl, c) in
+      subst (λ xs. Visits g [] (record { 0 = 0 } ∷ []) xs after) (sym (append_assoc order (n ∷ []) rest) ∙ ap (λ xs. xs ++ rest) (sym put)) (gives (n ∷ rest) after from)
+
+  -- a node is entered, whether it was seen or not
+  pub enters : (stack below now : List Step) (seen after_it order : List NodeIndex) (n : NodeIndex) → Gives stack seen order → stack ≡ below ++ Enter n ∷ [] → after_it ≡ cond (is_among seen n) seen (seen ++ n ∷ []) → now ≡ below ++ steps_into g seen n → Gives now after_it order
+  enters stack below now seen after_it order n gives at = go (is_among seen n) refl
+    where
+      go : (b : Bool) → is_among seen n ≡ b → after_it ≡ cond b seen (seen ++ n ∷ []) → now ≡ below ++ cond b [] (Leave n ∷ map (λ e. Enter e.target) (edges_of g n)) → Gives now after_it order
+      go true h with put = subst (λ ss. Gives ss after_it order) (sym (put ∙ append-nil below)) (enters_old stack below seen after_it order n gives at h with)
+      go false h with put = enters_next stack below now seen after_it order n gives at h with (put ∙ sym (append_assoc below (Leave n ∷ []) (map (λ e. Enter e.target) (edges_of g n))))
+
+  pub known_entered : (below now : List Step) (seen : List NodeIndex) (n : NodeIndex) → All (IsKnown (entered g)) below → now ≡ below ++ steps_into g seen n → All (IsKnown (entered g)) now
+  known_entered below now seen n known = go (is_among seen n)
+    where
+      go : (b : Bool) → now ≡ below ++ cond b [] (Leave n ∷ map (λ e. Enter e.target) (edges_of g n)) → All (IsKnown (entered g)) now
+      go true put = All-same (IsKnown (entered g)) now below (put ∙ append-nil below) known
+      go false put = known_next below now n known (put ∙ sym (append_assoc below (Leave n ∷ []) (map (λ e. Enter e.target) (edges_of g n))))
+
+  pub less_left : (stack below now : List Step) (seen after_it : List NodeIndex) (n : NodeIndex) → stack ≡ below ++ Enter n ∷ [] → is_among (entered g) n ≡ true → after_it ≡ cond (is_among seen n) seen (seen ++ n ∷ []) → now ≡ below ++ steps_into g seen n
+      → (length g.edges + 2) * unseen (entered g) after_it + length now < (length g.edges + 2) * unseen (entered g) seen + length stack
+  less_left stack below now seen after_it n at known = go (is_among seen n) refl
+    where
+      long : length stack ≡ length below + 1
+      long = ap length at ∙ length-append below (Enter n ∷ [])
+
+      go : (b : Bool) → is_among seen n ≡ b → after_it ≡ cond b seen (seen ++ n ∷ []) → now ≡ below ++ cond b [] (Leave n ∷ map (λ e. Enter e.target) (edges_of g n)) → (length g.edges + 2) * unseen (entered g) after_it + length now < (length g.edges + 2) * unseen (entered g) seen + length stack
+      go true h with put =
+          let short : length now ≡ length below = ap length (put ∙ append-nil below) in
+          let fine : (length g.edges + 2) * unseen (entered g) seen + length now < (length g.edges + 2) * unseen (entered g) seen + length stack = omega (arith, long, short) in
+          rw with fine
+      go false h with put = rw long (smaller below now seen after_it n known h with (put ∙ sym (append_assoc below (Leave n ∷ []) (map (λ e. Enter e.target) (edges_of g n)))))

@@ -6,6 +6,7 @@ pub mod Message
 pub mod Outlook
 pub mod Removal
 pub mod Runs
+pub mod Steps
 pub mod Tree
 pub mod Walk
 pub mod Wording

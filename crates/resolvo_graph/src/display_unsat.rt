@@ -4,10 +4,12 @@ ghost use Rattle.std.specs.Prelude.{◌≡◌, ◌++◌, IfOk, OnOk, Some, filte
 ghost use Rattle.resolvo_graph.specs.Graph.{edges_of};
 ghost use Rattle.resolvo_graph.specs.Message.{IsMessage, AreParts, IsSecondPart, conflict_line, conflict_lines, misses, fits, text_of};
 ghost use Rattle.resolvo_graph.specs.Kept.{findings};
+ghost use Rattle.resolvo_graph.specs.Outlook.{installable_in, missing_in};
 
 use crate::graph::{ConflictCause, ConflictEdge, ConflictGraph, Edge, NodeIndex};
 use crate::indenter::Indenter;
 use crate::line::{DisplayLine, MessageLine, Sentence, Verdict, Versions};
+use crate::merging::MergedConflictNode;
 use crate::outlook::{installable, missing};
 use crate::tree::{Findings, order_before};
 use crate::walk::post_order;
@@ -16,7 +18,9 @@ use resolvo_pool::provider::Interner;
 use resolvo_pool::solver_id::SolverId;
 use resolvo_pool::want::R;
 use std::alloc::Global;
+use std::collections::HashMap;
 use std::fmt;
+use std::rc::Rc;
 
 /// The message of a conflict graph, to be written.
 #[derive(Drop)]
@@ -35,14 +39,7 @@ impl<'a, I: Interner> DisplayUnsat<'a, I> {
         ensures lines { IfOk result (λ d. IsMessage I.NameId.eq I.SolvableId.eq (I.name_of_solvable interner.now) graph.now d.lines.items) }
         ensures interner { IfOk result (λ d. d.interner.now ≡ interner.now) }
     {
-        let order = post_order(alloc, graph)?;
-        let missing = missing(alloc, graph, &order)?;
-        let findings = Findings {
-            graph,
-            installable: installable(alloc, graph, &order)?,
-            merged: graph.simplify(alloc, interner)?,
-        };
-        let lines = findings.message(alloc, &missing)?;
+        let lines = message_lines(alloc, graph, interner)?;
         Ok(DisplayUnsat { interner, lines })
     }
 }
@@ -62,7 +59,45 @@ impl<I: Interner> fmt::Display for DisplayUnsat<'_, I> {
     }
 }
 
+/// The lines of the message of a graph.
+fn message_lines<S: SolverId, I: Interner<SolvableId = S>>(
+    alloc: Global,
+    graph: &ConflictGraph<S>,
+    interner: &I,
+) -> R<Vec<MessageLine<S>>>
+    ensures { IfOk result (λ v. IsMessage I.NameId.eq S.eq (I.name_of_solvable interner.now) graph.now v.items) }
+{
+    let order = post_order(alloc, graph)?;
+    let merged = graph.simplify(alloc, interner)?;
+    lines_along(alloc, graph, &order, merged)
+}
+
+/// The lines of the message along a walk, where these versions are told as one.
+fn lines_along<S: SolverId>(
+    alloc: Global,
+    graph: &ConflictGraph<S>,
+    order: &[NodeIndex],
+    merged: HashMap<S, Rc<MergedConflictNode<S>>>,
+) -> R<Vec<MessageLine<S>>>
+    ensures { IfOk result (λ v. AreParts (findings S.eq graph.now (installable_in graph.now order.now) merged) (missing_in graph.now order.now) (edges_of graph.now (record { 0 = 0 })) v.items) }
+{
+    let findings = Findings {
+        graph,
+        installable: installable(alloc, graph, order)?,
+        merged,
+    };
+    findings.message_along(alloc, order)
+}
+
 impl<S: SolverId> Findings<'_, S> {
+    /// The lines of the message along a walk.
+    fn message_along(&self, alloc: Global, order: &[NodeIndex]) -> R<Vec<MessageLine<S>>>
+        ensures { IfOk result (λ v. AreParts (findings S.eq self.now.graph.now self.now.installable.keys self.now.merged) (missing_in self.now.graph.now order.now) (edges_of self.now.graph.now (record { 0 = 0 })) v.items) }
+    {
+        let missing = missing(alloc, self.graph, order)?;
+        self.message(alloc, &missing)
+    }
+
     /// The lines of the message, where these nodes miss a candidate.
     fn message(&self, alloc: Global, missing: &IndexSet<NodeIndex>) -> R<Vec<MessageLine<S>>>
         ensures { IfOk result (λ v. AreParts (findings S.eq self.now.graph.now self.now.installable.keys self.now.merged) missing.now.keys (edges_of self.now.graph.now (record { 0 = 0 })) v.items) }

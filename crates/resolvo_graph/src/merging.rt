@@ -1,11 +1,11 @@
 //! Versions that are told as one: versions of one package with the same neighbours on both sides.
 //! `simplify` compares the sorted lists of each version's neighbours, each with its requirement.
-ghost use Rattle.std.specs.Prelude.{◌≡◌, IfOk, OnOk, Some, cond};
-ghost use Rattle.std.specs.List.Sorted.{IsPermutation, IsSorted};
-ghost use Rattle.resolvo_graph.specs.Merging.{before, after, IsProfile, AreProfiles, alike, group, neighbour_cmp, solvable_of, IsMerged};
+ghost use Rattle.std.specs.Prelude.{◌≡◌, IfOk, OnOk, Some, cond, map};
+ghost use Rattle.resolvo_graph.specs.Merging.{before, after, IsInOrder, IsProfile, AreProfiles, alike, group, solvable_of, IsMerged};
+ghost use Rattle.resolvo_graph.specs.Graph.{requirement_of};
 ghost use Rattle.resolvo_graph.specs.Kept.{kept_with};
 
-use crate::graph::{ConflictGraph, ConflictNode, NodeIndex};
+use crate::graph::{ConflictGraph, ConflictNode, Edge, NodeIndex};
 use itertools::Itertools;
 use resolvo_pool::id::{Exact, SolvableId};
 use resolvo_pool::provider::Interner;
@@ -147,36 +147,52 @@ fn profile_of<S: SolverId, I: Interner<SolvableId = S>>(
     Ok(Profile {
         solvable,
         name: interner.solvable_name(solvable),
-        before: in_order(alloc, neighbours_before(alloc, graph, node)?)?,
-        after: in_order(alloc, neighbours_after(alloc, graph, node)?)?,
+        before: neighbours_before(alloc, graph, node)?,
+        after: neighbours_after(alloc, graph, node)?,
     })
 }
 
-/// Where the edges to a node come from, each with its requirement.
+/// Where the edges to a node come from, each with its requirement, in the order of neighbours.
 fn neighbours_before<S: Copy + Exact + Hash>(
     alloc: Global,
     graph: &ConflictGraph<S>,
     node: NodeIndex,
 ) -> R<Vec<(Option<Requirement>, NodeIndex)>>
-    ensures { IfOk result (λ v. v.items ≡ before graph.now node) }
+    ensures { IfOk result (λ v. IsInOrder (before graph.now node) v.items) }
 {
-    let mut found = Vec::new(alloc);
-    for edge in &graph.edges_to(alloc, node)? {
-        found.push((edge.weight.requirement(), edge.source))?;
-    }
-    Ok(found)
+    let edges = graph.edges_to(alloc, node)?;
+    in_order(alloc, sources(alloc, &edges)?)
 }
 
-/// Where the edges of a node lead, each with its requirement.
+/// Where the edges of a node lead, each with its requirement, in the order of neighbours.
 fn neighbours_after<S: Copy + Exact + Hash>(
     alloc: Global,
     graph: &ConflictGraph<S>,
     node: NodeIndex,
 ) -> R<Vec<(Option<Requirement>, NodeIndex)>>
-    ensures { IfOk result (λ v. v.items ≡ after graph.now node) }
+    ensures { IfOk result (λ v. IsInOrder (after graph.now node) v.items) }
+{
+    let edges = graph.edges(alloc, node)?;
+    in_order(alloc, targets(alloc, &edges)?)
+}
+
+/// Where some edges come from, each with its requirement.
+fn sources<S: Copy>(alloc: Global, edges: &[Edge<S>]) -> R<Vec<(Option<Requirement>, NodeIndex)>>
+    ensures { IfOk result (λ v. v.items ≡ map (λ e. (requirement_of e.weight, e.source)) edges.now) }
 {
     let mut found = Vec::new(alloc);
-    for edge in &graph.edges(alloc, node)? {
+    for edge in edges {
+        found.push((edge.weight.requirement(), edge.source))?;
+    }
+    Ok(found)
+}
+
+/// Where some edges lead, each with its requirement.
+fn targets<S: Copy>(alloc: Global, edges: &[Edge<S>]) -> R<Vec<(Option<Requirement>, NodeIndex)>>
+    ensures { IfOk result (λ v. v.items ≡ map (λ e. (requirement_of e.weight, e.target)) edges.now) }
+{
+    let mut found = Vec::new(alloc);
+    for edge in edges {
         found.push((edge.weight.requirement(), edge.target))?;
     }
     Ok(found)
@@ -187,8 +203,7 @@ fn in_order(
     alloc: Global,
     neighbours: Vec<(Option<Requirement>, NodeIndex)>,
 ) -> R<Vec<(Option<Requirement>, NodeIndex)>>
-    ensures permutation { IfOk result (λ v. IsPermutation neighbours.items v.items) }
-    ensures sorted { IfOk result (λ v. IsSorted neighbour_cmp v.items) }
+    ensures { IfOk result (λ v. IsInOrder neighbours.items v.items) }
 {
     let sorted = neighbours.into_iter().sorted(alloc)?;
     Ok(sorted.collect_vec(alloc)?)

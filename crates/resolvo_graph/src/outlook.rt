@@ -1,11 +1,11 @@
 //! Which nodes can be installed, and which miss a candidate, as the message sees it.
 //! Both are sets of nodes, marked along the walk in post-order; the model is the list of the marked
 //! nodes in that order.
-ghost use Rattle.std.specs.Prelude.{◌≡◌, IfOk, IsOkUnless};
+ghost use Rattle.std.specs.Prelude.{◌≡◌, IfOk, OnOk, IsOkUnless};
 ghost use Rattle.std.specs.List.{list_any, list_all};
 ghost use Rattle.resolvo_pool.specs.declared.want.Want.TheVariants.{Memory};
 ghost use Rattle.resolvo_graph.specs.Graph.{is_conflict};
-ghost use Rattle.resolvo_graph.specs.Outlook.{installable_in, missing_in, can_be_installed, misses_one, has_target_in, has_targets_in};
+ghost use Rattle.resolvo_graph.specs.Outlook.{installable_in, missing_in, marked_along, can_be_installed, misses_one, has_target_in, has_targets_in};
 
 use crate::graph::{ConflictGraph, Edge, NodeIndex};
 use crate::runs::{Run, runs};
@@ -25,12 +25,26 @@ pub(crate) fn installable<S: Copy + Exact + Hash>(
     ensures refusal { IsOkUnless result Memory }
 {
     let mut marked = IndexSet::new(alloc);
+    mark_installable(alloc, graph, order, &mut marked)?;
+    Ok(marked)
+}
+
+/// Marks the nodes of an order that can be installed.
+fn mark_installable<S: Copy + Exact + Hash>(
+    alloc: Global,
+    graph: &ConflictGraph<S>,
+    order: &[NodeIndex],
+    marked: &mut IndexSet<NodeIndex>,
+) -> R<()>
+    ensures marked { OnOk result (marked.new.keys ≡ marked_along (can_be_installed graph.now) marked.old.keys order.now) }
+    ensures refusal { IsOkUnless result Memory }
+{
     for node in order {
-        if can_install(alloc, graph, &marked, *node)? {
+        if can_install(alloc, graph, marked, *node)? {
             marked.insert_full(*node)?;
         }
     }
-    Ok(marked)
+    Ok(())
 }
 
 /// Whether a node can be installed, where those that can be below it are marked.
@@ -75,12 +89,26 @@ pub(crate) fn missing<S: Copy + Exact + Hash>(
         return Ok(marked);
     };
     marked.insert_full(unresolved)?;
+    mark_missing(alloc, graph, order, &mut marked)?;
+    Ok(marked)
+}
+
+/// Marks the nodes of an order that miss a candidate.
+fn mark_missing<S: Copy + Exact + Hash>(
+    alloc: Global,
+    graph: &ConflictGraph<S>,
+    order: &[NodeIndex],
+    marked: &mut IndexSet<NodeIndex>,
+) -> R<()>
+    ensures marked { OnOk result (marked.new.keys ≡ marked_along (misses_one graph.now) marked.old.keys order.now) }
+    ensures refusal { IsOkUnless result Memory }
+{
     for node in order {
-        if does_miss(alloc, graph, &marked, *node)? {
+        if does_miss(alloc, graph, marked, *node)? {
             marked.insert_full(*node)?;
         }
     }
-    Ok(marked)
+    Ok(())
 }
 
 /// Whether a node misses a candidate, where those that do below it are marked.

@@ -2,14 +2,16 @@
 //! What is left to tell is a stack of entries, taken from its end; an entry puts those one level below
 //! it on top. An entry knows the versions above it, and a version that stands below itself is passed
 //! over, so a tree ends on graphs with cycles.
-ghost use Rattle.std.specs.Prelude.{◌≡◌, ◌++◌, ◌∷◌, [], IfOk, OnOk, filter, reverse, unwrap_or, slice_get};
+ghost use Rattle.std.specs.Prelude.{◌≡◌, ◌++◌, ◌∷◌, [], IfOk, OnOk, cond, filter, reverse, unwrap_or, slice_get};
 ghost use Rattle.std.specs.List.{list_any, dedup};
+ghost use Rattle.resolvo_graph.specs.declared.line.Sentence.TheVariants as Says;
 ghost use Rattle.resolvo_graph.specs.declared.tree.DisplayOp.{DisplayOp};
 ghost use Rattle.resolvo_graph.specs.Graph.{edges_of, is_forbidden};
+ghost use Rattle.resolvo_graph.specs.Indent.{level_below};
 ghost use Rattle.resolvo_graph.specs.Kept.{findings, kept_with};
 ghost use Rattle.resolvo_graph.specs.Walk.{is_among};
 ghost use Rattle.resolvo_graph.specs.Runs.{runs_of};
-ghost use Rattle.resolvo_graph.specs.Tree.{siblings, is_missing, candidates_at, reason_in, is_admitting, admitted_in, same_set, verdict_for, admitted_lines, further_lines, outlook_of, shown_of, told_with, firsts_after, in_rank, verdict_of, needs_of, is_passed, version_lines, lines_at, entries_below, told_after, IsTree, solvable_at_node, order_before};
+ghost use Rattle.resolvo_graph.specs.Tree.{siblings, is_missing, candidates_at, reason_in, is_admitting, admitted_in, same_set, verdict_for, admitted_lines, further_lines, outlook_of, shown_of, told_with, was_told, firsts_after, in_rank, verdict_of, needs_of, is_passed, version_lines, lines_at, entries_below, told_after, IsTree, solvable_at_node, order_before};
 
 use crate::graph::{ConflictGraph, ConflictNode, Edge, NodeIndex};
 use crate::indenter::{ChildOrder, Indenter};
@@ -85,14 +87,31 @@ impl<S: SolverId> Findings<'_, S> {
             stack: Vec::new(alloc),
             lines: Vec::new(alloc),
         };
-        let top = Indenter::new(alloc, top_level_indent);
-        let above = Vec::new(alloc);
-        let ops = self.in_rank(alloc, runs(alloc, edges)?)?;
-        place(alloc, ops, &top, above.as_slice(), &mut telling.stack)?;
+        self.place_top(alloc, edges, top_level_indent, &mut telling.stack)?;
         while let Some(entry) = telling.stack.pop() {
             self.tell(alloc, entry, &mut telling)?;
         }
         Ok(telling.lines)
+    }
+
+    /// Puts the runs of some edges on the stack, which stand at the top of their tree.
+    fn place_top(
+        &self,
+        alloc: Global,
+        edges: &[Edge<S>],
+        top_level_indent: bool,
+        stack: &mut Vec<Entry<S>>,
+    ) -> R<()>
+        ensures { OnOk result (stack.new.items ≡ stack.old.items ++ reverse (siblings (record { levels = []; top_level_indent = top_level_indent }) [] (reverse (in_rank (findings S.eq self.now.graph.now self.now.installable.keys self.now.merged) (runs_of edges.now))))) }
+    {
+        let ops = self.in_rank(alloc, runs(alloc, edges)?)?;
+        place(
+            alloc,
+            ops,
+            &Indenter::new(alloc, top_level_indent),
+            &[],
+            stack,
+        )
     }
 
     /// Tells an entry's own lines, and puts the entries below it on top of the stack.
@@ -174,25 +193,47 @@ impl<S: SolverId> Findings<'_, S> {
         ensures lines { OnOk result (telling.new.lines.items ≡ telling.old.lines.items ++ version_lines (findings S.eq self.now.graph.now self.now.installable.keys self.now.merged) node version indenter) }
     {
         let edges = self.graph.edges(alloc, node)?;
-        let verdict = self.verdict(&edges);
-        let further = further_lines(alloc, verdict, &indenter, &edges)?;
+        self.place_needs(alloc, node, &edges, &indenter, above, &mut telling.stack)?;
+        self.mark(version, &mut telling.told)?;
+        self.add_lines(alloc, version, &edges, indenter, &mut telling.lines)
+    }
+
+    /// Puts what a version with these edges needs on top of the stack, below it and the nodes above it.
+    fn place_needs(
+        &self,
+        alloc: Global,
+        node: NodeIndex,
+        edges: &[Edge<S>],
+        indenter: &Indenter,
+        above: Vec<NodeIndex>,
+        stack: &mut Vec<Entry<S>>,
+    ) -> R<()>
+        ensures { OnOk result (stack.new.items ≡ stack.old.items ++ reverse (siblings indenter.now (above.items ++ node ∷ []) (reverse (needs_of (findings S.eq self.now.graph.now self.now.installable.keys self.now.merged) (verdict_for (reason_in self.now.graph.now edges.now) edges.now) edges.now)))) }
+    {
         let mut above = above;
         above.push(node)?;
-        let needs = self.needs(alloc, verdict, &edges)?;
-        place(
-            alloc,
-            needs,
-            &indenter,
-            above.as_slice(),
-            &mut telling.stack,
-        )?;
-        self.mark(version, &mut telling.told)?;
-        telling.lines.push(MessageLine {
+        let needs = self.needs(alloc, self.verdict(edges), edges)?;
+        place(alloc, needs, indenter, above.as_slice(), stack)
+    }
+
+    /// Adds the lines of a version with these edges.
+    fn add_lines(
+        &self,
+        alloc: Global,
+        version: S,
+        edges: &[Edge<S>],
+        indenter: Indenter,
+        lines: &mut Vec<MessageLine<S>>,
+    ) -> R<()>
+        ensures { OnOk result (lines.new.items ≡ lines.old.items ++ record { indenter = indenter; sentence = Says.Versions (unwrap_or (kept_with S.eq self.now.merged version) (version ∷ [])) (verdict_for (reason_in self.now.graph.now edges.now) edges.now) } ∷ further_lines (verdict_for (reason_in self.now.graph.now edges.now) edges.now) indenter edges.now) }
+    {
+        let verdict = self.verdict(edges);
+        let mut further = further_lines(alloc, verdict, &indenter, edges)?;
+        lines.push(MessageLine {
             indenter,
             sentence: Sentence::Versions(self.told_as(alloc, version)?, verdict),
         })?;
-        let mut further = further;
-        telling.lines.append(&mut further)?;
+        lines.append(&mut further)?;
         Ok(())
     }
 
@@ -276,12 +317,27 @@ impl<S: SolverId> Findings<'_, S> {
         let mut told = IndexSet::new(alloc);
         let mut found = Vec::new(alloc);
         for (node, version) in candidates {
-            if !told.contains(version) {
-                self.mark(*version, &mut told)?;
-                found.push(DisplayOp::Candidate(*node, *version))?;
-            }
+            self.add_first(*node, *version, &mut told, &mut found)?;
         }
         Ok(found)
+    }
+
+    /// Adds a version, unless it is told with one that was added.
+    fn add_first(
+        &self,
+        node: NodeIndex,
+        version: S,
+        told: &mut IndexSet<S>,
+        found: &mut Vec<DisplayOp<S>>,
+    ) -> R<()>
+        ensures told { OnOk result (told.new.keys ≡ cond (was_told (findings S.eq self.now.graph.now self.now.installable.keys self.now.merged) told.old.keys version) told.old.keys (told_with (findings S.eq self.now.graph.now self.now.installable.keys self.now.merged) told.old.keys version)) }
+        ensures found { OnOk result (found.new.items ≡ found.old.items ++ cond (was_told (findings S.eq self.now.graph.now self.now.installable.keys self.now.merged) told.old.keys version) [] (DisplayOp.Candidate node version ∷ [])) }
+    {
+        if !told.contains(&version) {
+            self.mark(version, told)?;
+            found.push(DisplayOp::Candidate(node, version))?;
+        }
+        Ok(())
     }
 
     /// Puts the versions that are told with one among the told ones.
@@ -379,14 +435,27 @@ fn place<S: SolverId>(
 {
     let mut order = ChildOrder::Last;
     for op in ops {
-        stack.push(Entry {
-            op,
-            indenter: indenter.push_level(alloc, order)?,
-            above: Vec::from_slice(alloc, above)?,
-        })?;
+        stack.push(sibling(alloc, op, indenter, order, above)?)?;
         order = ChildOrder::HasRemainingSiblings;
     }
     Ok(())
+}
+
+/// An entry one level below an indent.
+fn sibling<S: SolverId>(
+    alloc: Global,
+    op: DisplayOp<S>,
+    indenter: &Indenter,
+    order: ChildOrder,
+    above: &[NodeIndex],
+) -> R<Entry<S>>
+    ensures { IfOk result (λ e. e ≡ record { op = op; indent = level_below indenter.now order; above = above.now }) }
+{
+    Ok(Entry {
+        op,
+        indenter: indenter.push_level(alloc, order)?,
+        above: Vec::from_slice(alloc, above)?,
+    })
 }
 
 /// What a version with this verdict and these edges tells on lines of its own.

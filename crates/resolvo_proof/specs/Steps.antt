@@ -25,8 +25,8 @@ rule_under condition (Shared r) = Encoding.Rule.shared r
 rule_under condition (Limit parent v None) = Encoding.Rule.limits_outside parent v
 rule_under condition (Limit parent v (Some s)) = Encoding.Rule.limits parent v s
 rule_under condition (Outside v s) = Encoding.Rule.is_out v s
-rule_under condition (Locked locked s) = Encoding.Rule.bars s
-rule_under condition (Excluded s reason) = Encoding.Rule.bars s
+rule_under condition (Locked locked s) = Encoding.Rule.bars (Encoding.Bar.lock locked) s
+rule_under condition (Excluded s reason) = Encoding.Rule.bars (Encoding.Bar.word reason) s
 rule_under condition (Digit s place bit) = Encoding.Rule.has_digit s bit (digit place bit)
 rule_under condition (AtLeastOne n s) = Encoding.Rule.is_there n s
 

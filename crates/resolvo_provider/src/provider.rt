@@ -1,7 +1,8 @@
 //! The provider over a catalogue: made once from the lines, then asked by the solver.
 //! Its model is what was interned and what the lines say of each version (`specs/Provider.antt`).
 
-ghost use Rattle.std.specs.Prelude.{map, IfOk};
+ghost use Rattle.std.specs.Prelude.{map, IfOk, IsOkUnless};
+ghost use Rattle.resolvo_pool.specs.declared.want.Want.TheVariants.{Memory};
 ghost use Rattle.resolvo_provider.specs.Ids.{Interns};
 ghost use Rattle.resolvo_provider.specs.Told.{told_of};
 ghost use Rattle.resolvo_provider.specs.Over.{AreTold};
@@ -136,6 +137,7 @@ impl CatalogueProvider {
     pub fn spec_of(&self, version_set: VersionSetId) -> R<Spec>
         ensures spec { IfOk result (λ found. spec_of found ≡ spec_at self.now.ids version_set) }
         ensures stands { (s : says.Spec) → IsSpec self.now.ids version_set s → spec_at self.now.ids version_set ≡ s }
+        ensures refusal { IsOkUnless result Memory }
     {
         let name = self.ids.name(self.ids.set_package(version_set));
         Ok(Spec {
@@ -149,6 +151,7 @@ impl CatalogueProvider {
     pub fn alternatives_of(&self, requirement: Requirement) -> R<Vec<Spec>>
         ensures specs { IfOk result (λ found. specs_of found.items ≡ alternatives_at self.now.ids requirement) }
         ensures stands { (ss : List says.Spec) → AreAlternatives self.now.ids requirement ss → alternatives_at self.now.ids requirement ≡ ss }
+        ensures refusal { IsOkUnless result Memory }
     {
         match requirement {
             Requirement::Single(version_set) => self.specs_of(&[version_set]),
@@ -171,7 +174,8 @@ impl CatalogueProvider {
     }
 
     fn specs_of(&self, version_sets: &[VersionSetId]) -> R<Vec<Spec>>
-        ensures { IfOk result (λ found. specs_of found.items ≡ map (spec_at self.now.ids) version_sets.now) }
+        ensures specs { IfOk result (λ found. specs_of found.items ≡ map (spec_at self.now.ids) version_sets.now) }
+        ensures refusal { IsOkUnless result Memory }
     {
         let mut specs = Vec::new(self.alloc);
         for version_set in version_sets {

@@ -1,7 +1,11 @@
 //! What no clause says: that each call succeeds where there is memory; and rule-keeping by the provider's answers
 //! beside rule-keeping by the lines.
 
+mod answers;
+mod conditions;
+mod keeping;
 mod pairs;
+mod requests;
 
 use resolvo_catalogue::{Catalogue, MemorySource, Request};
 use resolvo_pool::want::R;
@@ -21,4 +25,9 @@ fn request(alloc: Global, text: &str, catalogue: &Catalogue) -> Result<Request, 
 /// The provider of a catalogue.
 fn provider(alloc: Global, catalogue: &Catalogue) -> R<CatalogueProvider> {
     CatalogueProvider::new(alloc, catalogue, Hint::All)
+}
+
+/// The provider of a text.
+fn provider_of(alloc: Global, text: &str) -> Result<CatalogueProvider, Fail> {
+    Ok(provider(alloc, &catalogue(alloc, text)?)?)
 }

@@ -13,7 +13,7 @@ use Rattle.resolvo_catalogue.proofs.Placing.{at_from_contains}
 use Rattle.resolvo_pool.specs.RuleKeeping.{is_unknown, is_barred, locks_out}
 use Rattle.resolvo_pool.specs.declared.id.StringId.{StringId}
 use Rattle.resolvo_pool.specs.Provider as pool
-use Rattle.resolvo_rules.specs.Encoding.{IsExact, is_kept_out}
+use Rattle.resolvo_rules.specs.Encoding.{IsExact, Bar, KeepsOut}
 use Rattle.resolvo_rules.proofs.Lists.{contains_none}
 use Rattle.resolvo_provider.specs.Ids.{SolvableId, IsPackage, solvable_id, solvables_of}
 use Rattle.resolvo_provider.specs.Known.{name_of}
@@ -201,20 +201,19 @@ module _ (catalogue : List Line) (p : Provider) (over : IsOver catalogue p) (sam
       let f = flat_from (exclusion_of p) (x ∷ xs) e h in
       subst (λ (y : SolvableId). Contains (x ∷ xs) y) (excluded_by f.0 (marks_at p f.0).excluded e f.2).1 f.1
 
-  pub barred_version : (s : SolvableId) → (is_kept_out same (packages_of p) s || is_unknown (dependencies_of p s)) ≡ true → (v : Version) × (slice_get (listed catalogue) s.raw ≡ Some v)
-  barred_version s h = elim (or_cases (is_kept_out same (packages_of p) s) (is_unknown (dependencies_of p s)) h) [
-    | inl out ↦ elim (or_cases _ _ out) [
-      | inl c ↦ among (subst (λ xs. Contains xs s) (candidates_are ss) (in_from p (listed catalogue) over.versions over.once same apart _ s (and_parts _ _ c).0))
-      | inr c ↦ (let x = any_from (λ (e : SolvableId × StringId). same e.0 s) _ c in among (subst (λ y. Contains ss y) (exact.one x.0.0 s x.2) (excluded_in ss x.0 x.1)))
-    ]
-    | inr lost ↦ told_version s (λ e. false≢true (sym (ap (λ (t : Told). is_unknown (needs_of t t.unknown)) e) ∙ lost))
-  ]
+  pub barred_version : (s : SolvableId) (w : Bar SolvableId) → KeepsOut same (packages_of p) w s → (v : Version) × (slice_get (listed catalogue) s.raw ≡ Some v)
+  barred_version s w h = by_bar w h
     where
       ss : List SolvableId
       ss = solvables_of p.ids (name_of p.ids s).raw
 
       among : Contains ss s → (v : Version) × (slice_get (listed catalogue) s.raw ≡ Some v)
       among has = (let (v, e, packaged) = its_version p catalogue over same apart (name_of p.ids s) s has in (v, e))
+
+      by_bar : (u : Bar SolvableId) → KeepsOut same (packages_of p) u s → (v : Version) × (slice_get (listed catalogue) s.raw ≡ Some v)
+      by_bar (Bar.lock l) (is, other, c) = among (subst (λ xs. Contains xs s) (candidates_are ss) (in_from p (listed catalogue) over.versions over.once same apart _ s c))
+      by_bar (Bar.word why) (inl c) = among (excluded_in ss (s, why) c)
+      by_bar (Bar.word why) (inr lost) = told_version s (λ e. false≢true (sym (ap (λ (t : Told). is_unknown (needs_of t t.unknown)) e) ∙ ap is_unknown lost))
 
 -- ---- the line that is found
 

@@ -11,7 +11,7 @@ use Rattle.resolvo_catalogue.specs.Questions.{Said, AreAll}
 use Rattle.resolvo_pool.specs.declared.requirement.Requirement.{Requirement}
 use Rattle.resolvo_pool.specs.declared.requirement.ConditionalRequirement.{ConditionalRequirement}
 use Rattle.resolvo_pool.specs.RuleKeeping.{rules_of}
-use Rattle.resolvo_rules.specs.Encoding.{has_condition, same_requirement}
+use Rattle.resolvo_rules.specs.Encoding.{Bar, has_condition, same_requirement}
 use Rattle.resolvo_rules.proofs.Lists.{contains_map, map_contains, any_contained}
 use Rattle.resolvo_proof.specs.Steps.{literal_in}
 use Rattle.resolvo_proof.specs.declared.step.ProofLiteral.{ProofLiteral}
@@ -160,8 +160,8 @@ module _ (catalogue : List Line) (said : Said) (provider : Provider) (steps : Li
       let (spec, named, fits) = proves.known n _ at in
       let (version, outside) = is_out catalogue provider proves.over proves.same proves.exact v spec s named (out_says proves.same (packages_of provider) (root_of proves.ids) v s out) in
       subst (λ (x : Step). IsStep x) (sym is) (subst (λ (x : Spec). form.IsSpec x) (sym (spec_stands provider.ids v spec named)) fits, version_fits catalogue provider proves.over s version)
-  step_fits n (Rule (Locked locked s)) t at tells by = (let (condition, bars) = proves.proof n _ at in bar_fits s t (barred_version catalogue provider proves.over proves.same proves.exact s bars) by)
-  step_fits n (Rule (Excluded s reason)) t at tells by = (let (condition, bars) = proves.proof n _ at in bar_fits s t (barred_version catalogue provider proves.over proves.same proves.exact s bars) by)
+  step_fits n (Rule (Locked locked s)) t at tells by = (let (condition, bars) = proves.proof n _ at in bar_fits s t (barred_version catalogue provider proves.over proves.same proves.exact s (Bar.lock locked) bars) by)
+  step_fits n (Rule (Excluded s reason)) t at tells by = (let (condition, bars) = proves.proof n _ at in bar_fits s t (barred_version catalogue provider proves.over proves.same proves.exact s (Bar.word reason) bars) by)
   step_fits n (Rule (Digit s place bit)) t at tells is =
       let (version, below) = digit_known catalogue said provider steps proves n s place bit at in
       subst (λ (x : Step). IsStep x) (sym is) (version_fits catalogue provider proves.over s version, tells, below)

@@ -11,6 +11,7 @@ use Rattle.resolvo_text.specs.Matching.{same_version}
 use Rattle.resolvo_catalogue.specs.Grammar.{line_at}
 use Rattle.resolvo_catalogue.specs.Questions.{Said, is_rule}
 use Rattle.resolvo_catalogue.proofs.Placing.{at_from_contains}
+use Rattle.resolvo_rules.specs.Encoding.{Bar}
 use Rattle.resolvo_rules.proofs.Lists.{contains_none, contains_first, contains_later, map_contains, contained_all}
 use Rattle.resolvo_proof.specs.Members.{SameMembers}
 use Rattle.resolvo_proof.specs.Steps.{literal_in, clause_of, clause_at}
@@ -159,8 +160,8 @@ module _ (catalogue : List Line) (said : Said) (provider : Provider) (steps : Li
       let (condition, out) = proves.proof n _ at in
       let (spec, known, fits) = proves.known n _ at in
       subst (λ (x : told.Step). IsClauseOf (Rule (Outside v s)) x) (sym is) (outside_spelled catalogue provider proves.over proves.same proves.exact said.lines v s (spec, known) (out_says proves.same (packages_of provider) (root_of proves.ids) v s out))
-  step_spelled n (Rule (Locked locked s)) t at by = (let (condition, bars) = proves.proof n _ at in bar_spelled catalogue provider proves.over proves.same proves.exact said.lines s t (barred_version catalogue provider proves.over proves.same proves.exact s bars) by)
-  step_spelled n (Rule (Excluded s reason)) t at by = (let (condition, bars) = proves.proof n _ at in bar_spelled catalogue provider proves.over proves.same proves.exact said.lines s t (barred_version catalogue provider proves.over proves.same proves.exact s bars) by)
+  step_spelled n (Rule (Locked locked s)) t at by = (let (condition, bars) = proves.proof n _ at in bar_spelled catalogue provider proves.over proves.same proves.exact said.lines s t (barred_version catalogue provider proves.over proves.same proves.exact s (Bar.lock locked) bars) by)
+  step_spelled n (Rule (Excluded s reason)) t at by = (let (condition, bars) = proves.proof n _ at in bar_spelled catalogue provider proves.over proves.same proves.exact said.lines s t (barred_version catalogue provider proves.over proves.same proves.exact s (Bar.word reason) bars) by)
   step_spelled n (Rule (Digit s place bit)) t at is =
       let (version, below) = digit_known n s place bit at in
       subst (λ (x : told.Step). IsClauseOf (Rule (Digit s place bit)) x) (sym is) (digit_spelled catalogue provider proves.over proves.same proves.exact said.lines s place bit version below)

@@ -4,13 +4,13 @@ use Rattle.std.proofs.lemmas.Bool.{or_cases, or_left, or_right}
 use Rattle.std.specs.Prelude.{◌||◌}
 use Rattle.resolvo_pool.specs.declared.id.VersionSetId.{VersionSetId}
 use Rattle.resolvo_pool.specs.RuleKeeping.{Packages, Rules, is_outside, is_barred, is_unknown}
-use Rattle.resolvo_rules.specs.Encoding.{Rule, IsRule, is_kept_out}
-use Rattle.resolvo_rules.proofs.Members.{kept_out_barred}
+use Rattle.resolvo_rules.specs.Encoding.{IsExact, Rule, Bar, IsRule}
+use Rattle.resolvo_rules.proofs.Members.{kept_out}
 
 module _ {N S : Type 0} (same : S → S → Bool) (p : Packages N S) (root : Rules) where
   -- a lock or an exclusion bars the solvable, or its dependencies are unknown
-  pub bars_says : (s : S) → IsRule same p root (Rule.bars s) → (is_barred same p s || is_unknown (p.dependencies_of s)) ≡ true
-  bars_says s h = elim (or_cases (is_kept_out same p s) (is_unknown (p.dependencies_of s)) h) [ inl out ↦ or_left _ _ (kept_out_barred same p s out) | inr unknown ↦ or_right _ _ unknown ]
+  pub bars_says : IsExact same → (w : Bar S) (s : S) → IsRule same p root (Rule.bars w s) → (is_barred same p s || is_unknown (p.dependencies_of s)) ≡ true
+  bars_says exact w s h = kept_out same exact p w s h
 
   -- the solvable is outside the version set
   pub out_says : (v : VersionSetId) (s : S) → IsRule same p root (Rule.is_out v s) → is_outside same p v s ≡ true

@@ -18,7 +18,7 @@ use Rattle.resolvo_pool.specs.declared.id.VersionSetId.{VersionSetId}
 use Rattle.resolvo_pool.specs.declared.requirement.Requirement.{Requirement}
 use Rattle.resolvo_pool.specs.declared.requirement.ConditionalRequirement.{ConditionalRequirement}
 use Rattle.resolvo_pool.specs.RuleKeeping.{rules_of, rules_for, is_barred, is_unknown}
-use Rattle.resolvo_rules.specs.Encoding.{has_condition, same_requirement, cases_under}
+use Rattle.resolvo_rules.specs.Encoding.{Bar, has_condition, same_requirement, cases_under}
 use Rattle.resolvo_rules.proofs.Lists.{contains_first, contains_later, any_contained}
 use Rattle.resolvo_proof.specs.declared.step.ProofStep.{ProofStep}
 use Rattle.resolvo_proof.specs.declared.step.ProofStep.TheVariants.{Rule, Derived}
@@ -292,8 +292,8 @@ module _ (catalogue : List Line) (said : Said) (p : Provider) (steps : List (Pro
       let (condition, (has, out)) = proves.proof n _ at in
       (line, is, limit_told parent v line by has)
   step_told n (Rule (Outside v s)) t at tells written = written
-  step_told n (Rule (Locked locked s)) t at tells written = (let (condition, bars) = proves.proof n _ at in bar_told s t (barred_version catalogue p proves.over proves.same proves.exact s bars) tells (bars_says proves.same (packages_of p) (root_of proves.ids) s bars))
-  step_told n (Rule (Excluded s reason)) t at tells written = (let (condition, bars) = proves.proof n _ at in bar_told s t (barred_version catalogue p proves.over proves.same proves.exact s bars) tells (bars_says proves.same (packages_of p) (root_of proves.ids) s bars))
+  step_told n (Rule (Locked locked s)) t at tells written = (let (condition, bars) = proves.proof n _ at in bar_told s t (barred_version catalogue p proves.over proves.same proves.exact s (Bar.lock locked) bars) tells (bars_says proves.same (packages_of p) (root_of proves.ids) proves.exact (Bar.lock locked) s bars))
+  step_told n (Rule (Excluded s reason)) t at tells written = (let (condition, bars) = proves.proof n _ at in bar_told s t (barred_version catalogue p proves.over proves.same proves.exact s (Bar.word reason) bars) tells (bars_says proves.same (packages_of p) (root_of proves.ids) proves.exact (Bar.word reason) s bars))
   step_told n (Rule (Digit s place bit)) t at tells written = written
   step_told n (Rule (AtLeastOne name s)) t at tells written = written
   step_told n (Derived literals causes) t at tells written =

@@ -20,7 +20,7 @@ use Rattle.resolvo_pool.specs.Provider as pool
 use Rattle.resolvo_pool.specs.RuleKeeping.{Packages, rules_of, rules_for, is_in, is_outside}
 use Rattle.resolvo_pool.specs.Text.{alternatives_of}
 use Rattle.resolvo_store.specs.AtMostOne.{digit}
-use Rattle.resolvo_rules.specs.Encoding.{Atom, IsExact, plus, minus, solvables, IsRule, asks, has_condition, same_requirement, cases_under, parent_literals, case_literals, candidate_literals, literals_of}
+use Rattle.resolvo_rules.specs.Encoding.{Atom, IsExact, Bar, plus, minus, solvables, IsRule, asks, has_condition, same_requirement, cases_under, parent_literals, case_literals, candidate_literals, literals_of}
 use Rattle.resolvo_rules.proofs.Lists.{contains_none, contains_cases, contains_first, contains_later, contains_parts, map_contains, filter_contains, any_contained, contains_map}
 use Rattle.resolvo_coding.specs.declared.atom.ProofAtom.{ProofAtom}
 use Rattle.resolvo_coding.specs.declared.atom.ProofAtom.TheVariants as atom
@@ -261,8 +261,8 @@ module _ (catalogue : List Line) (said : Said) (provider : Provider) (over : IsO
       known_append (parent_literals parent) (minus (Atom.solvable s) ∷ []) (parent_known parent (limit_known parent v is.0).0) (known_more (minus (Atom.solvable s)) [] (outside_version v s is.1) known_none)
   rule_known condition (Outside v s) (parent, stated, out) =
       known_more (minus (Atom.solvable s)) (plus (Atom.outside v) ∷ []) (outside_version v s out) (known_more (plus (Atom.outside v)) [] (limit_known parent v stated).1 known_none)
-  rule_known condition (Locked locked s) is = known_more (minus (Atom.solvable s)) [] (barred_version catalogue provider over same exact s is) known_none
-  rule_known condition (Excluded s reason) is = known_more (minus (Atom.solvable s)) [] (barred_version catalogue provider over same exact s is) known_none
+  rule_known condition (Locked locked s) is = known_more (minus (Atom.solvable s)) [] (barred_version catalogue provider over same exact s (Bar.lock locked) is) known_none
+  rule_known condition (Excluded s reason) is = known_more (minus (Atom.solvable s)) [] (barred_version catalogue provider over same exact s (Bar.word reason) is) known_none
   rule_known condition (Digit s place bit) (among, below) =
       let known = candidate_version (name_of provider.ids s) s among in
       let told : Literal (Atom NameId SolvableId) = record { atom = Atom.digit (name_of provider.ids s) bit; positive = digit place bit } in

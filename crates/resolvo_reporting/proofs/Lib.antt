@@ -8,5 +8,8 @@ pub mod FirstExample
 pub mod Atoms
 pub mod Knowing
 pub mod Walking
+pub mod Using
 pub mod Serving
 pub mod Upheld
+pub mod Joining
+pub mod Messaging

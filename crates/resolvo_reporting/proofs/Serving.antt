@@ -271,7 +271,7 @@ module _ (catalogue : List Line) (said : Said) (provider : Provider) (over : IsO
         → step_bars catalogue said.lines after (versions_of catalogue (take t.begin v)) x (number_at places t.step) ≡ true
     refused_bars proof kept wanted places proofs are_wanted numbered written others after install whole t h refused x there =
         let (k, step, only) = (proofs t h).refused refused in
-        let (place, stands, at, kept_at, renumbered) = numbered.stands k (Derived only.literals only.causes) (are_wanted t k h step) only.derived in
+        let (place, stands, at, kept_at, renumbered) = numbered.stands k (Derived only.literals only.causes) (are_wanted.each t k h step) only.derived in
         let (causes, is, zipped) = renumbered in
         let bar : IsBarAt catalogue kept (versions_of catalogue (take t.begin v)) x place = record {
           literals = only.literals;

@@ -1,13 +1,16 @@
 -- What the solver found, told as a report that the judge says yes to.
 use Rattle.std.proofs.Common.{◌≡◌, Bor, ℕ, zero, suc, ◌<◌, Bool, List, [], ◌∷◌, map, length, Some, None, Result, Ok, Err, Vec, Global, refl, sym, ap, subst, ◌∙◌, arith}
 use Rattle.std.specs.Prelude.{Contains, IfOk, slice_get}
-use Rattle.std.specs.List.{AllZip}
+use Rattle.std.specs.List.{AllByRecursion, AllZip}
 use Rattle.resolvo_text.specs.Line.{Line}
 use Rattle.resolvo_catalogue.specs.Grammar.{AreRequestLines}
 use Rattle.resolvo_catalogue.specs.Listed.{listed, members}
 use Rattle.resolvo_catalogue.specs.Questions.{Said, AreAll, IsWish, LineIs}
 use Rattle.resolvo_catalogue.specs.declared.rule.VersionNo.{VersionNo}
+use Rattle.resolvo_catalogue.specs.Answers.{Answer}
+use Rattle.resolvo_listing.specs.Order.{AreTurns}
 use Rattle.resolvo_listing.specs.View.{turns_of}
+use Rattle.resolvo_judge.specs.Refusal.{answer_of}
 use Rattle.resolvo_listing.specs.declared.entry.Turn.{Turn}
 use Rattle.resolvo_listing.specs.declared.entry.Turn.TheVariants.{Chose}
 use Rattle.resolvo_search.specs.declared.analysis.Refusal.{Refusal}
@@ -22,14 +25,22 @@ use Rattle.resolvo_provider.specs.Over.{IsOver, AreAsked}
 use Rattle.resolvo_provider.specs.declared.provider.RequestIds.{RequestIds}
 use Rattle.resolvo_provider.proofs.Marking.{one_some}
 use Rattle.resolvo_rules.proofs.Lists.{contains_map}
-use Rattle.resolvo_proof.specs.Trimmed as proof
+use Rattle.resolvo_proof.specs.Trimmed as trimming
 use Rattle.resolvo_proof.specs.Trimmed.{Names, IsLast, IsTrimmed, IsTrimmedTo, IsTrimmedWith, StaysProof}
 use Rattle.resolvo_proof.specs.Proof.{EndsEmpty}
 use Rattle.resolvo_proof.specs.Drawn.{HaveOneSigns}
 use Rattle.resolvo_proof.specs.Places.{HaveOnePlace}
 use Rattle.resolvo_proof.specs.declared.step.ProofStep.{ProofStep}
 use Rattle.resolvo_proof.specs.declared.step.ProofStep.TheVariants.{Rule, Derived}
-use Rattle.resolvo_report.specs.Value.{Literal, Step, Derive, Report}
+use Rattle.resolvo_report.specs.Value.{Step, Message, Refused, Report}
+use Rattle.resolvo_report.specs.Text.{HasText, report_lines, report_text}
+use Rattle.resolvo_report.specs.Grammar.{IsReport}
+use Rattle.resolvo_judge.specs.Refusal.{IsAccepted}
+use Rattle.resolvo_judge.specs.Judgement.{IsUpheld, IsClaimTrue}
+use Rattle.resolvo_judge.proofs.MessageLaws.{upheld_with}
+use Rattle.resolvo_conflict.specs.Offered.{offered_by}
+use Rattle.resolvo_conflict.specs.declared.offers.Offers.{Offers}
+use Rattle.resolvo.specs.Conflicts.{AreOffers}
 use Rattle.resolvo_entries.specs.Numbers.{numbers_of}
 use Rattle.resolvo_entries.specs.Install.{AreWishes, Serve, IsInstallOf}
 use Rattle.resolvo_refusal.specs.Refusal.{IsProofOver, IsToldBy, Refutes, IsRefusalOf}
@@ -41,15 +52,19 @@ use Rattle.resolvo.specs.Encoder.{IsRoot}
 use Rattle.resolvo.specs.Solving.{HaveProofs, Holds, IsPreferred, IsSolved, EndsSo}
 use Rattle.resolvo.specs.Wished.{AreCandidates}
 use Rattle.resolvo.specs.declared.turns.Turn as Solver
+use Rattle.resolvo.proofs.Forward.{one_each}
+use Rattle.resolvo.specs.Turns.{first_of}
 use Rattle.resolvo_reporting.specs.Wishes.{AreWishesAt, AreWishesOf, free_of}
 use Rattle.resolvo_reporting.specs.Turning.{AreTold, AreWanted, IsFirstTurn}
 use Rattle.resolvo_reporting.specs.declared.wishes.Wish.{Wish}
 use Rattle.resolvo_reporting.specs.First.{orders_of, AreFirstChosen}
-use Rattle.resolvo_reporting.specs.Solved.{IsInstalledOver, IsSolvedOver}
-use Rattle.resolvo_reporting.specs.Reported.{AreNamed, IsAnswer, IsReportOf}
+use Rattle.resolvo_reporting.specs.Message.{IsMessageOf, IsPlain, IsTextOf, with_message}
+use Rattle.resolvo_reporting.specs.Solved.{IsInstalledOver, IsRefutedOver, IsSolvedOver}
+use Rattle.resolvo_reporting.specs.Reported.{AreNamed, AreUsed, AreWishTurns, IsAnswer, IsReportOf}
 use Rattle.resolvo_reporting.proofs.Atoms.{same_atom, exact_atom}
 use Rattle.resolvo_reporting.proofs.Knowing.{known_kept}
 use Rattle.resolvo_reporting.proofs.Serving.{AreSteps, first_entries, free_candidates, one_step_more, refused_bars, serve_is, steps_hold, written_steps}
+use Rattle.resolvo_reporting.proofs.Using.{told_later, wish_turns, steps_used, zip_length}
 use Rattle.resolvo_reporting.proofs.Walking.{steps_front}
 
 pub if_ok : {A E : Type 0} {P Q : A → Type 0} (r : Result A E) → ((a : A) → P a → Q a) → IfOk r P → IfOk r Q
@@ -57,47 +72,42 @@ if_ok (Ok a) f h = f a h
 if_ok (Err e) f h = tt
 
 -- the install report of the turns of a search
-pub install_reported : (catalogue request : List Line) (part : Bor (List VersionNo)) (rest : List Turn) (steps : List Step) (r : Report) → IsInstallOf catalogue request (Chose None part ∷ rest) steps r → AreFirstChosen catalogue request (members (listed catalogue) part.now) → IsReportOf catalogue request r
-install_reported catalogue request part rest steps r i first = record {
+pub install_reported : (catalogue request : List Line) (part : Bor (List VersionNo)) (rest : List Turn) (steps : List Step) (r : Report) → IsInstallOf catalogue request (Chose None part ∷ rest) steps r → AreWishTurns request (turns_of (listed catalogue) rest) → AreFirstChosen catalogue request (members (listed catalogue) part.now)
+    → ((answers : List Answer) → AreTurns catalogue request [] [] (turns_of (listed catalogue) (Chose None part ∷ rest)) answers → AreUsed answers steps) → IsReportOf catalogue request r
+install_reported catalogue request part rest steps r i wished first used = record {
   upheld = record { report = i.report; is = refl; accepted = i.accepted };
   claim = i.claim;
-  answer = subst (λ (x : Report). IsAnswer catalogue request x) (sym i.installs) (record { chosen = members (listed catalogue) part.now; later = turns_of (listed catalogue) rest; order = i.order; all = i.entries; first = first });
+  answer = subst (λ (x : Report). IsAnswer catalogue request x) (sym i.installs) (record { chosen = members (listed catalogue) part.now; later = turns_of (listed catalogue) rest; wished = wished; order = i.order; all = i.entries; first = first }, used (map answer_of i.lines) i.order);
 }
 
 -- ---- refusals
 
-zip_left : {X Y : Type 0} (R : X → Y → Type 0) (xs : List X) (ys : List Y) → AllZip R xs ys → (n : ℕ) (x : X) → slice_get xs n ≡ Some x → (y : Y) × (slice_get ys n ≡ Some y) × R x y
-zip_left R [] ys all n x e = absurd cc
-zip_left R (z ∷ xs) [] all n x e = absurd all
-zip_left R (z ∷ xs) (y ∷ ys) all zero x e = (y, refl, subst (λ w. R w y) (one_some e) all.0)
-zip_left R (z ∷ xs) (y ∷ ys) all (suc n) x e = zip_left R xs ys all.1 n x e
-
-zip_length : {X Y : Type 0} (R : X → Y → Type 0) (xs : List X) (ys : List Y) → AllZip R xs ys → length ys ≡ length xs
-zip_length R [] [] all = refl
-zip_length R [] (y ∷ ys) all = absurd all
-zip_length R (z ∷ xs) [] all = absurd all
-zip_length R (z ∷ xs) (y ∷ ys) all = ap suc (zip_length R xs ys all.1)
-
 -- steps that are told lead to the last one where those of the proof do
-told_named : (catalogue request : List Line) (ids : Ids) (steps : List (ProofStep NameId SolvableId)) (written : List Step) → AllZip (IsToldBy catalogue ids request) steps written → proof.AreNamed steps → AreNamed written
+told_named : (catalogue request : List Line) (ids : Ids) (steps : List (ProofStep NameId SolvableId)) (written : List Step) → AllZip (IsToldBy catalogue ids request) steps written → trimming.AreNamed steps → AreNamed written
 told_named catalogue request ids steps written each named k below =
     let long : length written ≡ length steps = zip_length (IsToldBy catalogue ids request) steps written each in
-    let (later, step, after, at, names) = named k (omega (arith, below, long)) in
-    go later step after at names
-  where
-    go : (later : ℕ) (step : ProofStep NameId SolvableId) → k < later → slice_get steps later ≡ Some step → Names step k → (later : ℕ) × (literals : List Literal) × (causes : List ℕ) × (k < later) × (slice_get written later ≡ Some (Derive literals causes)) × Contains causes (suc k)
-    go later (Rule r) after at names = absurd names
-    go later (Derived literals causes) after at names =
-        let (t, there, told) = zip_left (IsToldBy catalogue ids request) steps written each later (Derived literals causes) at in
-        (later, told.0, map suc causes.items, after, there ∙ ap (λ (x : Step). Some x) told.1, contains_map suc k causes.items names)
+    told_later catalogue request ids steps written each k (named k (omega (arith, below, long)))
 
--- the refused report of a proof whose steps lead to the last one
-pub refusal_reported : (catalogue request : List Line) (ids : Ids) (steps : List (ProofStep NameId SolvableId)) (r : Report) → IsRefusalOf catalogue request ids steps r → proof.AreNamed steps → IsReportOf catalogue request r
-refusal_reported catalogue request ids steps r i named = record {
-  upheld = record { report = i.report; is = refl; accepted = i.accepted };
-  claim = i.claim;
-  answer = subst (λ (x : Report). IsAnswer catalogue request x) (sym i.refuses) (told_named catalogue request ids steps i.written i.each named, refl);
-}
+-- a line without a newline has a text
+plain_texts : (message : List (List ℕ)) → AllByRecursion IsPlain message → AllByRecursion HasText (map Message message)
+plain_texts [] plain = tt
+plain_texts (line ∷ message) plain = (plain.0, plain_texts message plain.1)
+
+-- the refused report of a proof whose steps lead to the last one, with the message of their conflict
+pub refusal_reported : (catalogue request : List Line) (ids : Ids) (steps : List (ProofStep NameId SolvableId)) (r : Report) (message : List (List ℕ)) → IsRefusalOf catalogue request ids steps r → trimming.AreNamed steps → AllByRecursion IsPlain message
+    → ((written : List Step) → AllZip (IsToldBy catalogue ids request) steps written → IsMessageOf catalogue request written message) → IsReportOf catalogue request (with_message message r)
+refusal_reported catalogue request ids steps r message i named plain tells =
+    let bare : Report = Refused i.in_catalogue i.in_request i.written [] in
+    let upheld : IsUpheld catalogue request (report_text bare) bare = record {
+      report = subst IsReport i.refuses i.report;
+      is = refl;
+      accepted = subst (λ (x : Report). IsAccepted catalogue request (report_lines x)) i.refuses i.accepted;
+    } in
+    subst (λ (x : Report). IsReportOf catalogue request (with_message message x)) (sym i.refuses) (record {
+      upheld = upheld_with i.in_catalogue i.in_request i.written catalogue request [] message (plain_texts message plain) upheld;
+      claim = subst (λ (x : Report). IsClaimTrue catalogue request x) i.refuses i.claim;
+      answer = (told_named catalogue request ids steps i.written i.each named, tells i.written i.each);
+    })
 
 -- ---- what was found
 
@@ -133,8 +143,9 @@ module _ (catalogue : List Line) (said : Said) (provider : Provider) (wishes : L
         let steps : AreSteps catalogue said.lines after = steps_hold catalogue (AreSteps catalogue said.lines) (one_step_more catalogue said.lines) numbers turns places wishes 0 written rest after is.told.bars (written_steps catalogue said.lines provider.ids kept written install) told in
         let serve = serve_is catalogue said provider is.over is.ids is.asked asks_rightly is.same is.exact is.are_wishes wishes is.told chosen turns is.wished numbers numbers_are places after written t rest first_turn told refuses steps in
         let (part, is_first, between) = first_turn in
-        install_reported catalogue said.lines part rest after r (subst (λ (u : Turn). IsInstallOf catalogue said.lines (u ∷ rest) after r) is_first (reports serve))
+        install_reported catalogue said.lines part rest after r (subst (λ (u : Turn). IsInstallOf catalogue said.lines (u ∷ rest) after r) is_first (reports serve)) (wish_turns catalogue said.lines t rest after serve)
         (first_entries catalogue said provider is.over is.ids is.asked asks_rightly is.same is.exact is.are_wishes wishes is.told chosen turns is.wished numbers numbers_are part between is.preferred)
+        (steps_used catalogue said.lines provider.ids turns chosen proof kept wanted places are_wanted numbered is.proofs written install.each numbers wishes (Chose None part) rest after told (one_each is.same (packages_of provider) (root_of is.ids) chosen (first_of chosen turns) (free_of wishes) turns is.wished))
 
   module _ (solved : Solved NameId SolvableId) (is : IsSolvedOver catalogue said provider wishes solved) where
     -- what was chosen
@@ -158,27 +169,67 @@ module _ (catalogue : List Line) (said : Said) (provider : Provider) (wishes : L
           proofs = subst (λ (f : Found SolvableId). HaveProofs solved.proof.items f) found all.proofs;
         }
 
-    -- the refused report of the proof of a clash, where the steps that lead to its end were kept
-    pub clash_reported : (clash : Refusal) → solved.found ≡ Clash clash → (kept : List (ProofStep NameId SolvableId)) → IsTrimmed solved.proof.items kept → proof.AreNamed kept → StaysProof solved.proof.items kept → (EndsEmpty solved.proof.items → EndsEmpty kept)
-        → (HaveOnePlace solved.proof.items → HaveOnePlace kept) → (HaveOneSigns solved.proof.items → HaveOneSigns kept) → (r : Report) → (Refutes catalogue said provider kept → IsRefusalOf catalogue said.lines provider.ids kept r) → IsReportOf catalogue said.lines r
-    clash_reported clash found kept trimmed named stays ends places signs r reports =
+    -- that there is no solution
+    pub solved_refuted : (clash : Refusal) → solved.found ≡ Clash clash → IsRefutedOver catalogue said provider solved.proof.items
+    solved_refuted clash found =
         let all = is.solves in
-        let proved = all.proof same_atom exact_atom in
-        let whole : EndsEmpty solved.proof.items = subst (λ (f : Found SolvableId). EndsSo f solved.proof.items) found is.ends in
-        let proves : IsProofOver catalogue said provider kept = record {
+        record {
           over = is.over;
           ids = is.ids;
           asked = is.asked;
-          same_atom = same_atom;
-          exact_atom = exact_atom;
           same = is.same;
           exact = is.exact;
-          proof = stays same_atom is.same (packages_of provider) (root_of is.ids) proved;
-          known = known_kept catalogue said provider is.over asks_rightly is.ids is.asked is.same is.exact same_atom solved.proof.items proved all.drawn (IsLast solved.proof.items) kept trimmed;
-          one_sign = signs all.signs;
-          one_place = places all.one_place;
-        } in
-        refusal_reported catalogue said.lines provider.ids kept r (reports (record { proves = proves; empty = ends whole })) named
+          proved = all.proof;
+          drawn = all.drawn;
+          signs = all.signs;
+          one_place = all.one_place;
+          ends = subst (λ (f : Found SolvableId). EndsSo f solved.proof.items) found is.ends;
+        }
+
+  module _ (proof : List (ProofStep NameId SolvableId)) (is : IsRefutedOver catalogue said provider proof) where
+    -- the steps that lead to the end of a proof that there is no solution are one
+    kept_refutes : (kept : List (ProofStep NameId SolvableId)) → IsTrimmed proof kept → StaysProof proof kept → (EndsEmpty proof → EndsEmpty kept) → (HaveOnePlace proof → HaveOnePlace kept) → (HaveOneSigns proof → HaveOneSigns kept) → Refutes catalogue said provider kept
+    kept_refutes kept trimmed stays ends places signs =
+        let proved = is.proved same_atom exact_atom in
+        record {
+          proves = record {
+            over = is.over;
+            ids = is.ids;
+            asked = is.asked;
+            same_atom = same_atom;
+            exact_atom = exact_atom;
+            same = is.same;
+            exact = is.exact;
+            proof = stays same_atom is.same (packages_of provider) (root_of is.ids) proved;
+            known = known_kept catalogue said provider is.over asks_rightly is.ids is.asked is.same is.exact same_atom proof proved is.drawn (IsLast proof) kept trimmed;
+            one_sign = signs is.signs;
+            one_place = places is.one_place;
+          };
+          empty = ends is.ends;
+        }
+
+    -- its report, with the message of the conflict
+    pub clash_reported : (kept : List (ProofStep NameId SolvableId)) → IsTrimmed proof kept → trimming.AreNamed kept → StaysProof proof kept → (EndsEmpty proof → EndsEmpty kept)
+        → (HaveOnePlace proof → HaveOnePlace kept) → (HaveOneSigns proof → HaveOneSigns kept) → (r : Report) → (Refutes catalogue said provider kept → IsRefusalOf catalogue said.lines provider.ids kept r)
+        → (same_name : NameId → NameId → Bool) → IsExact same_name → (same : SolvableId → SolvableId → Bool) → IsExact same → (offers : Offers SolvableId) → AreOffers same (packages_of provider) (orders_of same provider) kept offers
+        → (message : List (List ℕ)) → IsTextOf same_name same provider (offered_by offers) kept message → IsReportOf catalogue said.lines (with_message message r)
+    clash_reported kept trimmed named stays ends places signs r reports same_name one_name same exact offers offered message text =
+        let refutes = kept_refutes kept trimmed stays ends places signs in
+        refusal_reported catalogue said.lines provider.ids kept r message (reports refutes) named text.plain (λ written told. record {
+          said = said;
+          asks = refl;
+          provider = provider;
+          proof = kept;
+          proves = refutes.proves;
+          told = told;
+          same_name = same_name;
+          one_name = one_name;
+          same = same;
+          exact = exact;
+          offers = offers;
+          offered = offered;
+          text = text;
+        })
 
 -- a search over a provider of the catalogue, which interned the request
 pub solved_over : (catalogue : List Line) (said : Said) (wishes : List Wish) (interned kept provider : Provider) (ids : RequestIds) (requirements : List ConditionalRequirement) (constraints : List VersionSetId) (free : List SolvableId) (same : SolvableId → SolvableId → Bool) (solved : Solved NameId SolvableId)

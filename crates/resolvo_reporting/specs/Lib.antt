@@ -4,3 +4,4 @@ pub mod First
 pub mod Turning
 pub mod Solved
 pub mod Reported
+pub mod Message

@@ -12,6 +12,7 @@ use Rattle.resolvo_rules.specs.First.{ArePreferred}
 use Rattle.resolvo_entries.specs.Install.{AreWishes}
 use Rattle.resolvo_proof.specs.Drawn.{AreDrawn, HaveOneSigns}
 use Rattle.resolvo_proof.specs.Places.{HaveOnePlace}
+use Rattle.resolvo_proof.specs.Proof.{EndsEmpty}
 use Rattle.resolvo_proof.specs.declared.step.ProofStep.{ProofStep}
 use Rattle.resolvo.specs.declared.proving.Solved.{Solved}
 use Rattle.resolvo.specs.declared.turns.Turn.{Turn}
@@ -34,6 +35,20 @@ pub record IsSolvedOver (catalogue : List Line) (said : Said) (provider : Provid
   pub are_wishes : AreWishes catalogue said.lines said.wishes
   -- each wish is told with the step that bars it, if one does
   pub told : AreWishesOf catalogue said.wishes wishes
+
+-- The proof is one that there is no solution, for what a request asks.
+pub record IsRefutedOver (catalogue : List Line) (said : Said) (provider : Provider) (proof : List (ProofStep NameId SolvableId)) : Type 0 where
+  pub over : IsOver catalogue provider
+  pub ids : RequestIds
+  pub asked : AreAsked provider.ids said ids
+  -- an exact test of whether two solvables are the same
+  pub same : SolvableId → SolvableId → Bool
+  pub exact : IsExact same
+  pub proved : AreProved same (packages_of provider) (root_of ids) proof
+  pub drawn : AreDrawn same (packages_of provider) proof
+  pub signs : HaveOneSigns proof
+  pub one_place : HaveOnePlace proof
+  pub ends : EndsEmpty proof
 
 -- What a search over the provider chose in its turns, for the wishes that no step bars, is right and was preferred; and its proof is
 -- one, in which each refused wish has a step.

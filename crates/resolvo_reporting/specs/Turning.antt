@@ -16,8 +16,9 @@ abbrev pub Solved : Type 0
 Solved = solver.Turn SolvableId
 
 -- these are the steps of the turns, for those that have one
-abbrev pub AreWanted : List Solved → List ℕ → Type 0
-AreWanted turns wanted = (t : Solved) (k : ℕ) → Contains turns t → t.step ≡ Some k → Contains wanted k
+pub record AreWanted (turns : List Solved) (wanted : List ℕ) : Type 0 where
+  pub each : (t : Solved) (k : ℕ) → Contains turns t → t.step ≡ Some k → Contains wanted k
+  pub only : (k : ℕ) → Contains wanted k → (t : Solved) × Contains turns t × (t.step ≡ Some k)
 
 -- a step more is wanted, if it is one
 abbrev pub Wants : Option ℕ → List ℕ → List ℕ → Type 0

@@ -2,13 +2,16 @@
 
 ghost use Rattle.std.specs.Prelude.{◌≡◌, IfOk};
 ghost use Rattle.resolvo_catalogue.specs.Grammar.{AreRequestLines};
-ghost use Rattle.resolvo_report.specs.View.{report_of};
+ghost use Rattle.resolvo_report.specs.View.{messages_of, report_of};
+ghost use Rattle.resolvo_reporting.specs.Message.{with_message};
 ghost use Rattle.resolvo_reporting.specs.Wishes.{AreWishesAt};
-ghost use Rattle.resolvo_reporting.specs.Solved.{IsInstalledOver, IsSolvedOver};
+ghost use Rattle.resolvo_reporting.specs.Solved.{IsInstalledOver, IsRefutedOver, IsSolvedOver};
 ghost use Rattle.resolvo_reporting.specs.Reported.{IsReportOf};
 
+use crate::message::message_of;
 use crate::turning::{Outcome, report_turns, wanted_steps};
 use crate::wishes::{Wish, free_wishes, wishes_of};
+use resolvo::conflict::offers_for;
 use resolvo::deciding::Activity;
 use resolvo::proving::{Solved, solve};
 use resolvo::search::Found;
@@ -53,16 +56,63 @@ fn installed(
     Ok(install_report(alloc, catalogue, request, told.as_slice(), written)?)
 }
 
+/// A refused report with these lines of message.
+fn with_message(report: Report, lines: Vec<Vec<u8>>) -> Report
+    ensures { report_of result ≡ with_message (messages_of lines.items) (report_of report) }
+{
+    match report {
+        Report::Refused {
+            catalogue,
+            request,
+            steps,
+            message: _,
+        } => Report::Refused {
+            catalogue,
+            request,
+            steps,
+            message: lines,
+        },
+        report => report,
+    }
+}
+
+/// The proof that there is no solution over the provider of a catalogue, as a report with its message.
+fn refused(
+    alloc: Global,
+    catalogue: &Catalogue,
+    request: &Request,
+    answers: &mut Answers<CatalogueProvider>,
+    proof: Vec<ProofStep<NameId, SolvableId>>,
+) -> R<Report>
+    ensures { IfOk result (λ r. AreRequestLines catalogue.now request.now.lines → IsRefutedOver catalogue.now request.now answers.old proof.items → IsReportOf catalogue.now request.now.lines (report_of r)) }
+{
+    let steps = trim(alloc, proof)?;
+    let report = refused_report(
+        alloc,
+        catalogue,
+        request,
+        answers.provider(),
+        steps.as_slice(),
+    )?;
+    match offers_for(alloc, answers, steps.as_slice()) {
+        Ok(offers) => {
+            let lines = message_of(alloc, answers.provider(), &offers, steps.as_slice())?;
+            Ok(with_message(report, lines))
+        }
+        Err(fault) => Err(stopped(fault)),
+    }
+}
+
 /// What the solver found over the provider of a catalogue, as a report.
 fn told(
     alloc: Global,
     catalogue: &Catalogue,
     request: &Request,
-    provider: &CatalogueProvider,
+    answers: &mut Answers<CatalogueProvider>,
     wishes: Vec<Wish>,
     solved: Solved<NameId, SolvableId>,
 ) -> R<Report>
-    ensures { IfOk result (λ r. AreRequestLines catalogue.now request.now.lines → IsSolvedOver catalogue.now request.now provider.now wishes.items solved → IsReportOf catalogue.now request.now.lines (report_of r)) }
+    ensures { IfOk result (λ r. AreRequestLines catalogue.now request.now.lines → IsSolvedOver catalogue.now request.now answers.old wishes.items solved → IsReportOf catalogue.now request.now.lines (report_of r)) }
 {
     let Solved { found, proof, .. } = solved;
     match found {
@@ -70,16 +120,13 @@ fn told(
             alloc,
             catalogue,
             request,
-            provider,
+            answers.provider(),
             wishes,
             solvables.as_slice(),
             turns.as_slice(),
             proof,
         ),
-        Found::Clash(_) => {
-            let steps = trim(alloc, proof)?;
-            refused_report(alloc, catalogue, request, provider, steps.as_slice())
-        }
+        Found::Clash(_) => refused(alloc, catalogue, request, answers, proof),
     }
 }
 
@@ -114,14 +161,7 @@ pub fn report_for(alloc: Global, catalogue: &Catalogue, request: &Request) -> R<
         free.as_slice(),
     );
     match solved {
-        Ok(solved) => told(
-            alloc,
-            catalogue,
-            request,
-            answers.provider(),
-            wishes,
-            solved,
-        ),
+        Ok(solved) => told(alloc, catalogue, request, &mut answers, wishes, solved),
         Err(fault) => Err(stopped(fault)),
     }
 }

@@ -9,7 +9,7 @@ use Rattle.resolvo_pool.specs.OnePass.{Literal, negate, is_true_at, clause_true}
 use Rattle.resolvo_pool.specs.Provider.{listed}
 use Rattle.resolvo_pool.specs.Text.{alternatives_of}
 use Rattle.resolvo_pool.specs.RuleKeeping.{Packages, Rules, is_in, is_match, is_outside, is_met, meets, binds, is_barred, rules_for, is_member, IsSingle, Obeys, IsRuleKeeping, IsNamed, IsExemptKeeping, IsClosed, IsReached}
-use Rattle.resolvo_rules.specs.Encoding.{IsExact, Atom, Rule, plus, minus, parent_literals, case_holds, case_literals, candidate_literals, literals_of, IsRule, value, Fits, shown, IsImplied, IsBarredIn, AgreeWith}
+use Rattle.resolvo_rules.specs.Encoding.{IsExact, Atom, Rule, plus, minus, parent_literals, case_holds, case_literals, candidate_literals, literals_of, IsRule, value, Fits, shown, IsImplied, IsBarredIn, HasBar, AgreeWith}
 use Rattle.resolvo_rules.specs.Ending.{AreFalse, IsTrueParent, IsCalledFor, IsEnd, is_digit, digits_in, IsAccepted, Denies}
 use Rattle.resolvo_rules.proofs.Lists.{contains_cases, contains_none, contains_parts, all_contained, any_contained, contained_any, contains_filter, filter_contains}
 use Rattle.resolvo_rules.proofs.Members.{true_plus, true_minus, twice, made_by, any_in, in_contained, contained_in, candidate_named, in_case, stands_candidate, binds_case}
@@ -134,8 +134,8 @@ module _ {N S : Type 0} (same : S → S → Bool) (exact : IsExact same) (same_n
   does_obey = record { requirements_met = needs_are_met; constraints_kept = limits_are_kept }
 
   -- a clause that bars a solvable keeps it out
-  pub barred_out : (s : S) → rules (Rule.bars s) → is_in same p members s ≡ false
-  barred_out s r = false_from_ne_true _ (λ c. quiet_single known (minus (Atom.solvable s)) (end.quiet _ r) (end.true_on_trail s c))
+  pub barred_out : (s : S) → HasBar rules s → is_in same p members s ≡ false
+  barred_out s (w, r) = false_from_ne_true _ (λ c. quiet_single known (minus (Atom.solvable s)) (end.quiet _ r) (end.true_on_trail s c))
 
   digit_atom : (n : N) (bit : ℕ) (a : Atom N S) → is_digit same_name n bit a ≡ true → a ≡ Atom.digit n bit
   digit_atom n bit (Atom.solvable s) h = absurd (both_ways false refl h)
@@ -167,7 +167,7 @@ module _ {N S : Type 0} (same : S → S → Bool) (exact : IsExact same) (same_n
     where
       fits : Fits same p rules (digits_in same_name known) part
       fits = record {
-        unbarred = λ s a. false_from_ne_true _ (λ i. both_ways _ (barred_out s a) (c.inside s i));
+        unbarred = λ w s a. false_from_ne_true _ (λ i. both_ways _ (barred_out s (w, a)) (c.inside s i));
         told = λ s bit b a i. (let d : Literal (Atom N S) = record { atom = Atom.digit (p.package_of s) bit; positive = b } in digit_given (p.package_of s) bit b d refl (quiet_second known (minus (Atom.solvable s)) d (end.quiet _ a) (end.true_on_trail s (c.inside s i))));
       }
 

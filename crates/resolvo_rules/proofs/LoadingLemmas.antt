@@ -30,6 +30,6 @@ module _ {N S : Type 0} (same : S → S → Bool) (p : Packages N S) (root : Rul
   parent_grows rules more waiting left parent f g e = record {
     need = λ need case n a. elim (e.need need case n a) [ inl x ↦ inl (need_grows rules more parent need case f x) | inr w ↦ g _ w ];
     limit = λ v s a o. elim (e.limit v s a o) [ inl r ↦ inl (f _ r) | inr (r, q) ↦ inr (f _ r, f _ q) ];
-    bar = λ v s a b. f _ (e.bar v s a b);
-    unknown = λ s is u. f _ (e.unknown s is u);
+    bar = λ v s a b. (let (w, r) = e.bar v s a b in (w, f _ r));
+    unknown = λ s is u. (let (w, r) = e.unknown s is u in (w, f _ r));
   }

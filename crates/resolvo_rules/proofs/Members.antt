@@ -5,6 +5,7 @@ use Rattle.std.specs.List.{list_any}
 use Rattle.std.specs.Bool.{beq}
 use Rattle.std.proofs.lemmas.Bool.{or_cases, or_left, or_right, and_parts, and_from, both_ways}
 use Rattle.std.proofs.lemmas.List.Elements.{All-contains}
+use Rattle.resolvo_pool.specs.declared.id.StringId.{StringId}
 use Rattle.resolvo_pool.specs.declared.id.VersionSetId.{VersionSetId}
 use Rattle.resolvo_pool.specs.declared.id.ConditionId.{ConditionId}
 use Rattle.resolvo_pool.specs.declared.condition.Condition.{Condition}
@@ -15,18 +16,17 @@ use Rattle.resolvo_pool.specs.declared.requirement.Requirement.{Requirement}
 use Rattle.resolvo_pool.specs.declared.requirement.Requirement.TheVariants.{Single, Union}
 use Rattle.resolvo_pool.specs.OnePass.{Literal, negate, is_true_at, clause_true}
 use Rattle.resolvo_pool.specs.Provider.{Listing, listed, AreOf}
-use Rattle.resolvo_pool.specs.RuleKeeping.{Packages, IsLawful, says, is_in, is_match, is_outside, is_met, listing_for, locks_out, is_barred, holds_within, binds_under, binds}
+use Rattle.resolvo_pool.specs.RuleKeeping.{Packages, IsLawful, says, is_in, is_match, is_outside, is_met, listing_for, locks_out, is_barred, is_unknown, holds_within, binds_under, binds}
 use Rattle.resolvo_store.specs.Cases.{says_within}
 use Rattle.resolvo_store.proofs.CaseLaws.{exact_cases}
-use Rattle.resolvo_rules.specs.Encoding.{IsExact, Atom, plus, minus, solvables, has_condition, same_requirement, asks, cases_under, cases_for, case_holds, case_literals, candidate_literals, is_kept_out}
+use Rattle.resolvo_rules.specs.Encoding.{IsExact, Atom, plus, minus, solvables, has_condition, same_requirement, asks, cases_under, cases_for, case_holds, case_literals, candidate_literals, Bar, KeepsOut}
 use Rattle.resolvo_rules.proofs.Lists.{contains_first, contains_later, contains_none, contains_cases, contains_left, contains_right, contains_parts, contains_map, map_contains, contains_filter, filter_contains, any_contained, contained_any, none_contained}
 
--- what a listing keeps out is barred
-pub kept_out_barred : {N S : Type 0} (same : S → S → Bool) (p : Packages N S) (s : S) → is_kept_out same p s ≡ true → is_barred same p s ≡ true
-kept_out_barred same p s h = elim (or_cases (is_in same p (listing_for same p s).candidates s && locks_out same (listing_for same p s).locked s) (list_any (λ e. same e.0 s) (listing_for same p s).excluded) h) [
-  | inl a ↦ or_left _ _ (and_parts (is_in same p (listing_for same p s).candidates s) (locks_out same (listing_for same p s).locked s) a).1
-  | inr a ↦ or_right _ _ a
-]
+-- what is kept out is barred, or its dependencies are unknown
+pub kept_out : {N S : Type 0} (same : S → S → Bool) → IsExact same → (p : Packages N S) (w : Bar S) (s : S) → KeepsOut same p w s → (is_barred same p s || is_unknown (p.dependencies_of s)) ≡ true
+kept_out same exact p (Bar.lock l) s (is, other, listed) = or_left _ _ (or_left _ _ (ap (λ o. locks_out same o s) is ∙ ap not other))
+kept_out {S = S} same exact p (Bar.word why) s (inl h) = or_left _ _ (or_right _ _ (contained_any (λ (e : S × StringId). same e.0 s) (s, why) (listing_for same p s).excluded h (exact.own s)))
+kept_out same exact p (Bar.word why) s (inr is) = or_right _ _ (ap is_unknown is)
 
 -- literals under a valuation
 pub plus_true : (b : Bool) → b ≡ true → beq b true ≡ true

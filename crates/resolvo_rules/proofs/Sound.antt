@@ -7,10 +7,10 @@ use Rattle.resolvo_pool.specs.declared.id.VersionSetId.{VersionSetId}
 use Rattle.resolvo_pool.specs.OnePass.{Literal, is_true_at, clause_true}
 use Rattle.resolvo_pool.specs.Provider.{listed}
 use Rattle.resolvo_pool.specs.Text.{alternatives_of}
-use Rattle.resolvo_pool.specs.RuleKeeping.{Packages, Rules, rules_of, is_unknown, is_in, is_match, is_outside, is_met, meets, is_member, IsSingle, Obeys, IsRuleKeeping}
-use Rattle.resolvo_rules.specs.Encoding.{IsExact, Atom, Rule, plus, minus, parent_literals, asks, case_holds, case_literals, candidate_literals, literals_of, is_asked, value, Fits, shown, is_kept_out, IsRule, AgreeWith}
+use Rattle.resolvo_pool.specs.RuleKeeping.{Packages, Rules, rules_of, is_unknown, is_barred, is_in, is_match, is_outside, is_met, meets, is_member, IsSingle, Obeys, IsRuleKeeping}
+use Rattle.resolvo_rules.specs.Encoding.{IsExact, Atom, Rule, plus, minus, parent_literals, asks, case_holds, case_literals, candidate_literals, literals_of, is_asked, value, Fits, shown, IsRule, AgreeWith}
 use Rattle.resolvo_rules.proofs.Lists.{contains_first, contains_later, contains_only, contains_second, all_fails}
-use Rattle.resolvo_rules.proofs.Members.{plus_true, minus_true, makes, made_left, made_right, any_in, in_any, none_in, candidate_stands, any_in_case, outside_in_case, case_binds, asked, kept_out_barred}
+use Rattle.resolvo_rules.proofs.Members.{plus_true, minus_true, makes, made_left, made_right, any_in, in_any, none_in, candidate_stands, any_in_case, outside_in_case, case_binds, asked, kept_out}
 
 module _ {N S : Type 0} (same : S → S → Bool) (exact : IsExact same) (p : Packages N S) where
   -- the solvable's denial is true, or it is in the set
@@ -100,7 +100,7 @@ module _ {N S : Type 0} (same : S → S → Bool) (exact : IsExact same) (p : Pa
               both_ways _ (o.constraints_kept parent v s here a c) out))))
         ]
     clause_holds rules digits chosen (Rule.is_out v s) o (parent, limited, outside) f stands = pair_true digits chosen s (plus (Atom.outside v)) (λ e. plus_true _ (in_any same exact p (is_outside same p v) s chosen e outside))
-    clause_holds rules digits chosen (Rule.bars s) o h f stands = single_true (value same p digits chosen) (minus (Atom.solvable s)) (minus_true _ (f.unbarred s stands))
+    clause_holds rules digits chosen (Rule.bars w s) o h f stands = single_true (value same p digits chosen) (minus (Atom.solvable s)) (minus_true _ (f.unbarred w s stands))
     clause_holds rules digits chosen (Rule.has_digit s bit true) o h f stands = pair_true digits chosen s (plus (Atom.digit (p.package_of s) bit)) (λ e. plus_true _ (f.told s bit true stands e))
     clause_holds rules digits chosen (Rule.has_digit s bit false) o h f stands = pair_true digits chosen s (minus (Atom.digit (p.package_of s) bit)) (λ e. minus_true _ (f.told s bit false stands e))
     clause_holds rules digits chosen (Rule.is_there n s) o h f stands = pair_true digits chosen s (plus (Atom.any_of n)) (λ e. plus_true _ (in_any same exact p (is_in same p (listed (p.candidates_of n))) s chosen e h))
@@ -124,6 +124,6 @@ module _ {N S : Type 0} (same : S → S → Bool) (exact : IsExact same) (p : Pa
       where
         fits : Fits same p rules (shown same p same_name bits chosen) chosen
         fits = record {
-          unbarred = λ s b. false_from_ne_true _ (λ c. elim (or_cases (is_kept_out same p s) (is_unknown (p.dependencies_of s)) (rule (Rule.bars s) b)) [ inl e ↦ both_ways _ (k.unbarred s c) (kept_out_barred same p s e) | inr e ↦ both_ways _ (k.known s c) e ]);
+          unbarred = λ w s b. false_from_ne_true _ (λ c. elim (or_cases (is_barred same p s) (is_unknown (p.dependencies_of s)) (kept_out same exact p w s (rule (Rule.bars w s) b))) [ inl e ↦ both_ways _ (k.unbarred s c) e | inr e ↦ both_ways _ (k.known s c) e ]);
           told = λ s bit b told c. shows same_name names bits chosen s bit k.single c ∙ agree s bit b told;
         }

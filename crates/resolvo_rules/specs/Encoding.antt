@@ -1,16 +1,17 @@
 -- The clauses of a problem's rules, over atoms, and the values of atoms over a set of solvables.
-use Rattle.std.specs.Prelude.{◌≡◌, ℕ, ◌<◌, ◌==◌, Bool, true, false, not, ◌&&◌, ◌||◌, List, [], ◌∷◌, ◌++◌, map, filter, Option, None, Some, Contains}
+use Rattle.std.specs.Prelude.{◌≡◌, ℕ, ◌<◌, ◌⊎◌, ◌==◌, Bool, true, false, not, ◌&&◌, ◌||◌, List, [], ◌∷◌, ◌++◌, map, filter, Option, None, Some, Contains}
 use Rattle.std.specs.List.{list_any, list_all}
 use Rattle.resolvo_pool.specs.declared.id.VersionSetId.{VersionSetId}
 use Rattle.resolvo_pool.specs.declared.id.ConditionId.{ConditionId}
+use Rattle.resolvo_pool.specs.declared.id.StringId.{StringId}
 use Rattle.resolvo_pool.specs.declared.condition.Condition.{Condition}
 use Rattle.resolvo_pool.specs.declared.requirement.ConditionalRequirement.{ConditionalRequirement}
 use Rattle.resolvo_pool.specs.declared.requirement.Requirement.{Requirement}
 use Rattle.resolvo_pool.specs.declared.requirement.Requirement.TheVariants.{Single, Union}
 use Rattle.resolvo_pool.specs.OnePass.{Literal, clause_true}
-use Rattle.resolvo_pool.specs.Provider.{listed}
+use Rattle.resolvo_pool.specs.Provider.{listed, unknown}
 use Rattle.resolvo_pool.specs.Text.{alternatives_of}
-use Rattle.resolvo_pool.specs.RuleKeeping.{Packages, Rules, rules_of, is_unknown, is_in, is_outside, is_met, listing_for, locks_out, is_barred, rules_for}
+use Rattle.resolvo_pool.specs.RuleKeeping.{Packages, Rules, rules_of, is_in, is_outside, is_met, listing_for, is_barred, rules_for}
 use Rattle.resolvo_store.specs.Cases.{cases}
 
 -- the test tells any two values apart, and holds of each with itself
@@ -36,6 +37,11 @@ plus a = record { atom = a; positive = true }
 abbrev pub minus : {N S : Type 0} → Atom N S → Literal (Atom N S)
 minus a = record { atom = a; positive = false }
 
+-- Why a solvable is kept out: another one of its package is locked; it is excluded, or its dependencies are unknown, for a reason.
+pub data Bar (S : Type 0) : Type 0 where
+  lock : S → Bar S
+  word : StringId → Bar S
+
 -- What a clause states. A parent is a solvable, or None for the root.
 -- needs: for this case of its condition, the parent's requirement has a chosen match
 -- gated: the solvable opens the gate of its requirement, which has no condition
@@ -43,7 +49,7 @@ minus a = record { atom = a; positive = false }
 -- limits: the parent's version set keeps the solvable out
 -- limits_outside: the parent's version set keeps out whatever is outside it
 -- is_out: the solvable is outside the version set
--- bars: a lock, an exclusion or unknown dependencies keep the solvable out
+-- bars: a lock, an exclusion or unknown dependencies keep the solvable out, for this
 -- has_digit: the digit of the solvable's place
 -- is_there: the solvable is a candidate of the package
 pub data Rule (N S : Type 0) : Type 0 where
@@ -53,7 +59,7 @@ pub data Rule (N S : Type 0) : Type 0 where
   limits : Option S → VersionSetId → S → Rule N S
   limits_outside : Option S → VersionSetId → Rule N S
   is_out : VersionSetId → S → Rule N S
-  bars : S → Rule N S
+  bars : Bar S → S → Rule N S
   has_digit : S → ℕ → Bool → Rule N S
   is_there : N → S → Rule N S
 
@@ -112,7 +118,7 @@ module _ {N S : Type 0} (same : S → S → Bool) (p : Packages N S) where
   literals_of (Rule.limits parent v s) = parent_literals parent ++ minus (Atom.solvable s) ∷ []
   literals_of (Rule.limits_outside parent v) = parent_literals parent ++ minus (Atom.outside v) ∷ []
   literals_of (Rule.is_out v s) = minus (Atom.solvable s) ∷ plus (Atom.outside v) ∷ []
-  literals_of (Rule.bars s) = minus (Atom.solvable s) ∷ []
+  literals_of (Rule.bars w s) = minus (Atom.solvable s) ∷ []
   literals_of (Rule.has_digit s bit b) = minus (Atom.solvable s) ∷ (let l : Literal (Atom N S) = record { atom = Atom.digit (p.package_of s) bit; positive = b } in l) ∷ []
   literals_of (Rule.is_there n s) = minus (Atom.solvable s) ∷ plus (Atom.any_of n) ∷ []
 
@@ -134,7 +140,7 @@ module _ {N S : Type 0} (same : S → S → Bool) (p : Packages N S) where
 
   -- no rule bars a member, and the digits of members are those that the rules tell
   pub record Fits (rules : Rule N S → Type 0) (digits : N → ℕ → Bool) (chosen : List S) : Type 0 where
-    pub unbarred : (s : S) → rules (Rule.bars s) → is_in same p chosen s ≡ false
+    pub unbarred : (w : Bar S) (s : S) → rules (Rule.bars w s) → is_in same p chosen s ≡ false
     pub told : (s : S) (bit : ℕ) (b : Bool) → rules (Rule.has_digit s bit b) → is_in same p chosen s ≡ true → digits (p.package_of s) bit ≡ b
 
   -- the digits of a package that the place of its member shows; `bits s bit` is a digit of the place of s
@@ -145,9 +151,11 @@ module _ {N S : Type 0} (same : S → S → Bool) (p : Packages N S) where
   abbrev pub IsBarredIn : N → S → Type 0
   IsBarredIn n s = (is_in same p (listed (p.candidates_of n)) s ≡ true) × (is_barred same p s ≡ true)
 
-  -- the listing of the solvable's package keeps it out: it is a candidate and another one is locked, or it is excluded
-  abbrev pub is_kept_out : S → Bool
-  is_kept_out s = (is_in same p (listing_for same p s).candidates s && locks_out same (listing_for same p s).locked s) || list_any (λ e. same e.0 s) (listing_for same p s).excluded
+  -- This keeps the solvable out: its package's listing locks another one, beside which it is a candidate, or excludes it for the
+  -- reason, or its dependencies are unknown for the reason.
+  abbrev pub KeepsOut : Bar S → S → Type 0
+  KeepsOut (Bar.lock l) s = ((listing_for same p s).locked ≡ Some l) × (same l s ≡ false) × (is_in same p (listing_for same p s).candidates s ≡ true)
+  KeepsOut (Bar.word why) s = Contains (listing_for same p s).excluded (s, why) ⊎ (p.dependencies_of s ≡ unknown why)
 
   -- The rule is one of the provider's and the root's: some solvable asks for a shared requirement, some parent has a version set
   -- that a solvable is outside of, and a digit is one of 32 of a candidate's place.
@@ -158,9 +166,13 @@ module _ {N S : Type 0} (same : S → S → Bool) (p : Packages N S) where
   IsRule root (Rule.limits parent v s) = Contains (rules_for same p root parent).constraints v × (is_outside same p v s ≡ true)
   IsRule root (Rule.limits_outside parent v) = Contains (rules_for same p root parent).constraints v
   IsRule root (Rule.is_out v s) = (parent : Option S) × Contains (rules_for same p root parent).constraints v × (is_outside same p v s ≡ true)
-  IsRule root (Rule.bars s) = (is_kept_out s || is_unknown (p.dependencies_of s)) ≡ true
+  IsRule root (Rule.bars w s) = KeepsOut w s
   IsRule root (Rule.has_digit s bit b) = (is_in same p (listed (p.candidates_of (p.package_of s))) s ≡ true) × (bit < 32)
   IsRule root (Rule.is_there n s) = is_in same p (listed (p.candidates_of n)) s ≡ true
+
+-- some rule bars the solvable
+abbrev pub HasBar : {N S : Type 0} → (Rule N S → Type 0) → S → Type 0
+HasBar {N} {S} rules s = (w : Bar S) × rules (Rule.bars w s)
 
 -- the places have the digits that the rules tell
 abbrev pub AgreeWith : {N S : Type 0} → (Rule N S → Type 0) → (S → ℕ → Bool) → Type 0

@@ -9,7 +9,7 @@ use Rattle.resolvo_pool.specs.OnePass.{Literal, negate}
 use Rattle.resolvo_pool.specs.Provider.{listed}
 use Rattle.resolvo_pool.specs.Text.{alternatives_of}
 use Rattle.resolvo_pool.specs.RuleKeeping.{Packages, Rules, IsLawful, is_unknown, is_in, is_outside, meets, binds, rules_for, is_member, IsExemptKeeping, IsReached}
-use Rattle.resolvo_rules.specs.Encoding.{Atom, Rule, plus, minus, cases_for, case_holds, case_literals, literals_of, IsImplied, IsRule, IsBarredIn}
+use Rattle.resolvo_rules.specs.Encoding.{Atom, Rule, plus, minus, cases_for, case_holds, case_literals, literals_of, IsImplied, IsRule, IsBarredIn, HasBar}
 
 -- each of the literals is false by what is known
 abbrev pub AreFalse : {A : Type 0} → List (Literal A) → List (Literal A) → Type 0
@@ -110,7 +110,7 @@ module _ {N S : Type 0} (same : S → S → Bool) (p : Packages N S) (rules : Ru
     -- where a condition names its package, a clause says that it is there
     pub there : (parent : Option S) (need : ConditionalRequirement) (case : List VersionSetId) (v : VersionSetId) (s : S) → rules (Rule.needs parent need case) → Contains case v → registered s → p.package_of s ≡ p.set_package v → rules (Rule.is_there (p.set_package v) s)
     -- the candidates of requirements that have a clause are barred where a lock or an exclusion bars them
-    pub bar : (r : Requirement) (v : VersionSetId) (s : S) → HasClause r → Contains (alternatives_of p.members_of r) v → IsBarredIn same p (p.set_package v) s → rules (Rule.bars s)
+    pub bar : (r : Requirement) (v : VersionSetId) (s : S) → HasClause r → Contains (alternatives_of p.members_of r) v → IsBarredIn same p (p.set_package v) s → HasBar rules s
 
   -- The clauses for a case of a parent's need: its own; or, without a condition, those of a gate; or none, since a
   -- version set of the case keeps the parent itself out.
@@ -124,8 +124,8 @@ module _ {N S : Type 0} (same : S → S → Bool) (p : Packages N S) (rules : Ru
   pub record AreEncoded (root : Rules) (members : List S) : Type 0 where
     pub need : (parent : Option S) (need : ConditionalRequirement) (case : List VersionSetId) → is_member same p root members parent ≡ true → Contains (rules_for same p root parent).requirements need → Contains (cases_for same p need) case → case_holds same p members case ≡ true → IsNeedEncoded parent need case
     pub limit : (parent : Option S) (v : VersionSetId) (s : S) → is_member same p root members parent ≡ true → Contains (rules_for same p root parent).constraints v → is_outside same p v s ≡ true → rules (Rule.limits parent v s) ⊎ (rules (Rule.limits_outside parent v) × rules (Rule.is_out v s))
-    pub bar : (parent : Option S) (v : VersionSetId) (s : S) → is_member same p root members parent ≡ true → Contains (rules_for same p root parent).constraints v → IsBarredIn same p (p.set_package v) s → rules (Rule.bars s)
-    pub unknown : (s : S) → is_in same p members s ≡ true → is_unknown (p.dependencies_of s) ≡ true → rules (Rule.bars s)
+    pub bar : (parent : Option S) (v : VersionSetId) (s : S) → is_member same p root members parent ≡ true → Contains (rules_for same p root parent).constraints v → IsBarredIn same p (p.set_package v) s → HasBar rules s
+    pub unknown : (s : S) → is_in same p members s ≡ true → is_unknown (p.dependencies_of s) ≡ true → HasBar rules s
 
   -- An accepted turn has ended: nothing is left to propagate, no requirement is asked for in vain, all is encoded.
   pub record IsEnd (root : Rules) (registered : S → Type 0) (wishes : List S) (known : List (Literal (Atom N S))) (members : List S) : Type 0 where

@@ -4,7 +4,8 @@ mod pairs;
 
 use resolvo::deciding::Activity;
 use resolvo::problem::Problem;
-use resolvo::search::{Found, search};
+use resolvo::proving::solve;
+use resolvo::search::Found;
 use resolvo::solver::Solver;
 use resolvo_answers::answers::Answers;
 use resolvo_cache::cache::CacheFault;
@@ -59,7 +60,7 @@ fn chosen_of(
 ) -> Result<Option<Vec<VersionNo>>, Fail> {
     let requirements = root.requirements.as_slice();
     let constraints = root.constraints.as_slice();
-    match search(
+    match solve(
         alloc,
         answers,
         Activity::standard(),

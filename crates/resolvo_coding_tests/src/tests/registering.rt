@@ -2,6 +2,7 @@
 ghost use Rattle.std.specs.Prelude.{◌<◌, OnOk};
 ghost use Rattle.resolvo_search.specs.State.{count_of};
 ghost use Rattle.resolvo_coding.specs.Coding.{IsCoding, Grows};
+ghost use Rattle.resolvo_coding.specs.Registered.{AreTied};
 
 use resolvo_coding::coding::Coding;
 use resolvo_coding::registry::Registry;
@@ -13,15 +14,27 @@ use resolvo_store::literal::Literal;
 use std::alloc::Global;
 use std::test::Fail;
 
+/// Registers so many solvables of one package, each twice.
+fn register(
+    coding: &mut Coding<NameId, SolvableId>,
+    registry: &mut Registry<NameId>,
+    count: u32,
+) -> R<()>
+    requires coding { IsCoding coding.old }
+    requires tied { AreTied registry.old coding.old }
+{
+    for number in 0..count {
+        let solvable = SolvableId::from_raw(number);
+        registry.register(coding, NameId::from_raw(7), solvable)?;
+        registry.register(coding, NameId::from_raw(7), solvable)?;
+    }
+    Ok(())
+}
+
 /// What comes once so many solvables of one package were registered, each twice.
 fn registered(alloc: Global, count: u32) -> R<Coding<NameId, SolvableId>> {
     let mut coding: Coding<NameId, SolvableId> = Coding::begin(alloc)?;
-    let mut registry: Registry<NameId> = Registry::new(alloc);
-    for number in 0..count {
-        let solvable = SolvableId::from_raw(number);
-        registry.register(&mut coding, NameId::from_raw(7), solvable)?;
-        registry.register(&mut coding, NameId::from_raw(7), solvable)?;
-    }
+    register(&mut coding, &mut Registry::new(alloc), count)?;
     Ok(coding)
 }
 
@@ -76,13 +89,23 @@ fn each_place(rt: HostRuntime) -> Result<(), Fail> {
 
 /// The solvables that are chosen where one of two is needed, and the first is excluded.
 fn one_of_two(alloc: Global) -> R<Vec<SolvableId>> {
-    let mut coding: Coding<NameId, SolvableId> = Coding::begin(alloc)?;
-    let mut registry: Registry<NameId> = Registry::new(alloc);
+    choose_one(alloc, &mut Coding::begin(alloc)?, &mut Registry::new(alloc))
+}
+
+/// Registers two solvables, states that one is needed and the first excluded, and gives the chosen ones.
+fn choose_one(
+    alloc: Global,
+    coding: &mut Coding<NameId, SolvableId>,
+    registry: &mut Registry<NameId>,
+) -> R<Vec<SolvableId>>
+    requires coding { IsCoding coding.old }
+    requires tied { AreTied registry.old coding.old }
+{
     let excluded = SolvableId::from_raw(0);
-    let first = registry.register(&mut coding, NameId::from_raw(7), excluded)?;
-    let second = registry.register(&mut coding, NameId::from_raw(7), SolvableId::from_raw(1))?;
-    need_one(alloc, &mut coding, first, second)?;
-    exclude(alloc, &mut coding, excluded, first)?;
+    let first = registry.register(coding, NameId::from_raw(7), excluded)?;
+    let second = registry.register(coding, NameId::from_raw(7), SolvableId::from_raw(1))?;
+    need_one(alloc, coding, first, second)?;
+    exclude(alloc, coding, excluded, first)?;
     coding.advance(alloc)?;
     coding.chosen(alloc)
 }

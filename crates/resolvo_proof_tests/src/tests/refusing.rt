@@ -18,6 +18,7 @@ use resolvo_search::advancing::Progress;
 use resolvo_search::state::SearchState;
 use resolvo_store::literal::Literal;
 use std::alloc::Global;
+use std::process::Abort;
 use std::test::Fail;
 
 type TestCoding = Coding<NameId, SolvableId>;
@@ -68,22 +69,22 @@ fn solvables(alloc: Global, count: u32) -> R<TestCoding>
 }
 
 /// States that the root needs one of two solvables, and that both are excluded; what then is refused.
-fn refused(alloc: Global) -> R<Vec<TestStep>> {
-    let mut coding = solvables(alloc, 2)?;
+fn refuse(alloc: Global, coding: &mut TestCoding) -> R<Vec<TestStep>>
+    requires { IsCoding coding.old }
+{
     let needs = Stated::Needs {
         parent: None,
         need: ConditionalRequirement::from(VersionSetId(3)),
         case: Vec::new(alloc),
     };
-    state(
-        alloc,
-        &mut coding,
-        needs,
-        &[(0, false), (1, true), (2, true)],
-    )?;
-    exclude(alloc, &mut coding, 0)?;
-    exclude(alloc, &mut coding, 1)?;
-    steps_of_next(alloc, &mut coding)
+    state(alloc, coding, needs, &[(0, false), (1, true), (2, true)])?;
+    exclude(alloc, coding, 0)?;
+    exclude(alloc, coding, 1)?;
+    steps_of_next(alloc, coding)
+}
+
+fn refused(alloc: Global) -> R<Vec<TestStep>> {
+    refuse(alloc, &mut solvables(alloc, 2)?)
 }
 
 /// States that a solvable is excluded.
@@ -109,21 +110,26 @@ fn steps_of_next(alloc: Global, coding: &mut TestCoding) -> R<Vec<TestStep>>
 }
 
 /// A solvable is chosen that needs another one, and keeps it out; what then is learnt.
-fn learnt(alloc: Global) -> R<Vec<TestStep>> {
-    let mut coding = solvables(alloc, 2)?;
+fn learn(alloc: Global, coding: &mut TestCoding) -> R<Vec<TestStep>>
+    requires { IsCoding coding.old }
+{
     let shared = Stated::Shared {
         requirement: Requirement::Single(VersionSetId(3)),
     };
-    state(alloc, &mut coding, shared, &[(1, false), (2, true)])?;
+    state(alloc, coding, shared, &[(1, false), (2, true)])?;
     let limits = Stated::Limits {
         parent: Some(SolvableId::from_raw(0)),
         version_set: VersionSetId(4),
         barred: SolvableId::from_raw(1),
     };
-    state(alloc, &mut coding, limits, &[(1, false), (2, false)])?;
+    state(alloc, coding, limits, &[(1, false), (2, false)])?;
     coding.advance(alloc)?;
-    choose_first(&mut coding)?;
-    steps_of_next(alloc, &mut coding)
+    choose_first(coding)?;
+    steps_of_next(alloc, coding)
+}
+
+fn learnt(alloc: Global) -> R<Vec<TestStep>> {
+    learn(alloc, &mut solvables(alloc, 2)?)
 }
 
 /// Chooses the first solvable, where it is there and has no value.
@@ -174,11 +180,7 @@ fn causes(step: &TestStep) -> Option<&[usize]> {
     }
 }
 
-/// The rules come as they were stated. The last step has no literals: both solvables are out, which
-/// breaks the first rule.
-#[test]
-fn refusal(rt: HostRuntime) -> Result<(), Fail> {
-    let steps = refused(rt.alloc())?;
+fn tells_a_refusal(rt: &impl Abort, steps: &[TestStep]) {
     assert_eq!(rt; steps.len(), 4);
     assert_eq!(rt;
         needed(&steps[0]),
@@ -188,14 +190,17 @@ fn refusal(rt: HostRuntime) -> Result<(), Fail> {
     assert_eq!(rt; excluded(&steps[2]), Some(SolvableId::from_raw(1)));
     assert_eq!(rt; literals(&steps[3]), Some([].as_slice()));
     assert_eq!(rt; causes(&steps[3]), Some([1, 2, 0].as_slice()));
+}
+
+/// The rules come as they were stated. The last step has no literals: both solvables are out, which
+/// breaks the first rule.
+#[test]
+fn refusal(rt: HostRuntime) -> Result<(), Fail> {
+    tells_a_refusal(&rt, refused(rt.alloc())?.as_slice());
     Ok(())
 }
 
-/// The learnt clause says that the first solvable is out. With it, the rule that came last, which is met
-/// first, keeps the second one out, and then the other rule breaks.
-#[test]
-fn learning(rt: HostRuntime) -> Result<(), Fail> {
-    let steps = learnt(rt.alloc())?;
+fn tells_what_was_learnt(rt: &impl Abort, steps: &[TestStep]) {
     let out = ProofLiteral {
         atom: ProofAtom::Solvable(SolvableId::from_raw(0)),
         positive: false,
@@ -203,6 +208,13 @@ fn learning(rt: HostRuntime) -> Result<(), Fail> {
     assert_eq!(rt; steps.len(), 3);
     assert_eq!(rt; literals(&steps[2]), Some([out].as_slice()));
     assert_eq!(rt; causes(&steps[2]), Some([1, 0].as_slice()));
+}
+
+/// The learnt clause says that the first solvable is out. With it, the rule that came last, which is met
+/// first, keeps the second one out, and then the other rule breaks.
+#[test]
+fn learning(rt: HostRuntime) -> Result<(), Fail> {
+    tells_what_was_learnt(&rt, learnt(rt.alloc())?.as_slice());
     Ok(())
 }
 

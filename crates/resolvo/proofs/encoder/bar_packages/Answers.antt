@@ -3,8 +3,8 @@ use Rattle.std.specs.Prelude.{Contains}
 use Rattle.std.proofs.lemmas.List.{take_more, take_all}
 use Rattle.resolvo_pool.specs.RuleKeeping.{Rules}
 use Rattle.resolvo_rules.proofs.Lists.{contains_none, contains_parts, contains_one}
-use Rattle.resolvo_rules.specs.Encoding.{Rule, IsBarredIn}
-use Rattle.resolvo_coding.proofs.Growth.{rules_grow}
+use Rattle.resolvo_rules.specs.Encoding.{IsBarredIn, HasBar}
+use Rattle.resolvo_coding.proofs.Growth.{bar_grows}
 use Rattle.resolvo_encoding.specs.Encoded.{rules_of}
 use Rattle.resolvo.specs.Encoder.{IsInOrder}
 use Rattle.resolvo.proofs.Adding.{needs_none, needs_then}
@@ -21,7 +21,7 @@ loop-name-preserved g c =
     let new = c.bar_package.new.encoding in
     let more : take (c.loop-name.name-index + 1) c.args.names.now ≡ take c.loop-name.name-index c.args.names.now ++ c.name-item.result ∷ [] =
     take_more c.args.names.now c.loop-name.name-index c.name-item.result c.loop-name-test.true ∙ ap (λ x. take c.loop-name.name-index c.args.names.now ++ x ∷ []) (sym c.name-item.is) in
-    let came = subst (λ (a : g.row.A.Denot). (root : Rules) → IsInOrder same (g.A.Answering.packages a) (g.A.Answering.orders a) root c.loop-name.encoding → IsInOrder same (g.A.Answering.packages a) (g.A.Answering.orders a) root new × ((s : g.row.A-SolvableId.Denot) → IsBarredIn same (g.A.Answering.packages a) c.name-item.result s → rules_of new (Rule.bars s)))
+    let came = subst (λ (a : g.row.A.Denot). (root : Rules) → IsInOrder same (g.A.Answering.packages a) (g.A.Answering.orders a) root c.loop-name.encoding → IsInOrder same (g.A.Answering.packages a) (g.A.Answering.orders a) root new × ((s : g.row.A-SolvableId.Denot) → IsBarredIn same (g.A.Answering.packages a) c.name-item.result s → HasBar (rules_of new) s))
     before.same c.in_ok-bar_package.ensures.encoded in
     record {
       same = c.in_ok-bar_package.ensures.same ∙ before.same;
@@ -30,7 +30,7 @@ loop-name-preserved g c =
           let (last, now) = came root middle in (
             last,
             λ name s h barred. elim (contains_parts name (take c.loop-name.name-index c.args.names.now) (c.name-item.result ∷ []) (subst (λ (xs : List _). Contains xs name) more h)) [
-              | inl a ↦ rules_grow c.loop-name.encoding.coding new.coding c.in_ok-bar_package.ensures.kept.grows (Rule.bars s) (done name s a barred)
+              | inl a ↦ bar_grows c.loop-name.encoding.coding new.coding c.in_ok-bar_package.ensures.kept.grows s (done name s a barred)
               | inr a ↦ now s (subst (λ m. IsBarredIn same p m s) (contains_one name c.name-item.result a) barred)
             ],
           ));

@@ -1,7 +1,7 @@
 use Rattle.std.proofs.Common.{◌≡◌, take}
 use Rattle.std.specs.Prelude.{Contains}
 use Rattle.resolvo_pool.specs.RuleKeeping.{Rules}
-use Rattle.resolvo_rules.specs.Encoding.{Rule, IsBarredIn}
+use Rattle.resolvo_rules.specs.Encoding.{IsBarredIn, HasBar}
 use Rattle.resolvo_encoding.specs.Encoded.{rules_of}
 use Rattle.resolvo_encoding.specs.Steps.{IsBuilt}
 use Rattle.resolvo.specs.Encoder.{IsInOrder, AddsNeeds}
@@ -13,7 +13,7 @@ invariant-loop-name g l = record {
   same : l.answers ≡ l.initial.answers;
   encoded : (root : Rules) → IsInOrder g.A.SolvableId.PartialEq.eq (g.A.Answering.packages l.initial.answers) (g.A.Answering.orders l.initial.answers) root l.initial.encoding
       → IsInOrder g.A.SolvableId.PartialEq.eq (g.A.Answering.packages l.initial.answers) (g.A.Answering.orders l.initial.answers) root l.encoding
-      × ((name : g.row.A-NameId.Denot) (s : g.row.A-SolvableId.Denot) → Contains (take l.name-index l.names) name → IsBarredIn g.A.SolvableId.PartialEq.eq (g.A.Answering.packages l.initial.answers) name s → rules_of l.encoding (Rule.bars s));
+      × ((name : g.row.A-NameId.Denot) (s : g.row.A-SolvableId.Denot) → Contains (take l.name-index l.names) name → IsBarredIn g.A.SolvableId.PartialEq.eq (g.A.Answering.packages l.initial.answers) name s → HasBar (rules_of l.encoding) s);
   kept : AddsNeeds l.initial.encoding l.encoding;
   fired : l.encoding.fired ≡ l.initial.encoding.fired;
   built : IsBuilt l.encoding;

@@ -6,9 +6,9 @@ use Rattle.resolvo_reporting.proofs.reporting.report_for.Goals as goal
 
 pub returns-in-Ok : goal.returns-in-Ok
 returns-in-Ok c = if_ok c.told.result (λ r reports asks versions. reports asks
-    (solved_over c.args.catalogue.now c.args.request.now c.in_ok-wishes.wishes.items c.intern_request.new.self c.new-answers.result c.provider-in-Ok.result.now c.in_ok-asked.asked _ _ _ _ c.in-Ok.solved asks c.in_ok-wishes.ensures.lines versions c.in_ok-wishes.ensures.wishes
+    (solved_over c.args.catalogue.now c.args.request.now c.in_ok-wishes.wishes.items c.intern_request.new.self c.new-answers.result _ c.in_ok-asked.asked _ _ _ _ c.in-Ok.solved asks c.in_ok-wishes.ensures.lines versions c.in_ok-wishes.ensures.wishes
     (c.as_slice-4.ensures.value ∙ c.in_ok-free.ensures ∙ ap free_of c.as_slice.ensures.value) c.new-answers.ensures
-    (c.provider-in-Ok.ensures ∙ c.solve-solved.ensures.same) (c.in_ok-asked.ensures.over c.args.catalogue.now c.in_ok-provider.ensures.over) c.in_ok-asked.ensures.asked c.as_slice-2.ensures.value c.as_slice-3.ensures.value
+    c.solve-solved.ensures.same (c.in_ok-asked.ensures.over c.args.catalogue.now c.in_ok-provider.ensures.over) c.in_ok-asked.ensures.asked c.as_slice-2.ensures.value c.as_slice-3.ensures.value
     (record { one = λ x y h. ap (λ k. record { raw = k; tag = record {} }) (eqb-true _ _ (and_parts _ _ h).0); own = λ x. and_from _ _ (eq-eqb x.raw x.raw refl) refl })
     c.in-Ok.ensures.solved c.in-Ok.ensures.ends))
     c.told.ensures

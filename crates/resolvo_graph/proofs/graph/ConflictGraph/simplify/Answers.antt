@@ -4,7 +4,8 @@ use Rattle.std.specs.Prelude.{nat_lt}
 use Rattle.std.specs.Option.{option_or}
 use Rattle.resolvo_graph.specs.Kept.{kept_with}
 use Rattle.resolvo_graph.specs.Merging.{Profile, group, group_in, own_group}
-use Rattle.resolvo_graph.proofs.MergeLemmas.{kept_one, kept_none, dropped, first_left}
+use Rattle.resolvo_graph.proofs.ListLemmas.{left}
+use Rattle.resolvo_graph.proofs.MergeLemmas.{kept_one, kept_none, dropped}
 use Rattle.resolvo_graph.proofs.graph.ConflictGraph.simplify.Goals as goal
 use Rattle.resolvo_graph.proofs.graph.ConflictGraph.simplify.Goals.{then-len-gt1+in_ok-keep, else-len-gt1}
 
@@ -14,7 +15,7 @@ loop-profile-preserved g c = λ s.
     let i = c.loop-profile.profile-index in
     let p = c.profile-item.result in
     let gi = λ (qs : List (Profile g.row.I-NameId.Denot g.row.S.Denot)). group_in g.I.NameId.PartialEq.eq g.S.PartialEq.eq ps qs s in
-    let at : gi (drop i ps) ≡ option_or (gi (drop (i + 1) ps)) (own_group g.I.NameId.PartialEq.eq g.S.PartialEq.eq ps p s) = ap gi (first_left ps i p c.loop-profile-test.true c.profile-item.is) in
+    let at : gi (drop i ps) ≡ option_or (gi (drop (i + 1) ps)) (own_group g.I.NameId.PartialEq.eq g.S.PartialEq.eq ps p s) = ap gi (left ps i p p c.loop-profile-test.true c.profile-item.is) in
     let from = c.loop-profile.invariant s ∙ ap (λ o. option_or o (kept_with g.S.PartialEq.eq c.loop-profile.merged s)) at in
     let same : c.in_ok-ids.ids.items ≡ group g.I.NameId.PartialEq.eq ps p = c.in_ok-ids.ensures ∙ ap (λ qs. group g.I.NameId.PartialEq.eq qs p) (c.deref.ensures.value ∙ sym c.deref-profile-items.ensures.value) in
     let long : length c.in_ok-ids.ids.items ≡ length (group g.I.NameId.PartialEq.eq ps p) = ap length same in

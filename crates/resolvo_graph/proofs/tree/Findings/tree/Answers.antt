@@ -4,18 +4,18 @@ use Rattle.std.proofs.lemmas.List.Elements.{All-pop, All-same}
 use Rattle.resolvo_graph.specs.Kept.{findings}
 use Rattle.resolvo_graph.specs.Runs.{runs_of}
 use Rattle.resolvo_graph.specs.Tree.{siblings, in_rank}
-use Rattle.resolvo_graph.proofs.TreeLemmas.{IsKnown, reached, reached_own, reached_edges, put_first, known_start, known_next, smaller, starts, steps, ends}
+use Rattle.resolvo_graph.proofs.TreeLemmas.{IsKnown, reached, reached_own, reached_edges, known_start, known_next, smaller, starts, steps, ends}
 use Rattle.resolvo_graph.proofs.tree.Findings.tree.Goals as goal
 
 pub loop-entry-init : goal.loop-entry-init
 loop-entry-init g c =
     let f = findings g.S.PartialEq.eq c.args.self.now.graph.now c.args.self.now.installable.keys c.args.self.now.merged in
     let es = c.args.edges.now in
-    let put : c.place.new.stack.items ≡ [] ++ reverse (siblings (record { levels = []; top_level_indent = c.args.top_level_indent }) [] (reverse (in_rank f (runs_of es)))) =
-    put_first c.place.new.stack.items c.new-2.result.items c.new-top.result (record { levels = []; top_level_indent = c.args.top_level_indent }) c.as_slice.result.now c.in_ok-ops.ops.items (in_rank f (runs_of es)) c.in_ok-place.ensures c.new-2.ensures.items c.new-top.ensures (c.as_slice.ensures.value ∙ c.new-above.ensures.items) (c.in_ok-ops.ensures ∙ ap (in_rank f) c.in_ok-runs.ensures.runs) in
+    let put : c.place_top.new.stack.items ≡ [] ++ reverse (siblings (record { levels = []; top_level_indent = c.args.top_level_indent }) [] (reverse (in_rank f (runs_of es)))) =
+    c.in_ok-place_top.ensures ∙ ap (λ xs. xs ++ reverse (siblings (record { levels = []; top_level_indent = c.args.top_level_indent }) [] (reverse (in_rank f (runs_of es))))) c.new-2.ensures.items in
     record {
-      known = known_start f (reached c.args.self.now.graph.now es) (record { levels = []; top_level_indent = c.args.top_level_indent }) c.place.new.stack.items es (reached_own c.args.self.now.graph.now es) put;
-      gives = starts f (siblings (record { levels = []; top_level_indent = c.args.top_level_indent }) [] (reverse (in_rank f (runs_of es)))) c.place.new.stack.items c.new.result.keys c.new-3.result.items put c.new.ensures.empty c.new-3.ensures.items;
+      known = known_start f (reached c.args.self.now.graph.now es) (record { levels = []; top_level_indent = c.args.top_level_indent }) c.place_top.new.stack.items es (reached_own c.args.self.now.graph.now es) put;
+      gives = starts f (siblings (record { levels = []; top_level_indent = c.args.top_level_indent }) [] (reverse (in_rank f (runs_of es)))) c.place_top.new.stack.items c.new.result.keys c.new-3.result.items put c.new.ensures.empty c.new-3.ensures.items;
     }
 
 pub loop-entry-smaller : goal.loop-entry-smaller

@@ -1,0 +1,34 @@
+-- What a solver keeps of a conflict.
+use Rattle.std.specs.Prelude.{◌≡◌, Bool, List, Option, Some, None, Contains}
+use Rattle.resolvo_pool.specs.declared.id.ClauseId.{ClauseId}
+use Rattle.resolvo_pool.specs.declared.requirement.Requirement.{Requirement}
+use Rattle.resolvo_pool.specs.RuleKeeping.{Packages, is_in, meets}
+use Rattle.resolvo_proof.specs.declared.step.ProofStep.{ProofStep}
+use Rattle.resolvo_conflict.specs.Order.{conflict_rules, requirements_in}
+use Rattle.resolvo_conflict.specs.Offered.{offered_by}
+use Rattle.resolvo_conflict.specs.declared.offers.Offers.{Offers}
+use Rattle.resolvo.specs.declared.search.Found.{Found}
+use Rattle.resolvo.specs.declared.search.Found.TheVariants.{Chosen, Clash}
+use Rattle.resolvo.specs.declared.conflict.KeptConflict.{KeptConflict}
+
+-- its clauses, and what was offered for the requirements that its rules name
+pub record Left (S : Type 0) : Type 0 where
+  pub clauses : List ClauseId
+  pub offers : Offers S
+
+abbrev pub left_of : {S : Type 0} → KeptConflict S → Left S
+left_of k = record { clauses = k.clauses.items; offers = k.offers }
+
+-- The list holds the solvables that meet the requirement, in an order in which they may be tried.
+pub record IsRightOffer {N S : Type 0} (same : S → S → Bool) (p : Packages N S) (orders : Requirement → List S → Type 0) (r : Requirement) (list : List S) : Type 0 where
+  pub ordered : orders r list
+  pub matches : (s : S) → is_in same p list s ≡ meets same p r s
+
+-- such a list was offered for each requirement that the rules of the steps' conflict name
+abbrev pub AreOffers : {N S : Type 0} → (S → S → Bool) → Packages N S → (Requirement → List S → Type 0) → List (ProofStep N S) → Offers S → Type 0
+AreOffers same p orders steps offers = (r : Requirement) → Contains (requirements_in (conflict_rules steps)) r → IsRightOffer same p orders r (offered_by offers r)
+
+-- what is left of what was found: of a clash its clauses and the offers, else nothing
+abbrev pub IsLeft : {N S : Type 0} → (S → S → Bool) → Packages N S → (Requirement → List S → Type 0) → Found S → List (ProofStep N S) → Option (KeptConflict S) → Type 0
+IsLeft same p orders (Chosen v turns) steps left = left ≡ None
+IsLeft {N} {S} same p orders (Clash r) steps left = (k : KeptConflict S) × (left ≡ Some k) × (k.clauses.items ≡ r.causes.items) × AreOffers same p orders steps k.offers

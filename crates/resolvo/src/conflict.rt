@@ -1,0 +1,148 @@
+//! The conflict of a search that found no solution: its clauses, and the graph that tells people of them.
+ghost use Rattle.std.specs.Prelude.{◌≡◌, length, IfOk, IfErr};
+ghost use Rattle.resolvo_pool.specs.RuleKeeping.{Rules};
+ghost use Rattle.resolvo_answers.specs.Answering.{offered_solvables};
+ghost use Rattle.resolvo_cache.specs.Cached.{IsCancelledBy};
+ghost use Rattle.resolvo.specs.Conflicts.{AreOffers, IsLeft};
+ghost use Rattle.resolvo.specs.Solver.{HoldsConflict, IsGraphOf, IsTrueOf, TellsConflict};
+ghost use Rattle.resolvo.specs.Encoder.{IsRoot};
+ghost use Rattle.resolvo.specs.Solving.{IsSolved, EndsSo, Counts};
+ghost use Rattle.resolvo.specs.Wished.{AreCandidates};
+
+use crate::deciding::Activity;
+use crate::proving::{Solved, solve};
+use crate::search::Found;
+use crate::solver::Solver;
+use resolvo_answers::answering::{Answering, Offered};
+use resolvo_cache::cache::CacheFault;
+use resolvo_conflict::graph::conflict_graph;
+use resolvo_conflict::offers::Offers;
+use resolvo_conflict::rules::requirements_of;
+use resolvo_graph::display_unsat::DisplayUnsat;
+use resolvo_graph::graph::ConflictGraph;
+use resolvo_pool::id::{ClauseId, VersionSetId};
+use resolvo_pool::provider::DependencyProvider;
+use resolvo_pool::requirement::ConditionalRequirement;
+use resolvo_pool::want::R;
+use resolvo_proof::step::ProofStep;
+use std::alloc::Global;
+
+/// The clauses that can't be true together.
+#[derive(Debug, Drop)]
+pub struct Conflict {
+    pub clauses: Vec<ClauseId>,
+}
+
+impl Conflict {
+    /// The graph of the conflict that the solver keeps: its rules, drawn one by one, from the one that is broken backwards along
+    /// the reasons that lead to it. Each edge is true of the provider that was solved for.
+    pub fn graph<D: DependencyProvider>(
+        &self,
+        alloc: Global,
+        solver: &Solver<D>,
+    ) -> R<ConflictGraph<D::SolvableId>>
+        requires { HoldsConflict solver.now self.now.clauses.items }
+        ensures graph { IfOk result (λ g. IsGraphOf D.NameId.eq D.SolvableId.eq (D.name_of_solvable solver.now.provider) solver.now g) }
+        ensures truth { IfOk result (λ g. IsTrueOf D.SolvableId.eq (D.name_of_solvable solver.now.provider) solver.now g) }
+    {
+        conflict_graph(alloc, solver.provider(), solver.offers(), solver.proof())
+    }
+
+    /// The message of the conflict that the solver keeps, for people.
+    pub fn display_user_friendly<'a, D: DependencyProvider>(
+        &self,
+        alloc: Global,
+        solver: &'a Solver<D>,
+    ) -> R<DisplayUnsat<'a, D>>
+        requires { HoldsConflict solver.now self.now.clauses.items }
+        ensures lines { IfOk result (λ d. TellsConflict D.NameId.eq D.SolvableId.eq (D.name_of_solvable solver.now.provider) solver.now d.lines.items) }
+        ensures interner { IfOk result (λ d. d.interner.now ≡ solver.now.provider) }
+    {
+        let graph = self.graph(alloc, solver)?;
+        DisplayUnsat::new(alloc, &graph, solver.provider())
+    }
+}
+
+/// What a solver keeps of a conflict: its clauses, and the candidates that were offered for the requirements of its rules.
+#[derive(Drop)]
+pub(crate) struct KeptConflict<S> {
+    pub clauses: Vec<ClauseId>,
+    pub offers: Offers<S>,
+}
+
+/// The solvables that are offered.
+fn solvables_of<N, S: Copy>(alloc: Global, offered: &[Offered<N, S>]) -> R<Vec<S>>
+    ensures { IfOk result (λ v. v.items ≡ offered_solvables offered.now) }
+{
+    let mut solvables = Vec::new(alloc);
+    for one in offered {
+        solvables.push(one.solvable)?;
+    }
+    Ok(solvables)
+}
+
+/// The candidates of the requirements that the rules of a conflict name, in the order in which they are tried.
+pub fn offers_for<A: Answering>(
+    alloc: Global,
+    answers: &mut A,
+    steps: &[ProofStep<A::NameId, A::SolvableId>],
+) -> Result<Offers<A::SolvableId>, CacheFault<A::Cancel>>
+    ensures same { answers.new ≡ answers.old }
+    ensures offers { IfOk result (λ o. AreOffers A.SolvableId.eq (A.packages answers.old) (A.orders answers.old) steps.now o) }
+    ensures cancelled { IfErr result (IsCancelledBy (A.may_cancel answers.old)) }
+{
+    let requirements = requirements_of(alloc, steps)?;
+    let mut offers = Offers::new(alloc)?;
+    for requirement in &requirements {
+        let offered = answers.candidates(*requirement)?;
+        offers.offer(*requirement, solvables_of(alloc, offered.as_slice())?)?;
+    }
+    Ok(offers)
+}
+
+/// What a search leaves for a conflict's graph: of a clash its clauses, and what was offered.
+fn conflict_left<A: Answering>(
+    alloc: Global,
+    answers: &mut A,
+    solved: &Solved<A::NameId, A::SolvableId>,
+) -> Result<Option<KeptConflict<A::SolvableId>>, CacheFault<A::Cancel>>
+    ensures same { answers.new ≡ answers.old }
+    ensures left { IfOk result (λ c. IsLeft A.SolvableId.eq (A.packages answers.old) (A.orders answers.old) solved.now.found solved.now.proof.items c) }
+    ensures cancelled { IfErr result (IsCancelledBy (A.may_cancel answers.old)) }
+{
+    match &solved.found {
+        Found::Chosen { .. } => Ok(None),
+        Found::Clash(refusal) => {
+            let offers = offers_for(alloc, answers, solved.proof.as_slice())?;
+            let clauses = Vec::from_slice(alloc, refusal.causes.as_slice())?;
+            Ok(Some(KeptConflict { clauses, offers }))
+        }
+    }
+}
+
+/// Searches as `solve` does. Of a clash it gives what a solver keeps of the conflict, too.
+pub(crate) fn solve_to_conflict<A: Answering>(
+    alloc: Global,
+    answers: &mut A,
+    activity: Activity,
+    requirements: &[ConditionalRequirement],
+    constraints: &[VersionSetId],
+    wishes: &[A::SolvableId],
+) -> Result<
+    (
+        Solved<A::NameId, A::SolvableId>,
+        Option<KeptConflict<A::SolvableId>>,
+    ),
+    CacheFault<A::Cancel>,
+>
+    ensures same { answers.new ≡ answers.old }
+    ensures solved { IfOk result (λ s. (root : Rules) → IsRoot requirements.now constraints.now root → AreCandidates A.SolvableId.eq (A.packages answers.old) wishes.now → IsSolved A.SolvableId.eq (A.packages answers.old) (A.orders answers.old) root wishes.now s.0) }
+    ensures ends { IfOk result (λ s. EndsSo s.0.found s.0.proof.items) }
+    ensures count { IfOk result (λ s. Counts s.0.found s.0.clause_count (length s.0.proof.items)) }
+    ensures left { IfOk result (λ s. IsLeft A.SolvableId.eq (A.packages answers.old) (A.orders answers.old) s.0.found s.0.proof.items s.1) }
+    ensures cancelled { IfErr result (IsCancelledBy (A.may_cancel answers.old)) }
+{
+    let solved = solve(alloc, answers, activity, requirements, constraints, wishes)?;
+    let conflict = conflict_left(alloc, answers, &solved)?;
+    Ok((solved, conflict))
+}

@@ -1,0 +1,8 @@
+//! The conflict of a refusal: its rules, in their order, and the graph that is drawn of them.
+#![tactic(auto)]
+
+pub mod graph;
+pub mod link;
+mod linking;
+pub mod offers;
+pub mod rules;

@@ -1,0 +1,102 @@
+//! What a conflict's rules say between versions, the root and reasons: the edges of its graph, before its
+//! nodes have places.
+ghost use Rattle.std.specs.Prelude.{◌≡◌};
+ghost use Rattle.resolvo_conflict.specs.Links.{parent_node, source_of, target_of, weight_of};
+
+use resolvo_graph::graph::{ConflictCause, ConflictEdge, ConflictNode};
+use resolvo_pool::id::{StringId, VersionSetId};
+use resolvo_pool::requirement::Requirement;
+
+/// An edge, by what stands at its ends. A parent is a solvable, or none for the root.
+#[derive(Clone, Copy, Debug)]
+pub enum Link<S> {
+    /// The solvable is excluded for this reason.
+    Excluded {
+        solvable: S,
+        reason: StringId,
+    },
+    /// The parent needs this, and this is one of its candidates, or there is none.
+    Requires {
+        parent: Option<S>,
+        requirement: Requirement,
+        candidate: Option<S>,
+    },
+    /// Another solvable is locked, which keeps this one out.
+    Locked {
+        locked: S,
+        barred: S,
+    },
+    /// A version of a package, behind the one that came before it, if there was one.
+    Instance {
+        before: Option<S>,
+        solvable: S,
+    },
+    /// The parent's version set keeps the solvable out.
+    Constrains {
+        parent: Option<S>,
+        version_set: VersionSetId,
+        solvable: S,
+    },
+}
+
+/// The node of a parent.
+pub(crate) fn parent_node<S: Copy>(parent: Option<S>) -> ConflictNode<S>
+    ensures { result ≡ parent_node parent }
+{
+    match parent {
+        None => ConflictNode::Root,
+        Some(solvable) => ConflictNode::Solvable(solvable),
+    }
+}
+
+impl<S: Copy> Link<S> {
+    /// Where the edge begins. The first version of a package has none.
+    pub fn source(self) -> Option<ConflictNode<S>>
+        ensures { result ≡ source_of self }
+    {
+        match self {
+            Link::Excluded { solvable, .. } => Some(ConflictNode::Solvable(solvable)),
+            Link::Requires { parent, .. } | Link::Constrains { parent, .. } => {
+                Some(parent_node(parent))
+            }
+            Link::Locked { .. } => Some(ConflictNode::Root),
+            Link::Instance { before, .. } => before.map(ConflictNode::Solvable),
+        }
+    }
+
+    /// Where the edge ends.
+    pub fn target(self) -> ConflictNode<S>
+        ensures { result ≡ target_of self }
+    {
+        match self {
+            Link::Excluded { reason, .. } => ConflictNode::Excluded(reason),
+            Link::Requires {
+                candidate: Some(solvable),
+                ..
+            } => ConflictNode::Solvable(solvable),
+            Link::Requires {
+                candidate: None,
+                ..
+            } => ConflictNode::UnresolvedDependency,
+            Link::Locked { barred, .. } => ConflictNode::Solvable(barred),
+            Link::Instance { solvable, .. } | Link::Constrains { solvable, .. } => {
+                ConflictNode::Solvable(solvable)
+            }
+        }
+    }
+
+    /// What the edge says.
+    pub fn weight(self) -> ConflictEdge<S>
+        ensures { result ≡ weight_of self }
+    {
+        match self {
+            Link::Excluded { .. } => ConflictEdge::Conflict(ConflictCause::Excluded),
+            Link::Requires { requirement, .. } => ConflictEdge::Requires(requirement),
+            Link::Locked { locked, .. } => ConflictEdge::Conflict(ConflictCause::Locked(locked)),
+            Link::Instance { .. } => ConflictEdge::Conflict(ConflictCause::ForbidMultipleInstances),
+            Link::Constrains { version_set, .. } => {
+                ConflictEdge::Conflict(ConflictCause::Constrains(version_set))
+            }
+        }
+    }
+}
