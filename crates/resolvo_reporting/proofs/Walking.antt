@@ -41,10 +41,10 @@ use Rattle.resolvo_entries.proofs.Reaching.{members_stand, has_version, reached_
 use Rattle.resolvo_refusal.specs.Installing.{IsBarringStepOf}
 use Rattle.resolvo.specs.Turns.{AreInTurn, IsTurnOf, accepted_by}
 use Rattle.resolvo.proofs.Forward.{end_after}
-use Rattle.resolvo_reporting.specs.Wishes.{asked_by, free_of, unless_barred}
-use Rattle.resolvo_reporting.specs.declared.turning.Outcome.{Outcome}
-use Rattle.resolvo_reporting.specs.Turning.{AreReportTurns, Solved, AreTold, IsBetween, IsWishedTurn, number_at}
-use Rattle.resolvo_reporting.specs.declared.wishes.Wish.{Wish}
+use Rattle.resolvo_turning.specs.Wishes.{asked_by, free_of, unless_barred}
+use Rattle.resolvo_turning.specs.declared.turning.Outcome.{Outcome}
+use Rattle.resolvo_turning.specs.Turning.{AreReportTurns, Solved, AreTold, IsBetween, IsWishedTurn, number_at}
+use Rattle.resolvo_turning.specs.declared.wishes.Wish.{Wish}
 
 -- ---- lists
 
@@ -67,19 +67,6 @@ take_up_to (suc n) zero xs low = absurd (omega arith)
 take_up_to (suc n) (suc e) [] low = take_empty (suc e - suc n) [] refl
 take_up_to (suc n) (suc e) (x ∷ xs) low = (let is : suc e - suc n ≡ e - n = omega arith in ap (λ k. x ∷ (take n xs ++ take k (drop n xs))) is ∙ ap (λ ys. x ∷ ys) (take_up_to n e xs (omega arith)))
 
--- what is left of a list from one of its items on
-pub drop_here : {X : Type 0} (n : ℕ) (xs : List X) (x : X) → slice_get xs n ≡ Some x → drop n xs ≡ x ∷ drop (suc n) xs
-drop_here n [] x e = absurd cc
-drop_here zero (y ∷ xs) x e = ap (λ z. z ∷ xs) (same_Some y x e)
-drop_here (suc n) (y ∷ xs) x e = drop_here n xs x e
-
--- nothing is left of a list of as many
-pub drop_all : {X : Type 0} (n : ℕ) (xs : List X) → n ≡ length xs → drop n xs ≡ []
-drop_all zero [] e = refl
-drop_all zero (x ∷ xs) e = absurd (omega arith)
-drop_all (suc n) [] e = refl
-drop_all (suc n) (x ∷ xs) e = drop_all n xs (omega arith)
-
 -- what stands behind others
 pub get_behind : {X : Type 0} (xs : List X) (y : X) (ys : List X) → slice_get (xs ++ y ∷ ys) (length xs) ≡ Some y
 get_behind [] y ys = refl
@@ -92,20 +79,6 @@ index_is xs k d x e = sym (unwrap_or-slice_get xs k d) ∙ ap (λ (o : Option _)
 -- a listed version by its number
 pub nth_is : (versions : List Version) (n : VersionNo) (x : Version) → slice_get versions n.0 ≡ Some x → nth versions n ≡ x
 nth_is versions n x e = index_is versions n.0 nowhere x e
-
--- ---- turns of a report
-
--- the steps that were there stand in front
-pub steps_front : (numbers : List VersionNo) (turns : List Solved) (places : List ℕ) (ws : List Wish) (m : ℕ) (steps : List Step) (told : List Turn) (after : List Step) → AreTold numbers turns places ws m steps told after → (others : List Step) × (after ≡ steps ++ others)
-steps_front numbers turns places [] m steps told after (none, is) = ([], is ∙ sym (append-nil steps))
-steps_front numbers turns places (w ∷ ws) m steps told after (u, rest, are, next) = go (λ k before more. steps_front numbers turns places ws k before rest after more) w.bar next
-  where
-    go : ((k : ℕ) (before : List Step) → AreTold numbers turns places ws k before rest after → (others : List Step) × (after ≡ before ++ others)) → (b : Option code.Step) → MatchOption b (IsWishedTurn numbers places (asked_by w) (slice_get turns m) u × AreTold numbers turns places ws (suc m) steps rest after)
-        (λ step. (suc (length steps) < 4294967296) × (u ≡ LeftOut (asked_by w) (suc (length steps))) × AreTold numbers turns places ws m (steps ++ step_of step ∷ []) rest after) → (others : List Step) × (after ≡ steps ++ others)
-    go again None (told_as, more) = again (suc m) steps more
-    go again (Some step) (few, out, more) =
-        let (others, is) = again m (steps ++ step_of step ∷ []) more in
-        (step_of step ∷ others, is ∙ append_assoc steps (step_of step ∷ []) others)
 
 -- ---- turns of a report
 
@@ -133,47 +106,12 @@ part_is catalogue v numbers numbers_are begin end_ part low within between =
     let is : part ≡ numbers_of (take (end_ - begin) (drop begin v)) = between low (omega arith) ∙ ap (λ xs. take (end_ - begin) (drop begin xs)) numbers_are ∙ ap (take (end_ - begin)) (drop-map _ begin v) ∙ take-map _ (end_ - begin) (drop begin v) in
     ap (λ xs. versions_of catalogue (take begin v) ++ members (listed catalogue) xs) is ∙ sym (versions_append catalogue (take begin v) (take (end_ - begin) (drop begin v))) ∙ ap (versions_of catalogue) (take_up_to begin end_ v low)
 
--- ---- what is told goes on
-
-module _ (o : Outcome) (all : List Wish) (first : List Step) (done : ℕ) (w : Wish) (here : drop done all ≡ w ∷ drop (suc done) all) (m : ℕ) where
-  abbrev pub Goes : ℕ → ℕ → List Step → List Turn → Type 0
-  Goes k n steps told = (rest : List Turn) (after : List Step) → AreTold o.chosen.now o.turns.now o.places.now (drop k all) n steps rest after → AreReportTurns o all first (told ++ rest) after
-
-  pub goes_more : (n : ℕ) (t : Turn) (old new : List Step) (told more : List Turn) → more ≡ told ++ t ∷ [] → ((rest : List Turn) (after : List Step) → AreTold o.chosen.now o.turns.now o.places.now (drop (suc done) all) n new rest after → AreTold o.chosen.now o.turns.now o.places.now (w ∷ drop (suc done) all) m old (t ∷ rest) after)
-      → Goes done m old told → Goes (suc done) n new more
-  goes_more n t old new told more is tells goes rest after next =
-      subst (λ (ts : List Turn). AreReportTurns o all first ts after) (sym (ap (λ ts. ts ++ rest) is ∙ append_assoc told (t ∷ []) rest))
-      (goes (t ∷ rest) after (subst (λ (ws : List Wish). AreTold o.chosen.now o.turns.now o.places.now ws m old (t ∷ rest) after) (sym here) (tells rest after next)))
-
 -- What is known of a wish: its version is listed, and a step bars it, or nothing does.
 pub record IsKnownWish (catalogue : List Line) (provider : Provider) (same : SolvableId → SolvableId → Bool) (w : Wish) : Type 0 where
   pub version : Version
   pub there : slice_get (listed catalogue) w.version.0 ≡ Some version
   pub bar : IsBarringStepOf catalogue w.version.0 (option_map step_of w.bar)
   pub free : w.bar ≡ None → is_barred same (packages_of provider) (solvable_id w.version.0) ≡ false
-
--- a wish that a step bars, told before others
-pub told_barred : (numbers : List VersionNo) (turns : List Solved) (places : List ℕ) (w : Wish) (ws : List Wish) (m : ℕ) (steps : List Step) (rest : List Turn) (after : List Step) (step : code.Step) → w.bar ≡ Some step → (n : ℕ) → n ≡ suc (length steps) → n < 4294967296
-    → AreTold numbers turns places ws m (steps ++ step_of step ∷ []) rest after → AreTold numbers turns places (w ∷ ws) m steps (LeftOut (asked_by w) n ∷ rest) after
-told_barred numbers turns places w ws m steps rest after step is n number few more = (
-  LeftOut (asked_by w) n,
-  rest,
-  refl,
-  subst (λ (b : Option code.Step). MatchOption b (IsWishedTurn numbers places (asked_by w) (slice_get turns m) (LeftOut (asked_by w) n) × AreTold numbers turns places ws (suc m) steps rest after)
-      (λ s. (suc (length steps) < 4294967296) × (LeftOut (asked_by w) n ≡ LeftOut (asked_by w) (suc (length steps))) × AreTold numbers turns places ws m (steps ++ step_of s ∷ []) rest after)) (sym is)
-      (subst (λ (k : ℕ). k < 4294967296) number few, ap (LeftOut (asked_by w)) number, more),
-)
-
--- a wish that the solver was asked for, told before others
-pub told_free : (numbers : List VersionNo) (turns : List Solved) (places : List ℕ) (w : Wish) (ws : List Wish) (m : ℕ) (steps : List Step) (t : Turn) (rest : List Turn) (after : List Step) → w.bar ≡ None → IsWishedTurn numbers places (asked_by w) (slice_get turns m) t
-    → AreTold numbers turns places ws (suc m) steps rest after → AreTold numbers turns places (w ∷ ws) m steps (t ∷ rest) after
-told_free numbers turns places w ws m steps t rest after is wished more = (
-  t,
-  rest,
-  refl,
-  subst (λ (b : Option code.Step). MatchOption b (IsWishedTurn numbers places (asked_by w) (slice_get turns m) t × AreTold numbers turns places ws (suc m) steps rest after)
-      (λ s. (suc (length steps) < 4294967296) × (t ≡ LeftOut (asked_by w) (suc (length steps))) × AreTold numbers turns places ws m (steps ++ step_of s ∷ []) rest after)) (sym is) (wished, more),
-)
 
 module _ (catalogue : List Line) (said : Said) (provider : Provider) (over : IsOver catalogue provider) (ids : RequestIds) (asked : AreAsked provider.ids said ids) (asks_rightly : AreRequestLines catalogue said.lines)
     (same : SolvableId → SolvableId → Bool) (apart : TellsApart same) (exact : IsExact same) (v : List SolvableId) where

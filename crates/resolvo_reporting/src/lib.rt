@@ -3,5 +3,3 @@
 
 mod message;
 pub mod reporting;
-mod turning;
-mod wishes;

@@ -4,13 +4,11 @@ ghost use Rattle.std.specs.Prelude.{◌≡◌, IfOk};
 ghost use Rattle.resolvo_catalogue.specs.Grammar.{AreRequestLines};
 ghost use Rattle.resolvo_report.specs.View.{messages_of, report_of};
 ghost use Rattle.resolvo_reporting.specs.Message.{with_message};
-ghost use Rattle.resolvo_reporting.specs.Wishes.{AreWishesAt};
+ghost use Rattle.resolvo_turning.specs.Wishes.{AreWishesAt};
 ghost use Rattle.resolvo_reporting.specs.Solved.{IsInstalledOver, IsRefutedOver, IsSolvedOver};
 ghost use Rattle.resolvo_reporting.specs.Reported.{IsReportOf};
 
 use crate::message::message_of;
-use crate::turning::{Outcome, report_turns, wanted_steps};
-use crate::wishes::{Wish, free_wishes, wishes_of};
 use resolvo::conflict::offers_for;
 use resolvo::deciding::Activity;
 use resolvo::proving::{Solved, solve};
@@ -28,6 +26,8 @@ use resolvo_provider::lawful::Never;
 use resolvo_provider::provider::{CatalogueProvider, Hint};
 use resolvo_refusal::{install_steps, refused_report};
 use resolvo_report::Report;
+use resolvo_turning::turning::{Outcome, report_turns, wanted_steps};
+use resolvo_turning::wishes::{Wish, free_wishes, wishes_of};
 use std::alloc::Global;
 
 /// What the solver chose over the provider of a catalogue, as a report.

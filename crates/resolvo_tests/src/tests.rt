@@ -1,6 +1,7 @@
 //! What no clause says: that a search comes to an answer where there is memory.
 
 mod pairs;
+mod sources;
 
 use resolvo::deciding::Activity;
 use resolvo::problem::Problem;

@@ -7,11 +7,11 @@ use Rattle.resolvo_listing.specs.declared.entry.Turn.{Turn}
 use Rattle.resolvo_listing.specs.declared.entry.Turn.TheVariants.{LeftOut}
 use Rattle.resolvo_report.specs.Value.{Step}
 use Rattle.resolvo_report.specs.View.{step_of, steps_of}
-use Rattle.resolvo_reporting.specs.Wishes.{asked_by}
-use Rattle.resolvo_reporting.specs.Turning.{AreReportTurns, AreTold}
-use Rattle.resolvo_reporting.specs.declared.wishes.Wish.{Wish}
-use Rattle.resolvo_reporting.proofs.Walking.{Goes, drop_all, drop_here, goes_more, told_barred, told_free}
-use Rattle.resolvo_reporting.proofs.turning.report_turns.Goals as goal
+use Rattle.resolvo_turning.specs.Wishes.{asked_by}
+use Rattle.resolvo_turning.specs.Turning.{AreReportTurns, AreTold}
+use Rattle.resolvo_turning.specs.declared.wishes.Wish.{Wish}
+use Rattle.resolvo_turning.proofs.Telling.{Goes, drop_all, drop_here, goes_more, told_barred, told_free}
+use Rattle.resolvo_turning.proofs.turning.report_turns.Goals as goal
 
 pub loop-wish-init : goal.loop-wish-init
 loop-wish-init c = record {

@@ -1,6 +1,6 @@
 use Rattle.std.proofs.Common.{take}
-use Rattle.resolvo_reporting.specs.Turning.{AreWanted}
-use Rattle.resolvo_reporting.proofs.turning.wanted_steps.Given as goal
+use Rattle.resolvo_turning.specs.Turning.{AreWanted}
+use Rattle.resolvo_turning.proofs.turning.wanted_steps.Given as goal
 
 -- the steps of the turns so far are wanted
 abbrev pub invariant-loop-turn : goal.invariant-loop-turn

@@ -7,9 +7,9 @@ use Rattle.resolvo_provider.specs.Ids.{SolvableId}
 use Rattle.resolvo_report.specs.Value.{Step}
 use Rattle.resolvo_report.specs.View.{step_of}
 use Rattle.resolvo.specs.declared.turns.Turn as solver
-use Rattle.resolvo_reporting.specs.Wishes.{asked_by}
-use Rattle.resolvo_reporting.specs.declared.turning.Outcome.{Outcome}
-use Rattle.resolvo_reporting.specs.declared.wishes.Wish.{Wish}
+use Rattle.resolvo_turning.specs.Wishes.{asked_by}
+use Rattle.resolvo_turning.specs.declared.turning.Outcome.{Outcome}
+use Rattle.resolvo_turning.specs.declared.wishes.Wish.{Wish}
 
 -- a turn of the solver
 abbrev pub Solved : Type 0

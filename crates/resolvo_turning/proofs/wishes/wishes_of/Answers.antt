@@ -7,9 +7,9 @@ use Rattle.resolvo_catalogue.specs.Questions.{AreAll, IsWish, LineIs}
 use Rattle.resolvo_catalogue.specs.declared.rule.VersionNo.{VersionNo}
 use Rattle.resolvo_report.specs.View.{step_of}
 use Rattle.resolvo_refusal.specs.Installing.{IsBarringStepOf}
-use Rattle.resolvo_reporting.specs.Wishes.{asked_by}
-use Rattle.resolvo_reporting.specs.declared.wishes.Wish.{Wish}
-use Rattle.resolvo_reporting.proofs.wishes.wishes_of.Goals as goal
+use Rattle.resolvo_turning.specs.Wishes.{asked_by}
+use Rattle.resolvo_turning.specs.declared.wishes.Wish.{Wish}
+use Rattle.resolvo_turning.proofs.wishes.wishes_of.Goals as goal
 
 more_are : (xs : List (ℕ × VersionNo)) (i : ℕ) (d : ℕ × VersionNo) (old new : List Wish) (w : Wish) → i < length xs → new ≡ old ++ w ∷ [] → asked_by w ≡ get_or xs i d → map asked_by old ≡ take i xs → map asked_by new ≡ take (i + 1) xs
 more_are xs i d old new w low is asked are = ap (map asked_by) is ∙ map-append asked_by old (w ∷ []) ∙ ap (λ ys. ys ++ asked_by w ∷ []) are ∙ ap (λ y. take i xs ++ y ∷ []) asked ∙ sym (take_more xs i d low)

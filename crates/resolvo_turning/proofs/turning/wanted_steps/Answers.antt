@@ -2,8 +2,8 @@ use Rattle.std.proofs.Common.{◌≡◌, ◌+◌, ◌<◌, ◌∷◌, ◌++◌, 
 use Rattle.std.specs.Prelude.{Contains}
 use Rattle.std.proofs.lemmas.List.{take_more, take_all}
 use Rattle.resolvo_rules.proofs.Lists.{contains_left, contains_none, contains_one, contains_only, contains_parts, contains_right}
-use Rattle.resolvo_reporting.specs.Turning.{Solved, AreWanted, Wants}
-use Rattle.resolvo_reporting.proofs.turning.wanted_steps.Goals as goal
+use Rattle.resolvo_turning.specs.Turning.{Solved, AreWanted, Wants}
+use Rattle.resolvo_turning.proofs.turning.wanted_steps.Goals as goal
 
 -- the turn's step is wanted besides
 wants_more : (before : List Solved) (t : Solved) (step : Option ℕ) (old new : List ℕ) → t.step ≡ step → Wants step old new → AreWanted before old → AreWanted (before ++ t ∷ []) new

@@ -5,7 +5,7 @@ ghost use Rattle.resolvo_catalogue.specs.Questions.{AreAll, IsWish, LineIs};
 ghost use Rattle.std.specs.Option.{option_map};
 ghost use Rattle.resolvo_report.specs.View.{step_of};
 ghost use Rattle.resolvo_refusal.specs.Installing.{IsBarringStepOf};
-ghost use Rattle.resolvo_reporting.specs.Wishes.{AreWishesOf, asked_by, free_of};
+ghost use Rattle.resolvo_turning.specs.Wishes.{AreWishesOf, asked_by, free_of};
 
 use resolvo_catalogue::{Catalogue, Request, VersionNo};
 use resolvo_pool::id::SolvableId;
@@ -16,14 +16,14 @@ use std::alloc::Global;
 
 /// A wish of a request, and the step that bars it without a search, if one does.
 #[derive(Debug, Drop)]
-pub(crate) struct Wish {
+pub struct Wish {
     pub line: u32,
     pub version: VersionNo,
     pub bar: Option<Step>,
 }
 
-/// The wishes of a request, in the order of their lines.
-pub(crate) fn wishes_of(alloc: Global, catalogue: &Catalogue, request: &Request) -> R<Vec<Wish>>
+/// The wishes of a request, in the order of their lines. `Memory` where they find no room.
+pub fn wishes_of(alloc: Global, catalogue: &Catalogue, request: &Request) -> R<Vec<Wish>>
     ensures wishes { IfOk result (λ v. AreWishesOf catalogue.now request.now.wishes v.items) }
     ensures lines { OnOk result (AreAll (map (λ f. f.0) request.now.wishes) (λ n. LineIs request.now.lines n IsWish)) }
 {
@@ -44,8 +44,8 @@ fn wish_of(alloc: Global, catalogue: &Catalogue, wish: (u32, VersionNo)) -> R<Wi
     Ok(Wish { line, version, bar })
 }
 
-/// The wishes that a search is asked for: those that no step bars.
-pub(crate) fn free_wishes(alloc: Global, wishes: &[Wish]) -> R<Vec<SolvableId>>
+/// The wishes that a search is asked for: those that no step bars. `Memory` where they find no room.
+pub fn free_wishes(alloc: Global, wishes: &[Wish]) -> R<Vec<SolvableId>>
     ensures { IfOk result (λ v. v.items ≡ free_of wishes.now) }
 {
     let mut free = Vec::new(alloc);

@@ -3,9 +3,9 @@ use Rattle.std.specs.Prelude.{Contains}
 use Rattle.std.specs.Option.{option_map}
 use Rattle.resolvo_report.specs.View.{step_of}
 use Rattle.resolvo_refusal.specs.Installing.{IsBarringStepOf}
-use Rattle.resolvo_reporting.specs.Wishes.{asked_by}
-use Rattle.resolvo_reporting.specs.declared.wishes.Wish.{Wish}
-use Rattle.resolvo_reporting.proofs.wishes.wishes_of.Given as goal
+use Rattle.resolvo_turning.specs.Wishes.{asked_by}
+use Rattle.resolvo_turning.specs.declared.wishes.Wish.{Wish}
+use Rattle.resolvo_turning.proofs.wishes.wishes_of.Given as goal
 
 -- the wishes so far, each with the step that bars it
 abbrev pub invariant-loop-wish : goal.invariant-loop-wish

@@ -10,7 +10,7 @@ use Rattle.resolvo_provider.specs.Ids.{SolvableId, solvable_id}
 use Rattle.resolvo_report.specs.View.{step_of}
 use Rattle.resolvo_report.specs.declared.step.Step.{Step}
 use Rattle.resolvo_refusal.specs.Installing.{IsBarringStepOf}
-use Rattle.resolvo_reporting.specs.declared.wishes.Wish.{Wish}
+use Rattle.resolvo_turning.specs.declared.wishes.Wish.{Wish}
 
 -- a wish, by its line and its version
 abbrev pub asked_by : Wish → ℕ × VersionNo

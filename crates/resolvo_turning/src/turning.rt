@@ -2,7 +2,7 @@
 
 ghost use Rattle.std.specs.Prelude.{◌≡◌, ◌<◌, ◌++◌, ◌∷◌, [], length, slice_get, IfOk, OnOk};
 ghost use Rattle.resolvo_report.specs.View.{steps_of};
-ghost use Rattle.resolvo_reporting.specs.Turning.{number_at, AreReportTurns, AreWanted, IsBetween, IsFirstTurn, IsWishedTurn, Wants};
+ghost use Rattle.resolvo_turning.specs.Turning.{number_at, AreReportTurns, AreWanted, IsBetween, IsFirstTurn, IsWishedTurn, Wants};
 
 use crate::wishes::Wish;
 use resolvo::turns::Turn;
@@ -16,14 +16,14 @@ use std::alloc::Global;
 /// What the solver found: the numbers of the chosen versions, its turns, and for each step of its proof the place that the step
 /// has among those that are written.
 #[derive(Clone, Copy)]
-pub(crate) struct Outcome<'a> {
+pub struct Outcome<'a> {
     pub chosen: &'a [VersionNo],
     pub turns: &'a [Turn<SolvableId>],
     pub places: &'a [usize],
 }
 
-/// The steps of the turns, for those that have one.
-pub(crate) fn wanted_steps(alloc: Global, turns: &[Turn<SolvableId>]) -> R<Vec<usize>>
+/// The steps of the turns, for those that have one. `Memory` where they find no room.
+pub fn wanted_steps(alloc: Global, turns: &[Turn<SolvableId>]) -> R<Vec<usize>>
     ensures { IfOk result (λ v. AreWanted turns.now v.items) }
 {
     let mut wanted = Vec::new(alloc);
@@ -120,8 +120,8 @@ fn push_step(steps: &mut Vec<Step>, step: Step) -> R<u32>
 }
 
 /// The turns of the report: that of the needs, then one for each wish. The steps that bar wishes without a search come behind the
-/// others.
-pub(crate) fn report_turns<'a>(
+/// others. `Memory` where they find no room; `Ids` where a step's number is too great for a report.
+pub fn report_turns<'a>(
     alloc: Global,
     outcome: Outcome<'a>,
     wishes: Vec<Wish>,

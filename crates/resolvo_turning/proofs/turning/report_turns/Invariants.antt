@@ -2,8 +2,8 @@ use Rattle.std.proofs.Common.{List, ◌++◌, ◌<◌, drop, length}
 use Rattle.resolvo_listing.specs.declared.entry.Turn.{Turn}
 use Rattle.resolvo_report.specs.Value.{Step}
 use Rattle.resolvo_report.specs.View.{steps_of}
-use Rattle.resolvo_reporting.specs.Turning.{AreReportTurns, AreTold}
-use Rattle.resolvo_reporting.proofs.turning.report_turns.Given as goal
+use Rattle.resolvo_turning.specs.Turning.{AreReportTurns, AreTold}
+use Rattle.resolvo_turning.proofs.turning.report_turns.Given as goal
 
 -- what is told of the other wishes goes behind what was told
 abbrev pub invariant-loop-wish : goal.invariant-loop-wish

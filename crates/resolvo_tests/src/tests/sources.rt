@@ -1,0 +1,243 @@
+//! Sources that are no catalogue: one that cancels, and one whose ids are sparse.
+
+use super::{IF, MARKET, catalogue, request, solved_over};
+use resolvo::deciding::Activity;
+use resolvo::problem::Problem;
+use resolvo::proving::solve;
+use resolvo::search::Found;
+use resolvo::solver::{Solver, UnsolvableOrCancelled};
+use resolvo_answers::answers::Answers;
+use resolvo_cache::cache::CacheFault;
+use resolvo_catalogue::{Catalogue, Request, VersionNo};
+use resolvo_pool::id::{SolvableId, SparseId, VersionSetId};
+use resolvo_pool::requirement::ConditionalRequirement;
+use resolvo_pool::want::{R, Want};
+use resolvo_provider::provider::{CatalogueProvider, Hint, RequestIds};
+use resolvo_sources::cancelling::Cancelling;
+use resolvo_sources::shelf::{Need, Shelf, Span, Version};
+use std::alloc::Global;
+use std::test::Fail;
+
+/// What a solver said: the numbers of what it chose, that nothing can be chosen, or the value with which it was cancelled.
+#[derive(Debug, Drop, PartialEq)]
+enum Said {
+    Chosen(Vec<u32>),
+    Refused,
+    Cancelled(u32),
+}
+
+/// What a solver says of the ids of a request.
+fn said(
+    alloc: Global,
+    solver: &mut Solver<Cancelling<CatalogueProvider>>,
+    root: &RequestIds,
+) -> Result<Said, Fail> {
+    let problem = Problem::new(alloc)
+        .requirements(Vec::from_slice(alloc, root.requirements.as_slice())?)
+        .constraints(Vec::from_slice(alloc, root.constraints.as_slice())?)
+        .soft_requirements(root.wishes.iter().copied());
+    match solver.solve(problem) {
+        Ok(chosen) => Ok(Said::Chosen(numbers(alloc, chosen.as_slice())?)),
+        Err(UnsolvableOrCancelled::Unsolvable(_)) => Ok(Said::Refused),
+        Err(UnsolvableOrCancelled::Cancelled(value)) => Ok(Said::Cancelled(value)),
+        Err(UnsolvableOrCancelled::Memory) => Err(Fail::from(Want::Memory)),
+        Err(UnsolvableOrCancelled::Ids) => Err(Fail::from(Want::Ids)),
+    }
+}
+
+fn numbers(alloc: Global, chosen: &[SolvableId]) -> R<Vec<u32>> {
+    let mut numbers = Vec::new(alloc);
+    for one in chosen {
+        numbers.push(one.into_raw())?;
+    }
+    Ok(numbers)
+}
+
+/// Whether a solver that was cancelled with 7 says this when it is asked again; none where it wasn't cancelled.
+fn says_after_cancel(
+    alloc: Global,
+    solver: &mut Solver<Cancelling<CatalogueProvider>>,
+    root: &RequestIds,
+    want: &Said,
+) -> Result<Option<bool>, Fail> {
+    let first = said(alloc, solver, root)?;
+    if first == *want {
+        return Ok(None);
+    }
+    let is_left = solver.proof().is_empty() && solver.turns().is_empty();
+    let again = said(alloc, solver, root)?;
+    Ok(Some(first == Said::Cancelled(7) && is_left && again == *want))
+}
+
+/// The same of two texts, where so many tests are let pass.
+fn right_after_cancel(
+    alloc: Global,
+    catalogue: &Catalogue,
+    request: &Request,
+    passed: u32,
+    want: &Said,
+) -> Result<Option<bool>, Fail> {
+    let mut provider = CatalogueProvider::new(alloc, catalogue, Hint::All)?;
+    let root = provider.intern_request(request)?;
+    let source = Cancelling::new(provider, passed, 7);
+    says_after_cancel(alloc, &mut Solver::new(alloc, source), &root, want)
+}
+
+/// How many tests there are until an answer, where a solver says this after it was cancelled at any of them; none where it doesn't.
+fn cancels(
+    alloc: Global,
+    catalogue_text: &str,
+    request_text: &str,
+    want: &Said,
+) -> Result<Option<u32>, Fail> {
+    let catalogue = catalogue(alloc, catalogue_text)?;
+    let request = request(alloc, request_text, &catalogue)?;
+    for passed in 0..1000u32 {
+        match right_after_cancel(alloc, &catalogue, &request, passed, want)? {
+            None => return Ok(Some(passed)),
+            Some(true) => {}
+            Some(false) => return Ok(None),
+        }
+    }
+    Ok(None)
+}
+
+/// Whether there are some tests, and a cancel at any of them leaves the solver able to choose these.
+fn chooses_after_cancels(
+    alloc: Global,
+    catalogue_text: &str,
+    request_text: &str,
+    want: &[u32],
+) -> Result<bool, Fail> {
+    let want = Said::Chosen(Vec::from_slice(alloc, want)?);
+    Ok(cancels(alloc, catalogue_text, request_text, &want)?.is_some_and(|tests| tests > 1))
+}
+
+#[test]
+fn cancelled_at_each_test(rt: HostRuntime) -> Result<(), Fail> {
+    assert!(rt; chooses_after_cancels(rt.alloc(), MARKET, "needs a\nneeds b 2\n", &[3, 0])?);
+    let tests = cancels(rt.alloc(), MARKET, "needs a 2\nneeds b 2\n", &Said::Refused)?;
+    assert!(rt; tests.is_some_and(|tests| tests > 1));
+    Ok(())
+}
+
+#[test]
+fn cancelled_at_each_test_of_wishes(rt: HostRuntime) -> Result<(), Fail> {
+    assert!(rt;
+        chooses_after_cancels(
+            rt.alloc(),
+            MARKET,
+            "needs b 1\nwish b 2\nwish a 1\n",
+            &[2, 0]
+        )?
+    );
+    assert!(rt; chooses_after_cancels(rt.alloc(), IF, "needs b\nwish a 1\n", &[1, 0, 2])?);
+    Ok(())
+}
+
+/// The packages and versions of `MARKET`, as numbers: a is 1, and b is 2.
+static PLACES: [u32; 4] = [101, 102, 201, 202];
+
+/// The version sets: any a, b 1, b 2, a 2.
+static SETS: [Span; 4] = [
+    Span {
+        low: 100,
+        high: 200,
+    },
+    Span {
+        low: 201,
+        high: 202,
+    },
+    Span {
+        low: 202,
+        high: 203,
+    },
+    Span {
+        low: 102,
+        high: 103,
+    },
+];
+
+fn need(version: u32, set: u32) -> Need {
+    Need {
+        version: SparseId::from_raw(version),
+        set: VersionSetId(set),
+    }
+}
+
+/// What `MARKET` says, on a shelf.
+fn shelf(alloc: Global) -> R<Shelf> {
+    let mut versions: Vec<Version> = Vec::new(alloc);
+    for number in &PLACES {
+        versions.push(SparseId::from_raw(*number))?;
+    }
+    Ok(Shelf {
+        versions,
+        sets: Vec::from_slice(alloc, &SETS)?,
+        needs: Vec::from_slice(alloc, &[need(102, 1), need(202, 0)])?,
+    })
+}
+
+/// The numbers of what was found, if something was.
+fn shelved(alloc: Global, found: &Found<Version>) -> R<Option<Vec<u32>>> {
+    match found {
+        Found::Clash(_) => Ok(None),
+        Found::Chosen { solvables, .. } => {
+            let mut numbers = Vec::new(alloc);
+            for one in solvables {
+                numbers.push(one.into_raw())?;
+            }
+            Ok(Some(numbers))
+        }
+    }
+}
+
+/// The numbers of the versions that are chosen from a shelf for these version sets, or none where there are none.
+fn chosen_from(
+    alloc: Global,
+    answers: &mut Answers<Shelf>,
+    needs: &[ConditionalRequirement],
+) -> Result<Option<Vec<u32>>, Fail> {
+    match solve(alloc, answers, Activity::standard(), needs, &[], &[]) {
+        Ok(done) => Ok(shelved(alloc, &done.found)?),
+        Err(CacheFault::Memory) => Err(Fail::from(Want::Memory)),
+        Err(CacheFault::Ids) => Err(Fail::from(Want::Ids)),
+        Err(CacheFault::Cancelled(never)) => match never {},
+    }
+}
+
+/// The same versions by their numbers on the shelf.
+fn placed(alloc: Global, versions: Option<Vec<VersionNo>>) -> R<Option<Vec<u32>>> {
+    let Some(versions) = versions else {
+        return Ok(None);
+    };
+    let mut numbers = Vec::new(alloc);
+    for version in &versions {
+        if let Some(number) = PLACES.get(version.0 as usize) {
+            numbers.push(*number)?;
+        }
+    }
+    Ok(Some(numbers))
+}
+
+/// Whether a shelf gives the same versions as the catalogue.
+fn same_from_both(alloc: Global, request_text: &str, sets: &[u32]) -> Result<bool, Fail> {
+    let catalogue = catalogue(alloc, MARKET)?;
+    let wanted = placed(alloc, solved_over(alloc, &catalogue, request_text)?)?;
+    let mut needs = Vec::new(alloc);
+    for set in sets {
+        needs.push(ConditionalRequirement::from(VersionSetId(*set)))?;
+    }
+    let mut answers = Answers::new(alloc, shelf(alloc)?);
+    let found = chosen_from(alloc, &mut answers, needs.as_slice())?;
+    Ok(found == wanted)
+}
+
+#[test]
+fn sparse_ids(rt: HostRuntime) -> Result<(), Fail> {
+    assert!(rt; same_from_both(rt.alloc(), "needs a\n", &[0])?);
+    assert!(rt; same_from_both(rt.alloc(), "needs a\nneeds b 2\n", &[0, 2])?);
+    assert!(rt; same_from_both(rt.alloc(), "needs a 2\nneeds b 2\n", &[3, 2])?);
+    assert!(rt; same_from_both(rt.alloc(), "needs b 2\n", &[2])?);
+    Ok(())
+}
