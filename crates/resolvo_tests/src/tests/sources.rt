@@ -20,26 +20,26 @@ use std::test::Fail;
 
 /// What a solver said: the numbers of what it chose, that nothing can be chosen, or the value with which it was cancelled.
 #[derive(Debug, Drop, PartialEq)]
-enum Said {
+enum Answer {
     Chosen(Vec<u32>),
     Refused,
     Cancelled(u32),
 }
 
 /// What a solver says of the ids of a request.
-fn said(
+fn asked(
     alloc: Global,
     solver: &mut Solver<Cancelling<CatalogueProvider>>,
     root: &RequestIds,
-) -> Result<Said, Fail> {
+) -> Result<Answer, Fail> {
     let problem = Problem::new(alloc)
         .requirements(Vec::from_slice(alloc, root.requirements.as_slice())?)
         .constraints(Vec::from_slice(alloc, root.constraints.as_slice())?)
         .soft_requirements(root.wishes.iter().copied());
     match solver.solve(problem) {
-        Ok(chosen) => Ok(Said::Chosen(numbers(alloc, chosen.as_slice())?)),
-        Err(UnsolvableOrCancelled::Unsolvable(_)) => Ok(Said::Refused),
-        Err(UnsolvableOrCancelled::Cancelled(value)) => Ok(Said::Cancelled(value)),
+        Ok(chosen) => Ok(Answer::Chosen(numbers(alloc, chosen.as_slice())?)),
+        Err(UnsolvableOrCancelled::Unsolvable(_)) => Ok(Answer::Refused),
+        Err(UnsolvableOrCancelled::Cancelled(value)) => Ok(Answer::Cancelled(value)),
         Err(UnsolvableOrCancelled::Memory) => Err(Fail::from(Want::Memory)),
         Err(UnsolvableOrCancelled::Ids) => Err(Fail::from(Want::Ids)),
     }
@@ -58,15 +58,15 @@ fn says_after_cancel(
     alloc: Global,
     solver: &mut Solver<Cancelling<CatalogueProvider>>,
     root: &RequestIds,
-    want: &Said,
+    want: &Answer,
 ) -> Result<Option<bool>, Fail> {
-    let first = said(alloc, solver, root)?;
+    let first = asked(alloc, solver, root)?;
     if first == *want {
         return Ok(None);
     }
     let is_left = solver.proof().is_empty() && solver.turns().is_empty();
-    let again = said(alloc, solver, root)?;
-    Ok(Some(first == Said::Cancelled(7) && is_left && again == *want))
+    let again = asked(alloc, solver, root)?;
+    Ok(Some(first == Answer::Cancelled(7) && is_left && again == *want))
 }
 
 /// The same of two texts, where so many tests are let pass.
@@ -75,7 +75,7 @@ fn right_after_cancel(
     catalogue: &Catalogue,
     request: &Request,
     passed: u32,
-    want: &Said,
+    want: &Answer,
 ) -> Result<Option<bool>, Fail> {
     let mut provider = CatalogueProvider::new(alloc, catalogue, Hint::All)?;
     let root = provider.intern_request(request)?;
@@ -88,7 +88,7 @@ fn cancels(
     alloc: Global,
     catalogue_text: &str,
     request_text: &str,
-    want: &Said,
+    want: &Answer,
 ) -> Result<Option<u32>, Fail> {
     let catalogue = catalogue(alloc, catalogue_text)?;
     let request = request(alloc, request_text, &catalogue)?;
@@ -109,14 +109,19 @@ fn chooses_after_cancels(
     request_text: &str,
     want: &[u32],
 ) -> Result<bool, Fail> {
-    let want = Said::Chosen(Vec::from_slice(alloc, want)?);
+    let want = Answer::Chosen(Vec::from_slice(alloc, want)?);
     Ok(cancels(alloc, catalogue_text, request_text, &want)?.is_some_and(|tests| tests > 1))
 }
 
 #[test]
 fn cancelled_at_each_test(rt: HostRuntime) -> Result<(), Fail> {
     assert!(rt; chooses_after_cancels(rt.alloc(), MARKET, "needs a\nneeds b 2\n", &[3, 0])?);
-    let tests = cancels(rt.alloc(), MARKET, "needs a 2\nneeds b 2\n", &Said::Refused)?;
+    let tests = cancels(
+        rt.alloc(),
+        MARKET,
+        "needs a 2\nneeds b 2\n",
+        &Answer::Refused,
+    )?;
     assert!(rt; tests.is_some_and(|tests| tests > 1));
     Ok(())
 }
