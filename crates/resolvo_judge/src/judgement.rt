@@ -72,6 +72,7 @@ fn judge_lines<S: Source>(
         unreachable!();
     };
     let mut judging = begin(alloc, catalogue, request, &first)?;
+    drop(first);
     let mut number = 2;
     while let Some(line) = reader.next(alloc, source)? {
         if !take(alloc, catalogue, request, &mut judging, readings, line)? {

@@ -1,11 +1,12 @@
 //! The provider over a catalogue: made once from the lines, then asked by the solver.
 //! Its model is what was interned and what the lines say of each version (`specs/Provider.antt`).
 
-ghost use Rattle.std.specs.Prelude.{map, IfOk, IsOkUnless};
+ghost use Rattle.std.specs.Prelude.{◌≡◌, [], map, IfOk, IsOkUnless};
 ghost use Rattle.resolvo_pool.specs.declared.want.Want.TheVariants.{Memory};
-ghost use Rattle.resolvo_provider.specs.Ids.{Interns};
+ghost use Rattle.resolvo_provider.specs.declared.provider.Hint.{Hint};
+ghost use Rattle.resolvo_provider.specs.Ids.{AreByPackage, Interns};
 ghost use Rattle.resolvo_provider.specs.Told.{told_of};
-ghost use Rattle.resolvo_provider.specs.Over.{AreTold};
+ghost use Rattle.resolvo_provider.specs.Over.{AreTold, IsOver};
 
 use crate::id_table::IdTable;
 use crate::marks::{Marks, marks_of};
@@ -50,6 +51,14 @@ impl Model for CatalogueProvider {
     ghost invariant = { λ p. AreByPackage p.ids p.packages.items };
 }
 
+/// What a catalogue says of its versions, as ids.
+#[derive(Drop)]
+struct Tables {
+    packages: Vec<Vec<SolvableId>>,
+    told: Vec<Told>,
+    marks: Vec<Marks>,
+}
+
 /// What a request says, as ids of a provider.
 #[derive(Drop)]
 pub struct RequestIds {
@@ -60,12 +69,12 @@ pub struct RequestIds {
 }
 
 impl CatalogueProvider {
-    ghost use Rattle.std.specs.Prelude.{◌≡◌, List, map, IfOk};
+    ghost use Rattle.std.specs.Prelude.{List};
     ghost use Rattle.resolvo_text.specs.Line as says;
     ghost use Rattle.resolvo_text.specs.View.{spec_of, specs_of};
     ghost use Rattle.resolvo_provider.specs.Ids.{IsSpec, AreAlternatives, solvable_id};
     ghost use Rattle.resolvo_provider.specs.Known.{spec_at, alternatives_at, name_text, word_text};
-    ghost use Rattle.resolvo_provider.specs.Over.{IsOver, AreAsked, ChangesIds};
+    ghost use Rattle.resolvo_provider.specs.Over.{AreAsked, ChangesIds};
     ghost use Rattle.resolvo_provider.specs.Keeping.{KeepsAlike, KeepsAlikeExempt, root_of};
     ghost use Rattle.resolvo_catalogue.specs.Grammar.{AreRequestLines};
 
@@ -74,12 +83,12 @@ impl CatalogueProvider {
         ensures over { IfOk result (λ p. IsOver catalogue.now p) }
         ensures hint { IfOk result (λ p. p.hint ≡ hint) }
     {
-        catalogue.lines_are_in_place();
         let mut ids = IdTable::new(alloc);
-        let packages = list_versions(alloc, &mut ids, catalogue.versions())?;
-        let told = lines_told(alloc, &mut ids, catalogue)?;
-        let marks = marks_of(alloc, &mut ids, catalogue)?;
-        ids.ids_are_once();
+        let Tables {
+            packages,
+            told,
+            marks,
+        } = tables_of(alloc, &mut ids, catalogue)?;
         Ok(CatalogueProvider {
             ids,
             packages,
@@ -183,6 +192,25 @@ impl CatalogueProvider {
         }
         Ok(specs)
     }
+}
+
+/// Interns all that a catalogue says, where no name and no version was interned yet.
+fn tables_of(alloc: Global, ids: &mut IdTable, catalogue: &Catalogue) -> R<Tables>
+    requires names { ids.old.names ≡ [] }
+    requires none { ids.old.solvables ≡ [] }
+    ensures over { IfOk result (λ t. (hint : Hint) → IsOver catalogue.now (record { ids = ids.new; told = map told_of t.told.items; marks = t.marks.items; hint = hint })) }
+    ensures packages { IfOk result (λ t. AreByPackage ids.new t.packages.items) }
+{
+    catalogue.lines_are_in_place();
+    let packages = list_versions(alloc, ids, catalogue.versions())?;
+    let told = lines_told(alloc, ids, catalogue)?;
+    let marks = marks_of(alloc, ids, catalogue)?;
+    ids.ids_are_once();
+    Ok(Tables {
+        packages,
+        told,
+        marks,
+    })
 }
 
 /// What the lines of each version say, by its number.

@@ -232,18 +232,16 @@ module _ (catalogue : List Line) (said : Said) (provider : Provider) (wishes : L
         })
 
 -- a search over a provider of the catalogue, which interned the request
-pub solved_over : (catalogue : List Line) (said : Said) (wishes : List Wish) (interned kept provider : Provider) (ids : RequestIds) (requirements : List ConditionalRequirement) (constraints : List VersionSetId) (free : List SolvableId) (same : SolvableId → SolvableId → Bool) (solved : Solved NameId SolvableId)
-    → AreRequestLines catalogue said.lines → AreAll (map (λ f. f.0) said.wishes) (λ n. LineIs said.lines n IsWish) → AreWishesAt catalogue said → AreWishesOf catalogue said.wishes wishes → free ≡ free_of wishes → kept ≡ interned → provider ≡ kept → IsOver catalogue interned → AreAsked interned.ids said ids → requirements ≡ ids.requirements.items → constraints ≡ ids.constraints.items → IsExact same
+pub solved_over : (catalogue : List Line) (said : Said) (wishes : List Wish) (kept provider : Provider) (ids : RequestIds) (requirements : List ConditionalRequirement) (constraints : List VersionSetId) (free : List SolvableId) (same : SolvableId → SolvableId → Bool) (solved : Solved NameId SolvableId)
+    → AreRequestLines catalogue said.lines → AreAll (map (λ f. f.0) said.wishes) (λ n. LineIs said.lines n IsWish) → AreWishesAt catalogue said → AreWishesOf catalogue said.wishes wishes → free ≡ free_of wishes → provider ≡ kept → IsOver catalogue kept → AreAsked kept.ids said ids → requirements ≡ ids.requirements.items → constraints ≡ ids.constraints.items → IsExact same
     → ((root : Rules) → IsRoot requirements constraints root → AreCandidates same (packages_of kept) free → IsSolved same (packages_of kept) (orders_of same kept) root free solved) → EndsSo solved.found solved.proof.items → IsSolvedOver catalogue said provider wishes solved
-solved_over catalogue said wishes interned kept provider ids requirements constraints free same solved asks_rightly lines versions told free_is was stays over asked needs limits exact solves ends =
+solved_over catalogue said wishes kept provider ids requirements constraints free same solved asks_rightly lines versions told free_is stays over asked needs limits exact solves ends =
     let are_wishes : AreWishes catalogue said.lines said.wishes = record { lines = lines; versions = versions } in
-    let kept_over : IsOver catalogue kept = subst (λ (q : Provider). IsOver catalogue q) (sym was) over in
-    let kept_asked : AreAsked kept.ids said ids = subst (λ (q : Provider). AreAsked q.ids said ids) (sym was) asked in
-    let candidates = subst (λ (xs : List SolvableId). AreCandidates same (packages_of kept) xs) (sym free_is) (free_candidates catalogue said kept kept_over ids kept_asked asks_rightly same exact are_wishes wishes told) in
+    let candidates = subst (λ (xs : List SolvableId). AreCandidates same (packages_of kept) xs) (sym free_is) (free_candidates catalogue said kept over ids asked asks_rightly same exact are_wishes wishes told) in
     subst (λ (q : Provider). IsSolvedOver catalogue said q wishes solved) (sym stays) (record {
-      over = kept_over;
+      over = over;
       ids = ids;
-      asked = kept_asked;
+      asked = asked;
       same = same;
       exact = exact;
       solves = subst (λ (xs : List SolvableId). IsSolved same (packages_of kept) (orders_of same kept) (root_of ids) xs solved) free_is (solves (root_of ids) (sym needs, sym limits) candidates);

@@ -2,6 +2,7 @@
 
 ghost use Rattle.std.specs.Prelude.{◌≡◌, IfOk};
 ghost use Rattle.resolvo_catalogue.specs.Grammar.{AreRequestLines};
+ghost use Rattle.resolvo_provider.specs.Over.{IsOver, AreAsked};
 ghost use Rattle.resolvo_report.specs.View.{messages_of, report_of};
 ghost use Rattle.resolvo_reporting.specs.Message.{with_message};
 ghost use Rattle.resolvo_turning.specs.Wishes.{AreWishesAt};
@@ -23,7 +24,7 @@ use resolvo_pool::want::{R, Want};
 use resolvo_proof::step::ProofStep;
 use resolvo_proof::trimming::{Trimmed, trim, trim_to};
 use resolvo_provider::lawful::Never;
-use resolvo_provider::provider::{CatalogueProvider, Hint};
+use resolvo_provider::provider::{CatalogueProvider, Hint, RequestIds};
 use resolvo_refusal::{install_steps, refused_report};
 use resolvo_report::Report;
 use resolvo_turning::turning::{Outcome, report_turns, wanted_steps};
@@ -142,26 +143,40 @@ fn stopped(fault: CacheFault<Never>) -> Want
     }
 }
 
-/// The report of a catalogue and a request over it: the solver's answer. A wish that a lock or an exclusion bars is left out without
-/// a search.
-pub fn report_for(alloc: Global, catalogue: &Catalogue, request: &Request) -> R<Report>
-    ensures { IfOk result (λ r. AreRequestLines catalogue.now request.now.lines → AreWishesAt catalogue.now request.now → IsReportOf catalogue.now request.now.lines (report_of r)) }
+/// The report of the solver's answer to what a request asks of the provider of a catalogue. A wish that a lock or an exclusion bars is
+/// left out without a search.
+fn answered(
+    alloc: Global,
+    catalogue: &Catalogue,
+    request: &Request,
+    answers: &mut Answers<CatalogueProvider>,
+    asked: &RequestIds,
+) -> R<Report>
+    ensures { IfOk result (λ r. AreRequestLines catalogue.now request.now.lines → AreWishesAt catalogue.now request.now → IsOver catalogue.now answers.old → AreAsked answers.old.ids request.now asked.now → IsReportOf catalogue.now request.now.lines (report_of r)) }
 {
     let wishes = wishes_of(alloc, catalogue, request)?;
     let free = free_wishes(alloc, wishes.as_slice())?;
-    let mut provider = CatalogueProvider::new(alloc, catalogue, Hint::All)?;
-    let asked = provider.intern_request(request)?;
-    let mut answers = Answers::new(alloc, provider);
     let solved = solve(
         alloc,
-        &mut answers,
+        answers,
         Activity::standard(),
         asked.requirements.as_slice(),
         asked.constraints.as_slice(),
         free.as_slice(),
     );
     match solved {
-        Ok(solved) => told(alloc, catalogue, request, &mut answers, wishes, solved),
+        Ok(solved) => told(alloc, catalogue, request, answers, wishes, solved),
         Err(fault) => Err(stopped(fault)),
     }
+}
+
+/// The report of a catalogue and a request over it: the solver's answer. `Memory` where it finds no room; `Ids` where there is more
+/// than numbers can tell.
+pub fn report_for(alloc: Global, catalogue: &Catalogue, request: &Request) -> R<Report>
+    ensures { IfOk result (λ r. AreRequestLines catalogue.now request.now.lines → AreWishesAt catalogue.now request.now → IsReportOf catalogue.now request.now.lines (report_of r)) }
+{
+    let mut provider = CatalogueProvider::new(alloc, catalogue, Hint::All)?;
+    let asked = provider.intern_request(request)?;
+    let mut answers = Answers::new(alloc, provider);
+    answered(alloc, catalogue, request, &mut answers, &asked)
 }

@@ -1,14 +1,11 @@
-use Rattle.std.proofs.Common.{refl, ap, ◌∙◌}
-use Rattle.std.proofs.lemmas.Bool.{and_parts, and_from, eqb-true, eq-eqb}
-use Rattle.resolvo_turning.specs.Wishes.{free_of}
-use Rattle.resolvo_reporting.proofs.Upheld.{if_ok, solved_over}
+use Rattle.std.proofs.Common.{sym, subst}
+use Rattle.resolvo_provider.specs.Over.{IsOver, AreAsked}
+use Rattle.resolvo_provider.specs.Provider.{Provider}
+use Rattle.resolvo_reporting.proofs.Upheld.{if_ok}
 use Rattle.resolvo_reporting.proofs.reporting.report_for.Goals as goal
 
-pub returns-in-Ok : goal.returns-in-Ok
-returns-in-Ok c = if_ok c.told.result (λ r reports asks versions. reports asks
-    (solved_over c.args.catalogue.now c.args.request.now c.in_ok-wishes.wishes.items c.intern_request.new.self c.new-answers.result _ c.in_ok-asked.asked _ _ _ _ c.in-Ok.solved asks c.in_ok-wishes.ensures.lines versions c.in_ok-wishes.ensures.wishes
-    (c.as_slice-4.ensures.value ∙ c.in_ok-free.ensures ∙ ap free_of c.as_slice.ensures.value) c.new-answers.ensures
-    c.solve-solved.ensures.same (c.in_ok-asked.ensures.over c.args.catalogue.now c.in_ok-provider.ensures.over) c.in_ok-asked.ensures.asked c.as_slice-2.ensures.value c.as_slice-3.ensures.value
-    (record { one = λ x y h. ap (λ k. record { raw = k; tag = record {} }) (eqb-true _ _ (and_parts _ _ h).0); own = λ x. and_from _ _ (eq-eqb x.raw x.raw refl) refl })
-    c.in-Ok.ensures.solved c.in-Ok.ensures.ends))
-    c.told.ensures
+pub returns : goal.returns
+returns c = if_ok c.answered.result (λ r reports asks versions. reports asks versions
+    (subst (λ (p : Provider). IsOver c.args.catalogue.now p) (sym c.new-answers.ensures) (c.in_ok-asked.ensures.over c.args.catalogue.now c.in_ok-provider.ensures.over))
+    (subst (λ (p : Provider). AreAsked p.ids c.args.request.now c.in_ok-asked.asked) (sym c.new-answers.ensures) c.in_ok-asked.ensures.asked))
+    c.answered.ensures
