@@ -170,6 +170,20 @@ fn answered(
     }
 }
 
+/// The same, by a provider that was asked nothing yet.
+fn answered_by(
+    alloc: Global,
+    catalogue: &Catalogue,
+    request: &Request,
+    provider: CatalogueProvider,
+    asked: &RequestIds,
+) -> R<Report>
+    ensures { IfOk result (λ r. AreRequestLines catalogue.now request.now.lines → AreWishesAt catalogue.now request.now → IsOver catalogue.now provider → AreAsked provider.ids request.now asked.now → IsReportOf catalogue.now request.now.lines (report_of r)) }
+{
+    let mut answers = Answers::new(alloc, provider);
+    answered(alloc, catalogue, request, &mut answers, asked)
+}
+
 /// The report of a catalogue and a request over it: the solver's answer. `Memory` where it finds no room; `Ids` where there is more
 /// than numbers can tell.
 pub fn report_for(alloc: Global, catalogue: &Catalogue, request: &Request) -> R<Report>
@@ -177,6 +191,5 @@ pub fn report_for(alloc: Global, catalogue: &Catalogue, request: &Request) -> R<
 {
     let mut provider = CatalogueProvider::new(alloc, catalogue, Hint::All)?;
     let asked = provider.intern_request(request)?;
-    let mut answers = Answers::new(alloc, provider);
-    answered(alloc, catalogue, request, &mut answers, &asked)
+    answered_by(alloc, catalogue, request, provider, &asked)
 }

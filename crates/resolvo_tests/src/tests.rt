@@ -175,24 +175,51 @@ fn needs_under_conditions(rt: HostRuntime) -> Result<(), Fail> {
     Ok(())
 }
 
-/// How many cases wait still after a solver answered the ids of a request.
-fn left_waiting(alloc: Global, provider: CatalogueProvider, root: RequestIds) -> Option<usize> {
+/// How many cases wait still after a solver answered the ids of a request; none where it chose nothing.
+fn left_waiting(
+    alloc: Global,
+    solver: &mut Solver<CatalogueProvider>,
+    root: &RequestIds,
+) -> Result<Option<usize>, Fail> {
     let problem = Problem::new(alloc)
-        .requirements(root.requirements)
-        .constraints(root.constraints);
-    let mut solver = Solver::new(alloc, provider);
+        .requirements(Vec::from_slice(alloc, root.requirements.as_slice())?)
+        .constraints(Vec::from_slice(alloc, root.constraints.as_slice())?);
     match solver.solve(problem) {
-        Ok(_) => Some(solver.deferred_requirements_count()),
-        Err(_) => None,
+        Ok(_) => Ok(Some(solver.deferred_requirements_count())),
+        Err(_) => Ok(None),
     }
 }
 
+/// The same of a solver over this provider.
+fn left_by(
+    alloc: Global,
+    provider: CatalogueProvider,
+    root: &RequestIds,
+) -> Result<Option<usize>, Fail> {
+    left_waiting(alloc, &mut Solver::new(alloc, provider), root)
+}
+
+/// The same of a request.
+fn waiting_for(
+    alloc: Global,
+    catalogue: &Catalogue,
+    request: &Request,
+) -> Result<Option<usize>, Fail> {
+    let mut provider = CatalogueProvider::new(alloc, catalogue, Hint::All)?;
+    let root = provider.intern_request(request)?;
+    left_by(alloc, provider, &root)
+}
+
+fn waiting_over(
+    alloc: Global,
+    catalogue: &Catalogue,
+    request_text: &str,
+) -> Result<Option<usize>, Fail> {
+    waiting_for(alloc, catalogue, &request(alloc, request_text, catalogue)?)
+}
+
 fn waiting_after(alloc: Global, request_text: &str) -> Result<Option<usize>, Fail> {
-    let catalogue = catalogue(alloc, IF)?;
-    let request = request(alloc, request_text, &catalogue)?;
-    let mut provider = CatalogueProvider::new(alloc, &catalogue, Hint::All)?;
-    let root = provider.intern_request(&request)?;
-    Ok(left_waiting(alloc, provider, root))
+    waiting_over(alloc, &catalogue(alloc, IF)?, request_text)
 }
 
 #[test]

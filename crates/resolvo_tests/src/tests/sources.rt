@@ -69,7 +69,19 @@ fn says_after_cancel(
     Ok(Some(first == Answer::Cancelled(7) && is_left && again == *want))
 }
 
-/// The same of two texts, where so many tests are let pass.
+/// The same over a provider, where so many tests are let pass.
+fn right_by(
+    alloc: Global,
+    provider: CatalogueProvider,
+    root: &RequestIds,
+    passed: u32,
+    want: &Answer,
+) -> Result<Option<bool>, Fail> {
+    let mut solver = Solver::new(alloc, Cancelling::new(provider, passed, 7));
+    says_after_cancel(alloc, &mut solver, root, want)
+}
+
+/// The same of a catalogue and a request.
 fn right_after_cancel(
     alloc: Global,
     catalogue: &Catalogue,
@@ -79,27 +91,53 @@ fn right_after_cancel(
 ) -> Result<Option<bool>, Fail> {
     let mut provider = CatalogueProvider::new(alloc, catalogue, Hint::All)?;
     let root = provider.intern_request(request)?;
-    let source = Cancelling::new(provider, passed, 7);
-    says_after_cancel(alloc, &mut Solver::new(alloc, source), &root, want)
+    right_by(alloc, provider, &root, passed, want)
 }
 
 /// How many tests there are until an answer, where a solver says this after it was cancelled at any of them; none where it doesn't.
-fn cancels(
+fn cancels_before(
     alloc: Global,
-    catalogue_text: &str,
-    request_text: &str,
+    catalogue: &Catalogue,
+    request: &Request,
     want: &Answer,
 ) -> Result<Option<u32>, Fail> {
-    let catalogue = catalogue(alloc, catalogue_text)?;
-    let request = request(alloc, request_text, &catalogue)?;
     for passed in 0..1000u32 {
-        match right_after_cancel(alloc, &catalogue, &request, passed, want)? {
+        match right_after_cancel(alloc, catalogue, request, passed, want)? {
             None => return Ok(Some(passed)),
             Some(true) => {}
             Some(false) => return Ok(None),
         }
     }
     Ok(None)
+}
+
+fn cancels_over(
+    alloc: Global,
+    catalogue: &Catalogue,
+    request_text: &str,
+    want: &Answer,
+) -> Result<Option<u32>, Fail> {
+    cancels_before(
+        alloc,
+        catalogue,
+        &request(alloc, request_text, catalogue)?,
+        want,
+    )
+}
+
+/// The same of two texts.
+fn cancels(
+    alloc: Global,
+    catalogue_text: &str,
+    request_text: &str,
+    want: &Answer,
+) -> Result<Option<u32>, Fail> {
+    cancels_over(
+        alloc,
+        &catalogue(alloc, catalogue_text)?,
+        request_text,
+        want,
+    )
 }
 
 /// Whether there are some tests, and a cancel at any of them leaves the solver able to choose these.
@@ -225,17 +263,28 @@ fn placed(alloc: Global, versions: Option<Vec<VersionNo>>) -> R<Option<Vec<u32>>
     Ok(Some(numbers))
 }
 
-/// Whether a shelf gives the same versions as the catalogue.
-fn same_from_both(alloc: Global, request_text: &str, sets: &[u32]) -> Result<bool, Fail> {
-    let catalogue = catalogue(alloc, MARKET)?;
-    let wanted = placed(alloc, solved_over(alloc, &catalogue, request_text)?)?;
+/// The numbers of the versions that are chosen from the shelf for these version sets.
+fn shelf_gives(alloc: Global, sets: &[u32]) -> Result<Option<Vec<u32>>, Fail> {
     let mut needs = Vec::new(alloc);
     for set in sets {
         needs.push(ConditionalRequirement::from(VersionSetId(*set)))?;
     }
-    let mut answers = Answers::new(alloc, shelf(alloc)?);
-    let found = chosen_from(alloc, &mut answers, needs.as_slice())?;
-    Ok(found == wanted)
+    chosen_from(
+        alloc,
+        &mut Answers::new(alloc, shelf(alloc)?),
+        needs.as_slice(),
+    )
+}
+
+/// The numbers of the versions that are chosen from the catalogue.
+fn catalogue_gives(alloc: Global, request_text: &str) -> Result<Option<Vec<u32>>, Fail> {
+    let versions = solved_over(alloc, &catalogue(alloc, MARKET)?, request_text)?;
+    Ok(placed(alloc, versions)?)
+}
+
+/// Whether a shelf gives the same versions as the catalogue.
+fn same_from_both(alloc: Global, request_text: &str, sets: &[u32]) -> Result<bool, Fail> {
+    Ok(shelf_gives(alloc, sets)? == catalogue_gives(alloc, request_text)?)
 }
 
 #[test]

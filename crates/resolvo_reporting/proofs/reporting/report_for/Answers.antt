@@ -1,11 +1,6 @@
-use Rattle.std.proofs.Common.{sym, subst}
-use Rattle.resolvo_provider.specs.Over.{IsOver, AreAsked}
-use Rattle.resolvo_provider.specs.Provider.{Provider}
 use Rattle.resolvo_reporting.proofs.Upheld.{if_ok}
 use Rattle.resolvo_reporting.proofs.reporting.report_for.Goals as goal
 
 pub returns : goal.returns
-returns c = if_ok c.answered.result (λ r reports asks versions. reports asks versions
-    (subst (λ (p : Provider). IsOver c.args.catalogue.now p) (sym c.new-answers.ensures) (c.in_ok-asked.ensures.over c.args.catalogue.now c.in_ok-provider.ensures.over))
-    (subst (λ (p : Provider). AreAsked p.ids c.args.request.now c.in_ok-asked.asked) (sym c.new-answers.ensures) c.in_ok-asked.ensures.asked))
-    c.answered.ensures
+returns c = if_ok c.answered_by.result (λ r reports asks versions. reports asks versions (c.in_ok-asked.ensures.over c.args.catalogue.now c.in_ok-provider.ensures.over) c.in_ok-asked.ensures.asked)
+    c.answered_by.ensures
