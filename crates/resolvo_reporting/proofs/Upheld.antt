@@ -1,6 +1,6 @@
 -- What the solver found, told as a report that the judge says yes to.
-use Rattle.std.proofs.Common.{◌≡◌, Bor, ℕ, zero, suc, ◌<◌, Bool, List, [], ◌∷◌, map, length, Some, None, Result, Ok, Err, Vec, Global, refl, sym, ap, subst, ◌∙◌, arith}
-use Rattle.std.specs.Prelude.{Contains, IfOk, slice_get}
+use Rattle.std.proofs.Common.{◌≡◌, Bor, ℕ, Bool, List, [], ◌∷◌, map, length, None, Result, Ok, Err, Vec, Global, refl, sym, subst, arith}
+use Rattle.std.specs.Prelude.{Contains, IfOk}
 use Rattle.std.specs.List.{AllByRecursion, AllZip}
 use Rattle.resolvo_text.specs.Line.{Line}
 use Rattle.resolvo_catalogue.specs.Grammar.{AreRequestLines}
@@ -23,15 +23,12 @@ use Rattle.resolvo_provider.specs.Keeping.{root_of}
 use Rattle.resolvo_provider.specs.Provider.{Provider, packages_of}
 use Rattle.resolvo_provider.specs.Over.{IsOver, AreAsked}
 use Rattle.resolvo_provider.specs.declared.provider.RequestIds.{RequestIds}
-use Rattle.resolvo_provider.proofs.Marking.{one_some}
-use Rattle.resolvo_rules.proofs.Lists.{contains_map}
 use Rattle.resolvo_proof.specs.Trimmed as trimming
 use Rattle.resolvo_proof.specs.Trimmed.{Names, IsLast, IsTrimmed, IsTrimmedTo, IsTrimmedWith, StaysProof}
 use Rattle.resolvo_proof.specs.Proof.{EndsEmpty}
 use Rattle.resolvo_proof.specs.Drawn.{HaveOneSigns}
 use Rattle.resolvo_proof.specs.Places.{HaveOnePlace}
 use Rattle.resolvo_proof.specs.declared.step.ProofStep.{ProofStep}
-use Rattle.resolvo_proof.specs.declared.step.ProofStep.TheVariants.{Rule, Derived}
 use Rattle.resolvo_report.specs.Value.{Step, Message, Refused, Report}
 use Rattle.resolvo_report.specs.Text.{HasText, report_lines, report_text}
 use Rattle.resolvo_report.specs.Grammar.{IsReport}

@@ -1,10 +1,10 @@
 -- The turns behind an install report are those of the request's wishes, and each of its steps is used.
-use Rattle.std.proofs.Common.{◌≡◌, inl, inr, ℕ, zero, suc, ◌+◌, ◌<◌, ◌≤◌, ◌⊎◌, Bool, true, false, List, [], ◌∷◌, ◌++◌, map, length, Option, Some, None, refl, sym, ap, subst, ◌∙◌, arith}
+use Rattle.std.proofs.Common.{◌≡◌, inl, inr, ℕ, zero, suc, ◌+◌, ◌<◌, ◌≤◌, ◌⊎◌, false, List, [], ◌∷◌, ◌++◌, map, length, Option, Some, None, refl, sym, ap, subst, ◌∙◌, arith}
 use Rattle.std.specs.Prelude.{Contains, MatchOption, slice_get}
 use Rattle.std.specs.List.{AllZip}
 use Rattle.std.specs.Option.{option_map}
 use Rattle.std.proofs.Math.Dec.{ltb}
-use Rattle.std.proofs.lemmas.Bool.{cases_Bool, false≢true, ltb-true, ltb-false}
+use Rattle.std.proofs.lemmas.Bool.{cases_Bool, ltb-true, ltb-false}
 use Rattle.std.proofs.lemmas.Option.{slice_get_within}
 use Rattle.std.proofs.lemmas.List.{length-append}
 use Rattle.resolvo_text.specs.Line as line
@@ -35,7 +35,7 @@ use Rattle.resolvo_entries.specs.Install as install
 use Rattle.resolvo_entries.specs.Install.{Serve}
 use Rattle.resolvo_refusal.specs.Refusal.{IsToldBy}
 use Rattle.resolvo.specs.Solving.{HasProof}
-use Rattle.resolvo_reporting.specs.Reported.{AreUsed, AreWishTurns, IsNamedLater, LeavesOutBy, wish_of}
+use Rattle.resolvo_reporting.specs.Reported.{AreUsed, AreWishTurns, IsNamedLater, wish_of}
 use Rattle.resolvo_turning.specs.Turning.{Solved, AreTold, AreWanted, IsWishedTurn, number_at, past}
 use Rattle.resolvo_turning.specs.Wishes.{asked_by, free_of, unless_barred}
 use Rattle.resolvo_turning.specs.declared.wishes.Wish.{Wish}

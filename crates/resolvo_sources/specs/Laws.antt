@@ -9,7 +9,7 @@ use Rattle.resolvo_sources.specs.Shelf.{is_of, listing_of}
 pub candidates_named : {N S : Type 0} (number : S → ℕ) (name : ℕ → N) (versions : List S) (owner : ℕ) → AreOf (λ s. name (number s / 100)) (name owner) (Some (listing_of number versions owner))
 candidates_named number name versions owner = record {
   candidates = All-weaker (λ s. is_of owner (number s) ≡ true) (λ s. name (number s / 100) ≡ name owner) (λ s h. ap name (eqb-true (number s / 100) owner h))
-    (filter (λ s. is_of owner (number s)) versions) (filter_passes (λ s. is_of owner (number s)) versions);
+      (filter (λ s. is_of owner (number s)) versions) (filter_passes (λ s. is_of owner (number s)) versions);
   locked = tt;
   excluded = All-nil _;
 }
