@@ -210,12 +210,8 @@ fn need(version: u32, set: u32) -> Need {
 
 /// What `MARKET` says, on a shelf.
 fn shelf(alloc: Global) -> R<Shelf> {
-    let mut versions: Vec<Version> = Vec::new(alloc);
-    for number in &PLACES {
-        versions.push(SparseId::from_raw(*number))?;
-    }
     Ok(Shelf {
-        versions,
+        versions: versions_of(alloc, &PLACES)?,
         sets: Vec::from_slice(alloc, &SETS)?,
         needs: Vec::from_slice(alloc, &[need(102, 1), need(202, 0)])?,
     })
@@ -235,13 +231,14 @@ fn shelved(alloc: Global, found: &Found<Version>) -> R<Option<Vec<u32>>> {
     }
 }
 
-/// The numbers of the versions that are chosen from a shelf for these version sets, or none where there are none.
+/// The numbers of the versions that are chosen from a shelf for these version sets and wishes, or none where there are none.
 fn chosen_from(
     alloc: Global,
     answers: &mut Answers<Shelf>,
     needs: &[ConditionalRequirement],
+    wishes: &[Version],
 ) -> Result<Option<Vec<u32>>, Fail> {
-    match solve(alloc, answers, Activity::standard(), needs, &[], &[]) {
+    match solve(alloc, answers, Activity::standard(), needs, &[], wishes) {
         Ok(done) => Ok(shelved(alloc, &done.found)?),
         Err(CacheFault::Memory) => Err(Fail::from(Want::Memory)),
         Err(CacheFault::Ids) => Err(Fail::from(Want::Ids)),
@@ -263,17 +260,28 @@ fn placed(alloc: Global, versions: Option<Vec<VersionNo>>) -> R<Option<Vec<u32>>
     Ok(Some(numbers))
 }
 
-/// The numbers of the versions that are chosen from the shelf for these version sets.
-fn shelf_gives(alloc: Global, sets: &[u32]) -> Result<Option<Vec<u32>>, Fail> {
+fn needs_of(alloc: Global, sets: &[u32]) -> R<Vec<ConditionalRequirement>> {
     let mut needs = Vec::new(alloc);
     for set in sets {
         needs.push(ConditionalRequirement::from(VersionSetId(*set)))?;
     }
-    chosen_from(
-        alloc,
-        &mut Answers::new(alloc, shelf(alloc)?),
-        needs.as_slice(),
-    )
+    Ok(needs)
+}
+
+fn versions_of(alloc: Global, numbers: &[u32]) -> R<Vec<Version>> {
+    let mut versions: Vec<Version> = Vec::new(alloc);
+    for number in numbers {
+        versions.push(SparseId::from_raw(*number))?;
+    }
+    Ok(versions)
+}
+
+/// The numbers of the versions that are chosen from the shelf for these version sets and wishes.
+fn shelf_gives(alloc: Global, sets: &[u32], wishes: &[u32]) -> Result<Option<Vec<u32>>, Fail> {
+    let needs = needs_of(alloc, sets)?;
+    let wishes = versions_of(alloc, wishes)?;
+    let mut answers = Answers::new(alloc, shelf(alloc)?);
+    chosen_from(alloc, &mut answers, needs.as_slice(), wishes.as_slice())
 }
 
 /// The numbers of the versions that are chosen from the catalogue.
@@ -283,15 +291,28 @@ fn catalogue_gives(alloc: Global, request_text: &str) -> Result<Option<Vec<u32>>
 }
 
 /// Whether a shelf gives the same versions as the catalogue.
-fn same_from_both(alloc: Global, request_text: &str, sets: &[u32]) -> Result<bool, Fail> {
-    Ok(shelf_gives(alloc, sets)? == catalogue_gives(alloc, request_text)?)
+fn same_from_both(
+    alloc: Global,
+    request_text: &str,
+    sets: &[u32],
+    wishes: &[u32],
+) -> Result<bool, Fail> {
+    Ok(shelf_gives(alloc, sets, wishes)? == catalogue_gives(alloc, request_text)?)
 }
 
 #[test]
 fn sparse_ids(rt: HostRuntime) -> Result<(), Fail> {
-    assert!(rt; same_from_both(rt.alloc(), "needs a\n", &[0])?);
-    assert!(rt; same_from_both(rt.alloc(), "needs a\nneeds b 2\n", &[0, 2])?);
-    assert!(rt; same_from_both(rt.alloc(), "needs a 2\nneeds b 2\n", &[3, 2])?);
-    assert!(rt; same_from_both(rt.alloc(), "needs b 2\n", &[2])?);
+    assert!(rt; same_from_both(rt.alloc(), "needs a\n", &[0], &[])?);
+    assert!(rt; same_from_both(rt.alloc(), "needs a\nneeds b 2\n", &[0, 2], &[])?);
+    assert!(rt; same_from_both(rt.alloc(), "needs a 2\nneeds b 2\n", &[3, 2], &[])?);
+    assert!(rt; same_from_both(rt.alloc(), "needs b 2\n", &[2], &[])?);
+    Ok(())
+}
+
+#[test]
+fn sparse_ids_that_are_wished(rt: HostRuntime) -> Result<(), Fail> {
+    let wished = "needs b 1\nwish b 2\nwish a 1\n";
+    assert!(rt; same_from_both(rt.alloc(), wished, &[1], &[202, 101])?);
+    assert!(rt; same_from_both(rt.alloc(), "wish a 2\nwish b 2\n", &[], &[102, 202])?);
     Ok(())
 }
