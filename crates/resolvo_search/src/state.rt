@@ -1,5 +1,6 @@
 //! What the search stands on: the variables, the clauses with their causes, and the trail.
-ghost use Rattle.std.specs.Prelude.{◌≡◌, ◌<◌, ◌≤◌, ◌+◌, ◌∷◌, length, true};
+ghost use Rattle.std.specs.Prelude.{◌≡◌, ◌<◌, ◌≤◌, ◌+◌, ◌∷◌, length};
+ghost use Rattle.std.specs.Bool.{Decides};
 ghost use Rattle.resolvo_search.specs.Entries.{before, top_level};
 ghost use Rattle.resolvo_search.specs.State.{IsState, history, clauses_of};
 ghost use Rattle.resolvo_search.specs.Known.{clause_at};
@@ -71,7 +72,7 @@ impl SearchState {
 
     /// Whether a variable stands for a solvable.
     pub fn is_solvable(&self, variable: VariableId) -> bool
-        ensures { result ≡ true → IsSolvable self.now variable.0 }
+        ensures { Decides result (IsSolvable self.now variable.0) }
     {
         let index = variable.to_index();
         index < self.variables.len() && self.variables[index] == VariableKind::Solvable
