@@ -1,19 +1,21 @@
--- The chosen solvables, entry by entry.
-use Rattle.std.proofs.Common.{◌≡◌, ℕ, ◌+◌, ◌<◌, ◌≤◌, inl, inr, true, false, List, [], ◌∷◌, ◌++◌, length, reverse, get_or, Some, None, refl, sym, ◌∙◌, ap, subst, arith}
+-- The chosen solvables, entry by entry, and in the order of the entries.
+use Rattle.std.proofs.Common.{◌≡◌, ℕ, ◌+◌, ◌<◌, ◌≤◌, inl, inr, Bool, true, false, cond, List, [], ◌∷◌, ◌++◌, length, reverse, take, get_or, Option, Some, None, refl, sym, ◌∙◌, ap, subst, append-nil}
 use Rattle.std.specs.Prelude.{Contains}
+use Rattle.std.specs.List.{cons_option}
 use Rattle.std.proofs.lemmas.Bool.{both_ways}
+use Rattle.std.proofs.lemmas.List.{reverse-append, take_more, take_all}
+use Rattle.std.proofs.lemmas.List.Elements.{filter_map-append}
 use Rattle.resolvo_store.specs.Signed.{Signed}
 use Rattle.resolvo_store.specs.declared.decision.Entry.{Entry}
-use Rattle.resolvo_search.specs.Entries.{literal_of, made_true, before}
+use Rattle.resolvo_search.specs.Entries.{literal_of, made_true}
 use Rattle.resolvo_search.proofs.Literals.{has-cons, has_here, has_later}
-use Rattle.resolvo_search.proofs.Trails.{entry_read, before_all}
 use Rattle.resolvo_rules.specs.Encoding.{Atom, plus}
 use Rattle.resolvo_rules.specs.Numbered.{Means}
 use Rattle.resolvo_rules.proofs.Lists.{contains_none, contains_one, contains_parts, contains_left, contains_right, contains_only}
 use Rattle.resolvo_coding.specs.declared.atom.ProofAtom.{ProofAtom}
 use Rattle.resolvo_coding.specs.declared.atom.ProofAtom.TheVariants.{Solvable}
 use Rattle.resolvo_coding.specs.Atoms.{origin, StandsFor, solvable_of}
-use Rattle.resolvo_coding.specs.Chosen.{AreChosen}
+use Rattle.resolvo_coding.specs.Chosen.{AreChosen, choice_of, choices}
 use Rattle.resolvo_coding.proofs.Origins.{means_solvable, solvable_means, stands_same, stands_solvable, solvable_stands}
 
 module _ {N S : Type 0} (atoms : List (ProofAtom N S)) where
@@ -59,11 +61,58 @@ module _ {N S : Type 0} (atoms : List (ProofAtom N S)) where
       stands : StandsFor atoms e.decision.variable (Solvable s)
       stands = stands_solvable atoms e.decision.variable s is
 
-  -- the entry of the next place
-  pub chosen_read : (es : List Entry) (i : ℕ) (d : Entry) (chosen : List S) → i < length es → AreChosen atoms (literal_of (get_or es i d) ∷ made_true (before es i)) chosen → AreChosen atoms (made_true (before es (i + 1))) chosen
-  chosen_read es i d chosen below h = subst (λ (xs : List Entry). AreChosen atoms (made_true xs) chosen) (sym (entry_read es es i d below refl)) h
+  -- which solvable an entry chooses
+  pub denies_choice : (e : Entry) → e.decision.value ≡ false → choice_of atoms e ≡ None
+  denies_choice e value = ap (λ b. cond b (solvable_of atoms e.decision.variable.0) None) value
 
-  pub chosen_all : (es trail : List Entry) (i : ℕ) (chosen : List S) → i ≤ length es → length es ≤ i → es ≡ trail → AreChosen atoms (made_true (before es i)) chosen → AreChosen atoms (made_true (reverse trail)) chosen
-  chosen_all es trail i chosen a b same h =
-      let whole : i ≡ length es = omega arith in
-      subst (λ (xs : List Entry). AreChosen atoms (made_true xs) chosen) (ap (before es) whole ∙ before_all es ∙ ap reverse same) h
+  pub helper_choice : (e : Entry) → solvable_of atoms e.decision.variable.0 ≡ None → choice_of atoms e ≡ None
+  helper_choice e of = ap (λ (o : Option S). cond e.decision.value o None) of ∙ both e.decision.value
+    where
+      both : (b : Bool) → cond b (let o : Option S = None in o) None ≡ None
+      both true = refl
+      both false = refl
+
+  pub makes_choice : (e : Entry) (s : S) → e.decision.value ≡ true → solvable_of atoms e.decision.variable.0 ≡ Some s → choice_of atoms e ≡ Some s
+  makes_choice e s value of = ap (λ b. cond b (solvable_of atoms e.decision.variable.0) None) value ∙ of
+
+  -- the entry of the next place
+  pub choices_more : (es : List Entry) (i : ℕ) (d : Entry) → i < length es → choices atoms (take (i + 1) es) ≡ choices atoms (take i es) ++ cons_option (choice_of atoms (get_or es i d)) []
+  choices_more es i d below = ap (choices atoms) (take_more es i d below) ∙ filter_map-append (choice_of atoms) (take i es) (get_or es i d ∷ [])
+
+  pub choices_skip : (es : List Entry) (i : ℕ) (d : Entry) (chosen : List S) → i < length es → choice_of atoms (get_or es i d) ≡ None → chosen ≡ choices atoms (take i es) → chosen ≡ choices atoms (take (i + 1) es)
+  choices_skip es i d chosen below none h =
+      h ∙ sym (choices_more es i d below ∙ ap (λ (o : Option S). choices atoms (take i es) ++ cons_option o []) none ∙ append-nil (choices atoms (take i es)))
+
+  pub choices_next : (es : List Entry) (i : ℕ) (d : Entry) (chosen more : List S) (s : S) → i < length es → choice_of atoms (get_or es i d) ≡ Some s → more ≡ chosen ++ s ∷ [] → chosen ≡ choices atoms (take i es) → more ≡ choices atoms (take (i + 1) es)
+  choices_next es i d chosen more s below some pushed h =
+      pushed ∙ ap (λ (xs : List S). xs ++ s ∷ []) h ∙ sym (choices_more es i d below ∙ ap (λ (o : Option S). choices atoms (take i es) ++ cons_option o []) some)
+
+  pub choices_all : (es trail : List Entry) (i : ℕ) (chosen : List S) → length es ≤ i → es ≡ trail → chosen ≡ choices atoms (take i es) → chosen ≡ choices atoms trail
+  choices_all es trail i chosen long same h = h ∙ ap (choices atoms) (take_all i es long ∙ same)
+
+  -- the newest entry's comes last
+  pub choices_newest : (e : Entry) (older : List Entry) → choices atoms (reverse (e ∷ older)) ≡ choices atoms (reverse older) ++ cons_option (choice_of atoms e) []
+  choices_newest e older = ap (choices atoms) (reverse-append (e ∷ []) older) ∙ filter_map-append (choice_of atoms) (reverse older) (e ∷ [])
+
+  -- one entry more
+  chosen_then : (e : Entry) (older : List Entry) → AreChosen atoms (made_true older) (choices atoms (reverse older)) → AreChosen atoms (made_true (e ∷ older)) (choices atoms (reverse (e ∷ older)))
+  chosen_then e older c = step e.decision.value refl (solvable_of atoms e.decision.variable.0) refl
+    where
+      before : List S
+      before = choices atoms (reverse older)
+
+      is : (o : Option S) → choice_of atoms e ≡ o → choices atoms (reverse (e ∷ older)) ≡ before ++ cons_option o []
+      is o h = choices_newest e older ∙ ap (λ (p : Option S). before ++ cons_option p []) h
+
+      skip : ((s : S) → Means (origin atoms) (literal_of e) (plus (Atom.solvable s)) → ⊥) → choice_of atoms e ≡ None → AreChosen atoms (made_true (e ∷ older)) (choices atoms (reverse (e ∷ older)))
+      skip none h = subst (AreChosen atoms (made_true (e ∷ older))) (sym (is None h ∙ append-nil before)) (chosen_skip e (made_true older) before none c)
+
+      step : (b : Bool) → e.decision.value ≡ b → (o : Option S) → solvable_of atoms e.decision.variable.0 ≡ o → AreChosen atoms (made_true (e ∷ older)) (choices atoms (reverse (e ∷ older)))
+      step false value o of = skip (denies_none e value) (denies_choice e value)
+      step true value None of = skip (helper_none e of) (helper_choice e of)
+      step true value (Some s) of = chosen_more e (made_true older) before (choices atoms (reverse (e ∷ older))) s value of (is (Some s) (makes_choice e s value of)) c
+
+  -- what the entries of a trail choose, in their order, is what its literals choose
+  pub choices_chosen : (history : List Entry) → AreChosen atoms (made_true history) (choices atoms (reverse history))
+  choices_chosen [] = chosen_none [] refl
+  choices_chosen (e ∷ older) = chosen_then e older (choices_chosen older)

@@ -6,6 +6,7 @@ pub mod Starting
 pub mod Clauses
 pub mod Growth
 pub mod ChosenLemmas
+pub mod Choices
 pub mod TieLemmas
 pub mod Tracking
 pub mod Naming

@@ -1,9 +1,9 @@
 //! Which solvables the trail makes true.
-ghost use Rattle.std.specs.Prelude.{IfOk, IsOkUnless};
+ghost use Rattle.std.specs.Prelude.{◌≡◌, IfOk, IsOkUnless};
 ghost use Rattle.resolvo_pool.specs.declared.want.Want.TheVariants.{Memory};
 ghost use Rattle.resolvo_search.specs.Entries.{made_true};
 ghost use Rattle.resolvo_search.specs.State.{history};
-ghost use Rattle.resolvo_coding.specs.Chosen.{AreChosen};
+ghost use Rattle.resolvo_coding.specs.Chosen.{AreChosen, choices};
 
 use crate::coding::Coding;
 use resolvo_pool::solver_id::SolverId;
@@ -14,6 +14,7 @@ impl<N: SolverId, S: SolverId> Coding<N, S> {
     /// The solvables whose variables the trail makes true, in the order of the trail.
     pub fn chosen(&self, alloc: Global) -> R<Vec<S>>
         ensures chosen { IfOk result (λ v. AreChosen self.now.atoms.keys (made_true (history self.now.search)) v.items) }
+        ensures in_order { IfOk result (λ v. v.items ≡ choices self.now.atoms.keys self.now.search.tracker.trail) }
         ensures refusal { IsOkUnless result Memory }
     {
         let mut chosen = Vec::new(alloc);
