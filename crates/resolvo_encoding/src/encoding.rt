@@ -1,13 +1,14 @@
 //! What was encoded: the clauses with what they state, the registered solvables, the candidates of
 //! requirements, the need clauses in their order, the parents whose needs are encoded in turn, and the
 //! cases of conditions that wait.
-ghost use Rattle.std.specs.Prelude.{◌≡◌, ◌⊎◌, ◌<◌, ◌∷◌, ◌++◌, [], true, Some, OnOk, IfOk, IsSome, Contains, slice_get, length, ◌+◌};
+ghost use Rattle.std.specs.Prelude.{◌≡◌, ◌⊎◌, ◌<◌, ◌∷◌, ◌++◌, [], true, Some, None, OnOk, IfOk, IsSome, Contains, slice_get, length, ◌+◌};
 ghost use Rattle.indexmap.specs.IndexSet.{insert_key};
-ghost use Rattle.resolvo_pool.specs.declared.solver_id.SolvableIdOrRoot.TheVariants.{Solvable as Parent};
+ghost use Rattle.resolvo_pool.specs.declared.solver_id.SolvableIdOrRoot.TheVariants.{Root, Solvable as Parent};
+ghost use Rattle.resolvo_pool.specs.ByRequirement.{slot_of};
 ghost use Rattle.resolvo_pool.specs.RuleKeeping.{Packages, Rules, IsLawful};
 ghost use Rattle.resolvo_store.specs.AtMostOne.{IsFrontOf};
 ghost use Rattle.resolvo_store.specs.Clauses.{no, candidate_literals};
-ghost use Rattle.resolvo_store.specs.Lists.{has_candidates, candidates_in, condition_in};
+ghost use Rattle.resolvo_store.specs.Lists.{has_candidates, candidates_in, condition_in, IsEmpty};
 ghost use Rattle.resolvo_search.specs.State.{count_of};
 ghost use Rattle.resolvo_search.specs.Steps.{AreInRange};
 ghost use Rattle.resolvo_answers.specs.Answering.{AreOffered};
@@ -17,7 +18,7 @@ ghost use Rattle.resolvo_coding.specs.declared.atom.ProofAtom.TheVariants.{Gate}
 ghost use Rattle.resolvo_coding.specs.Atoms.{StandsFor};
 ghost use Rattle.resolvo_encoding.specs.Encoded.{rules_of, IsGuarded, IsEncoding};
 ghost use Rattle.resolvo_coding.specs.Statements.{rule_of};
-ghost use Rattle.resolvo_coding.specs.Coding.{IsCoding};
+ghost use Rattle.resolvo_coding.specs.Coding.{IsBegun, IsCoding};
 ghost use Rattle.resolvo_encoding.specs.Steps.{Fixes, StatesNeed, IsBuilt, Needs, Extends, NeedsDirectly, Opens, AddsCandidates, IsBegunEncoding, AddsParent, IsNextEncoded};
 
 use indexmap::IndexSet;
@@ -85,6 +86,40 @@ pub struct Encoding<N: Eq + Hash, S: Eq + Hash> {
     pub fired: IndexSet<usize>,
 }
 
+/// An encoding of these, which have just begun, and of nothing else.
+fn begun<N: SolverId, S: SolverId>(
+    alloc: Global,
+    coding: Coding<N, S>,
+    lists: FixedLists<N>,
+    gates: RequirementMap<VariableId>,
+    parents: IndexSet<SolvableIdOrRoot<S>>,
+) -> Encoding<N, S>
+    requires coding { IsBegun coding }
+    requires lists { IsEmpty lists }
+    requires gates { (r : Requirement) → slot_of gates r ≡ None }
+    requires parents { parents.keys ≡ Root ∷ [] }
+    ensures { IsBegunEncoding result }
+{
+    Encoding {
+        coding,
+        registry: Registry::new(alloc),
+        lists,
+        queue: DecideQueue::new(alloc),
+        gates,
+        noted: Noted {
+            packages: IndexSet::new(alloc),
+            version_sets: IndexSet::new(alloc),
+            helped: IndexSet::new(alloc),
+            there: IndexSet::new(alloc),
+            wishes: Vec::new(alloc),
+        },
+        parents,
+        encoded: 0,
+        deferred: Vec::new(alloc),
+        fired: IndexSet::new(alloc),
+    }
+}
+
 impl<N: SolverId + Drop, S: SolverId> Encoding<N, S> {
     /// Nothing but the root, whose needs are to be encoded.
     pub fn begin(alloc: Global) -> R<Encoding<N, S>>
@@ -94,24 +129,10 @@ impl<N: SolverId + Drop, S: SolverId> Encoding<N, S> {
     {
         let mut parents = IndexSet::new(alloc);
         parents.insert(SolvableIdOrRoot::Root)?;
-        Ok(Encoding {
-            coding: Coding::begin(alloc)?,
-            registry: Registry::new(alloc),
-            lists: FixedLists::new(alloc)?,
-            queue: DecideQueue::new(alloc),
-            gates: RequirementMap::new(alloc)?,
-            noted: Noted {
-                packages: IndexSet::new(alloc),
-                version_sets: IndexSet::new(alloc),
-                helped: IndexSet::new(alloc),
-                there: IndexSet::new(alloc),
-                wishes: Vec::new(alloc),
-            },
-            parents,
-            encoded: 0,
-            deferred: Vec::new(alloc),
-            fired: IndexSet::new(alloc),
-        })
+        let lists = FixedLists::new(alloc)?;
+        let gates = RequirementMap::new(alloc)?;
+        let coding = Coding::begin(alloc)?;
+        Ok(begun(alloc, coding, lists, gates, parents))
     }
 
     /// States that a parent needs one of the candidates that are offered for its requirement, which has
