@@ -5,6 +5,7 @@ mod clauses;
 mod draws;
 mod generated;
 mod generator;
+mod names;
 mod picking;
 mod refused;
 mod slow_calls;
