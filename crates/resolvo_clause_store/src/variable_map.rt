@@ -84,6 +84,17 @@ impl<N: Copy + Drop, S: SolverId> VariableMap<N, S> {
         }
     }
 
+    /// What a variable was made for, if it is there.
+    pub fn find_origin(&self, variable: VariableId) -> Option<VariableOrigin<N, S>>
+        ensures { result ≡ slice_get self.now variable.0 }
+    {
+        if (variable.0 as usize) < self.count() {
+            Some(self.origin(variable))
+        } else {
+            None
+        }
+    }
+
     /// The variable of a solvable, if it has one.
     pub fn lookup_solvable(&self, solvable: S) -> Option<VariableId>
         ensures { option_map (λ v. v.0) result ≡ place_of S.eq solvable self.now }
