@@ -13,3 +13,4 @@ pub mod Serving
 pub mod Upheld
 pub mod Joining
 pub mod Messaging
+pub mod Verdicts

@@ -3,3 +3,4 @@ pub mod First
 pub mod Solved
 pub mod Reported
 pub mod Message
+pub mod Verdict
