@@ -1,5 +1,5 @@
 -- What a search found is true.
-use Rattle.std.proofs.Common.{◌≡◌, ℕ, suc, inl, inr, Bool, true, false, take, reverse, List, [], ◌∷◌, ◌++◌, length, Option, Some, None, Vec, Global, refl, sym, ◌∙◌, ap, subst, arith}
+use Rattle.std.proofs.Common.{◌≡◌, ℕ, suc, Bool, true, false, take, reverse, List, [], ◌∷◌, ◌++◌, length, Option, Some, None, Vec, Global, refl, sym, ◌∙◌, ap, subst, arith}
 use Rattle.std.specs.Prelude.{slice_get, is_some, Contains}
 use Rattle.std.proofs.lemmas.Bool.{both_ways}
 use Rattle.std.proofs.lemmas.List.{reverse-append, take_all}
@@ -19,6 +19,7 @@ use Rattle.resolvo_rules.specs.First.{ArePreferred}
 use Rattle.resolvo_rules.proofs.Lists.{contains_none}
 use Rattle.resolvo_coding.specs.Chosen.{AreChosen}
 use Rattle.resolvo_coding.specs.Coding.{IsCoding}
+use Rattle.resolvo_coding.specs.Keys.{AreOnce}
 use Rattle.resolvo_coding.specs.declared.coding.Coding.{Coding}
 use Rattle.resolvo_proof.specs.Proof.{DenyRoot}
 use Rattle.resolvo_encoding.specs.declared.encoding.Encoding.{Encoding}
@@ -30,11 +31,12 @@ use Rattle.resolvo.specs.declared.search.Found.TheVariants.{Chosen, Clash}
 use Rattle.resolvo.specs.declared.turns.Turn.{Turn}
 use Rattle.resolvo.specs.declared.turns.Turns.{Turns}
 use Rattle.resolvo.specs.Turn.{IsRooted, IsTurn}
-use Rattle.resolvo.specs.Turns.{AreRight, AreTurns, AreWished, HasReason, HaveReasons, IsNextRight, Lists, StandSo, accepted_of, end_of, first_of}
+use Rattle.resolvo.specs.Turns.{AreRight, AreTurns, AreWished, HasReason, HaveReasons, IsNextRight, StandSo, accepted_of, end_of, first_of}
 use Rattle.resolvo.specs.Encoder.{IsInOrder}
 use Rattle.resolvo.specs.Solution.{IsSolution, IsUnsolvable}
-use Rattle.resolvo.specs.Solving.{IsFoundIn, IsFound, IsPreferred, IsDenial}
+use Rattle.resolvo.specs.Solving.{IsFoundIn, IsFound, IsListedIn, IsPreferred, IsDenial}
 use Rattle.resolvo.proofs.Next.{chosen_accepted}
+use Rattle.resolvo.proofs.Trailing.{trail_once}
 
 -- the root is the first parent
 pub begun_rooted : {N S : Type 0} (e : Encoding N S) → IsBegunEncoding e → IsRooted e
@@ -64,16 +66,6 @@ first_front (x ∷ xs) ys (more, is) = ap (take (suc (length xs))) is ∙ ap (λ
 -- no turn, no reason
 pub no_reasons : {N S : Type 0} (c : Coding N S) (t : Turns S) → t.turns.items ≡ [] → HaveReasons c t
 no_reasons {N} {S} c t none turn h = absurd (contains_none turn (subst (λ (ts : List (Turn S)). Contains ts turn) none h))
-
--- what the trail chooses is what is listed of it first
-pub first_listed : {N S : Type 0} (e : Encoding N S) (old keys : List S) → old ≡ [] → Lists e old keys → AreChosen e.coding.atoms.keys (made_true (history e.coding.search)) keys
-first_listed {N} {S} e old keys none lists = record {
-  each = λ s h. elim (lists.adds.only s h) [
-    | inl before ↦ absurd (contains_none s (subst (λ (xs : List S). Contains xs s) none before))
-    | inr now ↦ lists.are.each s now
-  ];
-  all = λ l s known means. lists.adds.all s (lists.are.all l s known means);
-}
 
 module _ {N S : Type 0} (same_name : N → N → Bool) (names : IsExact same_name) (same : S → S → Bool) (exact : IsExact same) (p : Packages N S) (orders : Requirement → List S → Type 0) (root : Rules) (lawful : IsLawful p) (e : Encoding N S) where
   -- the end of the root's turn: what is chosen is right, and was preferred
@@ -118,6 +110,13 @@ module _ {N S : Type 0} (same : S → S → Bool) (p : Packages N S) (orders : R
     (right, subst (λ (x : Refusal). IsRefusal e.coding.search x.literals.items x.causes.items) (sym is) refusal),
     tt,
   )
+
+-- what all turns list is what the trail chooses
+pub later_listed : {N S : Type 0} (e : Encoding N S) (t : Turns S) (o : Option Refusal) → IsCoding e.coding → StandSo e t o → (f : Found S) → IsFoundIn t o f → IsListedIn e f
+later_listed e t None coding at (Chosen v turns) (solvables, told) = let is = solvables ∙ at.chosen in record { in_order = is; once = subst AreOnce (sym is) (trail_once e coding) }
+later_listed e t None coding at (Clash q) h = absurd h
+later_listed e t (Some r) coding stands (Chosen v turns) h = absurd h
+later_listed e t (Some r) coding stands (Clash q) h = tt
 
 -- a clash in a wish's turn denies nothing but the root
 pub later_denial : {N S : Type 0} (e : Encoding N S) (t : Turns S) (o : Option Refusal) → StandSo e t o → (f : Found S) → IsFoundIn t o f → IsDenial e.coding f

@@ -6,6 +6,7 @@ pub mod Answered
 pub mod CaseStated
 pub mod Passing
 pub mod Wishes
+pub mod Trailing
 pub mod Listing
 pub mod Next
 pub mod Outcomes

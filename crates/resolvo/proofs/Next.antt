@@ -3,6 +3,7 @@ use Rattle.std.proofs.Common.{◌≡◌, ℕ, zero, suc, ◌-◌, ◌<◌, ◌�
 use Rattle.std.specs.Prelude.{Contains}
 use Rattle.std.proofs.lemmas.Bool.{both_ways, cases_Bool}
 use Rattle.std.proofs.lemmas.List.{take_all}
+use Rattle.indexmap.specs.IndexSet.{insert_all}
 use Rattle.resolvo_pool.specs.declared.id.ClauseId.{ClauseId}
 use Rattle.resolvo_pool.specs.declared.id.VariableId.{VariableId}
 use Rattle.resolvo_pool.specs.declared.requirement.Requirement.{Requirement}
@@ -10,18 +11,14 @@ use Rattle.resolvo_pool.specs.RuleKeeping.{Packages, Rules, IsLawful, is_in}
 use Rattle.resolvo_store.specs.AtMostOne.{IsFrontOf}
 use Rattle.resolvo_store.specs.Clauses.{yes}
 use Rattle.resolvo_store.specs.Signed.{Signed, has}
-use Rattle.resolvo_store.specs.declared.decision.Entry.{Entry}
-use Rattle.resolvo_search.specs.Entries.{literal_of, made_true}
+use Rattle.resolvo_search.specs.Entries.{made_true}
 use Rattle.resolvo_search.specs.State.{history}
-use Rattle.resolvo_search.proofs.Literals.{has_later}
 use Rattle.resolvo_search.proofs.StepLemmas.{reverse_push}
-use Rattle.resolvo_rules.specs.Encoding.{IsExact, Atom, plus}
+use Rattle.resolvo_rules.specs.Encoding.{IsExact}
 use Rattle.resolvo_rules.specs.Ending.{IsAccepted}
-use Rattle.resolvo_rules.specs.Numbered.{Means}
 use Rattle.resolvo_rules.proofs.Lists.{contains_one, contains_parts}
 use Rattle.resolvo_rules.proofs.Members.{in_contained, contained_in}
 use Rattle.resolvo_coding.specs.declared.atom.ProofAtom.TheVariants.{Solvable}
-use Rattle.resolvo_coding.specs.Atoms.{origin}
 use Rattle.resolvo_coding.specs.Chosen.{AreChosen}
 use Rattle.resolvo_coding.specs.Coding.{IsCoding}
 use Rattle.resolvo_coding.specs.declared.coding.Coding.{Coding}
@@ -31,7 +28,7 @@ use Rattle.resolvo_encoding.specs.declared.encoding.Encoding.{Encoding}
 use Rattle.resolvo_encoding.proofs.Turning.{turn_accepts}
 use Rattle.resolvo.specs.Encoder.{IsInOrder}
 use Rattle.resolvo.specs.Turn.{IsTurn}
-use Rattle.resolvo.specs.Turns.{AreAt, AreRight, HasReason, HaveReasons, IsDeniable, Lists, Records, accepted_of, step_of, was_accepted}
+use Rattle.resolvo.specs.Turns.{AreAt, AreRight, HasReason, HaveReasons, IsDeniable, Lists, Records, accepted_of, on_trail, step_of, was_accepted}
 use Rattle.resolvo.specs.declared.wishing.Wished.{Wished}
 use Rattle.resolvo.specs.Wished.{IsDenied, IsOutcome, IsReasonOf, IsTrue, KeepsTrail}
 use Rattle.resolvo.specs.declared.wishing.Wished.TheVariants as Wishes
@@ -40,14 +37,9 @@ use Rattle.resolvo.specs.declared.turns.Turns.{Turns}
 use Rattle.resolvo_coding.proofs.Positions.{front_get, front_same}
 use Rattle.resolvo.proofs.Listing.{accepted_more, accepted_next, next_right, refused_next}
 use Rattle.resolvo.proofs.Ending.{contains_longer}
-use Rattle.resolvo.proofs.Wishes.{true_before}
+use Rattle.resolvo.proofs.Trailing.{listed_are_chosen, listed_on_trail, trail_stays}
 
--- ---- what the trail chooses
-
--- a literal is true for what stands behind it
-later_known : (p base : List Entry) (l : Signed) → has (made_true base) l ≡ true → has (made_true (p ++ base)) l ≡ true
-later_known [] base l h = h
-later_known (e ∷ p) base l h = has_later (literal_of e) (made_true (p ++ base)) l (later_known p base l h)
+-- ---- the accepted wishes and reasons
 
 -- the accepted wishes after a turn
 wishes_told : {S : Type 0} (accepted : List S) (s : S) (turn : Turn S) (earlier : List (Turn S)) (b : Bool) → turn.accepted ≡ b → turn.solvable ≡ s → accepted ≡ accepted_of earlier → cond b (accepted ++ s ∷ []) accepted ≡ accepted_of (turn ∷ earlier)
@@ -104,45 +96,14 @@ module _ {N S : Type 0} where
   pub true_chosen : (e : Encoding N S) (members : List S) → AreChosen e.coding.atoms.keys (made_true (history e.coding.search)) members → (s : S) → IsTrue e s → Contains members s
   true_chosen e members are s (u, stands, known) = are.all (yes u) s known (solvable_means e.coding.atoms.keys (yes u) s refl stands)
 
-  -- what was true is so in a trail that goes on
-  pub true_later : (a b : Encoding N S) → KeepsTrail a b → (s : S) → IsTrue a s → IsTrue b s
-  true_later a b keeps s (u, stands, known) =
-      let (p, is) = keeps.ends in
-      (u, stands_front a.coding.atoms.keys b.coding.atoms.keys u (Solvable s) keeps.atoms stands, subst (λ (h : List Entry). has (made_true h) (yes u) ≡ true) (sym is) (later_known p (history a.coding.search) (yes u) known))
-
-  -- what is true of a literal's meaning
-  true_means : (e : Encoding N S) (s : S) → IsTrue e s → (l : Signed) × (has (made_true (history e.coding.search)) l ≡ true) × Means (origin e.coding.atoms.keys) l (plus (Atom.solvable s))
-  true_means e s (u, stands, known) = (yes u, known, solvable_means e.coding.atoms.keys (yes u) s refl stands)
-
-  -- the listed ones are what the trail chooses, where it went on
-  pub listed_chosen : (a b : Encoding N S) (old new : List S) → KeepsTrail a b → AreChosen a.coding.atoms.keys (made_true (history a.coding.search)) old → Lists b old new → AreChosen b.coding.atoms.keys (made_true (history b.coding.search)) new
-  listed_chosen a b old new keeps are lists = record {
-    each = λ s h. elim (lists.adds.only s h) [
-      | inl before ↦ true_means b s (true_later a b keeps s (chosen_true a old are s before))
-      | inr now ↦ lists.are.each s now
-    ];
-    all = λ l s known means. lists.adds.all s (lists.are.all l s known means);
-  }
-
-  -- and where it is what it was
-  pub same_chosen : (a b : Encoding N S) (members : List S) → IsCoding a.coding → KeepsTrail a b → history b.coding.search ≡ history a.coding.search
-      → AreChosen a.coding.atoms.keys (made_true (history a.coding.search)) members → AreChosen b.coding.atoms.keys (made_true (history b.coding.search)) members
-  same_chosen a b members coding keeps same are = record {
-    each = λ s h. true_means b s (true_later a b keeps s (chosen_true a members are s h));
-    all = λ l s known means. (
-        let (positive, stands) = means_solvable b.coding.atoms.keys l s means in
-        let truth : has (made_true (history b.coding.search)) (yes l.variable) ≡ true = subst (λ (x : Signed). has (made_true (history b.coding.search)) x ≡ true) (λ i. record { variable = l.variable; positive = positive i }) known in
-        true_chosen a members are s (true_before a b coding keeps.atoms s l.variable stands (subst (λ (h : List Entry). has (made_true h) (yes l.variable) ≡ true) same truth)));
-  }
-
   -- ---- the turn is told
 
-  pub next_at : (a b : Encoding N S) (t m u : Turns S) (s : S) (begin : ℕ) (w : Wished) → AreAt a t → AreChosen b.coding.atoms.keys (made_true (history b.coding.search)) m.chosen.keys → m.turns ≡ t.turns → Records s begin w m u
+  pub next_at : (a b : Encoding N S) (t m u : Turns S) (s : S) (begin : ℕ) (w : Wished) → AreAt a t → m.chosen.keys ≡ on_trail b → m.turns ≡ t.turns → Records s begin w m u
       → b.noted.wishes.items ≡ cond (was_accepted w) (a.noted.wishes.items ++ s ∷ []) a.noted.wishes.items → AreAt b u
   next_at a b t m u s begin w at are turns told wishes =
       let all : reverse u.turns.items ≡ told.turn ∷ reverse t.turns.items = ap reverse (told.turns ∙ ap (λ (ts : Vec (Turn S) Global). ts.items ++ told.turn ∷ []) turns) ∙ reverse_push t.turns.items told.turn in
       record {
-        chosen = subst (λ (c : HashSet S (BuildHasherDefault FoldHasher)). AreChosen b.coding.atoms.keys (made_true (history b.coding.search)) c.keys) (sym told.chosen) are;
+        chosen = ap (λ (c : HashSet S (BuildHasherDefault FoldHasher)). c.keys) told.chosen ∙ are;
         wishes = wishes ∙ wishes_told a.noted.wishes.items s told.turn (reverse t.turns.items) (was_accepted w) told.tells.accepted told.tells.solvable at.wishes ∙ ap accepted_of (sym all);
       }
 
@@ -159,7 +120,7 @@ module _ {N S : Type 0} where
         (subst (λ (ws : List S). IsAccepted same p root ws m.chosen.keys) (wishes ∙ wishes_told a.noted.wishes.items s told.turn (reverse t.turns.items) (was_accepted w) told.tells.accepted told.tells.solvable at.wishes) accepted))
         (told.tells.accepted ∙ is ∙ ap (λ (xs : List S). is_in same p xs s) (sym keys))
         (λ so. told.tells.end_is ∙ ap (λ (xs : List S). length xs) (same_keys (sym told.tells.accepted ∙ so)) ∙ sym told.tells.begin_is)
-        (λ so set keeping all held. denied (sym told.tells.accepted ∙ so) set keeping (λ r truth. all r (contained_in same exact p t.chosen.keys r (true_chosen a t.chosen.keys at.chosen r truth))) held)
+        (λ so set keeping all held. denied (sym told.tells.accepted ∙ so) set keeping (λ r truth. all r (contained_in same exact p t.chosen.keys r (true_chosen a t.chosen.keys (listed_are_chosen a t.chosen.keys at.chosen) r truth))) held)
 
     -- a wish is among the listed ones exactly if the trail chooses it
     pub told_true : (b : Encoding N S) (members : List S) (s : S) → AreChosen b.coding.atoms.keys (made_true (history b.coding.search)) members → IsTrue b s → true ≡ is_in same p members s
@@ -209,7 +170,7 @@ module _ {N S : Type 0} where
           told.tells.step,
           subst (λ (n : ℕ). IsReasonOf b.coding (IsDeniable u.chosen.keys told.turn) n) number (reason_widens b.coding (λ r. (r ≡ s) ⊎ IsTrue a r) (IsDeniable u.chosen.keys told.turn) clause.0 (λ r either. elim either [
             | inl itself ↦ inl (itself ∙ sym told.tells.solvable)
-            | inr truth ↦ inr (subst (λ (xs : List S). Contains xs r) (sym whole) (true_chosen a t.chosen.keys at.chosen r truth))
+            | inr truth ↦ inr (subst (λ (xs : List S). Contains xs r) (sym whole) (true_chosen a t.chosen.keys (listed_are_chosen a t.chosen.keys at.chosen) r truth))
           ]) reason),
         );
       }
@@ -217,8 +178,8 @@ module _ {N S : Type 0} where
   -- ---- what each turn comes to
 
   module _ (same : S → S → Bool) (a b : Encoding N S) (t u : Turns S) (s : S) (coding : IsCoding a.coding) (at : AreAt a t) (keeps : KeepsTrail a b) where
-    stays_chosen : history b.coding.search ≡ history a.coding.search → AreChosen b.coding.atoms.keys (made_true (history b.coding.search)) t.chosen.keys
-    stays_chosen trail = same_chosen a b t.chosen.keys coding keeps trail at.chosen
+    stays_chosen : history b.coding.search ≡ history a.coding.search → t.chosen.keys ≡ on_trail b
+    stays_chosen trail = at.chosen ∙ sym (trail_stays a b coding keeps trail)
 
     pub stood_at : IsOutcome same s a b Wishes.Stood → (begin : ℕ) → Records s begin Wishes.Stood t u → AreAt b u
     stood_at (wishes, trail, known) begin told = next_at a b t t u s begin Wishes.Stood at (stays_chosen trail) refl told wishes
@@ -226,8 +187,11 @@ module _ {N S : Type 0} where
     pub refused_at : (clause : ClauseId) → IsOutcome same s a b (Wishes.Refused clause) → (begin : ℕ) → Records s begin (Wishes.Refused clause) t u → AreAt b u
     refused_at clause (wishes, trail, untrue) begin told = next_at a b t t u s begin (Wishes.Refused clause) at (stays_chosen trail) refl told wishes
 
-    pub chosen_at : (m : Turns S) → IsOutcome same s a b Wishes.Chosen → Lists b t.chosen.keys m.chosen.keys → m.turns ≡ t.turns → (begin : ℕ) → Records s begin Wishes.Chosen m u → AreAt b u
-    chosen_at m (wishes, turn) lists turns begin told = next_at a b t m u s begin Wishes.Chosen at (listed_chosen a b t.chosen.keys m.chosen.keys keeps at.chosen lists) turns told wishes
+    goes_on : IsExact same → IsCoding b.coding → (m : Turns S) → m.chosen.keys ≡ insert_all same t.chosen.keys (on_trail b) → m.chosen.keys ≡ on_trail b
+    goes_on exact after m in_order = listed_on_trail same exact a b t.chosen.keys m.chosen.keys coding after keeps at.chosen in_order
+
+    pub chosen_at : IsExact same → IsCoding b.coding → (m : Turns S) → IsOutcome same s a b Wishes.Chosen → m.chosen.keys ≡ insert_all same t.chosen.keys (on_trail b) → m.turns ≡ t.turns → (begin : ℕ) → Records s begin Wishes.Chosen m u → AreAt b u
+    chosen_at exact after m (wishes, turn) in_order turns begin told = next_at a b t m u s begin Wishes.Chosen at (goes_on exact after m in_order) turns told wishes
 
     module _ (exact : IsExact same) (p : Packages N S) (root : Rules) (first : ℕ) (done : List S) (right : AreRight same p root first done t) where
       still_accepted : IsAccepted same p root a.noted.wishes.items t.chosen.keys
@@ -244,19 +208,19 @@ module _ {N S : Type 0} where
 
       pub stood_told : IsOutcome same s a b Wishes.Stood → (begin : ℕ) → begin ≡ length t.chosen.keys → Records s begin Wishes.Stood t u → AreRight same p root first (done ++ s ∷ []) u
       stood_told (wishes, trail, known) begin is told =
-          let truth : true ≡ is_in same p t.chosen.keys s = told_true same exact p root b t.chosen.keys s (stays_chosen trail) known in
+          let truth : true ≡ is_in same p t.chosen.keys s = told_true same exact p root b t.chosen.keys s (listed_are_chosen b t.chosen.keys (stays_chosen trail)) known in
           next_told same exact p root a b t t u first done s Wishes.Stood at right (front_same t.chosen.keys) refl (subst (λ n. Records s n Wishes.Stood t u) is told) wishes
           (subst (λ (ws : List S). IsAccepted same p root ws t.chosen.keys) (sym wishes) (accepted_more same exact p root a.noted.wishes.items t.chosen.keys s still_accepted (sym truth))) truth (λ so. absurd (both_ways true so refl)) (λ so. absurd (both_ways true so refl))
 
       pub refused_told : (clause : ClauseId) → IsOutcome same s a b (Wishes.Refused clause) → IsDenied same p root a s → (begin : ℕ) → begin ≡ length t.chosen.keys → Records s begin (Wishes.Refused clause) t u → AreRight same p root first (done ++ s ∷ []) u
       refused_told clause (wishes, trail, untrue) denied begin is told =
           next_told same exact p root a b t t u first done s (Wishes.Refused clause) at right (front_same t.chosen.keys) refl (subst (λ n. Records s n (Wishes.Refused clause) t u) is told) wishes
-          (subst (λ (ws : List S). IsAccepted same p root ws t.chosen.keys) (sym wishes) still_accepted) (told_false same exact p root b t.chosen.keys s (stays_chosen trail) untrue) (λ so. refl) (λ so. denied)
+          (subst (λ (ws : List S). IsAccepted same p root ws t.chosen.keys) (sym wishes) still_accepted) (told_false same exact p root b t.chosen.keys s (listed_are_chosen b t.chosen.keys (stays_chosen trail)) untrue) (λ so. refl) (λ so. denied)
 
-      pub chosen_told : (same_name : N → N → Bool) → IsExact same_name → IsLawful p → (orders : Requirement → List S → Type 0) → IsInOrder same p orders root b → (m : Turns S) → IsOutcome same s a b Wishes.Chosen → Lists b t.chosen.keys m.chosen.keys → m.turns ≡ t.turns
+      pub chosen_told : (same_name : N → N → Bool) → IsExact same_name → IsLawful p → (orders : Requirement → List S → Type 0) → IsInOrder same p orders root b → IsCoding b.coding → (m : Turns S) → IsOutcome same s a b Wishes.Chosen → Lists b t.chosen.keys m.chosen.keys → m.chosen.keys ≡ insert_all same t.chosen.keys (on_trail b) → m.turns ≡ t.turns
           → (begin : ℕ) → begin ≡ length t.chosen.keys → Records s begin Wishes.Chosen m u → AreRight same p root first (done ++ s ∷ []) u
-      chosen_told same_name names lawful orders order m (wishes, (v, stands, ended)) lists turns begin is told =
-          let are : AreChosen b.coding.atoms.keys (made_true (history b.coding.search)) m.chosen.keys = listed_chosen a b t.chosen.keys m.chosen.keys keeps at.chosen lists in
+      chosen_told same_name names lawful orders order after m (wishes, (v, stands, ended)) lists in_order turns begin is told =
+          let are : AreChosen b.coding.atoms.keys (made_true (history b.coding.search)) m.chosen.keys = listed_are_chosen b m.chosen.keys (goes_on exact after m in_order) in
           let (settled, whole, spent, has_it) = ended in
           next_told same exact p root a b t m u first done s Wishes.Chosen at right lists.adds.front turns (subst (λ n. Records s n Wishes.Chosen m u) is told) wishes
           (chosen_accepted same exact p root same_name names lawful orders b (Some v) m.chosen.keys order ended are) (told_true same exact p root b m.chosen.keys s are (v, stands, has_it)) (λ so. absurd (both_ways true so refl)) (λ so. absurd (both_ways true so refl))

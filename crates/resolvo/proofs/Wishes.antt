@@ -53,7 +53,7 @@ module _ {N S : Type 0} (e begun first : Encoding N S) (is : begun ≡ turn_of e
       (subst (λ (x : Encoding N S). IsInOrder same p orders root x) (sym is) (record { encoding = subst (λ (x : Encoding N S). IsEncoding same p root x) is holds; ordered = order.ordered })) added
 
 -- a variable that was true stood for what it stands for
-pub true_before : {N S : Type 0} (a b : Encoding N S) → IsCoding a.coding → IsFrontOf a.coding.atoms.keys b.coding.atoms.keys → (s : S) (u : VariableId) → StandsFor b.coding.atoms.keys u (Solvable s) → has (made_true (history a.coding.search)) (yes u) ≡ true → IsTrue a s
+true_before : {N S : Type 0} (a b : Encoding N S) → IsCoding a.coding → IsFrontOf a.coding.atoms.keys b.coding.atoms.keys → (s : S) (u : VariableId) → StandsFor b.coding.atoms.keys u (Solvable s) → has (made_true (history a.coding.search)) (yes u) ≡ true → IsTrue a s
 true_before a b coding front s u stands known =
     let range : u.0 < count_of a.coding.search = known_in_range (count_of a.coding.search) (clauses_of a.coding.search) (history a.coding.search) (yes u) coding.ready.state.trail known in
     let count : count_of a.coding.search ≡ suc (length a.coding.atoms.keys) = count_is a.coding coding in

@@ -8,6 +8,7 @@ use Rattle.resolvo_search.specs.Analysis.{IsRefusal}
 use Rattle.resolvo_rules.specs.First.{ArePreferred}
 use Rattle.resolvo_coding.specs.declared.coding.Coding.{Coding}
 use Rattle.resolvo_coding.specs.declared.atom.ProofAtom.TheVariants.{Solvable}
+use Rattle.resolvo_coding.specs.Keys.{AreOnce}
 use Rattle.resolvo_encoding.specs.Encoded.{IsEncoding}
 use Rattle.resolvo_encoding.specs.Steps.{IsBuilt}
 use Rattle.resolvo_proof.specs.Drawn.{AreDrawn, HaveOneSigns}
@@ -20,7 +21,7 @@ use Rattle.resolvo_proof.specs.declared.step.ProofStep.TheVariants.{Derived}
 use Rattle.resolvo_proof.specs.Written.{AreSteps}
 use Rattle.resolvo_encoding.specs.declared.encoding.Encoding.{Encoding}
 use Rattle.resolvo.specs.Solution.{IsUnsolvable}
-use Rattle.resolvo.specs.Turns.{AreWished, HasReason, IsDeniable, first_of}
+use Rattle.resolvo.specs.Turns.{AreWished, HasReason, IsDeniable, first_of, on_trail}
 use Rattle.resolvo.specs.declared.turns.Turn.{Turn}
 use Rattle.resolvo.specs.declared.turns.Turns.{Turns}
 use Rattle.resolvo.specs.declared.search.Found.{Found}
@@ -33,6 +34,16 @@ IsFoundIn t None (Chosen v turns) = (v.items ≡ t.chosen.keys) × (turns ≡ t.
 IsFoundIn t None (Clash q) = ⊥
 IsFoundIn t (Some r) (Chosen v turns) = ⊥
 IsFoundIn t (Some r) (Clash q) = q ≡ r
+
+-- These are the solvables that the trail chooses, in its order, and none stands twice.
+pub record AreOnTrail {N S : Type 0} (e : Encoding N S) (solvables : List S) : Type 0 where
+  pub in_order : solvables ≡ on_trail e
+  pub once : AreOnce solvables
+
+-- what was chosen is what the trail chooses; of a clash nothing is said
+abbrev pub IsListedIn : {N S : Type 0} → Encoding N S → Found S → Type 0
+IsListedIn e (Chosen v turns) = AreOnTrail e v.items
+IsListedIn e (Clash r) = ⊤
 
 -- what clashes was derived from the clauses, and denies the root alone
 abbrev pub IsDenial : {N S : Type 0} → Coding N S → Found S → Type 0

@@ -7,7 +7,7 @@ use Rattle.resolvo_search.specs.Analysis.{IsRefusal}
 use Rattle.resolvo_search.specs.Entries.{made_true}
 use Rattle.resolvo_search.specs.State.{history}
 use Rattle.resolvo_rules.specs.Ending.{IsAccepted}
-use Rattle.resolvo_coding.specs.Chosen.{AreChosen}
+use Rattle.resolvo_coding.specs.Chosen.{AreChosen, choices}
 use Rattle.resolvo_coding.specs.declared.coding.Coding.{Coding}
 use Rattle.resolvo_encoding.specs.declared.encoding.Encoding.{Encoding}
 use Rattle.resolvo.specs.Solution.{IsSolution, IsUnsolvable}
@@ -81,15 +81,19 @@ pub record AddsEach {S : Type 0} (members old new : List S) : Type 0 where
   pub only : (s : S) → Contains new s → Contains old s ⊎ Contains members s
   pub all : (s : S) → Contains members s → Contains new s
 
+-- the solvables that the trail chooses, in its order
+abbrev pub on_trail : {N S : Type 0} → Encoding N S → List S
+on_trail e = choices e.coding.atoms.keys e.coding.search.tracker.trail
+
 -- what the trail chooses came behind the others
 pub record Lists {N S : Type 0} (e : Encoding N S) (old new : List S) : Type 0 where
   pub members : List S
   pub are : AreChosen e.coding.atoms.keys (made_true (history e.coding.search)) members
   pub adds : AddsEach members old new
 
--- these are what the trail chooses, and the noted wishes are the accepted ones
+-- these are what the trail chooses, in its order, and the noted wishes are the accepted ones
 pub record AreAt {N S : Type 0} (e : Encoding N S) (t : Turns S) : Type 0 where
-  pub chosen : AreChosen e.coding.atoms.keys (made_true (history e.coding.search)) t.chosen.keys
+  pub chosen : t.chosen.keys ≡ on_trail e
   pub wishes : e.noted.wishes.items ≡ accepted_of (reverse t.turns.items)
 
 -- what was chosen is right, turn by turn

@@ -7,7 +7,7 @@ ghost use Rattle.resolvo_encoding.specs.Steps.{IsBegunEncoding, IsBuilt};
 ghost use Rattle.resolvo.specs.Encoder.{IsInOrder, IsRoot};
 ghost use Rattle.resolvo.specs.Turn.{IsRooted, IsTurn};
 ghost use Rattle.resolvo.specs.Wished.{AreCandidates};
-ghost use Rattle.resolvo.specs.Solving.{IsFound, IsFoundIn, IsPreferred, IsSearch, IsDenial, IsProvable};
+ghost use Rattle.resolvo.specs.Solving.{IsFound, IsFoundIn, IsListedIn, IsPreferred, IsSearch, IsDenial, IsProvable};
 
 use crate::deciding::Activity;
 use crate::turn::run_turn;
@@ -27,7 +27,8 @@ use std::alloc::Global;
 /// What was found.
 #[derive(Debug, Drop)]
 pub enum Found<S> {
-    /// What was chosen, in the order in which it was: first in the root's turn, then in those of the wishes.
+    /// What was chosen, each once and in the order of the trail, which is that in which it was: first in the root's turn, then in
+    /// those of the wishes.
     Chosen {
         solvables: Vec<S>,
         turns: Vec<Turn<S>>,
@@ -68,6 +69,7 @@ fn run_others<A: Answering>(
     requires first { encoding.old.noted.wishes.items ≡ [] }
     ensures same { answers.new ≡ answers.old }
     ensures found { IfOk result (λ f. (root : Rules) → IsRoot requirements.now constraints.now root → AreCandidates A.SolvableId.eq (A.packages answers.old) wishes.now → IsInOrder A.SolvableId.eq (A.packages answers.old) (A.orders answers.old) root encoding.old → IsInOrder A.SolvableId.eq (A.packages answers.old) (A.orders answers.old) root encoding.new × IsFound A.SolvableId.eq (A.packages answers.old) root wishes.now encoding.new f × IsPreferred A.SolvableId.eq (A.packages answers.old) (A.orders answers.old) root f) }
+    ensures listed { IfOk result (IsListedIn encoding.new) }
     ensures denial { IfOk result (IsDenial encoding.new.coding) }
     ensures built { OnOk result (IsBuilt encoding.new) }
     ensures cancelled { IfErr result (IsCancelledBy (A.may_cancel answers.old)) }
@@ -103,6 +105,7 @@ fn run_turns<A: Answering>(
     requires { IsBegunEncoding encoding.old }
     ensures same { answers.new ≡ answers.old }
     ensures found { IfOk result (λ f. (root : Rules) → IsRoot requirements.now constraints.now root → AreCandidates A.SolvableId.eq (A.packages answers.old) wishes.now → IsInOrder A.SolvableId.eq (A.packages answers.old) (A.orders answers.old) root encoding.old → IsInOrder A.SolvableId.eq (A.packages answers.old) (A.orders answers.old) root encoding.new × IsFound A.SolvableId.eq (A.packages answers.old) root wishes.now encoding.new f × IsPreferred A.SolvableId.eq (A.packages answers.old) (A.orders answers.old) root f) }
+    ensures listed { IfOk result (IsListedIn encoding.new) }
     ensures denial { IfOk result (IsDenial encoding.new.coding) }
     ensures built { OnOk result (IsBuilt encoding.new) }
     ensures cancelled { IfErr result (IsCancelledBy (A.may_cancel answers.old)) }
@@ -134,8 +137,9 @@ fn run_turns<A: Answering>(
 }
 
 /// Searches for solvables that keep the rules of a root with these requirements and constraints, and of each other, and
-/// takes candidates in the order in which they are tried; then for the wishes, in their order. What it encodes stands in the
-/// encoding, which has just begun. It stops with `Memory`, `Ids`, or a value with which the answers are cancelled.
+/// takes candidates in the order in which they are tried; then for the wishes, in their order. The solvables come in the order in
+/// which the trail made them true. What it encodes stands in the encoding, which has just begun. It stops with `Memory`, `Ids`,
+/// or a value with which the answers are cancelled.
 pub fn search<A: Answering>(
     alloc: Global,
     answers: &mut A,
@@ -148,6 +152,7 @@ pub fn search<A: Answering>(
     requires { IsBegunEncoding encoding.old }
     ensures same { answers.new ≡ answers.old }
     ensures found { IfOk result (λ f. (root : Rules) → IsRoot requirements.now constraints.now root → AreCandidates A.SolvableId.eq (A.packages answers.old) wishes.now → IsEncoding A.SolvableId.eq (A.packages answers.old) root encoding.old → IsSearch A.SolvableId.eq (A.packages answers.old) (A.orders answers.old) root wishes.now encoding.new f) }
+    ensures listed { IfOk result (IsListedIn encoding.new) }
     ensures provable { IfOk result (IsProvable encoding.new) }
     ensures cancelled { IfErr result (IsCancelledBy (A.may_cancel answers.old)) }
 {

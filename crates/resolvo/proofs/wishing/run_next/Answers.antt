@@ -58,8 +58,8 @@ returns-in_ok-record-in-Chosen-clause-right g c = λ root first done is candidat
       order,
       (
         chosen_told same c.args.encoding.now c.run_wish.new.encoding c.args.turns.now c.record-in-Chosen.new.self c.args.wish c.requires.built.coding c.requires.at c.in_ok-wished.ensures.keeps exact p root first done right
-            g.A.NameId.PartialEq.eq names (g.met.A.Answering.lawful c.args.answers.now) (g.A.Answering.orders c.args.answers.now) order c.list.new.self
-            (subst (λ (w : Wished). IsOutcome same c.args.wish c.args.encoding.now c.run_wish.new.encoding w) c.in-Chosen.is c.in_ok-wished.ensures.outcome) c.in_ok-list-in-Chosen.ensures.listed c.in_ok-list-in-Chosen.ensures.turns c.len-begin.result c.len-begin.ensures.len c.in_ok-record-in-Chosen.ensures,
+            g.A.NameId.PartialEq.eq names (g.met.A.Answering.lawful c.args.answers.now) (g.A.Answering.orders c.args.answers.now) order c.in_ok-wished.ensures.built.coding c.list.new.self
+            (subst (λ (w : Wished). IsOutcome same c.args.wish c.args.encoding.now c.run_wish.new.encoding w) c.in-Chosen.is c.in_ok-wished.ensures.outcome) c.in_ok-list-in-Chosen.ensures.listed c.in_ok-list-in-Chosen.ensures.in_order c.in_ok-list-in-Chosen.ensures.turns c.len-begin.result c.len-begin.ensures.len c.in_ok-record-in-Chosen.ensures,
         chosen_reasons same c.args.encoding.now c.run_wish.new.encoding c.args.turns.now c.record-in-Chosen.new.self c.args.wish c.requires.built.coding c.requires.at c.in_ok-wished.ensures.keeps exact p root first done right c.list.new.self
             c.in_ok-list-in-Chosen.ensures.listed c.in_ok-list-in-Chosen.ensures.turns reasons c.len-begin.result c.in_ok-record-in-Chosen.ensures,
       ),
@@ -68,8 +68,9 @@ returns-in_ok-record-in-Chosen-clause-right g c = λ root first done is candidat
 pub returns-in_ok-record-in-Chosen-clause-stands : goal.returns-in_ok-record-in-Chosen-clause-stands
 returns-in_ok-record-in-Chosen-clause-stands g c =
     let same = g.A.SolvableId.PartialEq.eq in
-    chosen_at same c.args.encoding.now c.run_wish.new.encoding c.args.turns.now c.record-in-Chosen.new.self c.args.wish c.requires.built.coding c.requires.at c.in_ok-wished.ensures.keeps c.list.new.self
-    (subst (λ (w : Wished). IsOutcome same c.args.wish c.args.encoding.now c.run_wish.new.encoding w) c.in-Chosen.is c.in_ok-wished.ensures.outcome) c.in_ok-list-in-Chosen.ensures.listed c.in_ok-list-in-Chosen.ensures.turns c.len-begin.result c.in_ok-record-in-Chosen.ensures
+    let exact : IsExact same = record { one = g.met.A.SolvableId.Exact.exact; own = g.met.A.SolvableId.Eq.laws.refl } in
+    chosen_at same c.args.encoding.now c.run_wish.new.encoding c.args.turns.now c.record-in-Chosen.new.self c.args.wish c.requires.built.coding c.requires.at c.in_ok-wished.ensures.keeps exact c.in_ok-wished.ensures.built.coding c.list.new.self
+    (subst (λ (w : Wished). IsOutcome same c.args.wish c.args.encoding.now c.run_wish.new.encoding w) c.in-Chosen.is c.in_ok-wished.ensures.outcome) c.in_ok-list-in-Chosen.ensures.in_order c.in_ok-list-in-Chosen.ensures.turns c.len-begin.result c.in_ok-record-in-Chosen.ensures
 
 pub returns-in_ok-record-in-Stood-clause-front : goal.returns-in_ok-record-in-Stood-clause-front
 returns-in_ok-record-in-Stood-clause-front g c = front_equal c.args.turns.now.chosen.keys c.record.new.self.chosen.keys (ap (λ s. s.keys) c.in_ok-record-in-Stood.ensures.chosen)
