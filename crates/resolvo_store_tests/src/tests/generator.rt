@@ -23,7 +23,7 @@ pub struct CallList {
     pub answers: Vec<StoreAnswer>,
 }
 
-/// The list of a seed: 13 to 40 calls. With `is_standard` scores are raised and scaled as in a search by
+/// The list of a seed: 14 to 40 calls. With `is_standard` scores are raised and scaled as in a search by
 /// the standard parameters, else by any numbers.
 pub fn draw_list(alloc: Global, seed: u32, is_standard: bool) -> R<CallList> {
     let mut list = CallList {
@@ -48,7 +48,9 @@ fn fill_by(
     slow: &mut SlowStore,
 ) -> R<()> {
     slow.begin(alloc)?;
-    list.put(alloc, slow, first_call(draws))?;
+    let root = VariableId::root();
+    list.put(alloc, slow, first_level(root, !draws.one_in(8)))?;
+    list.put(alloc, slow, first_level(small_variable(draws), true))?;
     for _ in 0..3 {
         let call = fix_candidates(alloc, draws, slow)?;
         list.put(alloc, slow, call)?;
@@ -57,7 +59,7 @@ fn fill_by(
         let call = setting_up(alloc, draws, slow, is_standard)?;
         list.put(alloc, slow, call)?;
     }
-    for _ in 0..draws.below(28) {
+    for _ in 0..draws.below(27) {
         let call = any_call(alloc, draws, slow, is_standard)?;
         list.put(alloc, slow, call)?;
     }
@@ -76,11 +78,11 @@ impl CallList {
     }
 }
 
-/// Mostly the decision of the root.
-fn first_call(draws: &mut Draws) -> StoreCall<NameId> {
+/// A variable gets a value at the first level.
+fn first_level(variable: VariableId, value: bool) -> StoreCall<NameId> {
     StoreCall::Assign {
-        variable: VariableId::root(),
-        value: !draws.one_in(8),
+        variable,
+        value,
         clause: ClauseId(0),
         level: 1,
     }
@@ -130,6 +132,12 @@ fn variable(draws: &mut Draws) -> VariableId {
     if draws.one_in(40) {
         return VariableId(2_147_483_648);
     }
+    small_variable(draws)
+}
+
+/// One of the twelve variables. Values are given to these alone: the store keeps a place for each
+/// variable below one that has a value.
+fn small_variable(draws: &mut Draws) -> VariableId {
     VariableId(u32::from(draws.below(12)))
 }
 
@@ -330,8 +338,8 @@ fn fix_candidates(alloc: Global, draws: &mut Draws, slow: &SlowStore) -> R<Store
 }
 
 fn register(draws: &mut Draws, slow: &SlowStore) -> StoreCall<NameId> {
-    let parent = if draws.one_in(3) {
-        variable(draws)
+    let parent = if draws.one_in(2) {
+        decided_variable(draws, slow)
     } else {
         VariableId::root()
     };
@@ -351,10 +359,18 @@ fn level(draws: &mut Draws, slow: &SlowStore) -> u32 {
     slow.last_level().saturating_add(u32::from(draws.below(2)))
 }
 
-/// One of the twelve variables: the store keeps a place for each below one that has a value.
+/// A variable that has a value, or any.
+fn decided_variable(draws: &mut Draws, slow: &SlowStore) -> VariableId {
+    let count = u8::try_from(slow.trail.len()).unwrap_or(u8::MAX);
+    match slow.trail.get(usize::from(draws.below(count))) {
+        Some(entry) => entry.decision.variable,
+        None => variable(draws),
+    }
+}
+
 fn assign(draws: &mut Draws, slow: &SlowStore) -> StoreCall<NameId> {
     StoreCall::Assign {
-        variable: VariableId(u32::from(draws.below(12))),
+        variable: small_variable(draws),
         value: draws.one_in(3),
         clause: ClauseId(number(draws, slow.clauses.len())),
         level: level(draws, slow),
