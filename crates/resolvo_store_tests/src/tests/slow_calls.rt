@@ -2,7 +2,7 @@
 
 use crate::tests::slow_store::{Signed, SlowStore, Version, copied, signed};
 use resolvo_clause_store::store_call::{StoreAnswer, StoreCall};
-use resolvo_pool::id::{ClauseId, NameId, VariableId};
+use resolvo_pool::id::{ClauseId, DisjunctionId, NameId, VariableId};
 use resolvo_pool::requirement::Requirement;
 use resolvo_pool::want::R;
 use resolvo_store::clause::Clause;
@@ -23,39 +23,21 @@ impl SlowStore {
             StoreCall::FixCandidates(requirement, groups) => {
                 self.fix(*requirement, flattened(alloc, groups)?)
             }
-            StoreCall::FixDisjunction(literals) => {
-                self.disjunctions.push(copied(alloc, literals)?)?;
-                Ok(StoreAnswer::Done)
-            }
-            StoreCall::FixLearnt(literals) => {
-                self.learnt.push(copied(alloc, literals)?)?;
-                Ok(StoreAnswer::Done)
-            }
+            StoreCall::FixDisjunction(literals) => self.fix_disjunction(copied(alloc, literals)?),
+            StoreCall::FixLearnt(literals) => self.fix_learnt(copied(alloc, literals)?),
             StoreCall::AddClause(clause, watched) => self.add(alloc, clause, *watched),
             StoreCall::Register {
                 parent,
                 requirement,
                 condition,
                 clause,
-            } => self.register(NeedClause {
-                parent: *parent,
-                requirement: *requirement,
-                condition: *condition,
-                clause: *clause,
-            }),
+            } => self.register(*parent, *requirement, *condition, *clause),
             StoreCall::Assign {
                 variable,
                 value,
                 clause,
                 level,
-            } => {
-                let decision = Decision {
-                    variable: *variable,
-                    value: *value,
-                    derived_from: *clause,
-                };
-                self.assign(decision, *level)
-            }
+            } => self.assign(*variable, *value, *clause, *level),
             StoreCall::UndoLast => Ok(StoreAnswer::Undone(self.undo_last())),
             StoreCall::UndoUntil(level) => Ok(self.undo_until(*level)),
             StoreCall::BumpName(package, add) => self.bump(*package, *add),
@@ -68,6 +50,16 @@ impl SlowStore {
 
     fn fix(&mut self, requirement: Requirement, candidates: Vec<Version>) -> R<StoreAnswer> {
         self.fixed.push((requirement, candidates))?;
+        Ok(StoreAnswer::Done)
+    }
+
+    fn fix_disjunction(&mut self, literals: Vec<Signed>) -> R<StoreAnswer> {
+        self.disjunctions.push(literals)?;
+        Ok(StoreAnswer::Done)
+    }
+
+    fn fix_learnt(&mut self, literals: Vec<Signed>) -> R<StoreAnswer> {
+        self.learnt.push(literals)?;
         Ok(StoreAnswer::Done)
     }
 
@@ -88,26 +80,42 @@ impl SlowStore {
         Ok(StoreAnswer::Added(number))
     }
 
-    fn register(&mut self, need: NeedClause) -> R<StoreAnswer> {
-        self.needs.push(need)?;
+    fn register(
+        &mut self,
+        parent: VariableId,
+        requirement: Requirement,
+        condition: Option<DisjunctionId>,
+        clause: ClauseId,
+    ) -> R<StoreAnswer> {
+        self.needs.push(NeedClause {
+            parent,
+            requirement,
+            condition,
+            clause,
+        })?;
         Ok(StoreAnswer::Done)
     }
 
     /// The decision comes to the end of the trail, unless its variable has a value.
-    fn assign(&mut self, decision: Decision, level: u32) -> R<StoreAnswer> {
-        match self.value(decision.variable.0) {
-            Some(value) => {
-                if value == decision.value {
-                    Ok(StoreAnswer::Set(Set::Already))
-                } else {
-                    Ok(StoreAnswer::Set(Set::Opposite))
-                }
-            }
-            None => {
-                self.trail.push(Entry { decision, level })?;
-                Ok(StoreAnswer::Set(Set::New))
-            }
+    fn assign(
+        &mut self,
+        variable: VariableId,
+        value: bool,
+        derived_from: ClauseId,
+        level: u32,
+    ) -> R<StoreAnswer> {
+        if let Some(present) = self.value(variable.0) {
+            let is_same = present == value;
+            let set = if is_same { Set::Already } else { Set::Opposite };
+            return Ok(StoreAnswer::Set(set));
         }
+        let decision = Decision {
+            variable,
+            value,
+            derived_from,
+        };
+        self.trail.push(Entry { decision, level })?;
+        Ok(StoreAnswer::Set(Set::New))
     }
 
     /// The last decision goes. It is answered with the level of the one before it.
