@@ -29,7 +29,7 @@ module _ (catalogue : List Line) (said : Said) (provider : Provider) (verdict : 
       let wished = (answer_is (Ok v) is).0 in (
         _,
         keeps_lines catalogue said provider given.over given.ids given.asked given.asks given.same apart given.exact v.items (first_of v.items given.kept.turns) []
-        (record { keeping = wished.solution.keeping; reached = wished.solution.reached; free = λ s h. absurd (contains_none s h); has = λ s h. absurd (contains_none s h) }),
+            (record { keeping = wished.solution.keeping; reached = wished.solution.reached; free = λ s h. absurd (contains_none s h); has = λ s h. absurd (contains_none s h) }),
       )
 
   -- a set that keeps them would be a solution
