@@ -1,5 +1,5 @@
 -- The lists that clauses name by an id.
-use Rattle.std.specs.Prelude.{◌≡◌, ℕ, ◌<◌, nat_lt, ⊤, Bool, true, List, [], ◌∷◌, ◌++◌, length, Option, Some, None, Vec, is_some, slice_get}
+use Rattle.std.specs.Prelude.{◌≡◌, ℕ, ◌<◌, nat_lt, ⊤, Bool, true, false, List, [], ◌∷◌, ◌++◌, length, Option, Some, None, Vec, is_some, slice_get}
 use Rattle.std.specs.declared.alloc.Global.{Global}
 use Rattle.resolvo_pool.specs.declared.requirement.Requirement.{Requirement}
 use Rattle.resolvo_pool.specs.declared.id.DenseId.{DenseId}
@@ -56,6 +56,11 @@ HasDisjunction ls (Some d) = d.raw < disjunction_count ls
 abbrev pub has_disjunction : {N : Type 0} → FixedLists N → Option (DenseId DisjunctionTag ℕ) → Bool
 has_disjunction ls None = true
 has_disjunction ls (Some d) = nat_lt d.raw (disjunction_count ls)
+
+-- there is a condition, and the disjunction of its case is there
+abbrev pub names_disjunction : {N : Type 0} → FixedLists N → Option (DenseId DisjunctionTag ℕ) → Bool
+names_disjunction ls None = false
+names_disjunction ls (Some d) = nat_lt d.raw (disjunction_count ls)
 
 abbrev pub has_learnt : {N : Type 0} → FixedLists N → DenseId LearntClauseTag ℕ → Bool
 has_learnt ls l = nat_lt l.raw (learnt_count ls)

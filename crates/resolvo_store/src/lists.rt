@@ -1,11 +1,11 @@
 //! The lists that clauses name by an id: candidates of requirements, disjunctions, learnt literals.
 //! Each list is given once and never changes. Clauses are read over them.
-ghost use Rattle.std.specs.Prelude.{◌≡◌, ◌<◌, ◌++◌, ◌∷◌, [], length, OnOk, OnErr, IfOk, IfSome, IsOkUnless, IsErrOf, IsSome, None, Some, true, false, MatchOption};
+ghost use Rattle.std.specs.Prelude.{◌≡◌, ◌<◌, ◌++◌, ◌∷◌, [], length, OnOk, OnErr, IfOk, IfSome, IsOkUnless, IsErrOf, IsSome, is_some, None, Some, true, false, MatchOption};
 ghost use Rattle.std.specs.Option.{option_map, option_copied};
 ghost use Rattle.resolvo_pool.specs.declared.want.Want.TheVariants.{Memory, Ids};
 ghost use Rattle.resolvo_pool.specs.ByRequirement.{slot_of, PutsAt, index_in};
 ghost use Rattle.resolvo_store.specs.Signed.{Signed};
-ghost use Rattle.resolvo_store.specs.Lists.{candidates_in, disjunction_in, condition_in, learnt_in, has_candidates, has_disjunction, has_learnt, disjunction_count, learnt_count, IsEmpty, FixesCandidates, FixesDisjunction, FixesLearnt};
+ghost use Rattle.resolvo_store.specs.Lists.{candidates_in, disjunction_in, condition_in, learnt_in, has_candidates, has_disjunction, names_disjunction, has_learnt, disjunction_count, learnt_count, IsEmpty, FixesCandidates, FixesDisjunction, FixesLearnt};
 ghost use Rattle.resolvo_store.specs.Reading.{listed};
 
 use crate::literal::Literal;
@@ -101,17 +101,14 @@ impl<N: Copy + Drop> FixedLists<N> {
 
     /// The literals of a condition's case, if there is a condition and it was given.
     pub fn condition(&self, id: Option<DisjunctionId>) -> Option<&[Literal]>
-        ensures { listed result ≡ condition_in self.now id }
+        ensures given { is_some result ≡ names_disjunction self.now id }
+        ensures literals { listed result ≡ condition_in self.now id }
     {
-        match id {
-            Some(id) => {
-                if id.to_index() < self.disjunctions.len() {
-                    Some(self.disjunction(id))
-                } else {
-                    None
-                }
-            }
-            None => None,
+        let id = id?;
+        if id.to_index() < self.disjunctions.len() {
+            Some(self.disjunction(id))
+        } else {
+            None
         }
     }
 
