@@ -1,5 +1,5 @@
 -- What is chosen turn by turn.
-use Rattle.std.proofs.Common.{◌≡◌, ℕ, zero, suc, cond, get_or, ◌<◌, ◌≤◌, ◌⊎◌, inl, inr, Bool, true, false, take, reverse, List, [], ◌∷◌, ◌++◌, length, refl, sym, ◌∙◌, ap, subst, arith}
+use Rattle.std.proofs.Common.{◌≡◌, ℕ, zero, suc, cond, get_or, ◌<◌, ◌≤◌, Bool, true, false, take, reverse, List, [], ◌∷◌, ◌++◌, length, refl, sym, ◌∙◌, ap, subst, arith}
 use Rattle.std.specs.Prelude.{Contains}
 use Rattle.std.proofs.lemmas.List.{take_all}
 use Rattle.resolvo_pool.specs.RuleKeeping.{Packages, Rules, is_in, IsReached, IsExemptKeeping, IsRuleKeeping}
@@ -7,35 +7,17 @@ use Rattle.resolvo_store.specs.AtMostOne.{IsFrontOf}
 use Rattle.resolvo_search.proofs.StepLemmas.{reverse_push}
 use Rattle.resolvo_rules.specs.Encoding.{IsExact}
 use Rattle.resolvo_rules.specs.Ending.{IsAccepted}
-use Rattle.resolvo_rules.proofs.Lists.{contains_none, contains_one, contains_only, contains_left, contains_right, contains_parts}
+use Rattle.resolvo_rules.proofs.Lists.{contains_left}
 use Rattle.resolvo_rules.proofs.Members.{in_contained, contained_in}
-use Rattle.resolvo_coding.proofs.Positions.{front_long, front_same, front_then}
+use Rattle.resolvo_coding.proofs.Positions.{front_long}
 use Rattle.resolvo.specs.Solution.{IsSolution}
-use Rattle.resolvo.specs.Turns.{AddsEach, AreRight, AreTurns, IsTurnOf, accepted_by, accepted_of, end_of}
+use Rattle.resolvo.specs.Turns.{AreRight, AreTurns, IsTurnOf, accepted_by, accepted_of, end_of}
 use Rattle.resolvo.specs.declared.turns.Turn.{Turn}
 use Rattle.resolvo.specs.declared.turns.Turns.{Turns}
-use Rattle.resolvo.proofs.Ending.{contains_longer}
-
-pub adds_none : {S : Type 0} (xs : List S) → AddsEach [] xs xs
-adds_none xs = record { front = front_same xs; only = λ s h. inl h; all = λ s h. absurd (contains_none s h) }
 
 -- an item stands in its list
 pub item_contained : {S : Type 0} (xs : List S) (i : ℕ) (x : S) → i < length xs → x ≡ get_or xs i x → Contains xs x
 item_contained xs i x low is = (i, low, sym is)
-
--- and one more
-pub adds_more : {S : Type 0} (members xs ys zs : List S) (x : S) → AddsEach members xs ys → IsFrontOf ys zs → Contains zs x → ((s : S) → Contains zs s → Contains ys s ⊎ (s ≡ x)) → AddsEach (members ++ x ∷ []) xs zs
-adds_more {S} members xs ys zs x adds front stands only = record {
-  front = front_then xs ys zs adds.front front;
-  only = λ s h. elim (only s h) [
-    | inl before ↦ elim (adds.only s before) [ inl a ↦ inl a | inr b ↦ inr (contains_left s members (x ∷ []) b) ]
-    | inr is ↦ inr (subst (λ (y : S). Contains (members ++ x ∷ []) y) (sym is) (contains_right x members (x ∷ []) (contains_only x)))
-  ];
-  all = λ s h. elim (contains_parts s members (x ∷ []) h) [
-    | inl a ↦ contains_longer ys zs s front (adds.all s a)
-    | inr b ↦ subst (λ (y : S). Contains zs y) (sym (contains_one s x b)) stands
-  ];
-}
 
 -- ---- a wish that is chosen already
 

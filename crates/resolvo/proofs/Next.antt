@@ -28,7 +28,7 @@ use Rattle.resolvo_encoding.specs.declared.encoding.Encoding.{Encoding}
 use Rattle.resolvo_encoding.proofs.Turning.{turn_accepts}
 use Rattle.resolvo.specs.Encoder.{IsInOrder}
 use Rattle.resolvo.specs.Turn.{IsTurn}
-use Rattle.resolvo.specs.Turns.{AreAt, AreRight, HasReason, HaveReasons, IsDeniable, Lists, Records, accepted_of, on_trail, step_of, was_accepted}
+use Rattle.resolvo.specs.Turns.{AreAt, AreRight, HasReason, HaveReasons, IsDeniable, Records, accepted_of, on_trail, step_of, was_accepted}
 use Rattle.resolvo.specs.declared.wishing.Wished.{Wished}
 use Rattle.resolvo.specs.Wished.{IsDenied, IsOutcome, IsReasonOf, IsTrue, KeepsTrail}
 use Rattle.resolvo.specs.declared.wishing.Wished.TheVariants as Wishes
@@ -203,8 +203,8 @@ module _ {N S : Type 0} where
       pub refused_reasons : (clause : ClauseId) → IsReasonOf b.coding (λ r. (r ≡ s) ⊎ IsTrue a r) clause.0 → HaveReasons a.coding t → (begin : ℕ) → begin ≡ length t.chosen.keys → Records s begin (Wishes.Refused clause) t u → HaveReasons b.coding u
       refused_reasons clause reason reasons begin is told = next_reasons a b t t u s begin (Wishes.Refused clause) keeps (front_same t.chosen.keys) refl told reasons (refused_reason a b t u s begin clause told at is reason)
 
-      pub chosen_reasons : (m : Turns S) → Lists b t.chosen.keys m.chosen.keys → m.turns ≡ t.turns → HaveReasons a.coding t → (begin : ℕ) → Records s begin Wishes.Chosen m u → HaveReasons b.coding u
-      chosen_reasons m lists turns reasons begin told = next_reasons a b t m u s begin Wishes.Chosen keeps lists.adds.front turns told reasons (accepted_reason b m u s begin Wishes.Chosen told refl refl)
+      pub chosen_reasons : (m : Turns S) → IsFrontOf t.chosen.keys m.chosen.keys → m.turns ≡ t.turns → HaveReasons a.coding t → (begin : ℕ) → Records s begin Wishes.Chosen m u → HaveReasons b.coding u
+      chosen_reasons m lists turns reasons begin told = next_reasons a b t m u s begin Wishes.Chosen keeps lists turns told reasons (accepted_reason b m u s begin Wishes.Chosen told refl refl)
 
       pub stood_told : IsOutcome same s a b Wishes.Stood → (begin : ℕ) → begin ≡ length t.chosen.keys → Records s begin Wishes.Stood t u → AreRight same p root first (done ++ s ∷ []) u
       stood_told (wishes, trail, known) begin is told =
@@ -217,10 +217,10 @@ module _ {N S : Type 0} where
           next_told same exact p root a b t t u first done s (Wishes.Refused clause) at right (front_same t.chosen.keys) refl (subst (λ n. Records s n (Wishes.Refused clause) t u) is told) wishes
           (subst (λ (ws : List S). IsAccepted same p root ws t.chosen.keys) (sym wishes) still_accepted) (told_false same exact p root b t.chosen.keys s (listed_are_chosen b t.chosen.keys (stays_chosen trail)) untrue) (λ so. refl) (λ so. denied)
 
-      pub chosen_told : (same_name : N → N → Bool) → IsExact same_name → IsLawful p → (orders : Requirement → List S → Type 0) → IsInOrder same p orders root b → IsCoding b.coding → (m : Turns S) → IsOutcome same s a b Wishes.Chosen → Lists b t.chosen.keys m.chosen.keys → m.chosen.keys ≡ insert_all same t.chosen.keys (on_trail b) → m.turns ≡ t.turns
+      pub chosen_told : (same_name : N → N → Bool) → IsExact same_name → IsLawful p → (orders : Requirement → List S → Type 0) → IsInOrder same p orders root b → IsCoding b.coding → (m : Turns S) → IsOutcome same s a b Wishes.Chosen → IsFrontOf t.chosen.keys m.chosen.keys → m.chosen.keys ≡ insert_all same t.chosen.keys (on_trail b) → m.turns ≡ t.turns
           → (begin : ℕ) → begin ≡ length t.chosen.keys → Records s begin Wishes.Chosen m u → AreRight same p root first (done ++ s ∷ []) u
       chosen_told same_name names lawful orders order after m (wishes, (v, stands, ended)) lists in_order turns begin is told =
           let are : AreChosen b.coding.atoms.keys (made_true (history b.coding.search)) m.chosen.keys = listed_are_chosen b m.chosen.keys (goes_on exact after m in_order) in
           let (settled, whole, spent, has_it) = ended in
-          next_told same exact p root a b t m u first done s Wishes.Chosen at right lists.adds.front turns (subst (λ n. Records s n Wishes.Chosen m u) is told) wishes
+          next_told same exact p root a b t m u first done s Wishes.Chosen at right lists turns (subst (λ n. Records s n Wishes.Chosen m u) is told) wishes
           (chosen_accepted same exact p root same_name names lawful orders b (Some v) m.chosen.keys order ended are) (told_true same exact p root b m.chosen.keys s are (v, stands, has_it)) (λ so. absurd (both_ways true so refl)) (λ so. absurd (both_ways true so refl))

@@ -1,13 +1,10 @@
 -- The turns of wishes, and what was chosen in each.
 use Rattle.std.specs.Prelude.{◌≡◌, ℕ, suc, ◌-◌, ◌≤◌, ◌⊎◌, cond, Bool, true, false, take, reverse, List, [], ◌∷◌, ◌++◌, length, Option, Some, None, Contains}
 use Rattle.resolvo_pool.specs.RuleKeeping.{Packages, Rules, is_in, IsRuleKeeping}
-use Rattle.resolvo_store.specs.AtMostOne.{IsFrontOf}
 use Rattle.resolvo_search.specs.declared.analysis.Refusal.{Refusal}
 use Rattle.resolvo_search.specs.Analysis.{IsRefusal}
-use Rattle.resolvo_search.specs.Entries.{made_true}
-use Rattle.resolvo_search.specs.State.{history}
 use Rattle.resolvo_rules.specs.Ending.{IsAccepted}
-use Rattle.resolvo_coding.specs.Chosen.{AreChosen, choices}
+use Rattle.resolvo_coding.specs.Chosen.{choices}
 use Rattle.resolvo_coding.specs.declared.coding.Coding.{Coding}
 use Rattle.resolvo_encoding.specs.declared.encoding.Encoding.{Encoding}
 use Rattle.resolvo.specs.Solution.{IsSolution, IsUnsolvable}
@@ -75,21 +72,9 @@ module _ {N S : Type 0} (same : S → S → Bool) (p : Packages N S) (root : Rul
     pub turns : AreTurns first (reverse wishes) (reverse told)
     pub whole : end_of first (reverse told) ≡ length chosen
 
--- these came behind the others
-pub record AddsEach {S : Type 0} (members old new : List S) : Type 0 where
-  pub front : IsFrontOf old new
-  pub only : (s : S) → Contains new s → Contains old s ⊎ Contains members s
-  pub all : (s : S) → Contains members s → Contains new s
-
 -- the solvables that the trail chooses, in its order
 abbrev pub on_trail : {N S : Type 0} → Encoding N S → List S
 on_trail e = choices e.coding.atoms.keys e.coding.search.tracker.trail
-
--- what the trail chooses came behind the others
-pub record Lists {N S : Type 0} (e : Encoding N S) (old new : List S) : Type 0 where
-  pub members : List S
-  pub are : AreChosen e.coding.atoms.keys (made_true (history e.coding.search)) members
-  pub adds : AddsEach members old new
 
 -- these are what the trail chooses, in its order, and the noted wishes are the accepted ones
 pub record AreAt {N S : Type 0} (e : Encoding N S) (t : Turns S) : Type 0 where

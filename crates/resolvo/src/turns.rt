@@ -1,7 +1,8 @@
 //! The turns of wishes, as a solver tells of them, and the solvables that were chosen in them.
 ghost use Rattle.std.specs.Prelude.{◌≡◌, [], OnOk, IfOk};
 ghost use Rattle.indexmap.specs.IndexSet.{insert_all};
-ghost use Rattle.resolvo.specs.Turns.{AddsEach, Lists, Records, Tells, on_trail};
+ghost use Rattle.resolvo_store.specs.AtMostOne.{IsFrontOf};
+ghost use Rattle.resolvo.specs.Turns.{Records, Tells, on_trail};
 
 use crate::wishing::Wished;
 use indexmap::IndexSet;
@@ -46,7 +47,7 @@ impl<S: SolverId> Turns<S> {
 
     /// Lists what the trail chooses, in its order, behind what was listed.
     pub fn list<N: SolverId>(&mut self, alloc: Global, encoding: &Encoding<N, S>) -> R<()>
-        ensures listed { OnOk result (Lists encoding.now self.old.chosen.keys self.new.chosen.keys) }
+        ensures listed { OnOk result (IsFrontOf self.old.chosen.keys self.new.chosen.keys) }
         ensures in_order { OnOk result (self.new.chosen.keys ≡ insert_all S.eq self.old.chosen.keys (on_trail encoding.now)) }
         ensures turns { OnOk result (self.new.turns ≡ self.old.turns) }
     {
@@ -86,7 +87,7 @@ fn turn_of<S>(wish: S, begin: usize, end: usize, wished: Wished) -> Turn<S>
 
 /// Lists these behind the others, in their order and each once.
 fn list_each<S: SolverId>(listed: &mut IndexSet<S>, chosen: &[S]) -> R<()>
-    ensures adds { OnOk result (AddsEach chosen.now listed.old.keys listed.new.keys) }
+    ensures adds { OnOk result (IsFrontOf listed.old.keys listed.new.keys) }
     ensures in_order { OnOk result (listed.new.keys ≡ insert_all S.eq listed.old.keys chosen.now) }
 {
     for solvable in chosen {

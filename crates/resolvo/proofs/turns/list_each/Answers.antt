@@ -1,13 +1,12 @@
 use Rattle.std.proofs.Common.{◌≡◌, ◌+◌, ◌++◌, ◌∷◌, [], List, take, refl, sym, ◌∙◌, ap, subst}
 use Rattle.std.proofs.lemmas.List.{take_more, take_all}
 use Rattle.indexmap.specs.IndexSet.{insert_all}
-use Rattle.resolvo.specs.Turns.{AddsEach}
-use Rattle.resolvo.proofs.Listing.{adds_none, adds_more}
+use Rattle.resolvo_coding.proofs.Positions.{front_same, front_then}
 use Rattle.resolvo.proofs.Trailing.{inserted_more}
 use Rattle.resolvo.proofs.turns.list_each.Goals as goal
 
 pub loop-solvable-init : goal.loop-solvable-init
-loop-solvable-init g c = record { adds = adds_none c.args.listed.now.keys; in_order = refl }
+loop-solvable-init g c = record { adds = front_same c.args.listed.now.keys; in_order = refl }
 
 pub loop-solvable-preserved : goal.loop-solvable-preserved
 loop-solvable-preserved g c =
@@ -18,14 +17,12 @@ loop-solvable-preserved g c =
     let item = c.solvable-item.result in
     let more : take (i + 1) xs ≡ take i xs ++ item ∷ [] = take_more xs i item c.loop-solvable-test.true ∙ ap (λ x. take i xs ++ x ∷ []) (sym c.solvable-item.is) in
     record {
-      adds = subst (λ (ys : List g.row.S.Denot). AddsEach ys old c.add_key.new.keys.keys) (sym more)
-          (adds_more (take i xs) old c.loop-solvable.listed.keys c.add_key.new.keys.keys item c.loop-solvable.invariant.adds c.in_ok-add_key.ensures.front (c.in_ok-add_key.ensures.stands (λ other same. sym (g.met.S.Exact.exact item other same))) c.in_ok-add_key.ensures.only);
+      adds = front_then old c.loop-solvable.listed.keys c.add_key.new.keys.keys c.loop-solvable.invariant.adds c.in_ok-add_key.ensures.front;
       in_order = inserted_more same old (take i xs) (take (i + 1) xs) c.loop-solvable.listed.keys c.add_key.new.keys.keys item more c.loop-solvable.invariant.in_order c.in_ok-add_key.ensures.added;
     }
 
 pub returns-clause-adds : goal.returns-clause-adds
-returns-clause-adds g c =
-    subst (λ (ys : List g.row.S.Denot). AddsEach ys c.args.listed.now.keys c.loop-solvable.listed.keys) (take_all c.loop-solvable.solvable-index c.args.chosen.now c.loop-solvable-test.false) c.loop-solvable.invariant.adds
+returns-clause-adds g c = c.loop-solvable.invariant.adds
 
 pub returns-clause-in_order : goal.returns-clause-in_order
 returns-clause-in_order g c = c.loop-solvable.invariant.in_order ∙ ap (insert_all g.S.PartialEq.eq c.args.listed.now.keys) (take_all c.loop-solvable.solvable-index c.args.chosen.now c.loop-solvable-test.false)
