@@ -3,15 +3,18 @@
 
 Usage: bench/interning.py   (proves and builds the program below over a copy of crates/resolvo_pool: some minutes)
 """
-import os
 import resource
-import shutil
 import statistics
 import subprocess
 import sys
 import tempfile
 
-TOP = os.path.dirname(os.path.dirname(os.path.abspath(__file__)))
+import program
+
+CRATES = """\
+resolvo_pool: indexmap thiserror
+interning: resolvo_pool
+"""
 
 PROGRAM = """\
 //! Interns a million names, and looks each up.
@@ -85,23 +88,9 @@ def processor_seconds(command):
     return used() - before
 
 
-def build(folder):
-    """The path of the program, built in the folder."""
-    subprocess.run(["git", "init", "-q", folder], check=True)
-    with open(os.path.join(folder, "crates.txt"), "w") as crates:
-        crates.write("resolvo_pool: indexmap thiserror\ninterning: resolvo_pool\n")
-    shutil.copytree(os.path.join(TOP, "crates/resolvo_pool"), os.path.join(folder, "crates/resolvo_pool"))
-    crate = os.path.join(folder, "crates/interning")
-    os.makedirs(os.path.join(crate, "src"))
-    with open(os.path.join(crate, "src/main.rt"), "w") as source:
-        source.write(PROGRAM)
-    subprocess.run(["rt", "run"], cwd=crate, stdout=subprocess.DEVNULL, check=True)
-    return os.path.join(crate, "out/interning")
-
-
 def main():
     with tempfile.TemporaryDirectory() as folder:
-        commands = [[build(folder)], [sys.executable, "-c", PYTHON]]
+        commands = [[program.build(folder, "interning", PROGRAM, CRATES)], [sys.executable, "-c", PYTHON]]
         times = [[processor_seconds(command) for command in commands] for _ in range(5)]
         pool, plain = (statistics.median(column) for column in zip(*times))
         print(f"Pool {pool:.2f} s, dict {plain:.2f} s, ratio {pool / plain:.2f}")

@@ -5,14 +5,10 @@ Usage: bench/providing.py   (proves and builds the program below over copies of 
 one where their `out/` is kept). The catalogue is that of bench/reading.py.
 """
 import os
-import shutil
-import statistics
-import subprocess
 import tempfile
 
+import program
 import reading
-
-TOP = os.path.dirname(os.path.dirname(os.path.abspath(__file__)))
 
 CRATES = """\
 resolvo_text: thiserror
@@ -72,28 +68,13 @@ fn main(rt: HostRuntime) -> ExitCode {
 """
 
 
-def build(folder):
-    """The path of the program, built in the folder."""
-    subprocess.run(["git", "init", "-q", folder], check=True)
-    with open(os.path.join(folder, "crates.txt"), "w") as crates:
-        crates.write(CRATES)
-    for name in ["resolvo_text", "resolvo_pool", "resolvo_catalogue", "resolvo_provider"]:
-        shutil.copytree(os.path.join(TOP, "crates", name), os.path.join(folder, "crates", name))
-    crate = os.path.join(folder, "crates/providing")
-    os.makedirs(os.path.join(crate, "src"))
-    with open(os.path.join(crate, "src/main.rt"), "w") as source:
-        source.write(PROGRAM)
-    subprocess.run(["rt", "run"], cwd=crate, stdout=subprocess.DEVNULL, check=False)
-    return os.path.join(crate, "out/providing")
-
-
 def main():
     with tempfile.TemporaryDirectory() as folder:
-        program = build(folder)
+        proved = program.build(folder, "providing", PROGRAM, CRATES)
         path = os.path.join(folder, "catalogue")
         reading.write(path, reading.mixed())
         size = os.path.getsize(path)
-        alone, both = reading.median([program, path]), reading.median([program, path, "provide"])
+        alone, both = reading.median([proved, path]), reading.median([proved, path, "provide"])
         print(f"{size} bytes: read {alone[0]:.2f} s, read and made {both[0]:.2f} s, making / reading {(both[0] - alone[0]) / alone[0]:.2f}")
         print(f"peak memory / text: {alone[2] / size:.1f} and {both[2] / size:.1f}; status {alone[3]} and {both[3]}")
 
