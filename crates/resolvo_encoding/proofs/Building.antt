@@ -1,5 +1,5 @@
 -- What the calls rest on stays, step by step.
-use Rattle.std.proofs.Common.{◌≡◌, ℕ, ◌+◌, ◌<◌, ◌≤◌, inl, inr, Bool, false, [], ◌∷◌, ◌++◌, length, Option, Some, None, refl, sym, ◌∙◌, ap, subst, arith}
+use Rattle.std.proofs.Common.{◌≡◌, ℕ, ◌+◌, ◌<◌, ◌≤◌, inl, inr, Bool, false, [], ◌∷◌, ◌++◌, length, Option, Some, None, refl, sym, ◌∙◌, ap, subst, arith, true}
 use Rattle.std.specs.Prelude.{Contains}
 use Rattle.resolvo_store.specs.Lists.{items_or_none}
 use Rattle.std.proofs.lemmas.Bool.{both_ways}
@@ -9,12 +9,16 @@ use Rattle.resolvo_pool.specs.declared.id.VariableId.{VariableId}
 use Rattle.resolvo_pool.specs.declared.requirement.Requirement.{Requirement}
 use Rattle.resolvo_pool.specs.ByRequirement.{slot_of, PutsAt}
 use Rattle.resolvo_store.specs.Signed.{Signed}
-use Rattle.resolvo_store.specs.Clauses.{yes, no, candidate_literals as literals_in}
+use Rattle.resolvo_store.specs.Clauses.{yes, no, candidate_literals}
 use Rattle.resolvo_store.specs.Lists.{named_by, candidates_in, condition_in, FixesDisjunction}
 use Rattle.resolvo_store.specs.declared.lists.Disjunction.{Disjunction}
 use Rattle.resolvo_store.specs.declared.lists.FixedLists.{FixedLists}
 use Rattle.resolvo_store.specs.Pick.{pick_by}
 use Rattle.resolvo_store.specs.declared.decide_queue.NextDecision.{NextDecision}
+use Rattle.resolvo_needs.specs.Needs.{literals_in, is_met, Fits}
+use Rattle.resolvo_needs.specs.declared.open_needs.OpenNeeds.{OpenNeeds}
+use Rattle.resolvo_needs.proofs.Fitting.{fits_add, fits_more, fits_none}
+use Rattle.resolvo_store.specs.declared.decide_queue.NeedClause.{NeedClause}
 use Rattle.resolvo_search.specs.Entries.{made_true}
 use Rattle.resolvo_search.specs.Known.{IsUndecided}
 use Rattle.resolvo_search.specs.State.{history, count_of}
@@ -41,20 +45,23 @@ use Rattle.resolvo_encoding.proofs.Requiring.{put_at, put_other, some_one}
 
 -- where only clauses, variables and the queue change
 pub built_grows : {N S : Type 0} (old new : Encoding N S) → IsBuilt old → IsCoding new.coding → Grows old.coding new.coding → new.registry ≡ old.registry → new.lists ≡ old.lists → new.gates ≡ old.gates
-    → new.parents ≡ old.parents → new.encoded ≡ old.encoded → KeepsDigits old.coding new.coding → IsBuilt new
-built_grows {N} {S} old new b coding grows registry lists gates parents encoded digits = record {
+    → new.parents ≡ old.parents → new.encoded ≡ old.encoded → KeepsDigits old.coding new.coding → Fits (literals_in old.lists) new.needs new.queue → IsBuilt new
+built_grows {N} {S} old new b coding grows registry lists gates parents encoded digits needs = record {
   coding = coding;
   tied = subst (λ (t : Registry N). AreTied t new.coding) (sym registry) (ties_grow old.registry old.coding new.coding grows digits b.tied);
   candidates = λ r c a. (let (positive, (s, stands)) = b.candidates r c (subst (λ ls. Contains (candidates_in ls r) c) lists a) in (positive, (s, stands_grow old.coding new.coding c.literal.variable (Solvable s) grows stands)));
   gates = λ r v at. stands_grow old.coding new.coding v (Gate r) grows (b.gates r v (sym (ap (λ gs. slot_of gs r) gates) ∙ at));
   within = subst (λ n. n ≤ length new.parents.keys) (sym encoded) (subst (λ ps. old.encoded ≤ length ps.keys) (sym parents) b.within);
+  needs = subst (λ ls. Fits (literals_in ls) new.needs new.queue) (sym lists) needs;
 }
 
-pub built_rest : {N S : Type 0} (old new : Encoding N S) → IsBuilt old → IsCoding new.coding → Grows old.coding new.coding → KeepsDigits old.coding new.coding → SameButCoding old new → IsBuilt new
-built_rest old new b coding grows digits rest = built_grows old new b coding grows rest.registry rest.lists rest.gates rest.parents rest.encoded digits
+pub built_rest : {N S : Type 0} (old new : Encoding N S) → IsBuilt old → IsCoding new.coding → Grows old.coding new.coding → KeepsDigits old.coding new.coding → SameButCoding old new → new.needs ≡ old.needs → IsBuilt new
+built_rest old new b coding grows digits rest needs = built_grows old new b coding grows rest.registry rest.lists rest.gates rest.parents rest.encoded digits
+    (subst (λ (n : OpenNeeds). Fits (literals_in old.lists) n new.queue) (sym needs) (subst (λ qs. Fits (literals_in old.lists) old.needs qs) (sym rest.queue) b.needs))
 
 pub built_states : {N S : Type 0} (x : Stated N S) (v : VariableId) (condition : Option (DenseId DisjunctionTag ℕ)) (r : Requirement) (old new : Encoding N S) → IsBuilt old → ((name : N) (s : S) (place bit : ℕ) → x ≡ Digit name s place bit → ⊥) → StatesNeed x v condition r old new → IsBuilt new
 built_states x v condition r old new b other s = built_grows old new b s.states.coding s.states.grows s.registry s.lists s.gates s.parents s.encoded (digits_more x old.coding new.coding s.states.stated other)
+    (let q : NeedClause = record { parent = v; requirement = r; condition = condition; clause = s.number } in subst (λ qs. Fits (literals_in old.lists) new.needs qs) (sym s.queue) (fits_add (literals_in old.lists) q old.needs new.needs old.queue b.needs s.needs))
 
 -- where a disjunction came
 pub built_disjunction : {N S : Type 0} (number : ℕ) (given : Disjunction) (old : Encoding N S) (ls : FixedLists N) → IsBuilt old → FixesDisjunction number given old.lists ls → IsBuilt (record old { lists = ls })
@@ -64,6 +71,7 @@ built_disjunction number given old ls b f = record {
   candidates = λ r c a. b.candidates r c (subst (λ x. Contains (items_or_none x) c) (ap (λ cs. slot_of cs r) f.candidates) a);
   gates = b.gates;
   within = b.within;
+  needs = fits_more (literals_in old.lists) (literals_in ls) old.needs old.queue (λ r es met. subst (λ cs. is_met es (candidate_literals (items_or_none (slot_of cs r))) ≡ true) (sym f.candidates) met) b.needs;
 }
 
 -- where a gate was noted
@@ -78,6 +86,7 @@ built_gate {N} {S} old new r v b stands puts is = subst (λ (x : Encoding N S). 
     | inr stays ↦ b.gates q u (sym stays ∙ at)
   ];
   within = b.within;
+  needs = b.needs;
 })
 
 -- where parents came
@@ -88,18 +97,19 @@ built_parents {N} {S} old new b added = subst (λ (x : Encoding N S). IsBuilt x)
   candidates = b.candidates;
   gates = b.gates;
   within = (let a : length old.parents.keys ≤ length new.parents.keys = front_long old.parents.keys new.parents.keys added.front in let c : old.encoded ≤ length old.parents.keys = b.within in omega arith);
+  needs = b.needs;
 })
 
 -- where the needs of the next parent were encoded
 pub built_next : {N S : Type 0} (e : Encoding N S) → IsBuilt e → e.encoded < length e.parents.keys → IsBuilt (record e { encoded = e.encoded + 1 })
-built_next e b below = record { coding = b.coding; tied = b.tied; candidates = b.candidates; gates = b.gates; within = omega arith }
+built_next e b below = record { coding = b.coding; tied = b.tied; candidates = b.candidates; gates = b.gates; within = omega arith; needs = b.needs }
 
 -- where cases came that wait, or one fired
 pub built_defers : {N S : Type 0} (old new : Encoding N S) → IsBuilt old → Defers old new → IsBuilt new
-built_defers {N} {S} old new b d = subst (λ (x : Encoding N S). IsBuilt x) (sym d.rest) (record { coding = b.coding; tied = b.tied; candidates = b.candidates; gates = b.gates; within = b.within })
+built_defers {N} {S} old new b d = subst (λ (x : Encoding N S). IsBuilt x) (sym d.rest) (record { coding = b.coding; tied = b.tied; candidates = b.candidates; gates = b.gates; within = b.within; needs = b.needs })
 
 pub built_fires : {N S : Type 0} (index : ℕ) (old new : Encoding N S) → IsBuilt old → Fires index old new → IsBuilt new
-built_fires {N} {S} index old new b f = subst (λ (x : Encoding N S). IsBuilt x) (sym f.rest) (record { coding = b.coding; tied = b.tied; candidates = b.candidates; gates = b.gates; within = b.within })
+built_fires {N} {S} index old new b f = subst (λ (x : Encoding N S). IsBuilt x) (sym f.rest) (record { coding = b.coding; tied = b.tied; candidates = b.candidates; gates = b.gates; within = b.within; needs = b.needs })
 
 -- at first
 pub built_begun : {N S : Type 0} (e : Encoding N S) → IsBegunEncoding e → IsBuilt e
@@ -109,16 +119,21 @@ built_begun {N} {S} e begun = record {
   candidates = λ r c a. absurd (contains_none c (subst (λ x. Contains (items_or_none x) c) (begun.lists.candidates r) a));
   gates = λ r v at. (let none : None ≡ Some v = sym (begun.gates r) ∙ at in absurd cc);
   within = (let none : e.encoded ≡ 0 = begun.encoded in omega arith);
+  needs = subst (λ qs. Fits (literals_in e.lists) e.needs qs) (sym begun.queue) (fits_none (literals_in e.lists) e.needs begun.needs);
 }
+
+-- where what is known of the need clauses is noted
+pub built_needs : {N S : Type 0} (e : Encoding N S) (n : OpenNeeds) → IsBuilt e → Fits (literals_in e.lists) n e.queue → IsBuilt (record e { needs = n })
+built_needs e n b fits = record { coding = b.coding; tied = b.tied; candidates = b.candidates; gates = b.gates; within = b.within; needs = fits }
 
 -- ---- what calls ask for
 
 -- the literals of a need's clause have variables
 pub built_in_range : {N S : Type 0} (e : Encoding N S) (v : VariableId) (condition : Option (DenseId DisjunctionTag ℕ)) (r : Requirement) → IsBuilt e → v.0 < count_of e.coding.search → AreInRange (count_of e.coding.search) (condition_in e.lists condition)
-    → AreInRange (count_of e.coding.search) (no v ∷ (condition_in e.lists condition ++ literals_in (candidates_in e.lists r)))
-built_in_range e v condition r b below conditioned l h = elim (has-cons (no v) (condition_in e.lists condition ++ literals_in (candidates_in e.lists r)) l h) [
+    → AreInRange (count_of e.coding.search) (no v ∷ (condition_in e.lists condition ++ candidate_literals (candidates_in e.lists r)))
+built_in_range e v condition r b below conditioned l h = elim (has-cons (no v) (condition_in e.lists condition ++ candidate_literals (candidates_in e.lists r)) l h) [
   | inl is ↦ subst (λ (y : Signed). y.variable.0 < count_of e.coding.search) is below
-  | inr a ↦ elim (has-append (condition_in e.lists condition) (literals_in (candidates_in e.lists r)) l a) [
+  | inr a ↦ elim (has-append (condition_in e.lists condition) (candidate_literals (candidates_in e.lists r)) l a) [
     | inl c ↦ conditioned l c
     | inr c ↦
         let (x, there, one) = literal_in (candidates_in e.lists r) l c in

@@ -1,5 +1,5 @@
 -- What is offered is registered, and becomes candidates.
-use Rattle.std.proofs.Common.{◌≡◌, ℕ, ◌<◌, ◌≤◌, ◌⊎◌, inl, inr, Bool, true, false, List, [], ◌∷◌, length, Some, refl, sym, ◌∙◌, ap, subst, arith, Vec, Global, is_some}
+use Rattle.std.proofs.Common.{◌≡◌, ℕ, ◌<◌, ◌≤◌, ◌⊎◌, inl, inr, Bool, true, false, List, [], ◌∷◌, length, Some, refl, sym, ◌∙◌, ap, subst, arith, Vec, Global, is_some, Option, None}
 use Rattle.std.specs.Prelude.{Contains}
 use Rattle.std.proofs.lemmas.Bool.{both_ways}
 use Rattle.resolvo_pool.specs.declared.requirement.Requirement.{Requirement}
@@ -11,6 +11,10 @@ use Rattle.resolvo_store.specs.Lists.{has_candidates, candidates_in, items_or_no
 use Rattle.resolvo_store.specs.declared.lists.Candidate.{Candidate}
 use Rattle.resolvo_store.specs.declared.lists.Disjunction.{Disjunction}
 use Rattle.resolvo_store.specs.declared.lists.FixedLists.{FixedLists}
+use Rattle.resolvo_needs.specs.Needs.{literals_in, is_met}
+use Rattle.resolvo_needs.proofs.Fitting.{fits_more}
+use Rattle.resolvo_store.specs.declared.decision.Entry.{Entry}
+use Rattle.resolvo_store.specs.Clauses.{candidate_literals}
 use Rattle.resolvo_rules.specs.Encoding.{IsExact, Rule}
 use Rattle.resolvo_answers.specs.declared.answering.Offered.{Offered}
 use Rattle.resolvo_answers.specs.Answering.{offered_solvables, AreOffered}
@@ -31,6 +35,10 @@ use Rattle.resolvo_encoding.specs.Steps.{IsBuilt, Extends, IsOfferedAs, Register
 use Rattle.resolvo_encoding.specs.declared.encoding.Encoding.{Encoding}
 use Rattle.resolvo_encoding.proofs.Picking.{candidates_grow}
 use Rattle.resolvo_encoding.proofs.Requiring.{Came, Carries, carried, candidate_grows, noted_grows, cases_keep, fix_at, fix_other, some_one, offer_named, offer_meets, meets_offer, meets_listed, registered_split, queued_keeps, gates_keep, NoneAsks, fixed_keeps, asked_keeps, within_keeps, encoded_keeps, cased_keeps, bar_keeps, digit_came, extends_then, extends_same}
+
+no_slot : {X : Type 0} (o : Option X) → is_some o ≡ false → o ≡ None
+no_slot None h = refl
+no_slot (Some x) h = cc
 
 -- the registry and the coding went on
 abbrev pub enrolled : {N S : Type 0} → Encoding N S → Registry N → Coding N S → Encoding N S
@@ -204,6 +212,7 @@ module _ {N S : Type 0} (same : S → S → Bool) where
     candidates = λ r x a. (let (positive, (s, stands)) = b.candidates r x a in (positive, (s, stands_grow old.coding c x.literal.variable (Solvable s) all.grows stands)));
     gates = λ r v at. stands_grow old.coding c v (Gate r) all.grows (b.gates r v at);
     within = b.within;
+    needs = b.needs;
   }
 
   -- what is offered is admitted, and then registered
@@ -257,9 +266,16 @@ module _ {N S : Type 0} (same : S → S → Bool) where
       candidates = candidates_new middle given enrols.built fixes enrols.all;
       gates = enrols.built.gates;
       within = enrols.built.within;
+      needs = fits_more (literals_in middle.lists) (literals_in new.lists) middle.needs middle.queue (still_met middle given fixes (ap (λ ls. has_candidates ls r) enrols.lists ∙ fresh)) enrols.built.needs;
     })
   ]
     where
+      still_met : (middle : Encoding N S) (given : Vec (Candidate N) Global) → FixesCandidates r given middle.lists new.lists → has_candidates middle.lists r ≡ false → (q : Requirement) (es : List Entry) → is_met es (literals_in middle.lists q) ≡ true → is_met es (literals_in new.lists q) ≡ true
+      still_met middle given fixes fresh q es met = elim (fix_other r q given middle.lists new.lists fixes) [
+        | inl is ↦ absurd (both_ways (is_met es (candidate_literals (items_or_none (slot_of middle.lists.candidates q)))) (ap (λ x. is_met es (candidate_literals (items_or_none x))) (ap (slot_of middle.lists.candidates) is ∙ no_slot (slot_of middle.lists.candidates r) fresh)) met)
+        | inr is ↦ subst (λ x. is_met es (candidate_literals (items_or_none x)) ≡ true) (sym is) met
+      ]
+
       candidates_new : (middle : Encoding N S) (given : Vec (Candidate N) Global) → IsBuilt middle → FixesCandidates r given middle.lists new.lists → ((c : Candidate N) → Contains given.items c → (o : Offered N S) × Contains offered o × IsOfferedAs middle.registry middle.coding o c)
           → (q : Requirement) (c : Candidate N) → Contains (candidates_in new.lists q) c → (c.literal.positive ≡ true) × ((s : S) × StandsFor middle.coding.atoms.keys c.literal.variable (Solvable s))
       candidates_new middle given built fixes all q c a = elim (fix_other r q given middle.lists new.lists fixes) [

@@ -24,6 +24,7 @@ use Rattle.resolvo_search.specs.Steps.{Chooses, Undoes}
 use Rattle.resolvo_search.proofs.Clauses.{length-lists}
 use Rattle.resolvo_search.proofs.Improving.{extends_heavier, extends_earlier, choice_heavier, choice_earlier, undo_earlier, weight_falls}
 use Rattle.resolvo_search.proofs.StepLemmas.{lists-append, clause_at_end}
+use Rattle.resolvo_needs.specs.declared.open_needs.OpenNeeds.{OpenNeeds}
 use Rattle.resolvo_rules.specs.Encoding.{IsExact, Atom, Rule, plus}
 use Rattle.resolvo_rules.specs.Ending.{HasClause}
 use Rattle.resolvo_rules.specs.Numbered.{meaning, Means, known_of, AreCalledFor}
@@ -38,7 +39,7 @@ use Rattle.resolvo_coding.specs.Coding.{IsCoding, Advances, KeepsCode, learnt_by
 use Rattle.resolvo_coding.specs.Registered.{AreTied, IsTracked, IsRegistered}
 use Rattle.resolvo_coding.specs.Spelled.{AreRegistered}
 use Rattle.resolvo_coding.specs.Statements.{stated_at, rule_at}
-use Rattle.resolvo_coding.proofs.Growth.{grows_same, grows_then, stated_grows, stated_split, rule_split, rules_split, spelled_grows, registered_grows, called_grows_trail, called_advances, called_undoes, called_chooses}
+use Rattle.resolvo_coding.proofs.Growth.{grows_same, grows_then, trail_same, stated_grows, stated_split, rule_split, rules_split, spelled_grows, registered_grows, called_grows_trail, called_advances, called_undoes, called_chooses}
 use Rattle.resolvo_coding.proofs.Positions.{front_equal, get_last}
 use Rattle.resolvo_coding.proofs.Registering.{KeepsDigits, ties_grow}
 use Rattle.resolvo_coding.proofs.Rules.{rule_stated}
@@ -264,6 +265,34 @@ module _ {N S : Type 0} (old : Encoding N S) (c : Coding N S) where
         stays same exact p root lawful old went e goes
         (positive_on same exact p root lawful old went e goes (λ n l low high stands. (let long : length c.search.clauses ≡ length old.coding.search.clauses = ap (λ (cs : List HeldClause). length cs) kept.clauses in absurd (omega arith))))
         (called_undoes (IsChosenFor same p old) (IsChosenFor same p went) (chosen_grows old went goes.grows (λ r h. refl) refl same p) old.coding c level undoes kept e.called)
+
+-- ---- what is known of the need clauses is noted, and nothing else
+
+module _ {N S : Type 0} (e : Encoding N S) (needs : OpenNeeds) where
+  pub needs_go : IsCoding e.coding → GoesOn e (record e { needs = needs })
+  needs_go coding = record {
+    rest = record { registry = refl; lists = refl; queue = refl; gates = refl; noted = refl; parents = refl; encoded = refl; deferred = refl; fired = refl };
+    coding = coding;
+    atoms = refl;
+    variables = refl;
+    grows = grows_same e.coding;
+    earlier = λ base low ends. ends;
+    learnt = λ n low high. absurd (omega arith);
+  }
+
+  pub needs_keep : (same : S → S → Bool) → IsExact same → (p : Packages N S) (root : Rules) → IsLawful p → IsEncoding same p root e → IsEncoding same p root (record e { needs = needs })
+  needs_keep same exact p root lawful h =
+      let noted : Encoding N S = record e { needs = needs } in
+      let goes = needs_go h.coding in
+      stays same exact p root lawful e noted h goes (positive_on same exact p root lawful e noted h goes (λ n l low high stands. absurd (omega arith)))
+      (called_grows_trail (IsChosenFor same p e) (IsChosenFor same p noted) (chosen_grows e noted goes.grows (λ r k. refl) refl same p) e.coding e.coding h.coding goes.grows (trail_same e.coding) h.called)
+
+module _ {N S : Type 0} (old new : Encoding N S) (is : new ≡ record old { needs = new.needs }) where
+  pub noted_goes : IsCoding old.coding → GoesOn old new
+  noted_goes coding = subst (λ (x : Encoding N S). GoesOn old x) (sym is) (needs_go old new.needs coding)
+
+  pub noted_keeps : (same : S → S → Bool) → IsExact same → (p : Packages N S) (root : Rules) → IsLawful p → IsEncoding same p root old → IsEncoding same p root new
+  noted_keeps same exact p root lawful h = subst (λ (x : Encoding N S). IsEncoding same p root x) (sym is) (needs_keep old new.needs same exact p root lawful h)
 
 -- ---- the trail gains weight
 

@@ -1,18 +1,15 @@
 -- Rules become clauses that keep solvables out, one after another.
-use Rattle.std.proofs.Common.{◌≡◌, ◌<◌, ◌⊎◌, inl, inr, Bool, true, not, ◌&&◌, ◌||◌, List, [], ◌∷◌, ◌++◌, map, length, Option, Some, None, refl, sym, ◌∙◌, ap, subst, arith, ℕ}
+use Rattle.std.proofs.Common.{◌≡◌, ◌<◌, ◌⊎◌, inl, inr, Bool, true, List, [], ◌∷◌, ◌++◌, map, length, Option, Some, None, refl, sym, ◌∙◌, ap, subst, arith, ℕ}
 use Rattle.resolvo_search.specs.State.{history}
 use Rattle.resolvo_rules.specs.Ending.{IsWished}
 use Rattle.resolvo_rules.specs.First.{IsFirstPick}
 use Rattle.std.specs.Prelude.{Contains}
-use Rattle.std.specs.List.{list_any}
 use Rattle.std.proofs.lemmas.List.{map-append}
-use Rattle.std.proofs.lemmas.Bool.{or_left, or_right, and_from}
-use Rattle.resolvo_pool.specs.declared.id.StringId.{StringId}
 use Rattle.resolvo_pool.specs.declared.id.VariableId.{VariableId}
 use Rattle.resolvo_pool.specs.declared.id.VersionSetId.{VersionSetId}
 use Rattle.resolvo_pool.specs.Provider.{listing_or_empty}
 use Rattle.resolvo_pool.specs.Text.{solvable_of}
-use Rattle.resolvo_pool.specs.RuleKeeping.{Packages, Rules, rules_for, is_in, is_outside, listing_for}
+use Rattle.resolvo_pool.specs.RuleKeeping.{Packages, Rules, rules_for, is_outside, listing_for}
 use Rattle.resolvo_store.specs.Signed.{Signed}
 use Rattle.resolvo_store.specs.Clauses.{yes, no}
 use Rattle.resolvo_search.specs.Steps.{AreInRange}
@@ -25,7 +22,7 @@ use Rattle.resolvo_answers.specs.Barring.{KeepsOut, barred_solvables, AreBarred}
 use Rattle.resolvo_rules.specs.Encoding as rules
 use Rattle.resolvo_rules.specs.Encoding.{IsExact, Atom, Rule, Bar, plus, minus, IsRule, IsBarredIn, HasBar, literals_of, parent_literals}
 use Rattle.resolvo_rules.specs.Numbered.{Spells, AreCalledFor}
-use Rattle.resolvo_rules.proofs.Lists.{contains_none, contains_only, contains_left, contains_right, contains_parts, contains_one, contains_map, map_contains, contained_any}
+use Rattle.resolvo_rules.proofs.Lists.{contains_none, contains_only, contains_left, contains_right, contains_parts, contains_one, contains_map, map_contains}
 use Rattle.resolvo_rules.proofs.Members.{in_contained, contained_in}
 use Rattle.resolvo_coding.specs.declared.atom.ProofAtom.{ProofAtom}
 use Rattle.resolvo_coding.specs.declared.atom.ProofAtom.TheVariants.{Solvable, AtLeastOne, Outside}
@@ -105,7 +102,7 @@ module _ {N S : Type 0} (same : S → S → Bool) (exact : IsExact same) where
   -- a variable came, or nothing
   pub gives_tells : (atom : ProofAtom N S) (v : VariableId) (old : Encoding N S) (c : Coding N S) → IsBuilt old → Gives atom v old.coding c → Tells same [] old (record old { coding = c })
   gives_tells atom v old c built gives = record {
-    built = built_grows old (record old { coding = c }) built gives.coding gives.grows refl refl refl refl refl (digits_same old.coding c gives.stated);
+    built = built_grows old (record old { coding = c }) built gives.coding gives.grows refl refl refl refl refl (digits_same old.coding c gives.stated) built.needs;
     extends = record { grows = gives.grows; trail = gives.trail; wishes = refl; parents = refl; encoded = refl; deferred = refl; fired = refl };
     lists = refl;
     registry = refl;
@@ -120,7 +117,7 @@ module _ {N S : Type 0} (same : S → S → Bool) (exact : IsExact same) where
   pub pair_tells : (x : Stated N S) (rule : Rule N S) (a b : Signed) (old new : Encoding N S) → IsBuilt old → rule_of x ≡ Some rule → IsRestraint rule
       → ((p : Packages N S) (literals : List Signed) → IsPair a b literals → Spells (origin old.coding.atoms.keys) literals (literals_of same p rule)) → StatesPair x a b old new → Tells same (rule ∷ []) old new
   pair_tells x rule a b old new built is denial spells came = record {
-    built = built_rest old new built came.states.coding came.states.grows (digits_more x old.coding new.coding came.states.stated (not_digit x rule is denial)) came.rest;
+    built = built_rest old new built came.states.coding came.states.grows (digits_more x old.coding new.coding came.states.stated (not_digit x rule is denial)) came.rest came.needs;
     extends = record { grows = came.states.grows; trail = came.states.trail; wishes = ap (λ (x : Noted N S). x.wishes.items) came.rest.noted; parents = came.rest.parents; encoded = came.rest.encoded; deferred = came.rest.deferred; fired = came.rest.fired };
     lists = came.rest.lists;
     registry = came.rest.registry;
@@ -269,4 +266,4 @@ module _ {N S : Type 0} (same : S → S → Bool) (exact : IsExact same) where
         (λ t h. elim (only t h) [ inl b ↦ e.cases.there t b | inr is ↦ subst (λ y. E.rules_of old (Rule.is_there (p.package_of y) y)) (sym is) stands ]) refl)
 
 pub built_noted : {N S : Type 0} (e : Encoding N S) (x : Noted N S) → IsBuilt e → IsBuilt (record e { noted = x })
-built_noted e x b = record { coding = b.coding; tied = b.tied; candidates = b.candidates; gates = b.gates; within = b.within }
+built_noted e x b = record { coding = b.coding; tied = b.tied; candidates = b.candidates; gates = b.gates; within = b.within; needs = b.needs }

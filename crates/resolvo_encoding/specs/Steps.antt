@@ -19,6 +19,7 @@ use Rattle.resolvo_pool.specs.Provider.{listed}
 use Rattle.resolvo_pool.specs.RuleKeeping.{Packages, Rules, IsLawful, is_in, rules_for}
 use Rattle.resolvo_pool.specs.declared.id.VersionSetId.{VersionSetId}
 use Rattle.resolvo_pool.specs.declared.requirement.ConditionalRequirement.{ConditionalRequirement}
+use Rattle.resolvo_needs.specs.Needs.{literals_in, Fits, AddsNeed}
 use Rattle.resolvo_rules.specs.Encoding.{Rule, cases_for, IsRule}
 use Rattle.resolvo_coding.specs.declared.atom.ProofAtom.{ProofAtom}
 use Rattle.resolvo_coding.specs.declared.atom.ProofAtom.TheVariants.{Solvable, Gate}
@@ -36,13 +37,14 @@ use Rattle.resolvo_coding.specs.Registered.{AreTied, IsTracked, IsDigitClause, I
 use Rattle.resolvo_encoding.specs.declared.encoding.Encoding.{Encoding}
 
 -- What the calls rest on, whatever the packages are: the search is ready, registered solvables are tied, candidates are
--- solvables that are to be chosen, and each gate is its requirement's.
+-- solvables that are to be chosen, each gate is its requirement's, and what is known of the need clauses is so.
 pub record IsBuilt {N S : Type 0} (e : Encoding N S) : Type 0 where
   pub coding : IsCoding e.coding
   pub tied : AreTied e.registry e.coding
   pub candidates : (r : Requirement) (c : Candidate N) → Contains (candidates_in e.lists r) c → (c.literal.positive ≡ true) × ((s : S) × StandsFor e.coding.atoms.keys c.literal.variable (Solvable s))
   pub gates : (r : Requirement) (v : VariableId) → slot_of e.gates r ≡ Some v → StandsFor e.coding.atoms.keys v (Gate r)
   pub within : e.encoded ≤ length e.parents.keys
+  pub needs : Fits (literals_in e.lists) e.needs e.queue
 
 -- clauses and what they state came, and the trail, the wishes and the parents stay, and so do the cases that wait
 pub record Extends {N S : Type 0} (old new : Encoding N S) : Type 0 where
@@ -114,6 +116,7 @@ pub record StatesNeed {N S : Type 0} (stated : Stated N S) (v : VariableId) (con
   pub number : ClauseId
   pub states : States stated (no v ∷ (condition_in old.lists condition ++ candidate_literals (candidates_in old.lists r))) number old.coding new.coding
   pub queue : new.queue ≡ old.queue ++ (let q : NeedClause = record { parent = v; requirement = r; condition = condition; clause = number } in q) ∷ []
+  pub needs : AddsNeed v old.needs new.needs
   pub registry : new.registry ≡ old.registry
   pub lists : new.lists ≡ old.lists
   pub gates : new.gates ≡ old.gates
@@ -139,7 +142,7 @@ IsNeed same p root lists atoms (Says.Digit n s place bit) v condition r = ⊥
 IsNeed same p root lists atoms (Says.IsThere n s) v condition r = ⊥
 IsNeed same p root lists atoms Says.Learnt v condition r = ⊥
 
--- only the clauses, variables and what these mean changed
+-- the clauses, variables and what these mean changed, and what is known of the need clauses, and nothing else
 pub record SameButCoding {N S : Type 0} (old new : Encoding N S) : Type 0 where
   pub registry : new.registry ≡ old.registry
   pub lists : new.lists ≡ old.lists
@@ -167,6 +170,7 @@ pub record Opens {N S : Type 0} (s : S) (v gate : VariableId) (r : Requirement) 
   pub number : ClauseId
   pub states : States (Says.Gated s r) (no v ∷ yes gate ∷ []) number old.coding new.coding
   pub rest : SameButCoding old new
+  pub needs : new.needs ≡ old.needs
 
 -- the root alone is there, and its needs are to be encoded
 pub record IsBegunEncoding {N S : Type 0} (e : Encoding N S) : Type 0 where
@@ -174,6 +178,7 @@ pub record IsBegunEncoding {N S : Type 0} (e : Encoding N S) : Type 0 where
   pub registry : IsNothing e.registry
   pub lists : IsEmpty e.lists
   pub queue : e.queue ≡ []
+  pub needs : e.needs.states.items ≡ []
   pub gates : (r : Requirement) → slot_of e.gates r ≡ None
   pub packages : e.noted.packages.keys ≡ []
   pub version_sets : e.noted.version_sets.keys ≡ []

@@ -38,6 +38,7 @@ pub record StatesPair {N S : Type 0} (x : Stated N S) (a b : Signed) (old new : 
   pub pair : IsPair a b literals
   pub states : States x literals number old.coding new.coding
   pub rest : SameButCoding old new
+  pub needs : new.needs ≡ old.needs
 
 -- Clauses came that state these rules, if they are rules of the problem.
 pub record Tells {N S : Type 0} (same : S → S → Bool) (rules : List (Rule N S)) (old new : Encoding N S) : Type 0 where

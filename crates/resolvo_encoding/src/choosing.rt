@@ -1,7 +1,6 @@
 //! The search goes on over what was encoded: it sets what follows, learns and chooses.
-ghost use Rattle.std.specs.Prelude.{◌-◌, max, IfOk, OnOk};
+ghost use Rattle.std.specs.Prelude.{◌≡◌, ◌-◌, max, IfOk, OnOk};
 ghost use Rattle.resolvo_pool.specs.RuleKeeping.{Packages, Rules, IsLawful};
-ghost use Rattle.resolvo_coding.specs.Coding.{IsCoding};
 ghost use Rattle.resolvo_search.specs.Steps.{Undoes};
 ghost use Rattle.resolvo_encoding.specs.Encoded.{IsEncoding};
 ghost use Rattle.resolvo_encoding.specs.Steps.{IsBuilt};
@@ -31,13 +30,18 @@ pub enum Step {
 }
 
 impl<N: SolverId + Drop, S: SolverId> Encoding<N, S> {
-    /// The candidate that is to be chosen next, if one is.
-    pub fn next_decision(&self, scores: &N::Scores) -> Option<NextDecision>
-        requires { IsCoding self.now.coding }
-        ensures { IsNext (N.Scores.score_of scores.now) self.now result }
+    /// The candidate that is to be chosen next, if one is. What is found of need clauses is noted.
+    pub fn next_decision(&mut self, scores: &N::Scores) -> R<Option<NextDecision>>
+        requires { IsBuilt self.old }
+        ensures next { IfOk result (IsNext (N.Scores.score_of scores.now) self.new) }
+        ensures built { OnOk result (IsBuilt self.new) }
+        ensures rest { OnOk result (self.new ≡ record self.old { needs = self.new.needs }) }
     {
-        self.queue
-            .next_decision(&self.lists, self.coding.search.tracker.map(), scores)
+        let trail = &self.coding.search.tracker;
+        let next = self
+            .needs
+            .next_decision(&self.queue, &self.lists, trail, scores)?;
+        Ok(next)
     }
 
     /// Chooses the next candidate, or tells that none is left to choose.
@@ -49,7 +53,7 @@ impl<N: SolverId + Drop, S: SolverId> Encoding<N, S> {
         ensures first { OnOk result (KeepsFirst self.old self.new) }
         ensures chosen { IfOk result (IsChoice self.old self.new) }
     {
-        match self.next_decision(scores) {
+        match self.next_decision(scores)? {
             None => Ok(false),
             Some(next) => {
                 self.coding.choose(next.candidate, next.clause_id)?;

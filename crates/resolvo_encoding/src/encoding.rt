@@ -27,6 +27,7 @@ use resolvo_coding::atom::ProofAtom;
 use resolvo_coding::coding::Coding;
 use resolvo_coding::registry::Registry;
 use resolvo_coding::stated::Stated;
+use resolvo_needs::open_needs::OpenNeeds;
 use resolvo_pool::id::{DisjunctionId, VariableId, VersionSetId};
 use resolvo_pool::requirement::{ConditionalRequirement, Requirement, RequirementMap};
 use resolvo_pool::solver_id::{SolvableIdOrRoot, SolverId};
@@ -72,6 +73,8 @@ pub struct Encoding<N: Eq + Hash, S: Eq + Hash> {
     pub registry: Registry<N>,
     pub lists: FixedLists<N>,
     pub queue: DecideQueue,
+    /// What is known of the queue's clauses, which spares the next decision to look at each.
+    pub needs: OpenNeeds,
     /// The gate of each requirement that has one.
     pub gates: RequirementMap<VariableId>,
     /// What was stated of packages, version sets and solvables as a whole.
@@ -105,6 +108,7 @@ fn begun<N: SolverId, S: SolverId>(
         registry: Registry::new(alloc),
         lists,
         queue: DecideQueue::new(alloc),
+        needs: OpenNeeds::new(alloc),
         gates,
         noted: Noted {
             packages: IndexSet::new(alloc),
@@ -248,7 +252,9 @@ impl<N: SolverId + Drop, S: SolverId> Encoding<N, S> {
             requirement,
             condition,
             clause,
-        })
+        })?;
+        self.needs.add(alloc, variable)?;
+        Ok(())
     }
 
     /// The variable of the gate of a requirement that some solvable asks for, with its clause.

@@ -73,6 +73,13 @@ impl DecideQueue {
         }
     }
 
+    /// The registered clauses, by position.
+    pub fn registered(&self) -> &[NeedClause]
+        ensures { result.now ≡ self.now }
+    {
+        self.registered.as_slice()
+    }
+
     /// Registers a clause behind the others.
     pub fn register_clause(&mut self, need: NeedClause) -> R<()>
         ensures put { OnOk result (self.new ≡ self.old ++ need ∷ []) }
@@ -155,7 +162,7 @@ impl DecideQueue {
 
 /// The later decision where it beats the one so far, which it does with a higher score and fewer
 /// candidates, unless it would take the place of a root's.
-fn or_later(best: Option<NextDecision>, next: Option<NextDecision>) -> Option<NextDecision>
+pub fn or_later(best: Option<NextDecision>, next: Option<NextDecision>) -> Option<NextDecision>
     ensures { result ≡ later best next }
 {
     match (best, next) {
@@ -180,7 +187,7 @@ fn does_beat(next: NextDecision, best: NextDecision) -> bool
 }
 
 /// What a clause has to decide, if it is eligible.
-fn offered<N: SolverId>(
+pub fn offered<N: SolverId>(
     need: &NeedClause,
     lists: &FixedLists<N>,
     values: &DecisionMap,
@@ -251,7 +258,8 @@ fn all_false<N: Copy>(candidates: &[Candidate<N>], values: &DecisionMap) -> bool
         .all(|candidate| candidate.literal.is_false(values))
 }
 
-fn has_true<N: Copy>(candidates: &[Candidate<N>], values: &DecisionMap) -> bool
+/// Whether a candidate is true.
+pub fn has_true<N: Copy>(candidates: &[Candidate<N>], values: &DecisionMap) -> bool
     ensures { result ≡ list_any (λ c. is_true (value_under (value_at values.now) c.literal)) candidates.now }
 {
     candidates

@@ -5,6 +5,7 @@ mod clauses;
 mod draws;
 mod generated;
 mod generator;
+mod known;
 mod names;
 mod picking;
 mod refused;

@@ -30,7 +30,7 @@ fn fix(
 }
 
 /// Two needs of the root, and between them one of variable 6; their packages are 0, 1 and 2.
-fn three_needs(alloc: Global) -> R<(FixedLists<NameId>, DecideQueue)> {
+pub(crate) fn three_needs(alloc: Global) -> R<(FixedLists<NameId>, DecideQueue)> {
     let mut lists = FixedLists::new(alloc)?;
     fix(&mut lists, alloc, 0, 0, &[1, 2, 3])?;
     fix(&mut lists, alloc, 1, 1, &[4, 5])?;
@@ -60,7 +60,7 @@ fn next(
     }
 }
 
-fn no_scores(alloc: Global) -> Vec<u64> {
+pub(crate) fn no_scores(alloc: Global) -> Vec<u64> {
     <Vec<u64> as ScoreMap<NameId>>::new(alloc)
 }
 

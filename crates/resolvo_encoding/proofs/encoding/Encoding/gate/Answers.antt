@@ -17,7 +17,7 @@ pub state_need-requires-clause-in_range : goal.state_need-requires-clause-in_ran
 state_need-requires-clause-in_range g c =
     let middle : Encoding _ _ = record c.args.self.now { coding = c.variable.new.self } in
     let gives = c.in_ok-gate.ensures.given in
-    built_in_range middle c.in_ok-gate.gate None c.args.requirement (built_grows c.args.self.now middle c.requires gives.coding gives.grows refl refl refl refl refl (digits_same c.args.self.now.coding c.variable.new.self gives.stated))
+    built_in_range middle c.in_ok-gate.gate None c.args.requirement (built_grows c.args.self.now middle c.requires gives.coding gives.grows refl refl refl refl refl (digits_same c.args.self.now.coding c.variable.new.self gives.stated) c.requires.needs)
     (stands_in_range c.variable.new.self c.in_ok-gate.gate (Gate c.args.requirement) gives.coding gives.stands) (none_in_range (count_of c.variable.new.self.search))
 
 pub returns-clause-encoded : goal.returns-clause-encoded
@@ -41,6 +41,6 @@ returns-clause-built g c =
     let middle : Encoding _ _ = record c.args.self.now { coding = c.variable.new.self } in
     let gives = c.in_ok-gate.ensures.given in
     let came = c.in_ok-state_need.ensures.stated in
-    let stated = built_states (Says.Shared c.args.requirement) c.in_ok-gate.gate None c.args.requirement middle c.state_need.new.self (built_grows c.args.self.now middle c.requires gives.coding gives.grows refl refl refl refl refl (digits_same c.args.self.now.coding c.variable.new.self gives.stated)) (λ name s place bit h. absurd cc) came in
+    let stated = built_states (Says.Shared c.args.requirement) c.in_ok-gate.gate None c.args.requirement middle c.state_need.new.self (built_grows c.args.self.now middle c.requires gives.coding gives.grows refl refl refl refl refl (digits_same c.args.self.now.coding c.variable.new.self gives.stated) c.requires.needs) (λ name s place bit h. absurd cc) came in
     let stands = stands_grow c.variable.new.self c.state_need.new.self.coding c.in_ok-gate.gate (Gate c.args.requirement) came.states.grows gives.stands in
     built_gate c.state_need.new.self (record c.state_need.new.self { gates = c.insert.new.self }) c.args.requirement c.in_ok-gate.gate stated stands c.in_ok-insert.ensures.put refl

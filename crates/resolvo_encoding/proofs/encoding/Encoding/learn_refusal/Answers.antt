@@ -16,7 +16,7 @@ returns-clause-goes_on g c = bar_goes c.args.self.now c.bar.new.self _ _ c.in_ok
 pub returns-clause-built : goal.returns-clause-built
 returns-clause-built g c =
     let goes = bar_goes c.args.self.now c.bar.new.self _ _ c.in_ok-clause.clause c.requires.built.coding c.in_ok-clause.ensures.barred in
-    built_rest c.args.self.now (record c.args.self.now { coding = c.bar.new.self }) c.requires.built goes.coding goes.grows (digits_kept c.args.self.now (record c.args.self.now { coding = c.bar.new.self }) c.requires.built.coding goes) goes.rest
+    built_rest c.args.self.now (record c.args.self.now { coding = c.bar.new.self }) c.requires.built goes.coding goes.grows (digits_kept c.args.self.now (record c.args.self.now { coding = c.bar.new.self }) c.requires.built.coding goes) goes.rest refl
 
 pub returns-clause-turn : goal.returns-clause-turn
 returns-clause-turn g c = same_turns c.args.self.now (record c.args.self.now { coding = c.bar.new.self }) c.in_ok-clause.ensures.barred.grows c.in_ok-clause.ensures.barred.trail refl

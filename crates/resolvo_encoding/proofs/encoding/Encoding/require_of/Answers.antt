@@ -16,7 +16,7 @@ pub need_directly-requires-clause-built : goal.need_directly-requires-clause-bui
 need_directly-requires-clause-built g c =
     let middle : Encoding _ _ = record c.args.self.now { coding = c.variable.new.self } in
     let gives = c.in_ok-variable.ensures.given in
-    built_grows c.args.self.now middle c.requires gives.coding gives.grows refl refl refl refl refl (digits_same c.args.self.now.coding c.variable.new.self gives.stated)
+    built_grows c.args.self.now middle c.requires gives.coding gives.grows refl refl refl refl refl (digits_same c.args.self.now.coding c.variable.new.self gives.stated) c.requires.needs
 
 pub need_directly-requires-clause-in_range : goal.need_directly-requires-clause-in_range
 need_directly-requires-clause-in_range g c = stands_in_range c.variable.new.self c.in_ok-variable.variable (Solvable c.args.solvable) c.in_ok-variable.ensures.given.coding c.in_ok-variable.ensures.given.stands
@@ -42,7 +42,7 @@ pub gate-requires : goal.gate-requires
 gate-requires g c =
     let middle : Encoding _ _ = record c.args.self.now { coding = c.variable.new.self } in
     let gives = c.in_ok-variable.ensures.given in
-    built_grows c.args.self.now middle c.requires gives.coding gives.grows refl refl refl refl refl (digits_same c.args.self.now.coding c.variable.new.self gives.stated)
+    built_grows c.args.self.now middle c.requires gives.coding gives.grows refl refl refl refl refl (digits_same c.args.self.now.coding c.variable.new.self gives.stated) c.requires.needs
 
 pub open_gate-requires-clause-coding : goal.open_gate-requires-clause-coding
 open_gate-requires-clause-coding g c = c.in_ok-gate.ensures.built.coding
@@ -79,7 +79,7 @@ pub returns-clause-built : goal.returns-clause-built
 returns-clause-built g c =
     let opened = c.in_ok-open_gate.ensures.opened in
     built_rest c.gate.new.self c.open_gate.new.self c.in_ok-gate.ensures.built opened.states.coding opened.states.grows
-    (digits_more (Says.Gated c.args.solvable c.args.need.requirement) c.gate.new.self.coding c.open_gate.new.self.coding opened.states.stated (λ name s place bit h. absurd cc)) opened.rest
+    (digits_more (Says.Gated c.args.solvable c.args.need.requirement) c.gate.new.self.coding c.open_gate.new.self.coding opened.states.stated (λ name s place bit h. absurd cc)) opened.rest opened.needs
 
 pub returns-then-count-lt-GATED-clause-built : goal.returns-then-count-lt-GATED-clause-built
 returns-then-count-lt-GATED-clause-built g c =
@@ -87,4 +87,4 @@ returns-then-count-lt-GATED-clause-built g c =
     let gives = c.in_ok-variable.ensures.given in
     let needed = c.in_ok-need_directly.ensures.needed in
     built_states (Says.Needs (Some c.args.solvable) c.args.need needed.case) c.in_ok-variable.variable None c.args.need.requirement middle c.need_directly.new.self
-    (built_grows c.args.self.now middle c.requires gives.coding gives.grows refl refl refl refl refl (digits_same c.args.self.now.coding c.variable.new.self gives.stated)) (λ name s place bit h. absurd cc) needed.states
+    (built_grows c.args.self.now middle c.requires gives.coding gives.grows refl refl refl refl refl (digits_same c.args.self.now.coding c.variable.new.self gives.stated) c.requires.needs) (λ name s place bit h. absurd cc) needed.states

@@ -1,4 +1,4 @@
-use Rattle.std.proofs.Common.{◌<◌, ◌≤◌, Bool, subst, arith}
+use Rattle.std.proofs.Common.{◌<◌, ◌≤◌, Bool, subst, arith, refl}
 use Rattle.resolvo_search.specs.declared.advancing.Progress.{Progress}
 use Rattle.resolvo_search.specs.Advancing.{weight_left}
 use Rattle.resolvo_rules.specs.Encoding.{IsExact}
@@ -13,7 +13,7 @@ use Rattle.resolvo_encoding.proofs.encoding.Encoding.step.Goals as goal
 pub choose_next-requires : goal.choose_next-requires
 choose_next-requires g c =
     let goes = step_goes c.args.self.now c.advance.new.self c.in_ok-refusal.field-0 c.requires.coding c.in_ok-refusal.ensures.advanced in
-    built_rest c.args.self.now (record c.args.self.now { coding = c.advance.new.self }) c.requires goes.coding goes.grows (digits_kept c.args.self.now (record c.args.self.now { coding = c.advance.new.self }) c.requires.coding goes) goes.rest
+    built_rest c.args.self.now (record c.args.self.now { coding = c.advance.new.self }) c.requires goes.coding goes.grows (digits_kept c.args.self.now (record c.args.self.now { coding = c.advance.new.self }) c.requires.coding goes) goes.rest refl
 
 pub returns-in-Refused-clause-stays : goal.returns-in-Refused-clause-stays
 returns-in-Refused-clause-stays g c = λ p root lawful e.
@@ -73,12 +73,12 @@ returns-else-has_chosen-clause-step g c =
 pub returns-in-Refused-clause-built : goal.returns-in-Refused-clause-built
 returns-in-Refused-clause-built g c =
     let goes = step_goes c.args.self.now c.advance.new.self c.in_ok-refusal.field-0 c.requires.coding c.in_ok-refusal.ensures.advanced in
-    built_rest c.args.self.now (record c.args.self.now { coding = c.advance.new.self }) c.requires goes.coding goes.grows (digits_kept c.args.self.now (record c.args.self.now { coding = c.advance.new.self }) c.requires.coding goes) goes.rest
+    built_rest c.args.self.now (record c.args.self.now { coding = c.advance.new.self }) c.requires goes.coding goes.grows (digits_kept c.args.self.now (record c.args.self.now { coding = c.advance.new.self }) c.requires.coding goes) goes.rest refl
 
 pub returns-in-Learnt-clause-built : goal.returns-in-Learnt-clause-built
 returns-in-Learnt-clause-built g c =
     let goes = step_goes c.args.self.now c.advance.new.self c.in_ok-refusal.field-0 c.requires.coding c.in_ok-refusal.ensures.advanced in
-    built_rest c.args.self.now (record c.args.self.now { coding = c.advance.new.self }) c.requires goes.coding goes.grows (digits_kept c.args.self.now (record c.args.self.now { coding = c.advance.new.self }) c.requires.coding goes) goes.rest
+    built_rest c.args.self.now (record c.args.self.now { coding = c.advance.new.self }) c.requires goes.coding goes.grows (digits_kept c.args.self.now (record c.args.self.now { coding = c.advance.new.self }) c.requires.coding goes) goes.rest refl
 
 pub returns-in-Refused-clause-first : goal.returns-in-Refused-clause-first
 returns-in-Refused-clause-first g c = step_first c.args.self.now c.advance.new.self c.in_ok-refusal.field-0 c.in_ok-refusal.ensures.advanced

@@ -1,4 +1,4 @@
-use Rattle.std.proofs.Common.{◌≡◌, ℕ, ◌-◌, ◌≤◌, ◌∙◌, ap, subst, arith}
+use Rattle.std.proofs.Common.{◌≡◌, ℕ, ◌-◌, ◌≤◌, ◌∙◌, ap, subst, arith, refl}
 use Rattle.std.specs.Prelude.{max}
 use Rattle.resolvo_search.specs.Steps.{Undoes}
 use Rattle.resolvo_rules.specs.Encoding.{IsExact}
@@ -32,7 +32,7 @@ returns-clause-undone g c =
 pub returns-clause-built : goal.returns-clause-built
 returns-clause-built g c =
     let goes = returns-clause-goes_on g c in
-    built_rest c.args.self.now _ c.requires goes.coding goes.grows (digits_kept c.args.self.now _ c.requires.coding goes) goes.rest
+    built_rest c.args.self.now _ c.requires goes.coding goes.grows (digits_kept c.args.self.now _ c.requires.coding goes) goes.rest refl
 
 pub returns-clause-turn : goal.returns-clause-turn
 returns-clause-turn g c = turn_undone c.args.self.now (record c.args.self.now { coding = c.undo_until.new.self }) (returns-clause-goes_on g c) (returns-clause-undone g c)

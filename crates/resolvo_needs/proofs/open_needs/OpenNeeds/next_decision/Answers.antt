@@ -1,0 +1,19 @@
+use Rattle.std.proofs.Common.{List, sym, ◌∙◌, ap, subst}
+use Rattle.std.specs.Option.{option_map}
+use Rattle.resolvo_store.specs.Pick.{pick}
+use Rattle.resolvo_store.specs.Values.{value_at}
+use Rattle.resolvo_store.specs.declared.decide_queue.NeedClause.{NeedClause}
+use Rattle.resolvo_store.specs.declared.decision_map.Assignment.{Assignment}
+use Rattle.resolvo_needs.specs.Needs.{literals_in, Fits}
+use Rattle.resolvo_needs.proofs.open_needs.OpenNeeds.next_decision.Goals as goal
+
+pub pick-requires-clause-fits : goal.pick-requires-clause-fits
+pick-requires-clause-fits g c =
+    subst (λ (qs : List NeedClause). Fits (literals_in c.args.lists.now) c.catch_up.new.self qs) (sym c.registered.ensures) (c.in_ok-catch_up.ensures.fits (literals_in c.args.lists.now) c.args.queue.now c.requires)
+
+pub returns-clause-picked : goal.returns-clause-picked
+returns-clause-picked g c = record {
+  values = c.map.result.now;
+  agree = c.map.ensures;
+  picked = ap (pick c.args.lists.now (value_at c.map.result.now) (g.N.Scores.ScoreMap.score_of c.args.scores.now)) (sym c.registered.ensures) ∙ sym c.pick.ensures.picked;
+}

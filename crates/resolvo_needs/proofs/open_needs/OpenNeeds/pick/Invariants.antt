@@ -1,0 +1,13 @@
+use Rattle.std.proofs.Common.{◌≡◌, drop}
+use Rattle.resolvo_store.specs.Values.{value_at}
+use Rattle.resolvo_store.specs.Pick.{pick, pick_after}
+use Rattle.resolvo_needs.specs.Needs.{literals_in, Fits}
+use Rattle.resolvo_needs.proofs.open_needs.OpenNeeds.pick.Given as goal
+
+-- the pick of all is the pick of what is left, after the decision so far
+abbrev pub invariant-loop-position : goal.invariant-loop-position
+invariant-loop-position g l = record {
+  fits : Fits (literals_in l.lists) l.self l.queue;
+  seen : l.self.seen ≡ l.initial.self.seen;
+  picked : pick l.lists (value_at l.values) (g.N.Scores.ScoreMap.score_of l.scores) l.queue ≡ pick_after l.lists (value_at l.values) (g.N.Scores.ScoreMap.score_of l.scores) l.best (drop l.position l.queue);
+}

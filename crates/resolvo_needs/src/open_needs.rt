@@ -1,0 +1,326 @@
+//! What is known of each need clause: whether one of its candidates is true, or its parent is not.
+//! It stands beside the queue of the clauses. It keeps the trail for which it holds; before each pick it
+//! goes back to where that trail and the present one part, and follows the present one from there.
+ghost use Rattle.std.specs.Prelude.{◌≡◌, ℕ, ◌<◌, ◌≤◌, ◌++◌, ◌∷◌, ◌⊎◌, [], List, map, take, length, false, true, slice_get, Some, None, Contains, OnOk, IfOk, IsOkUnless};
+ghost use Rattle.resolvo_pool.specs.declared.want.Want.TheVariants.{Memory};
+ghost use Rattle.resolvo_store.specs.Values.{value_at};
+ghost use Rattle.resolvo_store.specs.Trail.{value_in};
+ghost use Rattle.resolvo_store.specs.Pick.{pick, offer};
+ghost use Rattle.resolvo_store.specs.declared.decide_queue.NeedClause.{NeedClause};
+ghost use Rattle.resolvo_needs.specs.declared.open_needs.NeedState.TheVariants.{Open};
+ghost use Rattle.resolvo_needs.specs.Needs.{literals_in, state_at, is_open_state, places_at, reopened, IsMetNow, IsSo, Fits, KeepsFitting, IsPick, AddsNeed};
+
+use resolvo_pool::id::VariableId;
+use resolvo_pool::solver_id::SolverId;
+use resolvo_pool::want::R;
+use resolvo_store::decide_queue::{
+    DecideQueue, NeedClause, NextDecision, has_true, offered, or_later,
+};
+use resolvo_store::decision::Entry;
+use resolvo_store::decision_map::DecisionMap;
+use resolvo_store::decision_tracker::DecisionTracker;
+use resolvo_store::lists::FixedLists;
+use std::alloc::Global;
+
+/// What is known of a need clause.
+#[derive(Clone, Copy, Debug)]
+pub enum NeedState {
+    /// It may have something to decide.
+    Open,
+    /// One of its candidates is true among so many first entries of the trail.
+    Met(u32),
+    /// Its parent is not true.
+    Idle,
+}
+
+impl NeedState {
+    /// Whether the clause may have something to decide.
+    pub fn is_open(self) -> bool
+        ensures { result ≡ is_open_state self }
+    {
+        match self {
+            NeedState::Open => true,
+            _ => false,
+        }
+    }
+}
+
+/// What is known of the need clauses of a queue.
+#[derive(Drop)]
+pub struct OpenNeeds {
+    /// The state of each clause, by its position in the queue.
+    states: Vec<NeedState>,
+    /// The trail for which the states hold.
+    seen: Vec<Entry>,
+    /// The positions of the clauses of each parent, by the parent's variable.
+    places: Vec<Vec<usize>>,
+}
+
+impl OpenNeeds {
+    /// For a queue without clauses.
+    pub fn new(alloc: Global) -> OpenNeeds
+        ensures states { result.states.items ≡ [] }
+        ensures seen { result.seen.items ≡ [] }
+        ensures places { result.places.items ≡ [] }
+    {
+        OpenNeeds {
+            states: Vec::new(alloc),
+            seen: Vec::new(alloc),
+            places: Vec::new(alloc),
+        }
+    }
+
+    /// Takes note of one clause more, which has this parent.
+    pub fn add(&mut self, alloc: Global, parent: VariableId) -> R<()>
+        ensures added { OnOk result (AddsNeed parent self.old self.new) }
+        ensures refusal { IsOkUnless result Memory }
+    {
+        let index = parent.0 as usize;
+        make_room(&mut self.places, alloc, index + 1)?;
+        self.places[index].push(self.states.len())?;
+        self.states.push(NeedState::Open)?;
+        Ok(())
+    }
+
+    /// What is to be decided next under the trail: the pick over all clauses of the queue.
+    pub fn next_decision<N: SolverId>(
+        &mut self,
+        queue: &DecideQueue,
+        lists: &FixedLists<N>,
+        trail: &DecisionTracker,
+        scores: &N::Scores,
+    ) -> R<Option<NextDecision>>
+    where
+        N: Drop,
+        requires { Fits (literals_in lists.now) self.old queue.now }
+        ensures picked { IfOk result (IsPick lists.now trail.now.trail (N.Scores.score_of scores.now) queue.now) }
+        ensures fits { OnOk result (Fits (literals_in lists.now) self.new queue.now) }
+        ensures refusal { IsOkUnless result Memory }
+    {
+        self.catch_up(trail.stack())?;
+        Ok(self.pick(queue.registered(), lists, trail.map(), scores))
+    }
+
+    /// Makes the states hold for this trail.
+    fn catch_up(&mut self, trail: &[Entry]) -> R<()>
+        ensures seen { OnOk result (self.new.seen.items ≡ trail.now) }
+        ensures fits { OnOk result (KeepsFitting self.old self.new) }
+        ensures refusal { IsOkUnless result Memory }
+    {
+        let common = self.common(trail);
+        self.go_back(common);
+        for entry in &trail[common..] {
+            self.see(*entry)?;
+        }
+        Ok(())
+    }
+
+    /// How many first entries the trail has in common with the one that was seen.
+    fn common(&self, trail: &[Entry]) -> usize
+        ensures same { take result self.now.seen.items ≡ take result trail.now }
+        ensures seen { result ≤ length self.now.seen.items }
+        ensures within { result ≤ length trail.now }
+    {
+        let mut common = 0;
+        for entry in trail {
+            match self.seen.get(common) {
+                Some(seen) => {
+                    if *seen != *entry {
+                        return common;
+                    }
+                    common += 1;
+                }
+                None => return common,
+            }
+        }
+        common
+    }
+
+    /// Forgets what was seen behind so many first entries.
+    fn go_back(&mut self, common: usize)
+        ensures seen { self.new.seen.items ≡ take common self.old.seen.items }
+        ensures fits { KeepsFitting self.old self.new }
+    {
+        if common < self.seen.len() {
+            self.seen.truncate(common);
+            reopen(&mut self.states, common);
+        }
+    }
+
+    /// Sees one entry more.
+    fn see(&mut self, entry: Entry) -> R<()>
+        ensures seen { OnOk result (self.new.seen.items ≡ self.old.seen.items ++ entry ∷ []) }
+        ensures fits { OnOk result (KeepsFitting self.old self.new) }
+        ensures refusal { IsOkUnless result Memory }
+    {
+        self.seen.push(entry)?;
+        if entry.decision.value {
+            self.open_needs_of(entry.decision.variable);
+        }
+        Ok(())
+    }
+
+    /// Opens the clauses of a parent.
+    fn open_needs_of(&mut self, parent: VariableId)
+        ensures opened { (i : ℕ) → Contains (places_at self.old.places.items parent.0) i → state_at self.new.states.items i ≡ Open }
+        ensures others { (i : ℕ) → (state_at self.new.states.items i ≡ state_at self.old.states.items i) ⊎ (state_at self.new.states.items i ≡ Open) }
+        ensures len { length self.new.states.items ≡ length self.old.states.items }
+        ensures rest { self.new ≡ record self.old { states = self.new.states } }
+    {
+        let index = parent.0 as usize;
+        if index < self.places.len() {
+            open_each(&mut self.states, &self.places[index]);
+        }
+    }
+
+    /// The pick, where the trail is the one that was seen.
+    fn pick<N: SolverId>(
+        &mut self,
+        queue: &[NeedClause],
+        lists: &FixedLists<N>,
+        values: &DecisionMap,
+        scores: &N::Scores,
+    ) -> Option<NextDecision>
+    where
+        N: Drop,
+        requires fits { Fits (literals_in lists.now) self.old queue.now }
+        requires values { (v : ℕ) → value_at values.now v ≡ value_in self.old.seen.items v }
+        ensures picked { result ≡ pick lists.now (value_at values.now) (N.Scores.score_of scores.now) queue.now }
+        ensures fits { Fits (literals_in lists.now) self.new queue.now }
+    {
+        let mut best = None;
+        for position in 0..queue.len() {
+            if self.may_decide(position, queue, lists, values) {
+                best = or_later(best, offered(&queue[position], lists, values, scores));
+            }
+        }
+        best
+    }
+
+    /// Whether the clause at this position may have something to decide, which is found out where it
+    /// isn't known.
+    fn may_decide<N: SolverId>(
+        &mut self,
+        position: usize,
+        queue: &[NeedClause],
+        lists: &FixedLists<N>,
+        values: &DecisionMap,
+    ) -> bool
+    where
+        N: Drop,
+        requires within { position < length queue.now }
+        requires fits { Fits (literals_in lists.now) self.old queue.now }
+        requires values { (v : ℕ) → value_at values.now v ≡ value_in self.old.seen.items v }
+        ensures nothing { result ≡ false → (score : N → ℕ) (q : NeedClause) → slice_get queue.now position ≡ Some q → offer lists.now (value_at values.now) score q ≡ None }
+        ensures fits { Fits (literals_in lists.now) self.new queue.now }
+        ensures seen { self.new.seen ≡ self.old.seen }
+    {
+        if !self.state(position).is_open() {
+            return false;
+        }
+        let state = self.found(&queue[position], lists, values);
+        put(&mut self.states, position, state);
+        state.is_open()
+    }
+
+    /// What is known of the clause at this position.
+    fn state(&self, position: usize) -> NeedState
+        ensures { result ≡ state_at self.now.states.items position }
+    {
+        if position < self.states.len() {
+            self.states[position]
+        } else {
+            NeedState::Open
+        }
+    }
+
+    /// What these values tell of a clause.
+    fn found<N: SolverId>(
+        &self,
+        need: &NeedClause,
+        lists: &FixedLists<N>,
+        values: &DecisionMap,
+    ) -> NeedState
+    where
+        N: Drop,
+        requires values { (v : ℕ) → value_at values.now v ≡ value_in self.now.seen.items v }
+        ensures { IsSo (literals_in lists.now) self.now.seen.items need.now result }
+    {
+        if values.value(need.parent) != Some(true) {
+            return NeedState::Idle;
+        }
+        match lists.candidates(need.requirement) {
+            Some(candidates) if has_true(candidates, values) => self.met(),
+            _ => NeedState::Open,
+        }
+    }
+
+    /// That a candidate is true among the entries that were seen.
+    fn met(&self) -> NeedState
+        ensures { IsMetNow (length self.now.seen.items) result }
+    {
+        match u32::try_from(self.seen.len()) {
+            Ok(within) => NeedState::Met(within),
+            Err(_) => NeedState::Open,
+        }
+    }
+}
+
+/// Makes room for the positions of so many parents.
+fn make_room(places: &mut Vec<Vec<usize>>, alloc: Global, count: usize) -> R<()>
+    ensures long { OnOk result (count ≤ length places.new.items) }
+    ensures same { OnOk result ((v : ℕ) → places_at places.new.items v ≡ places_at places.old.items v) }
+    ensures refusal { IsOkUnless result Memory }
+{
+    while places.len() < count {
+        places.push(Vec::new(alloc))?;
+    }
+    Ok(())
+}
+
+/// Notes a state, unless the position is behind all states.
+fn put(states: &mut Vec<NeedState>, position: usize, state: NeedState)
+    ensures here { (state_at states.new.items position ≡ state) ⊎ (state_at states.new.items position ≡ Open) }
+    ensures others { (i : ℕ) → (state_at states.new.items i ≡ state_at states.old.items i) ⊎ (i ≡ position) }
+    ensures len { length states.new.items ≡ length states.old.items }
+{
+    if position < states.len() {
+        states[position] = state;
+    }
+}
+
+/// Opens the clauses at these positions.
+fn open_each(states: &mut Vec<NeedState>, places: &[usize])
+    ensures opened { (i : ℕ) → Contains places.now i → state_at states.new.items i ≡ Open }
+    ensures others { (i : ℕ) → (state_at states.new.items i ≡ state_at states.old.items i) ⊎ (state_at states.new.items i ≡ Open) }
+    ensures len { length states.new.items ≡ length states.old.items }
+{
+    for place in places {
+        put(states, *place, NeedState::Open);
+    }
+}
+
+/// Opens the clauses whose true candidates stand behind so many first entries.
+fn reopen(states: &mut Vec<NeedState>, common: usize)
+    ensures { states.new.items ≡ map (reopened common) states.old.items }
+{
+    for state in states.iter_mut() {
+        *state = reopened(*state, common);
+    }
+}
+
+/// What is known of a clause where no more than so many first entries stay.
+fn reopened(state: NeedState, common: usize) -> NeedState
+    ensures { result ≡ reopened common state }
+{
+    match state {
+        NeedState::Met(within) => {
+            if common < within as usize {
+                NeedState::Open
+            } else {
+                state
+            }
+        }
+        _ => state,
+    }
+}

@@ -1,0 +1,110 @@
+//! The pick over three need clauses where what is known of them is kept, as a trail goes on and back.
+
+ghost use Rattle.std.specs.Prelude.{List, OnOk, IfOk};
+ghost use Rattle.resolvo_pool.specs.declared.requirement.Requirement.{Requirement};
+ghost use Rattle.resolvo_store.specs.Signed.{Signed};
+ghost use Rattle.resolvo_needs.specs.Needs.{Fits, literals_in};
+
+use crate::tests::picking::{no_scores, three_needs};
+use resolvo_needs::open_needs::OpenNeeds;
+use resolvo_pool::id::{ClauseId, NameId, VariableId};
+use resolvo_pool::want::R;
+use resolvo_store::decide_queue::{DecideQueue, NeedClause};
+use resolvo_store::decision::Decision;
+use resolvo_store::decision_tracker::DecisionTracker;
+use resolvo_store::lists::FixedLists;
+use std::alloc::Global;
+use std::process::Abort;
+use std::test::Fail;
+
+/// A variable's value at a level, behind those up to a level that stay; and the candidate that is to be
+/// decided then.
+type Move = (u32, (u32, bool), u32, Option<u32>);
+
+/// The root's first need is met, then its second; the third's parent comes, and its first candidate
+/// turns out false. Back at the root alone, the first need is open again.
+const MOVES: &[Move] = &[
+    (0, (0, true), 1, Some(1)),
+    (1, (1, true), 2, Some(7)),
+    (2, (6, true), 3, Some(4)),
+    (3, (7, true), 4, Some(4)),
+    (4, (4, false), 5, Some(5)),
+    (5, (5, true), 6, None),
+    (1, (1, false), 2, Some(2)),
+    (2, (7, true), 3, Some(2)),
+    (3, (2, true), 4, None),
+    (0, (6, true), 1, Some(4)),
+];
+
+/// Needs with what is known of them, and the trail.
+#[derive(Drop)]
+struct Known {
+    lists: FixedLists<NameId>,
+    queue: DecideQueue,
+    needs: OpenNeeds,
+    trail: DecisionTracker,
+    scores: Vec<u64>,
+}
+
+/// Where nothing is known of these needs.
+fn nothing_known(alloc: Global, needs: (FixedLists<NameId>, DecideQueue)) -> R<Known>
+    ensures { IfOk result (λ k. Fits (literals_in k.lists) k.needs k.queue) }
+{
+    let (lists, queue) = needs;
+    let needs = noted(alloc, queue.registered())?;
+    Ok(Known {
+        lists,
+        queue,
+        needs,
+        trail: DecisionTracker::new(alloc),
+        scores: no_scores(alloc),
+    })
+}
+
+/// Each of these clauses noted.
+fn noted(alloc: Global, queue: &[NeedClause]) -> R<OpenNeeds>
+    ensures { IfOk result (λ needs. (literals : Requirement → List Signed) → Fits literals needs queue.now) }
+{
+    let mut needs = OpenNeeds::new(alloc);
+    for need in queue {
+        needs.add(alloc, need.parent)?;
+    }
+    Ok(needs)
+}
+
+/// The candidate that is to be decided after a move.
+fn next_after(known: &mut Known, step: &Move) -> R<Option<u32>>
+    requires { Fits (literals_in known.old.lists) known.old.needs known.old.queue }
+    ensures { OnOk result (Fits (literals_in known.new.lists) known.new.needs known.new.queue) }
+{
+    let (stays, (variable, value), level, _) = step;
+    known.trail.undo_until(*stays);
+    let decision = Decision {
+        variable: VariableId(*variable),
+        value: *value,
+        derived_from: ClauseId(0),
+    };
+    known.trail.try_add_decision(decision, *level)?;
+    let next = known
+        .needs
+        .next_decision::<NameId>(&known.queue, &known.lists, &known.trail, &known.scores)?;
+    Ok(next.map(|decision| decision.candidate.0))
+}
+
+fn picks_the_same(rt: &impl Abort, known: &mut Known) -> R<()>
+    requires { Fits (literals_in known.old.lists) known.old.needs known.old.queue }
+{
+    for step in MOVES {
+        assert_eq!(rt; next_after(known, step)?, step.3);
+    }
+    Ok(())
+}
+
+#[test]
+fn decisions_of_what_is_known(rt: HostRuntime) -> Result<(), Fail> {
+    picks_the_same(
+        &rt,
+        &mut nothing_known(rt.alloc(), three_needs(rt.alloc())?)?,
+    )?;
+    Ok(())
+}
