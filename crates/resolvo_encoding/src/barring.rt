@@ -1,6 +1,7 @@
 //! What keeps solvables out becomes clauses: limits, locks, exclusions, and dependencies that are unknown. The encoder
 //! calls it for each parent, and for the packages that its needs and limits name.
 ghost use Rattle.std.specs.Prelude.{◌≡◌, ◌<◌, ◌∷◌, [], true, Option, Some, OnOk, IfOk, IsSome, Contains};
+ghost use Rattle.std.specs.Bool.{Decides};
 ghost use Rattle.resolvo_pool.specs.RuleKeeping.{Packages, Rules, IsLawful, rules_for, is_outside};
 ghost use Rattle.resolvo_store.specs.Clauses.{no};
 ghost use Rattle.resolvo_search.specs.State.{count_of};
@@ -27,7 +28,7 @@ use std::alloc::Global;
 impl<N: SolverId + Drop, S: SolverId> Encoding<N, S> {
     /// Whether it was stated what locks and exclusions keep out of a package.
     pub fn is_noted(&self, name: N) -> bool
-        ensures { result ≡ true → Contains self.now.noted.packages.keys name }
+        ensures { Decides result (Contains self.now.noted.packages.keys name) }
     {
         self.noted.packages.contains(&name)
     }

@@ -3,14 +3,18 @@
 //! goes back to where that trail and the present one part, and follows the present one from there.
 ghost use Rattle.std.specs.Prelude.{◌≡◌, ℕ, ◌<◌, ◌≤◌, ◌++◌, ◌∷◌, ◌⊎◌, [], List, map, take, length, false, true, slice_get, Some, None, Contains, OnOk, IfOk, IsOkUnless};
 ghost use Rattle.resolvo_pool.specs.declared.want.Want.TheVariants.{Memory};
+ghost use Rattle.std.specs.List.{find, list_any};
+ghost use Rattle.std.specs.Option.{option_copied};
+ghost use Rattle.resolvo_store.specs.Signed.{value_under, is_true, is_open};
 ghost use Rattle.resolvo_store.specs.Values.{value_at};
 ghost use Rattle.resolvo_store.specs.Trail.{value_in};
-ghost use Rattle.resolvo_store.specs.Pick.{pick, offer};
+ghost use Rattle.resolvo_store.specs.Pick.{pick, offer, later};
 ghost use Rattle.resolvo_store.specs.declared.decide_queue.NeedClause.{NeedClause};
 ghost use Rattle.resolvo_needs.specs.declared.open_needs.NeedState.TheVariants.{Open};
 ghost use Rattle.resolvo_needs.specs.Needs.{literals_in, state_at, is_open_state, places_at, reopened, IsMetNow, IsSo, Fits, KeepsFitting, IsPick, AddsNeed};
 
 use resolvo_pool::id::VariableId;
+use resolvo_pool::id_map::ScoreMap;
 use resolvo_pool::solver_id::SolverId;
 use resolvo_pool::want::R;
 use resolvo_store::decide_queue::{
@@ -19,7 +23,7 @@ use resolvo_store::decide_queue::{
 use resolvo_store::decision::Entry;
 use resolvo_store::decision_map::DecisionMap;
 use resolvo_store::decision_tracker::DecisionTracker;
-use resolvo_store::lists::FixedLists;
+use resolvo_store::lists::{Candidate, FixedLists};
 use std::alloc::Global;
 
 /// What is known of a need clause.
@@ -191,7 +195,7 @@ impl OpenNeeds {
         let mut best = None;
         for position in 0..queue.len() {
             if self.may_decide(position, queue, lists, values) {
-                best = or_later(best, offered(&queue[position], lists, values, scores));
+                best = or_offered(best, &queue[position], lists, values, scores);
             }
         }
         best
@@ -250,7 +254,7 @@ impl OpenNeeds {
             return NeedState::Idle;
         }
         match lists.candidates(need.requirement) {
-            Some(candidates) if has_true(candidates, values) => self.met(),
+            Some(candidates) if begins_true(candidates, values) => self.met(),
             _ => NeedState::Open,
         }
     }
@@ -264,6 +268,76 @@ impl OpenNeeds {
             Err(_) => NeedState::Open,
         }
     }
+}
+
+/// Whether the first candidate that isn't false is true. One that is true behind an undecided one isn't
+/// looked for, which would cost a look at each.
+fn begins_true<N: Copy>(candidates: &[Candidate<N>], values: &DecisionMap) -> bool
+    ensures { result ≡ true → list_any (λ c. is_true (value_under (value_at values.now) c.literal)) candidates.now ≡ true }
+{
+    for candidate in candidates {
+        match candidate.literal.eval(values) {
+            Some(false) => {}
+            Some(true) => return true,
+            None => return false,
+        }
+    }
+    false
+}
+
+/// The decision so far, or what a clause has to decide where that beats it.
+fn or_offered<N: SolverId>(
+    best: Option<NextDecision>,
+    need: &NeedClause,
+    lists: &FixedLists<N>,
+    values: &DecisionMap,
+    scores: &N::Scores,
+) -> Option<NextDecision>
+where
+    N: Drop,
+    ensures { result ≡ later best (offer lists.now (value_at values.now) (N.Scores.score_of scores.now) need.now) }
+{
+    if is_beaten(need, best, lists, values, scores) {
+        best
+    } else {
+        or_later(best, offered(need, lists, values, scores))
+    }
+}
+
+/// Whether the decision so far stands beside what a clause has to decide, which its first undecided
+/// candidate may tell.
+fn is_beaten<N: SolverId>(
+    need: &NeedClause,
+    best: Option<NextDecision>,
+    lists: &FixedLists<N>,
+    values: &DecisionMap,
+    scores: &N::Scores,
+) -> bool
+where
+    N: Drop,
+    ensures { result ≡ true → later best (offer lists.now (value_at values.now) (N.Scores.score_of scores.now) need.now) ≡ best }
+{
+    let Some(best) = best else {
+        return false;
+    };
+    let Some(candidates) = lists.candidates(need.requirement) else {
+        return false;
+    };
+    match first_undecided(candidates, values) {
+        Some(candidate) => scores.get(candidate.package) <= best.package_activity,
+        None => true,
+    }
+}
+
+fn first_undecided<'a, N: Copy>(
+    candidates: &'a [Candidate<N>],
+    values: &DecisionMap,
+) -> Option<&'a Candidate<N>>
+    ensures { option_copied result ≡ find (λ c. is_open (value_under (value_at values.now) c.literal)) candidates.now }
+{
+    candidates
+        .iter()
+        .find(|candidate| candidate.literal.is_undecided(values))
 }
 
 /// Makes room for the positions of so many parents.

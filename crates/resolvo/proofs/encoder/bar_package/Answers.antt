@@ -6,7 +6,7 @@ use Rattle.resolvo.proofs.Adding.{needs_none, extends_needs}
 use Rattle.resolvo.proofs.encoder.bar_package.Goals as goal
 
 pub returns-then-is_noted-clause-encoded : goal.returns-then-is_noted-clause-encoded
-returns-then-is_noted-clause-encoded g c = λ root e. (e, λ s h. e.encoding.noted.packages c.args.name s (c.is_noted.ensures c.if-is_noted.true) h)
+returns-then-is_noted-clause-encoded g c = λ root e. (e, λ s h. e.encoding.noted.packages c.args.name s (c.is_noted.ensures.0 c.if-is_noted.true) h)
 
 pub returns-then-is_noted-clause-kept : goal.returns-then-is_noted-clause-kept
 returns-then-is_noted-clause-kept g c = needs_none c.args.encoding.now

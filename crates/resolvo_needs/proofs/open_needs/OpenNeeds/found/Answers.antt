@@ -7,4 +7,4 @@ use Rattle.resolvo_needs.proofs.open_needs.OpenNeeds.found.Goals as goal
 
 pub returns-in-Some : goal.returns-in-Some
 returns-in-Some g c = so_met c.args.lists.now (value_at c.args.values.now) c.args.self.now.seen.items c.requires.values c.args.need.now c.met.result c.met.ensures
-    (ap (λ cs. list_any (λ x. is_true (value_under (value_at c.args.values.now) x.literal)) cs) (sym c.in-Some.ensures.1) ∙ sym c.if-has_true.ensures)
+    (ap (λ cs. list_any (λ x. is_true (value_under (value_at c.args.values.now) x.literal)) cs) (sym c.in-Some.ensures.1) ∙ c.begins_true.ensures c.if-begins_true.true)

@@ -1,9 +1,7 @@
 use Rattle.std.proofs.Common.{List, sym, ◌∙◌, ap, subst}
-use Rattle.std.specs.Option.{option_map}
 use Rattle.resolvo_store.specs.Pick.{pick}
 use Rattle.resolvo_store.specs.Values.{value_at}
 use Rattle.resolvo_store.specs.declared.decide_queue.NeedClause.{NeedClause}
-use Rattle.resolvo_store.specs.declared.decision_map.Assignment.{Assignment}
 use Rattle.resolvo_needs.specs.Needs.{literals_in, Fits}
 use Rattle.resolvo_needs.proofs.open_needs.OpenNeeds.next_decision.Goals as goal
 
