@@ -17,9 +17,7 @@ use resolvo_pool::id::VariableId;
 use resolvo_pool::id_map::ScoreMap;
 use resolvo_pool::solver_id::SolverId;
 use resolvo_pool::want::R;
-use resolvo_store::decide_queue::{
-    DecideQueue, NeedClause, NextDecision, has_true, offered, or_later,
-};
+use resolvo_store::decide_queue::{DecideQueue, NeedClause, NextDecision, offered, or_later};
 use resolvo_store::decision::Entry;
 use resolvo_store::decision_map::DecisionMap;
 use resolvo_store::decision_tracker::DecisionTracker;
@@ -329,6 +327,7 @@ where
     }
 }
 
+/// The first candidate that has no value.
 fn first_undecided<'a, N: Copy>(
     candidates: &'a [Candidate<N>],
     values: &DecisionMap,

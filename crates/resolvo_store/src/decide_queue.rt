@@ -258,8 +258,7 @@ fn all_false<N: Copy>(candidates: &[Candidate<N>], values: &DecisionMap) -> bool
         .all(|candidate| candidate.literal.is_false(values))
 }
 
-/// Whether a candidate is true.
-pub fn has_true<N: Copy>(candidates: &[Candidate<N>], values: &DecisionMap) -> bool
+fn has_true<N: Copy>(candidates: &[Candidate<N>], values: &DecisionMap) -> bool
     ensures { result ≡ list_any (λ c. is_true (value_under (value_at values.now) c.literal)) candidates.now }
 {
     candidates
