@@ -8,10 +8,11 @@ use Rattle.std.proofs.lemmas.Option.{slice_get-get_or}
 use Rattle.resolvo_text.specs.Line.{Version, Line, Skipped, Listed, Needs, Limits, Unknown, Lock, Favour, Exclude, Wish}
 use Rattle.resolvo_catalogue.specs.Grammar.{line_at, owner_below}
 use Rattle.resolvo_catalogue.specs.Questions.{LineIs, Locks, LocksAnother, Excludes, Bars, IsOnly, SaysOf}
-use Rattle.resolvo_catalogue.specs.Table.{nowhere, told, IsSaid, IsTable, lines_in, versions_in, said_at, rule_of, is_lock_of_another}
+use Rattle.resolvo_catalogue.specs.Table.{nowhere, told, IsSaid, IsTable, lines_in, versions_in, saids_in, is_lock_of_another}
 use Rattle.resolvo_catalogue.specs.declared.rule.Rule.TheVariants as rule
-use Rattle.resolvo_catalogue.specs.declared.table.Said.{Said}
-use Rattle.resolvo_catalogue.specs.declared.table.Said.TheVariants as said
+use Rattle.resolvo_catalogue.specs.Held.{said_at, rule_of}
+use Rattle.resolvo_catalogue.specs.declared.saids.Said.{Said}
+use Rattle.resolvo_catalogue.specs.declared.saids.Said.TheVariants as said
 use Rattle.resolvo_catalogue.specs.declared.table.Table.{Table}
 use Rattle.resolvo_catalogue.proofs.TableSteps.{one_number}
 use Rattle.resolvo_catalogue.proofs.TableLemmas as lemmas
@@ -42,12 +43,12 @@ lock_said vs above (said.Rule (rule.Unknown of r)) w k is e = absurd cc
 lock_said vs above (said.Rule (rule.Exclude j r)) w k is e = absurd cc
 
 abbrev is_other : Table → ℕ → ℕ → Bool
-is_other t line k = option_map_or (λ r. is_lock_of_another r k) (option_and_then rule_of (said_at t.said.items line)) false
+is_other t line k = option_map_or (λ r. is_lock_of_another r k) (option_and_then rule_of (said_at (saids_in t) line)) false
 
 lock_at : (t : Table) → IsTable t → (line : ℕ) (w : Version) (k : ℕ) → line_at (lines_in t) line ≡ Some (Lock w) → (j : ℕ) × (slice_get (versions_in t) j ≡ Some w) × (is_other t line k ≡ not (j == k))
 lock_at t keeps zero w k at = absurd cc
 lock_at t keeps (suc n) w k at =
-    let s = lemmas.said_at (versions_in t) t.said.items n (Lock w) at in
+    let s = lemmas.said_at (versions_in t) (saids_in t) n (Lock w) at in
     let h = lock_said (versions_in t) (owner_below (take n (lines_in t))) s.0 w k (keeps.saids n s.0 s.1) s.2 in
     (h.0, h.1, ap (λ (o : Option Said). option_map_or (λ r. is_lock_of_another r k) (option_and_then rule_of o) false) s.1 ∙ h.2)
 

@@ -12,11 +12,12 @@ use Rattle.resolvo_catalogue.specs.Grammar.{line_at, owner_of, IsCatalogueLine, 
 use Rattle.resolvo_catalogue.specs.Rules.{obeys, keeps, keeps_in_request}
 use Rattle.resolvo_catalogue.specs.Listed.{listed, AreDistinct}
 use Rattle.resolvo_catalogue.specs.Questions.{States, is_rule, cases_of_line}
-use Rattle.resolvo_catalogue.specs.Table.{nth, nowhere, told, rule_line, IsRuleOf, Keeps, IsTable, lines_in, versions_in, said_at, rule_of}
+use Rattle.resolvo_catalogue.specs.Table.{nth, nowhere, told, rule_line, IsRuleOf, Keeps, IsTable, lines_in, versions_in, saids_in}
 use Rattle.resolvo_catalogue.specs.declared.rule.Rule.{Rule}
 use Rattle.resolvo_catalogue.specs.declared.rule.Rule.TheVariants as rule
-use Rattle.resolvo_catalogue.specs.declared.table.Said.{Said}
-use Rattle.resolvo_catalogue.specs.declared.table.Said.TheVariants as said
+use Rattle.resolvo_catalogue.specs.Held.{said_at, rule_of}
+use Rattle.resolvo_catalogue.specs.declared.saids.Said.{Said}
+use Rattle.resolvo_catalogue.specs.declared.saids.Said.TheVariants as said
 use Rattle.resolvo_catalogue.specs.declared.table.Table.{Table}
 use Rattle.resolvo_catalogue.proofs.TableSteps.{one_number}
 
@@ -37,11 +38,11 @@ states_line vs owner (rule.Lock k) h = (nth vs k, slice_get-get_or vs k.0 nowher
 states_line vs owner (rule.Exclude k w) h = (nth vs k, slice_get-get_or vs k.0 nowhere h, refl)
 
 -- where a rule is kept of a line, the line states it
-rule_stated : (t : Table) → IsTable t → (n : ℕ) (r : Rule) → said_at t.said.items n ≡ Some (said.Rule r) → (l : Line) × (line_at (lines_in t) n ≡ Some l) × States (versions_in t) r (owner_of (lines_in t) n) l
+rule_stated : (t : Table) → IsTable t → (n : ℕ) (r : Rule) → said_at (saids_in t) n ≡ Some (said.Rule r) → (l : Line) × (line_at (lines_in t) n ≡ Some l) × States (versions_in t) r (owner_of (lines_in t) n) l
 rule_stated t keeps zero r at = absurd cc
 rule_stated t keeps (suc n) r at =
     let vs = versions_in t in
-    (rule_line vs r, slice_get-map (told vs) t.said.items n ∙ ap (λ (o : Option Said). option_map (told vs) o) at, states_line vs (owner_of (lines_in t) (suc n)) r (keeps.saids n (said.Rule r) at))
+    (rule_line vs r, slice_get-map (told vs) (saids_in t) n ∙ ap (λ (o : Option Said). option_map (told vs) o) at, states_line vs (owner_of (lines_in t) (suc n)) r (keeps.saids n (said.Rule r) at))
 
 stated_by : (o : Option Said) (r : Rule) → option_and_then rule_of o ≡ Some r → o ≡ Some (said.Rule r)
 stated_by None r e = absurd cc
@@ -50,9 +51,9 @@ stated_by (Some said.Nothing) r e = absurd cc
 stated_by (Some (said.Listed v)) r e = absurd cc
 stated_by (Some (said.Favour v)) r e = absurd cc
 
-pub rule_states : (t : Table) (lines : List Line) → lines_in t ≡ lines → IsTable t → (n : ℕ) (r : Rule) → option_and_then rule_of (said_at t.said.items n) ≡ Some r → (l : Line) × (line_at lines n ≡ Some l) × States (listed lines) r (owner_of lines n) l
+pub rule_states : (t : Table) (lines : List Line) → lines_in t ≡ lines → IsTable t → (n : ℕ) (r : Rule) → option_and_then rule_of (said_at (saids_in t) n) ≡ Some r → (l : Line) × (line_at lines n ≡ Some l) × States (listed lines) r (owner_of lines n) l
 rule_states t lines is keeps n r e =
-    let h = rule_stated t keeps n r (stated_by (said_at t.said.items n) r e) in
+    let h = rule_stated t keeps n r (stated_by (said_at (saids_in t) n) r e) in
     subst (λ (ls : List Line). (l : Line) × (line_at ls n ≡ Some l) × States (listed ls) r (owner_of ls n) l) is (subst (λ (vs : List Version). (l : Line) × (line_at (lines_in t) n ≡ Some l) × States vs r (owner_of (lines_in t) n) l) (sym keeps.listing) h)
 
 no_rule_line : (vs : List Version) (s : Said) → rule_of s ≡ None → is_rule (told vs s) ≡ false
@@ -62,9 +63,9 @@ no_rule_line vs (said.Favour v) e = refl
 no_rule_line vs (said.Rule r) e = absurd cc
 
 -- where no rule is kept of a line, the line states none
-pub no_rule : (t : Table) (lines : List Line) → lines_in t ≡ lines → (n : ℕ) → option_and_then rule_of (said_at t.said.items n) ≡ None → (l : Line) → line_at lines n ≡ Some l → is_rule l ≡ false
+pub no_rule : (t : Table) (lines : List Line) → lines_in t ≡ lines → (n : ℕ) → option_and_then rule_of (said_at (saids_in t) n) ≡ None → (l : Line) → line_at lines n ≡ Some l → is_rule l ≡ false
 no_rule t lines is zero e l at = absurd cc
-no_rule t lines is (suc n) e l at = from_said (slice_get t.said.items n) e (sym (slice_get-map (told (versions_in t)) t.said.items n) ∙ ap (λ (ls : List Line). slice_get ls n) is ∙ at)
+no_rule t lines is (suc n) e l at = from_said (slice_get (saids_in t) n) e (sym (slice_get-map (told (versions_in t)) (saids_in t) n) ∙ ap (λ (ls : List Line). slice_get ls n) is ∙ at)
   where
     from_said : (o : Option Said) → option_and_then rule_of o ≡ None → option_map (told (versions_in t)) o ≡ Some l → is_rule l ≡ false
     from_said None e at = absurd cc

@@ -1,5 +1,7 @@
 pub mod Pushed
 pub mod BelongingLemmas
+pub mod HeldLemmas
+pub mod NumberedLemmas
 pub mod TableLemmas
 pub mod TableSteps
 pub mod Placing

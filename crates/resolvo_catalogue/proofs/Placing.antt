@@ -7,7 +7,7 @@ use Rattle.std.proofs.lemmas.List.{length-map}
 use Rattle.resolvo_text.specs.Line.{Version, Line, Skipped, Listed, Needs, Limits, Unknown, Lock, Favour, Exclude, Wish}
 use Rattle.resolvo_catalogue.specs.Grammar.{line_at, owner_of, owner_below, MayFollow}
 use Rattle.resolvo_catalogue.specs.Questions.{LineIs, MarksUnknownOf, Locks, Favours, Excludes, number_of}
-use Rattle.resolvo_catalogue.specs.Table.{IsTable, nowhere, lines_in, versions_in, number_in}
+use Rattle.resolvo_catalogue.specs.Table.{IsTable, nowhere, lines_in, versions_in, number_in, saids_in}
 use Rattle.resolvo_catalogue.specs.Listed.{pair_version}
 use Rattle.resolvo_catalogue.specs.Questions.{SaysOf}
 use Rattle.resolvo_catalogue.specs.declared.rule.VersionNo.{VersionNo}
@@ -219,7 +219,7 @@ no_number t keeps v unlisted = from_option (number_in (get_by_text t.packages v.
 pub excluded_listed : (t : Table) → IsTable t → (v : Version) (n : ℕ) → LineIs (lines_in t) n (Excludes v) → Contains (lines_in t) (Listed v)
 excluded_listed t keeps v zero (x, at, is) = absurd cc
 excluded_listed t keeps v (suc n) (Exclude w r, at, is) =
-    let s = said_at (versions_in t) t.said.items n (Exclude w r) at in
+    let s = said_at (versions_in t) (saids_in t) n (Exclude w r) at in
     let h = excluded_at (versions_in t) (owner_below (take n (lines_in t))) s.0 w r (keeps.saids n s.0 s.1) s.2 in
     subst (λ (x : Version). Contains (lines_in t) (Listed x)) is (found_listed t keeps w h.0 h.1)
 excluded_listed t keeps v (suc n) (Skipped, at, is) = absurd is

@@ -15,8 +15,8 @@ use Rattle.resolvo_catalogue.specs.Table.{nowhere, told, IsSaid, AreSaid}
 use Rattle.resolvo_catalogue.specs.Questions.{FavoursAt}
 use Rattle.resolvo_catalogue.specs.declared.rule.VersionNo.{VersionNo}
 use Rattle.resolvo_catalogue.specs.declared.rule.Rule.TheVariants as rule
-use Rattle.resolvo_catalogue.specs.declared.table.Said.{Said}
-use Rattle.resolvo_catalogue.specs.declared.table.Said.TheVariants as said
+use Rattle.resolvo_catalogue.specs.declared.saids.Said.{Said}
+use Rattle.resolvo_catalogue.specs.declared.saids.Said.TheVariants as said
 use Rattle.resolvo_catalogue.proofs.Pushed.{get_kept, get_push, at_kept}
 
 -- ---- listed versions

@@ -1,7 +1,7 @@
 -- A table with one more line, by the kind of the line.
 use Rattle.std.proofs.Common.{◌≡◌, ◌==◌, if◌then◌else◌, inl, inr, is_some, ℕ, zero, suc, Bool, true, false, not, option_map, ◌+◌, List, [], ◌∷◌, ◌++◌, map, length, take, Option, Some, None, refl, sym, ap, subst, ◌∙◌, add-one, arith}
-use Rattle.std.specs.Prelude.{Contains, slice_get, string_bytes, nat_eq, OnOk, Result, Ok, Err}
-use Rattle.resolvo_catalogue.specs.declared.table.Package.{Package}
+use Rattle.std.specs.Prelude.{Contains, slice_get, string_bytes, nat_eq}
+use Rattle.resolvo_catalogue.specs.declared.package.Package.{Package}
 use Rattle.resolvo_catalogue.specs.Table.{AddsNumber, AddsVersion, numbers_in}
 use Rattle.resolvo_catalogue.specs.Questions.{IsOfPackage, number_of}
 use Rattle.std.specs.HashMap.{get, get_by_text}
@@ -22,13 +22,14 @@ use Rattle.resolvo_text.specs.declared.condition.Cond.{Cond}
 use Rattle.resolvo_text.specs.Line.{Version, Line, Skipped, Listed, Needs, Limits, Unknown, Lock, Favour, Exclude}
 use Rattle.resolvo_catalogue.specs.Grammar.{owner_below}
 use Rattle.resolvo_catalogue.specs.Questions.{IsOnly, AreAll, LineIs, BelongsTo, MarksUnknownOf, Locks, Favours, Excludes, IsFavour}
-use Rattle.resolvo_catalogue.specs.Table.{nth, nowhere, told, Keeps, IsTable, Adds, lines_in, versions_in, number_in}
+use Rattle.resolvo_catalogue.specs.Table.{nth, nowhere, told, Keeps, IsTable, Adds, lines_in, versions_in, saids_in, number_in}
 use Rattle.resolvo_catalogue.specs.Belonging.{kept_of}
+use Rattle.resolvo_catalogue.specs.Numbered.{beside, IsNumbered}
 use Rattle.resolvo_catalogue.specs.Questions.{SaysOf, FavoursAt}
 use Rattle.resolvo_catalogue.specs.declared.rule.VersionNo.{VersionNo}
 use Rattle.resolvo_catalogue.specs.declared.rule.Rule.TheVariants as rule
-use Rattle.resolvo_catalogue.specs.declared.table.Said.{Said}
-use Rattle.resolvo_catalogue.specs.declared.table.Said.TheVariants as said
+use Rattle.resolvo_catalogue.specs.declared.saids.Said.{Said}
+use Rattle.resolvo_catalogue.specs.declared.saids.Said.TheVariants as said
 use Rattle.resolvo_catalogue.specs.declared.table.Table.{Table}
 use Rattle.resolvo_catalogue.proofs.Pushed.{get_new, get_kept, get_push, Grows, only_other, all_other, all_new, keyed_new, keyed_more, line_grows, line_within, says_grows, says_within, says_of_listed, get_grows}
 use Rattle.resolvo_catalogue.proofs.Placing.{none_from, excluded_listed, no_number}
@@ -36,14 +37,14 @@ use Rattle.resolvo_catalogue.proofs.TableLemmas.{listed_same, listed_more, are_s
 
 -- ---- any line
 
-pub as_long : (t : Table) → length t.said.items ≡ length (lines_in t)
-as_long t = sym (length-map t.said.items (told (versions_in t)))
+pub as_long : (t : Table) → length (saids_in t) ≡ length (lines_in t)
+as_long t = sym (length-map (saids_in t) (told (versions_in t)))
 
 -- the table says the new line
-pub adds_from : (t u : Table) (s : Said) (l : Line) → u.versions ≡ t.versions → u.said.items ≡ t.said.items ++ s ∷ [] → told (versions_in t) s ≡ l → Keeps u (versions_in t) (lines_in t ++ l ∷ []) → Adds t l u
+pub adds_from : (t u : Table) (s : Said) (l : Line) → u.versions ≡ t.versions → saids_in u ≡ saids_in t ++ s ∷ [] → told (versions_in t) s ≡ l → Keeps u (versions_in t) (lines_in t ++ l ∷ []) → Adds t l u
 adds_from t u s l same more is keeps =
     let vs : versions_in u ≡ versions_in t = ap (λ x. versions_in (record u { versions = x })) same in
-    let lines : lines_in u ≡ lines_in t ++ l ∷ [] = rw (vs, more, ← is) (map_push (told (versions_in t)) t.said.items s) in
+    let lines : lines_in u ≡ lines_in t ++ l ∷ [] = rw (vs, more, ← is) (map_push (told (versions_in t)) (saids_in t) s) in
     (rw (lines, vs) keeps, lines)
 
 -- a version has one number
@@ -57,13 +58,13 @@ one_number t vs lines keeps v j k at_j at_k =
 pub numbered : (vs : List Version) (n : VersionNo) (v : Version) → slice_get vs n.0 ≡ Some v → nth vs n ≡ v
 numbered vs n v at = get_or_from_slice_get vs n.0 v nowhere at
 
-pub skip : (t u : Table) → IsTable t → u.said.items ≡ t.said.items ++ said.Nothing ∷ [] → Adds t Skipped (record t { said = u.said })
+pub skip : (t u : Table) → IsTable t → saids_in u ≡ saids_in t ++ said.Nothing ∷ [] → Adds t Skipped (record t { said = u.said })
 skip t u keeps more =
     let vs = versions_in t in
     let lines = lines_in t in
     adds_from t (record t { said = u.said }) said.Nothing Skipped refl more refl (record {
       listing = listed_same lines Skipped refl ∙ keeps.listing;
-      saids = rw more (are_said_push vs lines t.said.items Skipped said.Nothing (as_long t) keeps.saids tt);
+      saids = rw more (are_said_push vs lines (saids_in t) Skipped said.Nothing (as_long t) keeps.saids tt);
       packages = keeps.packages;
       locks = λ name. only_other (keeps.locks name) (line_grows lines Skipped (Locks name)) (λ x. x);
       favoured = λ name. only_other (keeps.favoured name) (line_grows lines Skipped (Favours name)) (λ x. x);
@@ -78,7 +79,7 @@ skip t u keeps more =
 -- ---- a lock
 
 pub lock : (t u : Table) (line : ℕ) (k : VersionNo) (v : Version) (name : List ℕ) → IsTable t → line ≡ length (lines_in t) + 1 → slice_get (versions_in t) k.0 ≡ Some v → name ≡ v.name → is_some (get_by_text t.locks name) ≡ false
-    → u.said.items ≡ t.said.items ++ said.Rule (rule.Lock k) ∷ [] → ((name : List ℕ) → get_by_text u.locks name ≡ update bytes_eq (get_by_text t.locks) v.name (Some line) name) → Adds t (Lock v) (record t { said = u.said; locks = u.locks })
+    → saids_in u ≡ saids_in t ++ said.Rule (rule.Lock k) ∷ [] → ((name : List ℕ) → get_by_text u.locks name ≡ update bytes_eq (get_by_text t.locks) v.name (Some line) name) → Adds t (Lock v) (record t { said = u.said; locks = u.locks })
 lock t u line k v name keeps number at same untold more locked =
     let none : get_by_text t.locks v.name ≡ None = subst (λ (x : List ℕ). get_by_text t.locks x ≡ None) same (none_from (get_by_text t.locks name) untold) in
     let vs = versions_in t in
@@ -86,7 +87,7 @@ lock t u line k v name keeps number at same untold more locked =
     let l = Lock v in
     adds_from t (record t { said = u.said; locks = u.locks }) (said.Rule (rule.Lock k)) l refl more (ap (λ (x : Version). Lock x) (numbered vs k v at)) (record {
       listing = listed_same lines l refl ∙ keeps.listing;
-      saids = rw more (are_said_push vs lines t.said.items l (said.Rule (rule.Lock k)) (as_long t) keeps.saids (slice_get_within vs k.0 v at));
+      saids = rw more (are_said_push vs lines (saids_in t) l (said.Rule (rule.Lock k)) (as_long t) keeps.saids (slice_get_within vs k.0 v at));
       packages = keeps.packages;
       locks = keyed_new bytes_eq bytes_eq-Decides (get_by_text t.locks) (get_by_text u.locks) v.name line (λ name n. LineIs lines n (Locks name)) (λ name n. LineIs (lines ++ l ∷ []) n (Locks name)) (λ name. v.name ≡ name)
           locked none keeps.locks (λ name. rw number (line_grows lines l (Locks name))) refl (λ name same. same);
@@ -108,7 +109,7 @@ owner_only t keeps v k at owner j h =
     one_number t (versions_in t) (lines_in t) keeps v k j at (h.1 ∙ ap (λ (x : Version). Some x) same)
 
 pub need : (t u : Table) (line : ℕ) (k : VersionNo) (v : Version) (vec : Vec code.Spec) (condition : Option Cond) → IsTable t → line ≡ length (lines_in t) + 1 → slice_get (versions_in t) k.0 ≡ Some v → owner_below (lines_in t) ≡ Some v
-    → u.said.items ≡ t.said.items ++ said.Rule (rule.Needs (Some k) vec condition) ∷ [] → ((j : ℕ) → kept_of u.belonging j ≡ (if k.0 == j then kept_of t.belonging j ++ line ∷ [] else kept_of t.belonging j)) → length u.belonging ≡ length t.belonging
+    → saids_in u ≡ saids_in t ++ said.Rule (rule.Needs (Some k) vec condition) ∷ [] → ((j : ℕ) → kept_of u.belonging j ≡ (if k.0 == j then kept_of t.belonging j ++ line ∷ [] else kept_of t.belonging j)) → length u.belonging ≡ length t.belonging
     → Adds t (Needs (specs_of vec.items) (condition_of condition)) (record t { said = u.said; belonging = u.belonging })
 need t u line k v vec condition keeps number at owner more noted as_many =
     let vs = versions_in t in
@@ -116,7 +117,7 @@ need t u line k v vec condition keeps number at owner more noted as_many =
     let l : Line = Needs (specs_of vec.items) (condition_of condition) in
     adds_from t (record t { said = u.said; belonging = u.belonging }) (said.Rule (rule.Needs (Some k) vec condition)) l refl more refl (record {
       listing = listed_same lines l refl ∙ keeps.listing;
-      saids = rw more (are_said_push vs lines t.said.items l (said.Rule (rule.Needs (Some k) vec condition)) (as_long t) keeps.saids (v, at, owner));
+      saids = rw more (are_said_push vs lines (saids_in t) l (said.Rule (rule.Needs (Some k) vec condition)) (as_long t) keeps.saids (v, at, owner));
       packages = keeps.packages;
       locks = λ name. only_other (keeps.locks name) (line_grows lines l (Locks name)) (λ x. x);
       favoured = λ name. only_other (keeps.favoured name) (line_grows lines l (Favours name)) (λ x. x);
@@ -130,7 +131,7 @@ need t u line k v vec condition keeps number at owner more noted as_many =
     })
 
 pub limit : (t u : Table) (line : ℕ) (k : VersionNo) (v : Version) (spec : code.Spec) → IsTable t → line ≡ length (lines_in t) + 1 → slice_get (versions_in t) k.0 ≡ Some v → owner_below (lines_in t) ≡ Some v
-    → u.said.items ≡ t.said.items ++ said.Rule (rule.Limits (Some k) spec) ∷ [] → ((j : ℕ) → kept_of u.belonging j ≡ (if k.0 == j then kept_of t.belonging j ++ line ∷ [] else kept_of t.belonging j)) → length u.belonging ≡ length t.belonging
+    → saids_in u ≡ saids_in t ++ said.Rule (rule.Limits (Some k) spec) ∷ [] → ((j : ℕ) → kept_of u.belonging j ≡ (if k.0 == j then kept_of t.belonging j ++ line ∷ [] else kept_of t.belonging j)) → length u.belonging ≡ length t.belonging
     → Adds t (Limits (spec_of spec)) (record t { said = u.said; belonging = u.belonging })
 limit t u line k v spec keeps number at owner more noted as_many =
     let vs = versions_in t in
@@ -138,7 +139,7 @@ limit t u line k v spec keeps number at owner more noted as_many =
     let l : Line = Limits (spec_of spec) in
     adds_from t (record t { said = u.said; belonging = u.belonging }) (said.Rule (rule.Limits (Some k) spec)) l refl more refl (record {
       listing = listed_same lines l refl ∙ keeps.listing;
-      saids = rw more (are_said_push vs lines t.said.items l (said.Rule (rule.Limits (Some k) spec)) (as_long t) keeps.saids (v, at, owner));
+      saids = rw more (are_said_push vs lines (saids_in t) l (said.Rule (rule.Limits (Some k) spec)) (as_long t) keeps.saids (v, at, owner));
       packages = keeps.packages;
       locks = λ name. only_other (keeps.locks name) (line_grows lines l (Locks name)) (λ x. x);
       favoured = λ name. only_other (keeps.favoured name) (line_grows lines l (Favours name)) (λ x. x);
@@ -152,7 +153,7 @@ limit t u line k v spec keeps number at owner more noted as_many =
     })
 
 pub mark_unknown : (t u : Table) (line : ℕ) (k : VersionNo) (v : Version) (word : String Global) → IsTable t → line ≡ length (lines_in t) + 1 → slice_get (versions_in t) k.0 ≡ Some v → owner_below (lines_in t) ≡ Some v
-    → is_some (get nat_eq t.unknown k.0) ≡ false → u.said.items ≡ t.said.items ++ said.Rule (rule.Unknown k word) ∷ []
+    → is_some (get nat_eq t.unknown k.0) ≡ false → saids_in u ≡ saids_in t ++ said.Rule (rule.Unknown k word) ∷ []
     → ((j : ℕ) → kept_of u.belonging j ≡ (if k.0 == j then kept_of t.belonging j ++ line ∷ [] else kept_of t.belonging j)) → length u.belonging ≡ length t.belonging
     → ((j : ℕ) → get nat_eq u.unknown j ≡ update nat_eq (get nat_eq t.unknown) k.0 (Some line) j)
     → Adds t (Unknown (string_bytes word)) (record t { said = u.said; belonging = u.belonging; unknown = u.unknown })
@@ -162,7 +163,7 @@ mark_unknown t u line k v word keeps number at owner untold more noted as_many m
     let l : Line = Unknown (string_bytes word) in
     adds_from t (record t { said = u.said; belonging = u.belonging; unknown = u.unknown }) (said.Rule (rule.Unknown k word)) l refl more refl (record {
       listing = listed_same lines l refl ∙ keeps.listing;
-      saids = rw more (are_said_push vs lines t.said.items l (said.Rule (rule.Unknown k word)) (as_long t) keeps.saids (v, at, owner));
+      saids = rw more (are_said_push vs lines (saids_in t) l (said.Rule (rule.Unknown k word)) (as_long t) keeps.saids (v, at, owner));
       packages = keeps.packages;
       locks = λ name. only_other (keeps.locks name) (line_grows lines l (Locks name)) (λ x. x);
       favoured = λ name. only_other (keeps.favoured name) (line_grows lines l (Favours name)) (λ x. x);
@@ -179,14 +180,14 @@ mark_unknown t u line k v word keeps number at owner untold more noted as_many m
 -- ---- exclusions and favours
 
 pub exclude : (t u : Table) (line : ℕ) (k : VersionNo) (v : Version) (word : String Global) → IsTable t → line ≡ length (lines_in t) + 1 → slice_get (versions_in t) k.0 ≡ Some v → is_some (get nat_eq t.excluded k.0) ≡ false
-    → u.said.items ≡ t.said.items ++ said.Rule (rule.Exclude k word) ∷ [] → ((j : ℕ) → get nat_eq u.excluded j ≡ update nat_eq (get nat_eq t.excluded) k.0 (Some line) j) → Adds t (Exclude v (string_bytes word)) (record t { said = u.said; excluded = u.excluded })
+    → saids_in u ≡ saids_in t ++ said.Rule (rule.Exclude k word) ∷ [] → ((j : ℕ) → get nat_eq u.excluded j ≡ update nat_eq (get nat_eq t.excluded) k.0 (Some line) j) → Adds t (Exclude v (string_bytes word)) (record t { said = u.said; excluded = u.excluded })
 exclude t u line k v word keeps number at untold more marked =
     let vs = versions_in t in
     let lines = lines_in t in
     let l : Line = Exclude v (string_bytes word) in
     adds_from t (record t { said = u.said; excluded = u.excluded }) (said.Rule (rule.Exclude k word)) l refl more (ap (λ (x : Version). Exclude x (string_bytes word)) (numbered vs k v at)) (record {
       listing = listed_same lines l refl ∙ keeps.listing;
-      saids = rw more (are_said_push vs lines t.said.items l (said.Rule (rule.Exclude k word)) (as_long t) keeps.saids (slice_get_within vs k.0 v at));
+      saids = rw more (are_said_push vs lines (saids_in t) l (said.Rule (rule.Exclude k word)) (as_long t) keeps.saids (slice_get_within vs k.0 v at));
       packages = keeps.packages;
       locks = λ name. only_other (keeps.locks name) (line_grows lines l (Locks name)) (λ x. x);
       favoured = λ name. only_other (keeps.favoured name) (line_grows lines l (Favours name)) (λ x. x);
@@ -200,7 +201,7 @@ exclude t u line k v word keeps number at untold more marked =
     })
 
 pub favour : (t u : Table) (line : ℕ) (k : VersionNo) (v : Version) (name : List ℕ) → IsTable t → line ≡ length (lines_in t) + 1 → slice_get (versions_in t) k.0 ≡ Some v → name ≡ v.name → is_some (get_by_text t.favoured name) ≡ false
-    → u.said.items ≡ t.said.items ++ said.Favour k ∷ [] → ((name : List ℕ) → get_by_text u.favoured name ≡ update bytes_eq (get_by_text t.favoured) v.name (Some line) name) → u.favours.items ≡ t.favours.items ++ (line, k) ∷ []
+    → saids_in u ≡ saids_in t ++ said.Favour k ∷ [] → ((name : List ℕ) → get_by_text u.favoured name ≡ update bytes_eq (get_by_text t.favoured) v.name (Some line) name) → u.favours.items ≡ t.favours.items ++ (line, k) ∷ []
     → Adds t (Favour v) (record t { said = u.said; favoured = u.favoured; favours = u.favours })
 favour t u line k v name keeps number at same untold more favoured pushed =
     let none : get_by_text t.favoured v.name ≡ None = subst (λ (x : List ℕ). get_by_text t.favoured x ≡ None) same (none_from (get_by_text t.favoured name) untold) in
@@ -210,7 +211,7 @@ favour t u line k v name keeps number at same untold more favoured pushed =
     let grows : Grows (λ n. LineIs lines n IsFavour) (λ n. LineIs (lines ++ l ∷ []) n IsFavour) line (IsFavour (owner_below lines) l) = rw number (line_grows lines l IsFavour) in
     adds_from t (record t { said = u.said; favoured = u.favoured; favours = u.favours }) (said.Favour k) l refl more (ap (λ (x : Version). Favour x) (numbered vs k v at)) (record {
       listing = listed_same lines l refl ∙ keeps.listing;
-      saids = rw more (are_said_push vs lines t.said.items l (said.Favour k) (as_long t) keeps.saids (slice_get_within vs k.0 v at));
+      saids = rw more (are_said_push vs lines (saids_in t) l (said.Favour k) (as_long t) keeps.saids (slice_get_within vs k.0 v at));
       packages = keeps.packages;
       locks = λ name. only_other (keeps.locks name) (line_grows lines l (Locks name)) (λ x. x);
       favoured = keyed_new bytes_eq bytes_eq-Decides (get_by_text t.favoured) (get_by_text u.favoured) v.name line (λ name n. LineIs lines n (Favours name)) (λ name n. LineIs (lines ++ l ∷ []) n (Favours name)) (λ name. v.name ≡ name)
@@ -237,8 +238,8 @@ adds_version before after v k p name same updated adds = record {
 }
 
 -- whether a number is new, told by what the package was
-pub new_number : (o : Option Package) (p : Package) (k : ℕ) → Some p ≡ o → is_some (get nat_eq p.numbers k) ≡ is_some (number_in o k)
-new_number o p k is = rw (← is) (of_found (get nat_eq p.numbers k))
+pub new_number : (o : Option Package) (p : Package) (k : ℕ) → Some p ≡ o → is_some (beside p.numbers.items p.versions.items k) ≡ is_some (number_in o k)
+new_number o p k is = rw (← is) (of_found (beside p.numbers.items p.versions.items k))
   where
     of_found : (v : Option VersionNo) → is_some v ≡ is_some (option_map number_of v)
     of_found None = refl
@@ -255,9 +256,10 @@ was_new false there is e = absurd cc
 was_new true false is e = refl
 was_new true true is e = absurd cc
 
-pub adds_to_new : (fresh p : Package) (number : ℕ) (k : VersionNo) → fresh.versions.items ≡ [] → ((n : ℕ) → get nat_eq fresh.numbers n ≡ None) → AddsNumber (Some fresh) number k p → AddsNumber None number k p
+pub adds_to_new : (fresh p : Package) (number : ℕ) (k : VersionNo) → fresh.versions.items ≡ [] → fresh.numbers.items ≡ [] → AddsNumber (Some fresh) number k p → AddsNumber None number k p
 adds_to_new fresh p number k none no_numbers adds = record {
-  numbers = λ n. adds.numbers n ∙ rw (no_numbers n) refl;
+  kept = adds.kept;
+  numbers = λ n. adds.numbers n ∙ rw no_numbers refl;
   all = adds.all ∙ rw none refl;
 }
 
@@ -295,6 +297,18 @@ all_updated before after v k adds name =
       | inr apart ↦ ap numbers_in (adds.others name apart) ∙ rw apart refl
     ]
 
+-- each package is kept as before, or with the version
+packages_kept : (before after : List ℕ → Option Package) (v : Version) (k : VersionNo) → AddsVersion before v k after → ((name : List ℕ) (p : Package) → before name ≡ Some p → IsNumbered p) → (name : List ℕ) (p : Package) → after name ≡ Some p → IsNumbered p
+packages_kept before after v k adds kept name p is =
+    elim (cases_Bool (bytes_eq v.name name)) [
+      | inl same_name ↦
+          let same : v.name ≡ name = (bytes_eq-Decides v.name name).0 same_name in
+          let both : Some adds.added.0 ≡ Some p = sym adds.added.1 ∙ ap after same ∙ is in
+          let one : adds.added.0 ≡ p = cc in
+          subst IsNumbered one adds.added.2.kept
+      | inr apart ↦ kept name p (sym (adds.others name apart) ∙ is)
+    ]
+
 of_package_grows : (vs : List Version) (v : Version) (name : List ℕ) → Grows (IsOfPackage vs name) (IsOfPackage (vs ++ v ∷ []) name) (length vs) (v.name ≡ name)
 of_package_grows vs v name = record {
   kept = λ n h. (h.0, get_kept vs v h.0 n h.1, h.2);
@@ -303,7 +317,7 @@ of_package_grows vs v name = record {
 }
 
 pub list : (t u : Table) (k : VersionNo) (v : Version) → IsTable t → k.0 ≡ length (versions_in t) → (Contains (lines_in t) (Listed v) → ⊥) → AddsVersion (λ name. get_by_text t.packages name) v k (λ name. get_by_text u.packages name)
-    → versions_in u ≡ versions_in t ++ v ∷ [] → u.said.items ≡ t.said.items ++ said.Listed k ∷ [] → ((j : ℕ) → kept_of u.belonging j ≡ kept_of t.belonging j) → length u.belonging ≡ length t.belonging + 1
+    → versions_in u ≡ versions_in t ++ v ∷ [] → saids_in u ≡ saids_in t ++ said.Listed k ∷ [] → ((j : ℕ) → kept_of u.belonging j ≡ kept_of t.belonging j) → length u.belonging ≡ length t.belonging + 1
     → Adds t (Listed v) (record t { versions = u.versions; said = u.said; packages = u.packages; belonging = u.belonging })
 list t u k v keeps number unlisted adds versions more kept as_many =
     let vs = versions_in t in
@@ -311,16 +325,17 @@ list t u k v keeps number unlisted adds versions more kept as_many =
     let l : Line = Listed v in
     let w : Table = record t { versions = u.versions; said = u.said; packages = u.packages; belonging = u.belonging } in
     let here : slice_get (vs ++ v ∷ []) k.0 ≡ Some v = rw number (get_new vs v) in
-    let old : map (told (vs ++ v ∷ [])) t.said.items ≡ lines = all_told_more vs v t.said.items (λ n s at. (owner_below (take n lines), keeps.saids n s at)) in
-    let pushed : lines_in w ≡ map (told (vs ++ v ∷ [])) t.said.items ++ Listed (nth (vs ++ v ∷ []) k) ∷ [] = rw (versions, more) (map_push (told (vs ++ v ∷ [])) t.said.items (said.Listed k)) in
+    let old : map (told (vs ++ v ∷ [])) (saids_in t) ≡ lines = all_told_more vs v (saids_in t) (λ n s at. (owner_below (take n lines), keeps.saids n s at)) in
+    let pushed : lines_in w ≡ map (told (vs ++ v ∷ [])) (saids_in t) ++ Listed (nth (vs ++ v ∷ []) k) ∷ [] = rw (versions, more) (map_push (told (vs ++ v ∷ [])) (saids_in t) (said.Listed k)) in
     let said_now : lines_in w ≡ lines ++ l ∷ [] = pushed ∙ ap (λ (ls : List Line). ls ++ Listed (nth (vs ++ v ∷ []) k) ∷ []) old ∙ ap (λ (x : Version). lines ++ Listed x ∷ []) (numbered (vs ++ v ∷ []) k v here) in
     let above = λ (n : ℕ) (is : LineIs lines n (BelongsTo v)). unlisted (owner_listed lines n v (belongs_owner v lines n is)) in
     let none_bar = λ (n : ℕ) (is : LineIs lines n (Excludes v)). unlisted (excluded_listed t keeps v n is) in
     let none_mark = λ (n : ℕ) (is : LineIs lines n (MarksUnknownOf v)). unlisted (owner_listed lines n v (marks_owner v lines n is)) in
     let keeps_new : Keeps w (vs ++ v ∷ []) (lines ++ l ∷ []) = record {
       listing = listed_more lines v ∙ rw keeps.listing refl;
-      saids = rw more (are_said_push (vs ++ v ∷ []) lines t.said.items l (said.Listed k) (as_long t) (are_said_more vs v lines t.said.items keeps.saids) (slice_get_within (vs ++ v ∷ []) k.0 v here));
+      saids = rw more (are_said_push (vs ++ v ∷ []) lines (saids_in t) l (said.Listed k) (as_long t) (are_said_more vs v lines (saids_in t) keeps.saids) (slice_get_within (vs ++ v ∷ []) k.0 v here));
       packages = λ name. record {
+        kept = packages_kept (λ nm. get_by_text t.packages nm) (λ nm. get_by_text u.packages nm) v k adds (λ nm p is. (keeps.packages nm).kept p is) name;
         numbers = λ q. keyed_new same_version same_version_is (λ x. number_in (get_by_text t.packages x.name) x.number) (λ x. number_in (get_by_text u.packages x.name) x.number) v (length vs) (λ x n. slice_get vs n ≡ Some x) (λ x n. slice_get (vs ++ v ∷ []) n ≡ Some x) (λ x. v ≡ x)
             (λ x. rw (← number) (number_updated (λ nm. get_by_text t.packages nm) (λ nm. get_by_text u.packages nm) v k adds x)) (no_number t keeps v unlisted) (λ x. (keeps.packages x.name).numbers x.number) (λ x. get_grows vs v x) refl (λ x same. same) (record { name = name; number = q });
         all = keyed_more bytes_eq bytes_eq-Decides (λ nm. numbers_in (get_by_text t.packages nm)) (λ nm. numbers_in (get_by_text u.packages nm)) v.name (length vs) (λ nm. IsOfPackage vs nm) (λ nm. IsOfPackage (vs ++ v ∷ []) nm) (λ nm. v.name ≡ nm)
@@ -363,14 +378,14 @@ no_line Q zero h = absurd cc
 no_line Q (suc n) h = absurd cc
 
 -- a table of no line
-pub empty : (t : Table) → t.versions.items ≡ [] → t.said.items ≡ [] → t.packages.entries ≡ [] → t.locks.entries ≡ [] → t.favoured.entries ≡ [] → t.excluded.entries ≡ [] → t.unknown.entries ≡ [] → t.belonging ≡ [] → t.favours.items ≡ [] → IsTable t
+pub empty : (t : Table) → t.versions.items ≡ [] → saids_in t ≡ [] → t.packages.entries ≡ [] → t.locks.entries ≡ [] → t.favoured.entries ≡ [] → t.excluded.entries ≡ [] → t.unknown.entries ≡ [] → t.belonging ≡ [] → t.favours.items ≡ [] → IsTable t
 empty t versions saids packages locks favoured excluded unknown belonging favours =
     let vs : versions_in t ≡ [] = rw versions refl in
     let lines : lines_in t ≡ [] = rw saids refl in
     let keeps : Keeps t [] [] = record {
       listing = refl;
       saids = λ n s at. absurd (not_said n s (rw saids at at));
-      packages = λ name. record { numbers = λ k. no_only _ _ (rw packages refl) (λ n at. none_got n (record { name = name; number = k }) at); all = rw packages (no_all (IsOfPackage [] name) (λ n h. none_got n h.0 h.1)) };
+      packages = λ name. record { kept = λ p is. no_package (get_by_text t.packages name) p (rw packages refl) is; numbers = λ k. no_only _ _ (rw packages refl) (λ n at. none_got n (record { name = name; number = k }) at); all = rw packages (no_all (IsOfPackage [] name) (λ n h. none_got n h.0 h.1)) };
       locks = λ name. no_only _ _ (rw locks refl) (no_line (Locks name));
       favoured = λ name. no_only _ _ (rw favoured refl) (no_line (Favours name));
       excluded = λ k. no_only _ _ (rw excluded refl) (λ n h. none_got k h.0 h.1);
@@ -384,6 +399,9 @@ empty t versions saids packages locks favoured excluded unknown belonging favour
   where
     none_got : (n : ℕ) (v : Version) → slice_get [] n ≡ Some v → ⊥
     none_got n v e = cc
+
+    no_package : (o : Option Package) (p : Package) → o ≡ None → o ≡ Some p → IsNumbered p
+    no_package o p none is = absurd cc
 
     not_said : (n : ℕ) (s : Said) → slice_get [] n ≡ Some s → ⊥
     not_said n s e = cc

@@ -1,5 +1,5 @@
 -- A catalogue's lines as the code keeps them, and what its maps must have.
-use Rattle.std.specs.Prelude.{◌≡◌, ℕ, zero, suc, ◌<◌, ◌==◌, if◌then◌else◌, bytes_eq, Bool, false, not, ⊤, List, [], ◌++◌, ◌∷◌, map, length, take, Option, Some, None, slice_get, slice_index_or, string_bytes, option_map, nat_eq}
+use Rattle.std.specs.Prelude.{◌≡◌, ℕ, ◌<◌, ◌==◌, if◌then◌else◌, bytes_eq, Bool, false, not, ⊤, List, [], ◌++◌, ◌∷◌, map, length, take, Option, Some, None, slice_get, slice_index_or, string_bytes, option_map, nat_eq}
 use Rattle.std.specs.HashMap.{get, get_by_text}
 use Rattle.resolvo_text.specs.Line as says
 use Rattle.resolvo_text.specs.Line.{Version, Line}
@@ -11,9 +11,11 @@ use Rattle.resolvo_catalogue.specs.Belonging.{kept_of}
 use Rattle.resolvo_catalogue.specs.declared.rule.VersionNo.{VersionNo}
 use Rattle.resolvo_catalogue.specs.declared.rule.Rule.{Rule}
 use Rattle.resolvo_catalogue.specs.declared.rule.Rule.TheVariants as rule
-use Rattle.resolvo_catalogue.specs.declared.table.Said.{Said}
-use Rattle.resolvo_catalogue.specs.declared.table.Said.TheVariants as said
-use Rattle.resolvo_catalogue.specs.declared.table.Package.{Package}
+use Rattle.resolvo_catalogue.specs.declared.saids.Said.{Said}
+use Rattle.resolvo_catalogue.specs.declared.saids.Said.TheVariants as said
+use Rattle.resolvo_catalogue.specs.Held.{said_list}
+use Rattle.resolvo_catalogue.specs.declared.package.Package.{Package}
+use Rattle.resolvo_catalogue.specs.Numbered.{beside, IsNumbered}
 use Rattle.resolvo_catalogue.specs.declared.table.Table.{Table}
 
 -- ---- the lines
@@ -41,8 +43,11 @@ told versions (said.Rule r) = rule_line versions r
 abbrev pub versions_in : Table → List Version
 versions_in t = pair_versions t.versions.items
 
+abbrev pub saids_in : Table → List Said
+saids_in t = said_list t.said.rules.items t.said.held.items
+
 abbrev pub lines_in : Table → List Line
-lines_in t = map (told (versions_in t)) t.said.items
+lines_in t = map (told (versions_in t)) (saids_in t)
 
 -- ---- what is kept of them
 
@@ -63,17 +68,6 @@ IsSaid versions owner (said.Rule r) = IsRuleOf versions owner r
 abbrev pub AreSaid : List Version → List Line → List Said → Type 0
 AreSaid versions lines saids = (n : ℕ) (s : Said) → slice_get saids n ≡ Some s → IsSaid versions (owner_below (take n lines)) s
 
--- what is kept of line n, from 1
-abbrev pub said_at : List Said → ℕ → Option Said
-said_at saids zero = None
-said_at saids (suc n) = slice_get saids n
-
-abbrev pub rule_of : Said → Option Rule
-rule_of (said.Rule r) = Some r
-rule_of said.Nothing = None
-rule_of (said.Listed v) = None
-rule_of (said.Favour v) = None
-
 -- a lock of another version than this one
 abbrev pub is_lock_of_another : Rule → ℕ → Bool
 is_lock_of_another (rule.Lock locked) n = not (locked.0 == n)
@@ -87,18 +81,20 @@ is_lock_of_another (rule.Exclude excluded word) n = false
 -- the number of the package's version
 abbrev pub number_in : Option Package → ℕ → Option ℕ
 number_in None k = None
-number_in (Some p) k = option_map number_of (get nat_eq p.numbers k)
+number_in (Some p) k = option_map number_of (beside p.numbers.items p.versions.items k)
 
 abbrev pub numbers_in : Option Package → List ℕ
 numbers_in None = []
 numbers_in (Some p) = map number_of p.versions.items
 
 pub record IsPackage (versions : List Version) (name : List ℕ) (found : Option Package) : Type 0 where
+  pub kept : (p : Package) → found ≡ Some p → IsNumbered p
   pub numbers : (k : ℕ) → IsOnly (number_in found k) (λ n. slice_get versions n ≡ Some (record { name = name; number = k }))
   pub all : AreAll (numbers_in found) (IsOfPackage versions name)
 
 -- The package has this version besides those that it had.
 pub record AddsNumber (before : Option Package) (number : ℕ) (version : VersionNo) (after : Package) : Type 0 where
+  pub kept : IsNumbered after
   pub numbers : (k : ℕ) → number_in (Some after) k ≡ (if number == k then Some version.0 else number_in before k)
   pub all : numbers_in (Some after) ≡ numbers_in before ++ version.0 ∷ []
 
@@ -110,7 +106,7 @@ pub record AddsVersion (before : List ℕ → Option Package) (version : Version
 -- The table keeps these lines, of which these versions are listed.
 pub record Keeps (t : Table) (versions : List Version) (lines : List Line) : Type 0 where
   pub listing : listed lines ≡ versions
-  pub saids : AreSaid versions lines t.said.items
+  pub saids : AreSaid versions lines (saids_in t)
   pub packages : (name : List ℕ) → IsPackage versions name (get_by_text t.packages name)
   pub locks : (name : List ℕ) → IsOnly (get_by_text t.locks name) (λ n. LineIs lines n (Locks name))
   pub favoured : (name : List ℕ) → IsOnly (get_by_text t.favoured name) (λ n. LineIs lines n (Favours name))

@@ -6,8 +6,10 @@ mod belonging;
 mod catalogue;
 mod keeping;
 mod laws;
+mod package;
 mod request;
 mod rule;
+mod saids;
 mod table;
 
 pub use catalogue::Catalogue;

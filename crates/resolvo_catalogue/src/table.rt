@@ -11,34 +11,22 @@ ghost use Rattle.resolvo_text.specs.declared.line.LineFault.TheVariants.{Fault};
 ghost use Rattle.resolvo_catalogue.specs.Grammar.{MayFollow, IsCatalogueLine, line_at, owner_below};
 ghost use Rattle.resolvo_catalogue.specs.Questions.{number_of, IsOwner, IsOnly, LineIs, LocksAnother, Bars};
 ghost use Rattle.resolvo_catalogue.specs.Table.{AddsVersion, number_in};
+ghost use Rattle.resolvo_catalogue.specs.Numbered.{IsNumbered};
+ghost use Rattle.resolvo_catalogue.specs.declared.package.Package.{Package};
 
 use crate::belonging::Belonging;
 use crate::keeping::version_at;
+use crate::package::Package;
 use crate::rule::{Rule, VersionNo};
+use crate::saids::{Said, Saids};
 use resolvo_text::{Cond, Line, LineFault, Spec, Version, line_in};
 use std::alloc::{AllocError, Global};
 use std::collections::HashMap;
 
-/// What one line says.
-#[derive(Debug, Drop)]
-pub enum Said {
-    Nothing,
-    Listed(VersionNo),
-    Favour(VersionNo),
-    Rule(Rule),
-}
-
-/// The versions of a package in line order, and by their numbers.
-#[derive(Drop)]
-pub struct Package {
-    pub versions: Vec<VersionNo>,
-    pub numbers: HashMap<u32, VersionNo>,
-}
-
 #[derive(Drop)]
 pub struct Table {
     pub versions: Vec<(String, u32)>,
-    pub said: Vec<Said>,
+    pub said: Saids,
     pub packages: HashMap<String, Package>,
     /// The line that locks a version of the package.
     pub locks: HashMap<String, u32>,
@@ -53,33 +41,6 @@ pub struct Table {
     pub favours: Vec<(u32, VersionNo)>,
 }
 
-impl Package {
-    ghost use Rattle.resolvo_catalogue.specs.Table.{AddsNumber};
-
-    fn new(alloc: Global) -> Self
-        ensures versions { result.versions.items ≡ [] }
-        ensures numbers { (k : ℕ) → get nat_eq result.numbers k ≡ None }
-    {
-        Package {
-            versions: Vec::new(alloc),
-            numbers: HashMap::new(alloc),
-        }
-    }
-
-    /// Adds a version, if the package has none of this number; whether it was added.
-    fn add(&mut self, number: u32, version: VersionNo) -> Result<bool, AllocError>
-        ensures new { IfOk result (λ added. added ≡ not (is_some (get nat_eq self.old.numbers number))) }
-        ensures put { IfOk result (λ added. IsTrue added → AddsNumber (Some self.old) number version self.new) }
-    {
-        if self.numbers.contains_key(&number) {
-            return Ok(false);
-        }
-        self.numbers.insert(number, version)?;
-        self.versions.push(version)?;
-        Ok(true)
-    }
-}
-
 /// Adds a version to those of its package, if it isn't listed; whether it was added.
 fn add_version(
     packages: &mut HashMap<String, Package>,
@@ -87,6 +48,7 @@ fn add_version(
     version: &Version,
     number: VersionNo,
 ) -> Result<bool, AllocError>
+    requires kept { (name : List ℕ) (p : Package) → get_by_text packages.old name ≡ Some p → IsNumbered p }
     ensures new { IfOk result (λ added. added ≡ not (is_some (number_in (get_by_text packages.old (string_bytes version.now.name)) version.now.number))) }
     ensures put { IfOk result (λ added. IsTrue added → AddsVersion (λ name. get_by_text packages.old name) (version_of version.now) number (λ name. get_by_text packages.new name)) }
 {
@@ -101,7 +63,8 @@ fn add_version(
 
 impl Table {
     ghost use Rattle.resolvo_catalogue.specs.Belonging.{kept_of};
-    ghost use Rattle.resolvo_catalogue.specs.Table.{IsTable, Adds, lines_in, versions_in, numbers_in, said_at, rule_of, is_lock_of_another};
+    ghost use Rattle.resolvo_catalogue.specs.Table.{IsTable, Adds, lines_in, versions_in, saids_in, numbers_in, is_lock_of_another};
+    ghost use Rattle.resolvo_catalogue.specs.Held.{said_at, rule_of};
 
     pub fn new(alloc: Global) -> Self
         ensures table { IsTable result }
@@ -109,7 +72,7 @@ impl Table {
     {
         Table {
             versions: Vec::new(alloc),
-            said: Vec::new(alloc),
+            said: Saids::new(alloc),
             packages: HashMap::new(alloc),
             locks: HashMap::new(alloc),
             favoured: HashMap::new(alloc),
@@ -121,17 +84,18 @@ impl Table {
     }
 
     pub fn find(&self, name: &str, number: u32) -> Option<VersionNo>
+        requires { IsTable self.now }
         ensures { option_map number_of result ≡ number_in (get_by_text self.now.packages name.now) number }
     {
         let package = self.packages.get(name)?;
-        package.numbers.get(&number).copied()
+        package.find(number)
     }
 
     pub fn versions_of(&self, name: &str) -> &[VersionNo]
         ensures { map number_of result.now ≡ numbers_in (get_by_text self.now.packages name.now) }
     {
         match self.packages.get(name) {
-            Some(package) => &package.versions,
+            Some(package) => package.versions(),
             None => &[],
         }
     }
@@ -142,22 +106,10 @@ impl Table {
         self.belonging.lines_of(version)
     }
 
-    fn said_at(&self, line: u32) -> Option<&Said>
-        ensures { option_copied result ≡ said_at self.now.said.items line }
-    {
-        if line == 0 {
-            return None;
-        }
-        self.said.get((line - 1) as usize)
-    }
-
     pub fn rule(&self, line: u32) -> Option<&Rule>
-        ensures { option_copied result ≡ option_and_then rule_of (said_at self.now.said.items line) }
+        ensures { option_copied result ≡ option_and_then rule_of (said_at (saids_in self.now) line) }
     {
-        match self.said_at(line)? {
-            Said::Rule(rule) => Some(rule),
-            _ => None,
-        }
+        self.said.rule(line)
     }
 
     fn lock_of(&self, name: &str) -> Option<u32>
@@ -174,7 +126,7 @@ impl Table {
 
     /// Whether the line locks another version.
     fn locks_another(&self, line: u32, version: VersionNo) -> bool
-        ensures { result ≡ option_map_or (λ r. is_lock_of_another r version.0) (option_and_then rule_of (said_at self.now.said.items line)) false }
+        ensures { result ≡ option_map_or (λ r. is_lock_of_another r version.0) (option_and_then rule_of (said_at (saids_in self.now) line)) false }
     {
         match self.rule(line) {
             Some(rule) => rule.is_lock_of_another(version),

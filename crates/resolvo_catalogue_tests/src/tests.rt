@@ -19,7 +19,17 @@ const MARKET: &str =
 const ASKED: &str = "needs a if b\n#\nwish b 2\nlimits a 2\nneeds c 0..7 | b\nwish a 1\n";
 
 /// Texts of catalogues, and their least faulty lines.
-const CATALOGUES: [(&str, Option<u32>); 49] = [
+const CATALOGUES: [(&str, Option<u32>); 53] = [
+    ("version a 1\nversion a 2\nversion a 2", Some(3)),
+    ("version a 1\nversion a 2\nversion a 1", Some(3)),
+    (
+        "version a 2\nversion a 1\nversion a 3\nversion a 1",
+        Some(4),
+    ),
+    (
+        "version a 2\nversion a 1\nversion b 1\nversion a 3\nversion b 2",
+        None,
+    ),
     ("", None),
     ("\n", None),
     ("#\x00\r", None),
@@ -327,6 +337,33 @@ fn versions(rt: HostRuntime) -> Result<(), Fail> {
     lists_versions(&rt, &market);
     lists_versions_of_packages(&rt, &market);
     lists_lines_of_versions(&rt, &market);
+    Ok(())
+}
+
+/// Versions of one package that rise, fall and rise again.
+const SHUFFLED: &str =
+    "version a 2\nversion a 5\nversion a 9\nversion a 4\nversion a 0\nversion a 12\n";
+
+fn finds_shuffled(rt: &impl Abort, listed: &Catalogue) {
+    for (number, found) in &[
+        (0u32, Some(VersionNo(4))),
+        (1, None),
+        (2, Some(VersionNo(0))),
+        (3, None),
+        (4, Some(VersionNo(3))),
+        (5, Some(VersionNo(1))),
+        (9, Some(VersionNo(2))),
+        (10, None),
+        (12, Some(VersionNo(5))),
+        (13, None),
+    ] {
+        assert_eq!(rt; listed.find("a", *number), *found, "{number}");
+    }
+}
+
+#[test]
+fn versions_in_any_order(rt: HostRuntime) -> Result<(), Fail> {
+    finds_shuffled(&rt, &catalogue_of(rt.alloc(), SHUFFLED, 7)?);
     Ok(())
 }
 

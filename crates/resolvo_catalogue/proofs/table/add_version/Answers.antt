@@ -6,8 +6,8 @@ use Rattle.std.specs.Str.{bytes_eq}
 use Rattle.std.proofs.lemmas.Map.Text.{hash_map_updates_text}
 use Rattle.resolvo_text.specs.View.{version_of}
 use Rattle.resolvo_catalogue.specs.Table.{AddsNumber, number_in}
-use Rattle.resolvo_catalogue.specs.declared.rule.VersionNo.{VersionNo}
-use Rattle.resolvo_catalogue.specs.declared.table.Package.{Package}
+use Rattle.resolvo_catalogue.specs.Numbered.{beside}
+use Rattle.resolvo_catalogue.specs.declared.package.Package.{Package}
 use Rattle.resolvo_catalogue.proofs.TableSteps.{adds_version, adds_to_new, new_number}
 use Rattle.resolvo_catalogue.proofs.CatalogueFacts.{ok_map}
 use Rattle.resolvo_catalogue.proofs.table.add_version.Goals as goal
@@ -40,8 +40,13 @@ returns-clause-put c = λ _.
     let p = c.add-2.new.self in
     let none = c.in_default.ensures.value in
     let updated = hash_map_updates_text bs c.get_mut.follows.lender-at-none c.insert.new.self (Some p) c.in_ok-insert.ensures.updates in
-    let added = c.in_ok-add.ensures.new ∙ ap (λ (o : Option VersionNo). not (is_some o)) (c.new-package.ensures.numbers c.args.version.now.number) in
+    let added = c.in_ok-add.ensures.new ∙ ap (λ (ns : List ℕ). not (is_some (beside ns c.new-package.result.versions.items c.args.version.now.number))) c.new-package.ensures.numbers in
     let new = adds_to_new c.new-package.result p c.args.version.now.number c.args.number c.new-package.ensures.versions c.new-package.ensures.numbers (c.in_ok-add.ensures.put added) in
     let fresh = none ∙ ap (λ (x : List ℕ). get_by_text packages x) (c.as_str.ensures.value ∙ sym c.in_ok-clone.ensures.cases) in
     adds_version (λ name. get_by_text packages name) (λ name. get_by_text c.insert.new.self name) (version_of c.args.version.now) c.args.number p bs c.in_ok-clone.ensures.cases
     (subst (λ m. (q : List ℕ) → get_by_text c.insert.new.self q ≡ update bytes_eq (λ name. get_by_text m name) bs (Some p) q) c.get_mut.follows.holds-at-none updated) (subst (λ o. AddsNumber o c.args.version.now.number c.args.number p) fresh new)
+
+pub add-requires : goal.add-requires
+add-requires c =
+    let found = c.in-Some.ensures.value ∙ ap (λ (x : List ℕ). get_by_text c.args.packages.now x) c.as_str.ensures.value in
+    c.requires.kept (string_bytes c.args.version.now.name) c.in-Some.package.now (sym found)

@@ -1,9 +1,8 @@
-use Rattle.std.proofs.Common.{◌≡◌, ℕ, ◌+◌, ◌∷◌, [], ◌++◌, Some, length, sym, ap, subst, ◌∙◌, arith, List}
+use Rattle.std.proofs.Common.{◌≡◌, ◌+◌, ◌∷◌, [], Some, length, sym, ap, ◌∙◌, arith}
 use Rattle.std.specs.Prelude.{slice_get}
-use Rattle.std.specs.List.{slice_set}
 use Rattle.std.proofs.lemmas.List.{length-append, length-map}
 use Rattle.std.proofs.lemmas.Option.{slice_get-get_or}
-use Rattle.resolvo_catalogue.specs.Belonging.{kept_of, lists_of}
+use Rattle.resolvo_catalogue.specs.Belonging.{lists_of}
 use Rattle.resolvo_catalogue.specs.declared.belonging.Place.{Place}
 use Rattle.resolvo_catalogue.proofs.BelongingLemmas.{added}
 use Rattle.resolvo_catalogue.proofs.belonging.Belonging.add_line.Goals as goal

@@ -14,4 +14,4 @@ returns-clause-placed c = exclude_placed c.args.self.now c.requires.table (versi
 pub returns-clause-ok : goal.returns-clause-ok
 returns-clause-ok c =
     exclude c.args.self.now (record c.args.self.now { said = c.push.new.self; excluded = c.insert.new.self }) c.args.line c.in_ok-version.version (version_of c.args.version) c.args.word c.requires.table c.requires.line
-    c.in_ok-version.ensures.found (sym c.is_excluded.ensures ∙ c.if-is_excluded.false) c.in_ok-push.ensures.items c.in_ok-insert.ensures.updates.0
+    c.in_ok-version.ensures.found (sym c.is_excluded.ensures ∙ c.if-is_excluded.false) c.in_ok-push.ensures c.in_ok-insert.ensures.updates.0

@@ -24,4 +24,7 @@ returns-clause-ok c =
     let listed = ap (λ vs. map pair_version vs) c.in_ok-push.ensures.items ∙ map_push pair_version t.versions.items (record { 0 = c.args.version.name; 1 = c.args.version.number }) in
     let kept = empty_more t.belonging c.add_version-2.new.self c.in_ok-add_version-2.ensures in
     let as_many : length c.add_version-2.new.self ≡ length t.belonging + 1 = omega (arith, ap (λ xs. length xs) c.in_ok-add_version-2.ensures, length-append t.belonging ([] ∷ [])) in
-    list t u (record { 0 = c.len.result }) (version_of c.args.version) c.requires.table number (unlisted_by_number t c.requires.table (version_of c.args.version) (was_new c.in_ok-add_version.field-0 _ c.in_ok-add_version.ensures.new c.if-not-branch.false)) (c.in_ok-add_version.ensures.put c.if-not-branch.false) listed c.in_ok-push-2.ensures.items kept as_many
+    list t u (record { 0 = c.len.result }) (version_of c.args.version) c.requires.table number (unlisted_by_number t c.requires.table (version_of c.args.version) (was_new c.in_ok-add_version.field-0 _ c.in_ok-add_version.ensures.new c.if-not-branch.false)) (c.in_ok-add_version.ensures.put c.if-not-branch.false) listed c.in_ok-push-2.ensures kept as_many
+
+pub add_version-requires : goal.add_version-requires
+add_version-requires c = record { kept = λ name p is. (c.requires.table.packages name).kept p is }

@@ -18,4 +18,4 @@ pub returns-clause-ok : goal.returns-clause-ok
 returns-clause-ok c =
     let owner = c.in_ok-version.ensures.found in
     mark_unknown c.args.self.now (record c.args.self.now { said = c.push.new.self; belonging = c.add_line.new.self; unknown = c.insert.new.self }) c.args.line c.in_ok-version.version owner.0 c.args.word c.requires.table c.requires.line
-    owner.1 owner.2 (sym c.is_unknown.ensures ∙ c.if-is_unknown.false) c.in_ok-push.ensures.items c.in_ok-add_line.ensures.added c.in_ok-add_line.ensures.same c.in_ok-insert.ensures.updates.0
+    owner.1 owner.2 (sym c.is_unknown.ensures ∙ c.if-is_unknown.false) c.in_ok-push.ensures c.in_ok-add_line.ensures.added c.in_ok-add_line.ensures.same c.in_ok-insert.ensures.updates.0
