@@ -4,6 +4,7 @@ pub mod Origins
 pub mod Rules
 pub mod Starting
 pub mod Clauses
+pub mod Keeping
 pub mod Growth
 pub mod ChosenLemmas
 pub mod Choices

@@ -14,7 +14,7 @@ use Rattle.resolvo_search.specs.State.{lists}
 use Rattle.resolvo_search.specs.Propagation.{IsReady, AreCovered}
 use Rattle.resolvo_search.specs.Beginning.{Begun, IsRootClause, AddsVariable}
 use Rattle.resolvo_search.proofs.Literals.{has-cons}
-use Rattle.resolvo_search.proofs.Choosing.{ready_same, covered_same}
+use Rattle.resolvo_search.proofs.Readiness.{ready_same, covered_same}
 use Rattle.resolvo_coding.specs.declared.atom.ProofAtom.{ProofAtom}
 use Rattle.resolvo_coding.specs.declared.stated.Stated.{Stated}
 use Rattle.resolvo_coding.specs.declared.stated.Stated.TheVariants.{Root, Learnt}
@@ -79,7 +79,7 @@ pub gives_added : {N S : Type 0} (a : ProofAtom N S) (v : VariableId) (old new :
     → AddsVariable (kind_of a) v old.search new.search → new.watching ≡ old.watching → new.atoms.keys ≡ old.atoms.keys ++ a ∷ [] → new.stated ≡ old.stated → Gives a v old new
 gives_added {N} {S} a v old new coding fresh adds watching pushed stated = record {
   coding = record {
-    ready = subst (λ (w : Watching). IsReady new.search w) (sym watching) (ready_same old.search new.search old.watching coding.ready adds.state adds.clauses);
+    ready = subst (λ (w : Watching). IsReady new.search w) (sym watching) (ready_same old.search new.search old.watching coding.ready adds.state adds.clauses adds.tracker);
     covered = subst (λ (w : Watching). AreCovered new.search w) (sym watching) (covered_same old.search new.search old.watching coding.covered adds.clauses);
     kinds = adds.variables ∙ ap (λ (kinds : List VariableKind). kinds ++ kind_of a ∷ []) coding.kinds ∙ sym (ap (λ (atoms : List (ProofAtom N S)). Kinds.Root ∷ map kind_of atoms) pushed ∙ ap (λ (kinds : List VariableKind). Kinds.Root ∷ kinds) (map_push kind_of old.atoms.keys a));
     each = ap (λ (xs : Vec (Stated N S) Global). length xs.items) stated ∙ coding.each ∙ sym (ap length adds.clauses);

@@ -13,13 +13,11 @@ use resolvo_pool::id::ClauseId;
 use resolvo_pool::solver_id::SolverId;
 use resolvo_pool::want::R;
 use resolvo_search::analysis::Refusal;
-use resolvo_search::learning::pair_with;
 use resolvo_search::state::HeldClause;
 use resolvo_store::literal::Literal;
 
 impl<N: SolverId, S: SolverId> Coding<N, S> {
-    /// Adds a clause of some literals, which states a rule. It watches its first literal and the first
-    /// other one, or nothing where it has no other.
+    /// Adds a clause of some literals, which states a rule.
     pub fn state(&mut self, stated: Stated<N, S>, literals: Vec<Literal>) -> R<ClauseId>
         requires coding { IsCoding self.old }
         requires rule { IsSome (rule_of stated) }
@@ -28,19 +26,15 @@ impl<N: SolverId, S: SolverId> Coding<N, S> {
         ensures states { IfOk result (λ id. States stated literals.items id self.old self.new) }
         ensures ids { IsErrOf result Ids → length self.old.search.clauses ≡ 4294967295 }
     {
-        let watched = pair_with(literals.as_slice(), literals[0]);
         let causes = Vec::new(*literals.allocator());
-        let clause = self.search.add_clause(
-            &mut self.watching,
-            HeldClause { literals, causes },
-            watched,
-        )?;
+        let clause = self
+            .search
+            .add_clause(&mut self.watching, HeldClause { literals, causes })?;
         self.stated.push(stated)?;
         Ok(clause)
     }
 
-    /// Adds a clause that follows from others, and only denies. It watches its first literal and the first other one, or
-    /// nothing where it has no other.
+    /// Adds a clause that follows from others, and only denies.
     pub fn bar(&mut self, refusal: Refusal) -> R<ClauseId>
         requires coding { IsCoding self.old }
         requires some { 0 < length refusal.literals.items }
@@ -49,12 +43,9 @@ impl<N: SolverId, S: SolverId> Coding<N, S> {
         ensures ids { IsErrOf result Ids → length self.old.search.clauses ≡ 4294967295 }
     {
         let Refusal { literals, causes } = refusal;
-        let watched = pair_with(literals.as_slice(), literals[0]);
-        let clause = self.search.add_clause(
-            &mut self.watching,
-            HeldClause { literals, causes },
-            watched,
-        )?;
+        let clause = self
+            .search
+            .add_clause(&mut self.watching, HeldClause { literals, causes })?;
         self.stated.push(Stated::Learnt)?;
         Ok(clause)
     }

@@ -1,9 +1,9 @@
 -- Propagation that went to the trail's end is complete.
-use Rattle.std.proofs.Common.{◌≡◌, ℕ, zero, suc, ◌+◌, ◌<◌, ◌≤◌, ◌⊎◌, inl, inr, Bool, true, false, List, [], ◌∷◌, ◌++◌, reverse, take, length, get_or, Option, Some, None, refl, sym, ◌∙◌, ap, subst, arith}
+use Rattle.std.proofs.Common.{◌≡◌, ℕ, zero, suc, ◌+◌, ◌-◌, ◌<◌, ◌≤◌, ◌^◌, ◌⊎◌, inl, inr, true, false, not, List, [], ◌∷◌, ◌++◌, reverse, take, length, get_or, Vec, Global, Option, Some, None, refl, sym, ◌∙◌, ap, subst, arith}
 use Rattle.std.specs.Prelude.{is_some, slice_get, min}
 use Rattle.std.specs.Option.{option_map}
 use Rattle.std.proofs.lemmas.Bool.{both_ways, cases_Bool}
-use Rattle.std.proofs.lemmas.List.{take_more, append-nil, length-append, length-reverse}
+use Rattle.std.proofs.lemmas.List.{take_more, length-append, length-reverse}
 use Rattle.resolvo_store.specs.Signed.{Signed, negation, same_literal, has}
 use Rattle.resolvo_store.specs.Clauses.{yes, root}
 use Rattle.resolvo_store.specs.Watches.{pair_at}
@@ -14,16 +14,19 @@ use Rattle.resolvo_store.specs.declared.decision.Decision.{Decision}
 use Rattle.resolvo_store.proofs.Watched.{not_same}
 use Rattle.resolvo_search.specs.declared.state.SearchState.{SearchState}
 use Rattle.resolvo_search.specs.declared.state.HeldClause.{HeldClause}
+use Rattle.resolvo_search.specs.declared.state.VariableKind.{VariableKind}
 use Rattle.resolvo_search.specs.declared.watching.Watching.{Watching}
 use Rattle.resolvo_search.specs.declared.watching.Single.{Single}
 use Rattle.resolvo_search.specs.Known.{IsFalseUnder, Forces, clause_at}
-use Rattle.resolvo_search.specs.Entries.{made_true, before, IsTrail, IsRooted, StandsOn}
+use Rattle.resolvo_search.specs.Entries.{literal_of, made_true, before}
 use Rattle.resolvo_search.specs.State.{count_of, history, clauses_of, IsState}
-use Rattle.resolvo_search.specs.Propagation.{IsReady, AreCovered, AreSingles, IsOnly, HasSingle, AllTrue, Guards, IsWalkedTo, Extends, Walked, Running, IsBroken, Conflicts, IsQuiet, IsComplete, IsSingleSet, IsTaken, SetsSingles}
-use Rattle.resolvo_search.proofs.Trails.{consistent, before_all, length_le, root_known}
+use Rattle.resolvo_search.specs.Propagation.{IsReady, IsNoted, Waits, SameWatching, last_taken, AreCovered, AreSingles, IsOnly, HasSingle, AllTrue, Guards, IsWalkedTo, Extends, Walked, Running, IsBroken, Conflicts, IsQuiet, IsComplete, IsSingleSet, IsTaken, SetsSingles}
+use Rattle.resolvo_search.specs.Waiting.{Settles}
+use Rattle.resolvo_search.proofs.Literals.{negation-negation}
+use Rattle.resolvo_search.proofs.Trails.{consistent, before_all, entry_read, entry_in_range, length_le, root_known}
 use Rattle.resolvo_search.proofs.Clauses.{length-lists}
-use Rattle.resolvo_search.proofs.Visiting.{ready_extends}
 use Rattle.resolvo_search.proofs.Extending.{extends_more, still_true, same_clauses}
+use Rattle.resolvo_search.proofs.Readiness.{fits_same, walked_same, ready_extends, front_extends, same_watching, watching_more}
 
 all_true_more : (s t : SearchState) (xs : List Single) → Extends s t → AllTrue (made_true (history s)) xs → AllTrue (made_true (history t)) xs
 all_true_more s t [] e a = tt
@@ -52,13 +55,14 @@ single_at cs xs i x a h is = subst (λ (y : Single). (y.clause.0 < length cs) ×
 pub single_alone : (o s : SearchState) (x : Single) → Extends o s → IsOnly (clause_at (clauses_of o) x.clause.0) x.literal → IsOnly (clause_at (clauses_of s) x.clause.0) x.literal
 single_alone o s x e only = subst (λ (cs : List (List Signed)). IsOnly (clause_at cs x.clause.0) x.literal) (sym (same_clauses o s e)) only
 
-pub single_breaks : (o s t : SearchState) (x : Single) → Extends o s → x.clause.0 < length (clauses_of o) → IsOnly (clause_at (clauses_of o) x.clause.0) x.literal → IsSingleSet x s t false → Extends o t × IsBroken x.clause.0 t
-single_breaks o s t x e below only (same, f) =
+pub single_breaks : (o s t : SearchState) (x : Single) → Extends o s → s.tracker.front ≡ o.tracker.front → x.clause.0 < length (clauses_of o) → IsOnly (clause_at (clauses_of o) x.clause.0) x.literal → IsSingleSet x s t false → Extends o t × (t.tracker.front ≡ o.tracker.front) × IsBroken x.clause.0 t
+single_breaks o s t x e front below only (same, f) =
     let count : length (clauses_of o) ≡ length o.clauses = length-lists o.clauses in
     let below' : x.clause.0 < length o.clauses = omega arith in
     let here = single_alone o s x e only in
-    subst (λ (u : SearchState). Extends o u × IsBroken x.clause.0 u) (sym same) (
+    subst (λ (u : SearchState). Extends o u × (u.tracker.front ≡ o.tracker.front) × IsBroken x.clause.0 u) (sym same) (
       e,
+      front,
       record {
         in_range = subst (λ (cs : List HeldClause). x.clause.0 < length cs) (sym e.same.clauses) below';
         falls = λ m h. subst (λ (l : Signed). has (made_true (history s)) (negation l) ≡ true) (sym (here.alone m h)) f;
@@ -72,70 +76,60 @@ entries_bounded s state =
     let b : length (history s) ≡ length s.tracker.trail = length-reverse s.tracker.trail in
     omega arith
 
--- the front alone was set
-pub with_front : (s : SearchState) (t : Tracked) → IsState s → t.trail ≡ s.tracker.trail → IsState (record s { tracker = t })
-with_front s t state same = record {
-  trail = subst (λ (xs : List Entry). IsTrail (count_of s) (clauses_of s) (reverse xs)) (sym same) state.trail;
-  derived = state.derived;
-  in_range = state.in_range;
-  small = state.small;
-  floor_low = state.floor_low;
-  rooted = subst (λ (xs : List Entry). IsRooted (reverse xs)) (sym same) state.rooted;
+-- before the next entry is taken: the singles were gone over, and no clause waits
+pub running_starts : (o r s t : SearchState) (v w : Watching) → SetsSingles v.assertions.items o r → SetsSingles v.learnt.items r s → Settles s t v w → ((n : ℕ) → Waits n w → ⊥) → Running o t v w
+running_starts o r s t v w rules learnt settles settled = record {
+  watching = settles.watching;
+  settled = settled;
+  fits = settles.ready.fits;
+  extends = extends_more o s t (extends_more o r s rules.extends learnt.extends) settles.extends;
+  walked = settles.ready.walked;
+  assertions = all_true_more s t v.assertions.items settles.extends (all_true_more r s v.assertions.items learnt.extends rules.set);
+  learnt = all_true_more s t v.learnt.items settles.extends learnt.set;
+  in_range = settles.ready.front;
 }
 
-pub front_extends : (s : SearchState) (t : Tracked) → IsState s → t.trail ≡ s.tracker.trail → Extends s (record s { tracker = t })
-front_extends s t state same = record {
-  state = with_front s t state same;
-  same = record { variables = refl; floor = refl; clauses = refl };
-  more = [];
-  added = same ∙ sym (append-nil s.tracker.trail);
-  choices = λ e older stands choice. subst (λ (xs : List Entry). StandsOn (reverse xs) e older) same stands;
-}
+-- after the singles were gone over the watches are ready still
+pub singles_ready : (o r s : SearchState) (w : Watching) (xs ys : List Single) → IsReady o w → SetsSingles xs o r → SetsSingles ys r s → IsReady s w
+singles_ready o r s w xs ys ready rules learnt = ready_extends r s w (ready_extends o r w ready rules.extends rules.front) learnt.extends learnt.front
 
--- before the first entry was walked
-pub running_starts : (o a b s : SearchState) (w : Watching) → IsReady o w → Extends o a → a.tracker.front ≡ 0 → SetsSingles w.assertions.items a b → SetsSingles w.learnt.items b s → Running o s w w
-running_starts o a b s w ready began zero_front rules learnt =
-    let e : Extends o s = extends_more o a s began (extends_more a b s rules.extends learnt.extends) in
-    let front : s.tracker.front ≡ 0 = learnt.front ∙ rules.front ∙ zero_front in
-    record {
-      watching = record { assertions = refl; learnt = refl; pairs = λ n h. h };
-      ready = ready_extends o s w ready e;
-      extends = e;
-      walked = subst (λ (k : ℕ). IsWalkedTo k s w) (sym front) (λ n q h. record { first = λ f. absurd (both_ways false refl f); second = λ f. absurd (both_ways false refl f) });
-      assertions = all_true_more b s w.assertions.items learnt.extends rules.set;
-      learnt = learnt.set;
-      in_range = omega arith;
-    }
-
-pub running_goes_on : (o s u t : SearchState) (v w x : Watching) → Running o s v w → s.tracker.front < length s.tracker.trail → Extends s u → u.tracker.front ≡ s.tracker.front + 1 → Walked (s.tracker.front + 1) u t w x → Running o t v x
-running_goes_on o s u t v w x run h moved front walked =
+pub running_goes_on : (o s u t : SearchState) (v w x : Watching) (l : Signed) → Running o s v w → IsTaken s u (Some l) → Walked (last_taken u + 1) u t w x → Running o t v x
+running_goes_on o s u t v w x l run taken walked =
+    let within : s.tracker.front < length s.tracker.trail = taken.0.in_range in
     let grown : length t.tracker.trail ≡ length u.tracker.trail + length walked.extends.more = ap length walked.extends.added ∙ length-append u.tracker.trail walked.extends.more in
-    let grown' : length u.tracker.trail ≡ length s.tracker.trail + length moved.more = ap length moved.added ∙ length-append s.tracker.trail moved.more in
-    let e : Extends s t = extends_more s u t moved walked.extends in
-    let here : t.tracker.front ≡ s.tracker.front + 1 = walked.front ∙ front in
+    let long : length u.tracker.trail ≡ length s.tracker.trail = ap length taken.2 in
+    let e : Extends s t = extends_more s u t taken.1 walked.extends in
+    let kept : t.tracker.front ≡ u.tracker.front = walked.front in
+    let moved : u.tracker.front ≡ s.tracker.front + 1 = taken.3 in
+    let here : last_taken u + 1 ≡ t.tracker.front = omega arith in
     record {
-      watching = record { assertions = walked.watching.assertions ∙ run.watching.assertions; learnt = walked.watching.learnt ∙ run.watching.learnt; pairs = λ n p. run.watching.pairs n (walked.watching.pairs n p) };
-      ready = walked.ready;
+      watching = watching_more v w x run.watching walked.watching;
+      settled = λ n waits. run.settled n (walked.watching.waited n waits);
+      fits = walked.fits;
       extends = extends_more o s t run.extends e;
-      walked = subst (λ (k : ℕ). IsWalkedTo k t x) (sym here) walked.walked;
+      walked = subst (λ (k : ℕ). IsWalkedTo k t x) here walked.walked;
       assertions = all_true_more s t v.assertions.items e run.assertions;
       learnt = all_true_more s t v.learnt.items e run.learnt;
       in_range = omega arith;
     }
 
-pub running_breaks : (n : ℕ) (o s u t : SearchState) (v w x : Watching) → Running o s v w → Extends s u → Conflicts n u t w x → Conflicts n o t v x
-running_breaks n o s u t v w x run moved c = record {
-  watching = record { assertions = c.watching.assertions ∙ run.watching.assertions; learnt = c.watching.learnt ∙ run.watching.learnt; pairs = λ m p. run.watching.pairs m (c.watching.pairs m p) };
-  ready = c.ready;
-  extends = extends_more o s t run.extends (extends_more s u t moved c.extends);
-  broken = c.broken;
-}
+-- a step of the walk leaves fewer entries
+pub running_smaller : (o s u t : SearchState) (v w x : Watching) (l : Signed) → Running o s v w → IsTaken s u (Some l) → Walked (last_taken u + 1) u t w x → count_of t - t.tracker.front < count_of s - s.tracker.front
+running_smaller o s u t v w x l run taken walked =
+    let within : s.tracker.front < length s.tracker.trail = taken.0.in_range in
+    let bound : length s.tracker.trail ≤ count_of s = entries_bounded s run.extends.state in
+    let same : count_of t ≡ count_of s = ap (λ (xs : Vec VariableKind Global). length xs.items) (walked.extends.same.variables ∙ taken.1.same.variables) in
+    let kept : t.tracker.front ≡ u.tracker.front = walked.front in
+    let moved : u.tracker.front ≡ s.tracker.front + 1 = taken.3 in
+    omega arith
+
+-- a conflict after more of the trail
+pub conflicts_later : (n : ℕ) (o s t : SearchState) (v w x : Watching) → SameWatching v w → Extends o s → Conflicts n s t w x → Conflicts n o t v x
+conflicts_later n o s t v w x same e c = record { watching = watching_more v w x same c.watching; ready = c.ready; extends = extends_more o s t e c.extends; broken = c.broken }
 
 -- a clause of one literal is broken
-pub singles_break : (n : ℕ) (o a s : SearchState) (w : Watching) → IsReady o w → Extends o a → Extends a s × IsBroken n s → Conflicts n o s w w
-singles_break n o a s w ready began (e, broken) =
-    let all : Extends o s = extends_more o a s began e in
-    record { watching = record { assertions = refl; learnt = refl; pairs = λ n h. h }; ready = ready_extends o s w ready all; extends = all; broken = broken }
+pub singles_break : (n : ℕ) (o s : SearchState) (w : Watching) → IsReady o w → Extends o s × (s.tracker.front ≡ o.tracker.front) × IsBroken n s → Conflicts n o s w w
+singles_break n o s w ready (e, front, broken) = record { watching = same_watching w; ready = ready_extends o s w ready e front; extends = e; broken = broken }
 
 literal_set : (known : List Signed) (xs : List Single) (x : Single) → AllTrue known xs → HasSingle xs x → has known x.literal ≡ true
 literal_set known [] x a h = absurd h
@@ -161,25 +155,54 @@ quiet_single o s v xs n x e alone set number stands =
     let here : clause_at (clauses_of s) n ≡ clause_at (clauses_of o) x.clause.0 = ap (λ (cs : List (List Signed)). clause_at cs n) (same_clauses o s e) ∙ ap (clause_at (clauses_of o)) (sym number) in
     inl (x.literal, subst (λ (c : List Signed). has c x.literal ≡ true) (sym here) (clause_alone (clauses_of o) xs x alone stands), literal_set (made_true (history s)) xs x set stands)
 
-pub running_ends : (o s : SearchState) (v w : Watching) → Running o s v w → AreCovered o v → length s.tracker.trail ≤ s.tracker.front → IsComplete o s v w
-running_ends o s v w run covers h =
-    let low : s.tracker.front ≤ length s.tracker.trail = run.in_range in
-    let all : s.tracker.front ≡ length s.tracker.trail = omega arith in
-    let walked : IsWalkedTo (length s.tracker.trail) s w = subst (λ (n : ℕ). IsWalkedTo n s w) all run.walked in
-    record { watching = run.watching; ready = run.ready; extends = run.extends; quiet = λ n below. go walked n below (pair_at w.watched.items n) refl }
+-- each clause is quiet where all of the trail was walked
+running_quiet : (o s : SearchState) (v w : Watching) → Running o s v w → AreCovered o v → length s.tracker.trail ≤ s.tracker.front → (n : ℕ) → n < length s.clauses → IsQuiet (made_true (history s)) (clause_at (clauses_of s) n)
+running_quiet o s v w run covers h n below = go (pair_at w.watched.items n) refl
   where
-    covered : (n : ℕ) → (n ≡ 0) ⊎ ((x : Single) × (x.clause.0 ≡ n) × (HasSingle v.assertions.items x ⊎ HasSingle v.learnt.items x)) → IsQuiet (made_true (history s)) (clause_at (clauses_of s) n)
-    covered n (inl first) =
+    known : List Signed
+    known = made_true (history s)
+
+    walked : IsWalkedTo (length s.tracker.trail) s w
+    walked =
+        let low : s.tracker.front ≤ length s.tracker.trail = run.in_range in
+        let all : s.tracker.front ≡ length s.tracker.trail = omega arith in
+        subst (λ (k : ℕ). IsWalkedTo k s w) all run.walked
+
+    covered : pair_at w.watched.items n ≡ None → (n ≡ 0) ⊎ (IsNoted n v ⊎ Waits n v) → IsQuiet known (clause_at (clauses_of s) n)
+    covered none (inl first) =
         let here : clause_at (clauses_of s) n ≡ clause_at (clauses_of o) 0 = ap (λ (cs : List (List Signed)). clause_at cs n) (same_clauses o s run.extends) ∙ ap (clause_at (clauses_of o)) first in
         inl (yes root, subst (λ (c : List Signed). has c (yes root) ≡ true) (sym here) covers.first, root_known (history s) run.extends.state.rooted)
-    covered n (inr (x, number, inl stands)) = quiet_single o s v v.assertions.items n x run.extends covers.assertions run.assertions number stands
-    covered n (inr (x, number, inr stands)) = quiet_single o s v v.learnt.items n x run.extends covers.learnt run.learnt number stands
+    covered none (inr (inl (x, number, inl stands))) = quiet_single o s v v.assertions.items n x run.extends covers.assertions run.assertions number stands
+    covered none (inr (inl (x, number, inr stands))) = quiet_single o s v v.learnt.items n x run.extends covers.learnt run.learnt number stands
+    covered none (inr (inr waits)) = absurd (run.settled n (run.watching.waits n waits none))
 
-    go : IsWalkedTo (length s.tracker.trail) s w → (n : ℕ) → n < length s.clauses → (p : Option WatchedLiterals) → pair_at w.watched.items n ≡ p → IsQuiet (made_true (history s)) (clause_at (clauses_of s) n)
-    go walked n below (Some p) is =
-        quiet_pair (made_true (history s)) (clause_at (clauses_of s) n) p (run.ready.own n p is).first (run.ready.own n p is).second (run.ready.fit.differ n p is)
-        (subst (λ (ds : List Entry). Guards (made_true ds) (made_true (history s)) p) (before_all s.tracker.trail) (walked n p is))
-    go walked n below None is = covered n (covers.covered n (subst (λ (cs : List HeldClause). n < length cs) run.extends.same.clauses below) (run.watching.pairs n is))
+    go : (p : Option WatchedLiterals) → pair_at w.watched.items n ≡ p → IsQuiet known (clause_at (clauses_of s) n)
+    go (Some p) is =
+        quiet_pair known (clause_at (clauses_of s) n) p (run.fits.own n p is).first (run.fits.own n p is).second (run.fits.fit.differ n p is)
+        (subst (λ (ds : List Entry). Guards (made_true ds) known p) (before_all s.tracker.trail) (walked n p is))
+    go None is = covered is (covers.covered n (subst (λ (cs : List HeldClause). n < length cs) run.extends.same.clauses below) (run.watching.pairs n is))
+
+pub running_ends : (o s u : SearchState) (v w : Watching) → Running o s v w → AreCovered o v → IsTaken s u None → IsComplete o u v w
+running_ends o s u v w run covers (end, e, same, front) =
+    let low : s.tracker.front ≤ length s.tracker.trail = run.in_range in
+    let long : length u.tracker.trail ≡ length s.tracker.trail = ap length same in
+    let here : s.tracker.front ≡ u.tracker.front = omega arith in
+    record {
+      watching = run.watching;
+      ready = record {
+        state = e.state;
+        fits = fits_same s u w run.fits e.same.clauses;
+        front = omega arith;
+        walked = subst (λ (k : ℕ). IsWalkedTo k u w) here (walked_same s u s.tracker.front w same run.walked);
+      };
+      extends = extends_more o s u run.extends e;
+      front = omega arith;
+      settled = run.settled;
+      quiet = λ n below.
+          subst (λ (xs : List Entry). IsQuiet (made_true (reverse xs)) (clause_at (clauses_of u) n)) (sym same)
+          (subst (λ (cs : List (List Signed)). IsQuiet (made_true (history s)) (clause_at cs n)) (sym (same_clauses s u e))
+          (running_quiet o s v w run covers end n (subst (λ (cs : List HeldClause). n < length cs) e.same.clauses below)));
+    }
 
 -- a quiet clause is not wholly false
 pub quiet_not_broken : (s : SearchState) (clause : List Signed) → IsState s → IsQuiet (made_true (history s)) clause → IsFalseUnder (made_true (history s)) clause → ⊥
@@ -197,41 +220,49 @@ quiet_not_forced s clause l state (inr q) f = elim (f.forced.others q.0 q.2) [
   | inr e ↦ both_ways _ q.5 e
 ]
 
--- whether an entry stands at a place
-entry_at : (xs : List Entry) (n : ℕ) → (is_some (option_map (λ (e : Entry). e.decision) (slice_get xs n)) ≡ true → n < length xs) × (is_some (option_map (λ (e : Entry). e.decision) (slice_get xs n)) ≡ false → length xs ≤ n)
-entry_at [] n = (λ e. absurd (both_ways false refl e), λ e. omega arith)
-entry_at (x ∷ xs) zero = (λ e. omega arith, λ e. absurd (both_ways true e refl))
-entry_at (x ∷ xs) (suc n) = let r = entry_at xs n in (λ e. let a : n < length xs = r.0 e in omega arith, λ e. let a : length xs ≤ n = r.1 e in omega arith)
+none_behind : (xs : List Entry) (k : ℕ) → None ≡ option_map (λ (e : Entry). e.decision) (slice_get xs k) → length xs ≤ k
+none_behind [] k e = omega arith
+none_behind (x ∷ xs) zero e = absurd (both_ways false refl (ap is_some e))
+none_behind (x ∷ xs) (suc k) e = let low : length xs ≤ k = none_behind xs k e in omega arith
 
--- the front moved behind the next entry, or there was none
-pub taken : (s : SearchState) (t : Tracked) (o : Option Decision) (b : Bool) → IsState s → o ≡ option_map (λ (e : Entry). e.decision) (slice_get s.tracker.trail s.tracker.front) → t ≡ record s.tracker { front = min (s.tracker.front + 1) (length s.tracker.trail) } → b ≡ is_some o → IsTaken s (record s { tracker = t }) b
-taken s t o b state read moved is = go b (is ∙ ap is_some read)
+-- the entry whose decision was read
+read_entry : (xs : List Entry) (k : ℕ) (d : Decision) → Some d ≡ option_map (λ (e : Entry). e.decision) (slice_get xs k) → (k < length xs) × (e : Entry) × (get_or xs k e ≡ e) × (e.decision ≡ d)
+read_entry [] k d e = absurd (both_ways true (ap is_some e) refl)
+read_entry (x ∷ xs) zero d e = (omega arith, x, refl, (let same : x.decision ≡ d = cc in same))
+read_entry (x ∷ xs) (suc k) d e = let (low, y, at, is) = read_entry xs k d e in (omega arith, y, at, is)
+
+-- no entry stands behind the front
+pub taken_none : (s : SearchState) (t : Tracked) → IsState s → None ≡ option_map (λ (e : Entry). e.decision) (slice_get s.tracker.trail s.tracker.front) → t ≡ record s.tracker { front = min (s.tracker.front + 1) (length s.tracker.trail) } → IsTaken s (record s { tracker = t }) None
+taken_none s t state read moved =
+    let trail : t.trail ≡ s.tracker.trail = ap (λ (x : Tracked). x.trail) moved in
+    let front : t.front ≡ min (s.tracker.front + 1) (length s.tracker.trail) = ap (λ (x : Tracked). x.front) moved in
+    let low : length s.tracker.trail ≤ s.tracker.front = none_behind s.tracker.trail s.tracker.front read in
+    (low, front_extends s t state trail, trail, omega arith)
+
+-- a decision's variable is one of the variables
+pub decision_small : (s : SearchState) (d : Decision) → IsState s → Some d ≡ option_map (λ (e : Entry). e.decision) (slice_get s.tracker.trail s.tracker.front) → d.variable.0 < 2147483648
+decision_small s d state read =
+    let (low, e, at, is) = read_entry s.tracker.trail s.tracker.front d read in
+    let bound : (get_or s.tracker.trail s.tracker.front e).decision.variable.0 < count_of s = entry_in_range (count_of s) (clauses_of s) s.tracker.trail s.tracker.trail s.tracker.front e state.trail low refl in
+    let same : (get_or s.tracker.trail s.tracker.front e).decision.variable.0 ≡ d.variable.0 = ap (λ (x : Entry). x.decision.variable.0) at ∙ ap (λ (x : Decision). x.variable.0) is in
+    let small : count_of s < 2 ^ 31 = state.small in
+    omega arith
+
+-- the entry at the front was taken
+pub taken_some : (s : SearchState) (t : Tracked) (d : Decision) (l : Signed) → IsState s → Some d ≡ option_map (λ (e : Entry). e.decision) (slice_get s.tracker.trail s.tracker.front) → t ≡ record s.tracker { front = min (s.tracker.front + 1) (length s.tracker.trail) }
+    → l ≡ record { variable = d.variable; positive = not d.value } → IsTaken s (record s { tracker = t }) (Some l)
+taken_some s t d l state read moved is =
+    let (low, e, at, same) = read_entry s.tracker.trail s.tracker.front d read in
+    let trail : t.trail ≡ s.tracker.trail = ap (λ (x : Tracked). x.trail) moved in
+    let front : t.front ≡ min (s.tracker.front + 1) (length s.tracker.trail) = ap (λ (x : Tracked). x.front) moved in
+    let next : before s.tracker.trail (s.tracker.front + 1) ≡ e ∷ before s.tracker.trail s.tracker.front = entry_read s.tracker.trail s.tracker.trail s.tracker.front e low refl ∙ ap (λ (x : Entry). x ∷ before s.tracker.trail s.tracker.front) at in
+    let made : of_decision d ≡ negation l = sym (negation-negation (of_decision d)) ∙ ap negation (sym is) in
+    let literal : literal_of e ≡ negation l = ap of_decision same ∙ made in (
+      record { in_range = low; entry = ap made_true next ∙ ap (λ (x : Signed). x ∷ made_true (before s.tracker.trail s.tracker.front)) literal },
+      front_extends s t state trail,
+      trail,
+      omega arith,
+    )
   where
-    same : t.trail ≡ s.tracker.trail
-    same = ap (λ (x : Tracked). x.trail) moved
-
-    front : t.front ≡ min (s.tracker.front + 1) (length s.tracker.trail)
-    front = ap (λ (x : Tracked). x.front) moved
-
-    go : (c : Bool) → c ≡ is_some (option_map (λ (e : Entry). e.decision) (slice_get s.tracker.trail s.tracker.front)) → IsTaken s (record s { tracker = t }) c
-    go true e =
-        let within : s.tracker.front < length s.tracker.trail = (entry_at s.tracker.trail s.tracker.front).0 (sym e) in
-        let f : t.front ≡ min (s.tracker.front + 1) (length s.tracker.trail) = front in
-        (within, front_extends s t state same, same, omega arith)
-    go false e = ((entry_at s.tracker.trail s.tracker.front).1 (sym e), front_extends s t state same, same)
-
--- propagation is complete, and then the front alone moved
-pub complete_same : (o s t : SearchState) (v w : Watching) → IsComplete o s v w → Extends s t → t.tracker.trail ≡ s.tracker.trail → IsComplete o t v w
-complete_same o s t v w c e same = record {
-  watching = c.watching;
-  ready = ready_extends s t w c.ready e;
-  extends = extends_more o s t c.extends e;
-  quiet = λ n below.
-      subst (λ (xs : List Entry). IsQuiet (made_true (reverse xs)) (clause_at (clauses_of t) n)) (sym same)
-      (subst (λ (cs : List (List Signed)). IsQuiet (made_true (history s)) (clause_at cs n)) (sym (same_clauses s t e))
-      (c.quiet n (subst (λ (cs : List HeldClause). n < length cs) e.same.clauses below)));
-}
-
--- the entries that were taken as walked, at the next front
-pub walked_same : (s u : SearchState) (k : ℕ) (w : Watching) → u.tracker.trail ≡ s.tracker.trail → IsWalkedTo k s w → IsWalkedTo k u w
-walked_same s u k w same walked n p is = subst (λ (xs : List Entry). Guards (made_true (before xs k)) (made_true (reverse xs)) p) (sym same) (walked n p is)
+    of_decision : Decision → Signed
+    of_decision x = record { variable = x.variable; positive = x.value }

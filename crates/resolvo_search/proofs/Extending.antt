@@ -55,7 +55,7 @@ pub made_true-append : (xs ys : List Entry) → made_true (xs ++ ys) ≡ made_tr
 made_true-append [] ys = refl
 made_true-append (x ∷ xs) ys = ap (λ (ls : List Signed). literal_of x ∷ ls) (made_true-append xs ys)
 
-known_in_more : (xs ys : List Entry) (l : Signed) → has (made_true (reverse xs)) l ≡ true → has (made_true (reverse (xs ++ ys))) l ≡ true
+pub known_in_more : (xs ys : List Entry) (l : Signed) → has (made_true (reverse xs)) l ≡ true → has (made_true (reverse (xs ++ ys))) l ≡ true
 known_in_more xs ys l h =
     subst (λ (ls : List Signed). has ls l ≡ true) (sym (ap made_true (reverse-append xs ys) ∙ made_true-append (reverse ys) (reverse xs)))
     (has_right (made_true (reverse ys)) (made_true (reverse xs)) l h)

@@ -1,8 +1,7 @@
 -- After the jump the learnt clause forces its asserted literal.
-use Rattle.std.proofs.Common.{◌≡◌, ℕ, ◌+◌, ◌-◌, ◌^◌, ◌<◌, inl, inr, true, false, List, [], ◌∷◌, ◌++◌, reverse, length, sym, ◌∙◌, ap, subst}
+use Rattle.std.proofs.Common.{◌≡◌, ℕ, ◌+◌, ◌-◌, ◌^◌, ◌<◌, inl, inr, false, List, [], ◌∷◌, ◌++◌, reverse, length, sym, ◌∙◌, ap, subst}
 use Rattle.resolvo_pool.specs.declared.id.ClauseId.{ClauseId}
 use Rattle.resolvo_store.specs.Signed.{Signed, negation, has}
-use Rattle.resolvo_store.specs.Clauses.{yes, root}
 use Rattle.resolvo_store.specs.Trail.{Tracked}
 use Rattle.resolvo_store.specs.declared.decision.Entry.{Entry}
 use Rattle.resolvo_search.specs.declared.state.HeldClause.{HeldClause}
@@ -14,7 +13,6 @@ use Rattle.resolvo_search.specs.Entries.{made_true, top_level, IsUndone, StandsO
 use Rattle.resolvo_search.specs.State.{count_of, history, clauses_of, lists, IsState}
 use Rattle.resolvo_search.specs.Analysis.{IsLearnt}
 use Rattle.resolvo_search.specs.Steps.{Sets, Undoes, KeepsChoices, forced_entry}
-use Rattle.resolvo_search.specs.Propagation.{AreSingles}
 use Rattle.resolvo_search.specs.Adding.{Comes, Learns}
 use Rattle.resolvo_search.proofs.Literals.{negation-negation}
 use Rattle.resolvo_search.proofs.Trails.{kept, undone_undecided, known_from_stands}
@@ -22,7 +20,7 @@ use Rattle.resolvo_search.proofs.Weights.{weight_jump}
 use Rattle.resolvo_search.proofs.Clauses.{length-lists}
 use Rattle.resolvo_search.proofs.StepLemmas.{lists-append, clause_at_end}
 use Rattle.resolvo_search.proofs.Extending.{forced_keeps, set_pushed, set_extends}
-use Rattle.resolvo_search.proofs.Visiting.{ready_extends}
+use Rattle.resolvo_search.proofs.Readiness.{ready_extends, covered_same}
 
 learnt_forces : (s t : SearchState) (x : Learnt) → IsState s → IsLearnt s x → Undoes x.level s t → Forces (made_true (history t)) x.literals.items x.asserted
 learnt_forces s t x state learnt u =
@@ -60,13 +58,8 @@ pub learns : (s t a b : SearchState) (v w : Watching) (x : Learnt) (c : HeldClau
 learns s t a b v w x c id u is comes set =
     let entries : history a ≡ history t = ap (λ (k : Tracked). reverse k.trail) comes.adds.tracker in
     record {
-      ready = ready_extends a b w comes.ready (set_extends a b id x.asserted set);
-      covered = record {
-        assertions = subst (λ (cs : List HeldClause). AreSingles (lists cs) w.assertions.items) (sym set.same.clauses) comes.covered.assertions;
-        learnt = subst (λ (cs : List HeldClause). AreSingles (lists cs) w.learnt.items) (sym set.same.clauses) comes.covered.learnt;
-        covered = λ n below none. comes.covered.covered n (subst (λ (cs : List HeldClause). n < length cs) set.same.clauses below) none;
-        first = subst (λ (cs : List HeldClause). has (clause_at (lists cs) 0) (yes root) ≡ true) (sym set.same.clauses) comes.covered.first;
-      };
+      ready = ready_extends a b w comes.ready (set_extends a b id x.asserted set) set.front;
+      covered = covered_same a b w comes.covered set.same.clauses;
       variables = set.same.variables ∙ comes.adds.variables ∙ u.same.variables;
       floor = set.same.floor ∙ comes.adds.floor ∙ u.same.floor;
       number = comes.adds.number ∙ ap length u.same.clauses;

@@ -9,7 +9,9 @@ pub mod Clauses
 pub mod Values
 pub mod StepLemmas
 pub mod Extending
+pub mod Readiness
 pub mod Visiting
+pub mod Settling
 pub mod Completing
 pub mod Coming
 pub mod Jumping

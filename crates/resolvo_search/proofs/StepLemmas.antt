@@ -1,7 +1,8 @@
 -- Lemmas on the steps of the search.
-use Rattle.std.proofs.Common.{◌≡◌, ℕ, zero, suc, ◌-◌, ◌<◌, ◌≤◌, ◌^◌, ◌⊎◌, inl, inr, true, false, List, [], ◌∷◌, ◌++◌, reverse, length, get_or, None, refl, sym, ◌∙◌, ap, subst, arith}
+use Rattle.std.proofs.Common.{◌≡◌, ℕ, zero, suc, ◌-◌, ◌<◌, ◌≤◌, ◌^◌, ◌+◌, ◌⊎◌, inl, inr, true, false, List, [], ◌∷◌, ◌++◌, reverse, length, get_or, None, refl, sym, ◌∙◌, ap, subst, arith}
+use Rattle.std.specs.Prelude.{min}
 use Rattle.std.proofs.lemmas.Bool.{both_ways}
-use Rattle.std.proofs.lemmas.List.{reverse-append, reverse-reverse, length-reverse, get_or-reverse}
+use Rattle.std.proofs.lemmas.List.{append-nil, length-append, reverse-append, reverse-reverse, length-reverse, get_or-reverse}
 use Rattle.resolvo_pool.specs.declared.id.ClauseId.{ClauseId}
 use Rattle.resolvo_pool.specs.declared.id.VariableId.{VariableId}
 use Rattle.resolvo_store.specs.Signed.{Signed, has}
@@ -16,7 +17,7 @@ use Rattle.resolvo_search.specs.declared.state.SearchState.{SearchState}
 use Rattle.resolvo_search.specs.Known.{IsUndecided, Forces, clause_at}
 use Rattle.resolvo_search.specs.Entries.{made_true, top_level, Follows, IsTrail, IsUndone, IsRooted}
 use Rattle.resolvo_search.specs.State.{count_of, history, lists, clauses_of, IsDerived, AreDerived, IsState}
-use Rattle.resolvo_search.specs.Steps.{AreInRange, forced_entry, choice_entry, Sets, Chooses, Undoes, Adds}
+use Rattle.resolvo_search.specs.Steps.{AreInRange, forced_entry, choice_entry, Sets, Chooses, IsFrontUndone, Undoes, Adds}
 use Rattle.resolvo_search.proofs.Trails.{trail_more, undone_trail, undone_rooted, undone_all, length_le, level_le_length}
 use Rattle.resolvo_search.proofs.Values.{undecided_none}
 
@@ -67,6 +68,7 @@ choice_added s u v c x e state in_range free is answer with =
       state = state_pushed s u (choice_entry v c (history s)) state (record { undecided = free; in_range = in_range; reasoned = inl (record { opens = refl; positive = refl }) }) pushed;
       same = record { variables = refl; floor = refl; clauses = refl };
       pushed = pushed;
+      front = ap (λ (t : Store.Tracked). t.front) added;
     }
 
 -- levels are small numbers
@@ -98,21 +100,37 @@ undone_is level a b t =
     let within : i < length t.undone = omega arith in
     subst (λ (e : Entry). level < e.level) (sym (get_or-reverse t.undone i d within)) (t.above (length t.undone - 1 - i) d (omega arith))))
 
-pub state_undone : (s : SearchState) (t : Store.Tracked) (level : ℕ) → IsState s → 1 ≤ level → Store.Undoes level s.tracker t → Undoes level s (record s { tracker = t })
-state_undone s t level state one u =
-    let undone : IsUndone level (history s) (reverse t.trail) = undone_is level s.tracker t u.0 in
+empty : (es : List Entry) → length es ≤ 0 → es ≡ []
+empty [] low = refl
+empty (e ∷ es) low = absurd (omega arith)
+
+-- where no entry was taken away, the front is where it was
+pub nothing_undone : (level : ℕ) (a b : Store.Tracked) → Store.TakesAway level a b → length a.trail ≤ length b.trail → IsFrontUndone a b
+nothing_undone level a b t long =
+    let whole : length a.trail ≡ length b.trail + length t.undone = ap length t.trail ∙ length-append b.trail t.undone in
+    let same : a.trail ≡ b.trail = t.trail ∙ ap (λ (es : List Entry). b.trail ++ es) (empty t.undone (omega arith)) ∙ append-nil b.trail in
+    inr (sym same, t.front ∙ ap (λ (es : List Entry). min a.front (length es)) (sym same))
+
+-- entries were taken away, and the front was set
+pub state_undone : (s : SearchState) (t u : Store.Tracked) (level : ℕ) → IsState s → 1 ≤ level → Store.Undoes level s.tracker t → u.trail ≡ t.trail → IsFrontUndone s.tracker u → Undoes level s (record s { tracker = u })
+state_undone s t u level state one undoes same front =
+    let undone : IsUndone level (history s) (reverse u.trail) = subst (λ (es : List Entry). IsUndone level (history s) (reverse es)) (sym same) (undone_is level s.tracker t undoes.0) in
     record {
       state = record {
-        trail = undone_trail level (count_of s) (clauses_of s) (history s) (reverse t.trail) undone state.trail;
+        trail = undone_trail level (count_of s) (clauses_of s) (history s) (reverse u.trail) undone state.trail;
         derived = state.derived;
         in_range = state.in_range;
         small = state.small;
         floor_low = state.floor_low;
-        rooted = undone_rooted level (history s) (reverse t.trail) one undone state.rooted;
+        rooted = undone_rooted level (history s) (reverse u.trail) one undone state.rooted;
       };
       same = record { variables = refl; floor = refl; clauses = refl };
       undone = undone;
-      low = (let low : Store.last_level t.trail ≤ level = u.1 in let same : Store.last_level t.trail ≡ top_level (reverse t.trail) = last_is_top t.trail in omega arith);
+      low = (
+          let low : Store.last_level u.trail ≤ level = subst (λ (es : List Entry). Store.last_level es ≤ level) (sym same) undoes.1 in
+          let is : Store.last_level u.trail ≡ top_level (reverse u.trail) = last_is_top u.trail in
+          omega arith);
+      front = front;
     }
 
 pub lists-append : (xs ys : List HeldClause) → lists (xs ++ ys) ≡ lists xs ++ lists ys

@@ -1,5 +1,5 @@
 -- A walk over the clauses that watch a literal.
-use Rattle.std.proofs.Common.{◌≡◌, ℕ, zero, suc, ◌+◌, ◌<◌, ◌⊎◌, inl, inr, Bool, true, false, cond, List, [], ◌∷◌, drop, length, Option, Some, None, refl, sym, ◌∙◌, ap, subst, arith, eqb}
+use Rattle.std.proofs.Common.{◌≡◌, ℕ, zero, suc, ◌+◌, ◌<◌, ◌≤◌, ◌⊎◌, inl, inr, Bool, true, false, cond, List, [], ◌∷◌, drop, reverse, length, Vec, Global, Option, Some, None, refl, sym, ◌∙◌, ap, subst, arith, eqb}
 use Rattle.std.specs.Prelude.{slice_get}
 use Rattle.std.proofs.lemmas.Bool.{both_ways, or_cases, or_left, or_right}
 use Rattle.std.proofs.lemmas.Bool.Decides.{eqb_tells}
@@ -10,23 +10,24 @@ use Rattle.resolvo_store.specs.SignLaws.{same_literal_true, same_literal-self}
 use Rattle.resolvo_store.specs.Pairs.{watches, other_of, moved_pair}
 use Rattle.resolvo_store.specs.Watches.{watchers, pair_at, count, one_if}
 use Rattle.resolvo_store.specs.declared.watched_literals.WatchedLiterals.{WatchedLiterals}
+use Rattle.resolvo_store.specs.Trail.{Tracked}
 use Rattle.resolvo_store.specs.declared.decision.Entry.{Entry}
 use Rattle.resolvo_store.proofs.Watched.{not_same, first_watched, pair_at-set_same, pair_at-set_other, pair_in_range, pair_of_watcher, moved_from}
 use Rattle.resolvo_store.proofs.ClauseLists.{drop_here, drop_taken, nothing_left}
 use Rattle.resolvo_search.specs.declared.state.SearchState.{SearchState}
-use Rattle.resolvo_search.specs.declared.state.HeldClause.{HeldClause}
 use Rattle.resolvo_search.specs.declared.watching.Watching.{Watching}
 use Rattle.resolvo_search.specs.Known.{IsFalseUnder, Forces, clause_at}
-use Rattle.resolvo_search.specs.Entries.{literal_of, made_true, before}
-use Rattle.resolvo_search.specs.State.{count_of, history, clauses_of}
-use Rattle.resolvo_search.specs.Propagation.{IsReady, IsOwnPair, IsFree, Guards, Passed, IsWalkedTo, Extends, IsVisiting, Keeps, Replaces, Breaks, Walked, Conflicts}
+use Rattle.resolvo_search.specs.Entries.{made_true, before}
+use Rattle.resolvo_search.specs.State.{count_of, history, clauses_of, IsState}
+use Rattle.resolvo_search.specs.Propagation.{IsFit, Waits, FellAt, IsOwnPair, IsFree, Guards, Passed, IsWalkedTo, Extends, IsVisiting, Keeps, Replaces, Breaks, Walked, Conflicts}
 use Rattle.resolvo_search.proofs.Literals.{has-cons, has_here, negation-negation}
 use Rattle.resolvo_search.proofs.Trails.{consistent}
-use Rattle.resolvo_search.proofs.Extending.{extends_more, extends_nothing, still_true, true_by_now, before_kept, same_clauses}
+use Rattle.resolvo_search.proofs.Extending.{extends_more, extends_nothing, still_true, true_by_now, before_kept}
+use Rattle.resolvo_search.proofs.Readiness.{fits_same, walked_more, ready_anew, front_extends, same_watching}
 
-pub pair_watches : (s : SearchState) (w : Watching) (l : Signed) (place : ℕ) (n : ClauseId) (p : WatchedLiterals) → IsReady s w → slice_get (watchers w.watches l) place ≡ Some n → pair_at w.watched.items n.0 ≡ Some p → watches (Some p) l ≡ true
-pair_watches s w l place n p ready at is =
-    let found = pair_of_watcher w.watched.items (watchers w.watches) l place n ready.fit at in
+pub pair_watches : (s : SearchState) (w : Watching) (l : Signed) (place : ℕ) (n : ClauseId) (p : WatchedLiterals) → IsFit s w → slice_get (watchers w.watches l) place ≡ Some n → pair_at w.watched.items n.0 ≡ Some p → watches (Some p) l ≡ true
+pair_watches s w l place n p fits at is =
+    let found = pair_of_watcher w.watched.items (watchers w.watches) l place n fits.fit at in
     let both : Some found.0 ≡ Some p = sym found.1 ∙ is in
     let same : found.0 ≡ p = cc in
     subst (λ (q : WatchedLiterals). watches (Some q) l ≡ true) same found.2
@@ -66,14 +67,6 @@ falls_whole known clause p l w fallen free f m h = elim (free m h) [
   | inr g ↦ g
 ]
 
-pub ready_extends : (s t : SearchState) (w : Watching) → IsReady s w → Extends s t → IsReady t w
-ready_extends s t w ready e = record {
-  state = e.state;
-  fit = ready.fit;
-  each = ready.each ∙ ap (λ (cs : List HeldClause). length cs) (sym e.same.clauses);
-  own = λ n p is. subst (λ (cs : List (List Signed)). IsOwnPair (clause_at cs n) p) (sym (same_clauses s t e)) (ready.own n p is);
-}
-
 passed_kept : (p : WatchedLiterals) (l : Signed) (known : List Signed) → same_literal p.first p.second ≡ false → has known (other_of p l) ≡ true → Passed l known p
 passed_kept p l known differ stands = go (same_literal p.first l) refl stands
   where
@@ -100,13 +93,10 @@ keeps_here k l place c p o s t v w visit at is e front stands =
     let grown : length t.tracker.trail ≡ length s.tracker.trail + length e.more = ap length e.added ∙ length-append s.tracker.trail e.more in
     let next : place + 1 ≡ suc place = omega arith in
     record {
-      ready = ready_extends s t w visit.ready e;
+      fits = fits_same s t w visit.fits e.same.clauses;
       extends = extends_more o s t visit.extends e;
       front = front ∙ visit.front;
-      walked = λ n q h. record {
-        first = λ f. still_true s t q.second e ((visit.walked n q h).first (subst (λ (ds : List Entry). has (made_true ds) (negation q.first) ≡ true) (before_kept s t k e (omega arith)) f));
-        second = λ f. still_true s t q.first e ((visit.walked n q h).second (subst (λ (ds : List Entry). has (made_true ds) (negation q.second) ≡ true) (before_kept s t k e (omega arith)) f));
-      };
+      walked = walked_more s t k w e.more e.added (omega arith) visit.walked;
       passed = λ n q h none. go n q h (subst (λ (m : ℕ). count n (drop m (watchers w.watches l)) ≡ 0) next none) (eqb_tells n c.0);
       entry = ap made_true (before_kept s t (k + 1) e (omega arith)) ∙ visit.entry ∙ ap (λ (ds : List Entry). negation l ∷ made_true ds) (sym (before_kept s t k e (omega arith)));
       long = omega arith;
@@ -116,7 +106,7 @@ keeps_here k l place c p o s t v w visit at is e front stands =
     go : (n : ℕ) (q : WatchedLiterals) → pair_at w.watched.items n ≡ Some q → count n (drop (suc place) (watchers w.watches l)) ≡ 0 → ((eqb n c.0 ≡ true) × (n ≡ c.0)) ⊎ ((eqb n c.0 ≡ false) × (n ≡ c.0 → ⊥)) → Passed l (made_true (history t)) q
     go n q h none (inl y) =
         let same : p ≡ q = same_pair w.watched.items c.0 p q is (subst (λ (m : ℕ). pair_at w.watched.items m ≡ Some q) y.1 h) in
-        subst (Passed l (made_true (history t))) same (passed_kept p l (made_true (history t)) (visit.ready.fit.differ c.0 p is) stands)
+        subst (Passed l (made_true (history t))) same (passed_kept p l (made_true (history t)) (visit.fits.fit.differ c.0 p is) stands)
     go n q h none (inr y) = passed_more q l s t e (visit.passed n q h (count_here (watchers w.watches l) place c n at y.0 none))
 
 pub visiting_keeps : (k : ℕ) (l : Signed) (place : ℕ) (c : ClauseId) (p : WatchedLiterals) (o s t : SearchState) (v w x : Watching) → IsVisiting k l place o s v w → slice_get (watchers w.watches l) place ≡ Some c → pair_at w.watched.items c.0 ≡ Some p
@@ -161,11 +151,13 @@ got_in_range (x ∷ xs) (suc place) c e = let a : place < length xs = got_in_ran
 moves_here : (k : ℕ) (l : Signed) (place : ℕ) (c : ClauseId) (o s t : SearchState) (v w x : Watching) → IsVisiting k l place o s v w → slice_get (watchers w.watches l) place ≡ Some c
     → (r : Replaces l place c.0 s t w x) → r.moves.clause ≡ c → IsVisiting k l place o s v x
 moves_here k l place c o s t v w x visit at r named = record {
-  ready = record {
-    state = visit.ready.state;
+  fits = record {
     fit = r.moves.fit;
-    each = ap length r.moves.pairs ∙ length-set w.watched.items r.moves.clause.0 (Some (moved_pair r.moves.pair l r.to)) ∙ visit.ready.each;
+    each = ap length r.moves.pairs ∙ length-set w.watched.items r.moves.clause.0 (Some (moved_pair r.moves.pair l r.to)) ∙ visit.fits.each;
     own = λ n q h. owns n q (after n q h);
+    unwatched = λ n h. unwatched_still n (waited n h) (eqb_tells n r.moves.clause.0);
+    two = λ n h. visit.fits.two n (waited n h);
+    once = λ n. subst (λ (cs : Vec ClauseId Global). count n cs.items ≤ 1) (sym r.waiting) (visit.fits.once n);
   };
   extends = visit.extends;
   front = visit.front;
@@ -173,11 +165,25 @@ moves_here k l place c o s t v w x visit at r named = record {
   passed = λ n q h none. passes n q none (after n q h);
   entry = visit.entry;
   long = visit.long;
-  watching = record { assertions = r.assertions ∙ visit.watching.assertions; learnt = r.learnt ∙ visit.watching.learnt; pairs = λ n h. visit.watching.pairs n (nones n h (eqb_tells n r.moves.clause.0)) };
+  watching = record { assertions = r.assertions ∙ visit.watching.assertions; learnt = r.learnt ∙ visit.watching.learnt; pairs = λ n h. visit.watching.pairs n (nones n h (eqb_tells n r.moves.clause.0)); waited = λ n h. visit.watching.waited n (waited n h); waits = λ n h none. waits n (visit.watching.waits n h (nones n none (eqb_tells n r.moves.clause.0))) };
 }
   where
+    waited : (n : ℕ) → Waits n x → Waits n w
+    waited n h = subst (λ (cs : Vec ClauseId Global). 0 < count n cs.items) r.waiting h
+
+    waits : (n : ℕ) → Waits n w → Waits n x
+    waits n h = subst (λ (cs : Vec ClauseId Global). 0 < count n cs.items) (sym r.waiting) h
+
+    -- what waits is not the clause that moved
+    unwatched_still : (n : ℕ) → Waits n w → ((eqb n r.moves.clause.0 ≡ true) × (n ≡ r.moves.clause.0)) ⊎ ((eqb n r.moves.clause.0 ≡ false) × (n ≡ r.moves.clause.0 → ⊥)) → pair_at x.watched.items n ≡ None
+    unwatched_still n h (inl y) =
+        let none : pair_at w.watched.items r.moves.clause.0 ≡ None = subst (λ (i : ℕ). pair_at w.watched.items i ≡ None) y.1 (visit.fits.unwatched n h) in
+        let both : Some r.moves.pair ≡ None = sym r.moves.watched ∙ none in
+        cc
+    unwatched_still n h (inr y) = ap (λ (ps : List (Option WatchedLiterals)). pair_at ps n) r.moves.pairs ∙ pair_at-set_other w.watched.items r.moves.clause.0 n (Some (moved_pair r.moves.pair l r.to)) (λ e. y.1 (sym e)) ∙ visit.fits.unwatched n h
+
     watching_l : watches (Some r.moves.pair) l ≡ true
-    watching_l = pair_watches s w l place r.moves.clause r.moves.pair visit.ready r.moves.lists.stood r.moves.watched
+    watching_l = pair_watches s w l place r.moves.clause r.moves.pair visit.fits r.moves.lists.stood r.moves.watched
 
     unwatched : watches (Some r.moves.pair) r.to ≡ false
     unwatched = ap (λ (o : Option WatchedLiterals). watches o r.to) (sym r.moves.watched) ∙ subst (λ (i : ClauseId). watches (pair_at w.watched.items i.0) r.to ≡ false) (sym named) r.unwatched
@@ -203,21 +209,21 @@ moves_here k l place c o s t v w x visit at r named = record {
     owns n q (inl y) =
         subst (IsOwnPair (clause_at (clauses_of s) n)) y.1
         (own_moved (clause_at (clauses_of s) n) r.moves.pair l r.to
-        (subst (λ (i : ℕ). IsOwnPair (clause_at (clauses_of s) i) r.moves.pair) (sym y.0) (visit.ready.own r.moves.clause.0 r.moves.pair r.moves.watched)) (subst (λ (i : ℕ). has (clause_at (clauses_of s) i) r.to ≡ true) (sym (y.0 ∙ ap (λ (i : ClauseId). i.0) named)) r.own))
-    owns n q (inr y) = visit.ready.own n q y.1
+        (subst (λ (i : ℕ). IsOwnPair (clause_at (clauses_of s) i) r.moves.pair) (sym y.0) (visit.fits.own r.moves.clause.0 r.moves.pair r.moves.watched)) (subst (λ (i : ℕ). has (clause_at (clauses_of s) i) r.to ≡ true) (sym (y.0 ∙ ap (λ (i : ClauseId). i.0) named)) r.own))
+    owns n q (inr y) = visit.fits.own n q y.1
 
     walks : (n : ℕ) (q : WatchedLiterals) → ((n ≡ r.moves.clause.0) × (moved_pair r.moves.pair l r.to ≡ q)) ⊎ ((eqb n r.moves.clause.0 ≡ false) × (pair_at w.watched.items n ≡ Some q)) → Guards (made_true (before s.tracker.trail k)) (made_true (history s)) q
     walks n q (inl y) =
         subst (Guards (made_true (before s.tracker.trail k)) (made_true (history s))) y.1
         (guards_moved (made_true (before s.tracker.trail k)) (made_true (history s)) r.moves.pair l r.to (visit.walked r.moves.clause.0 r.moves.pair r.moves.watched) watching_l (λ l' h. true_by_now s.tracker.trail k l' h) r.free
-        (λ h. consistent (count_of s) (clauses_of s) (history s) l visit.ready.state.trail h (fallen_now k l place o s v w visit)))
+        (λ h. consistent (count_of s) (clauses_of s) (history s) l visit.extends.state.trail h (fallen_now k l place o s v w visit)))
     walks n q (inr y) = visit.walked n q y.1
 
     passes : (n : ℕ) (q : WatchedLiterals) → count n (drop place (watchers x.watches l)) ≡ 0 → ((n ≡ r.moves.clause.0) × (moved_pair r.moves.pair l r.to ≡ q)) ⊎ ((eqb n r.moves.clause.0 ≡ false) × (pair_at w.watched.items n ≡ Some q)) → Passed l (made_true (history s)) q
     passes n q none (inl y) =
         subst (Passed l (made_true (history s))) y.1
         (passed_moved (moved_pair r.moves.pair l r.to) l (made_true (history s))
-        (moved_from r.moves.pair l r.to (visit.ready.fit.differ r.moves.clause.0 r.moves.pair r.moves.watched) watching_l unwatched))
+        (moved_from r.moves.pair l r.to (visit.fits.fit.differ r.moves.clause.0 r.moves.pair r.moves.watched) watching_l unwatched))
     passes n q none (inr y) =
         let rest : drop place (watchers x.watches l) ≡ drop (suc place) (watchers w.watches l) = ap (drop place) r.moves.lists.taken ∙ drop_taken (watchers w.watches l) place (got_in_range (watchers w.watches l) place r.moves.clause r.moves.lists.stood) in
         visit.passed n q y.1 (count_here (watchers w.watches l) place r.moves.clause n r.moves.lists.stood y.0 (sym (ap (count n) rest) ∙ none))
@@ -230,21 +236,21 @@ visiting_moves k l place c o s t v w x visit at r =
     subst (λ (u : SearchState). IsVisiting k l place o u v x) (sym r.same_state) (moves_here k l place c o s t v w x visit at r named)
 
 -- a walk begins: what doesn't watch the literal was passed
-pub visiting_starts : (k : ℕ) (s : SearchState) (w : Watching) (d : Entry) (l : Signed) → IsReady s w → k < length s.tracker.trail → IsWalkedTo k s w → before s.tracker.trail (k + 1) ≡ d ∷ before s.tracker.trail k → l ≡ negation (literal_of d) → IsVisiting k l 0 s s w w
-visiting_starts k s w d l ready long walked read is = record {
-  ready = ready;
-  extends = extends_nothing s ready.state;
+pub visiting_starts : (k : ℕ) (s : SearchState) (w : Watching) (l : Signed) → IsState s → IsFit s w → FellAt l k s → IsWalkedTo k s w → IsVisiting k l 0 s s w w
+visiting_starts k s w l state fits fell walked = record {
+  fits = fits;
+  extends = extends_nothing s state;
   front = refl;
   walked = walked;
   passed = λ n q h none. passed_moved q l (made_true (history s)) (unwatched n q h none (watches (Some q) l) refl);
-  entry = ap made_true read ∙ ap (λ (m : Signed). m ∷ made_true (before s.tracker.trail k)) (sym (ap negation is ∙ negation-negation (literal_of d)));
-  long = long;
-  watching = record { assertions = refl; learnt = refl; pairs = λ n h. h };
+  entry = fell.entry;
+  long = fell.in_range;
+  watching = same_watching w;
 }
   where
     unwatched : (n : ℕ) (q : WatchedLiterals) → pair_at w.watched.items n ≡ Some q → count n (watchers w.watches l) ≡ 0 → (b : Bool) → watches (Some q) l ≡ b → watches (Some q) l ≡ false
     unwatched n q h none true e =
-        let a : count n (watchers w.watches l) ≡ one_if (watches (pair_at w.watched.items n) l) = ready.fit.once l n in
+        let a : count n (watchers w.watches l) ≡ one_if (watches (pair_at w.watched.items n) l) = fits.fit.once l n in
         let b : one_if (watches (pair_at w.watched.items n) l) ≡ 1 = ap (λ (o : Option WatchedLiterals). one_if (watches o l)) h ∙ ap one_if e in
         absurd (omega arith)
     unwatched n q h none false e = e
@@ -252,7 +258,7 @@ visiting_starts k s w d l ready long walked read is = record {
 pub visiting_ends : (k : ℕ) (l : Signed) (place : ℕ) (o s : SearchState) (v w : Watching) → IsVisiting k l place o s v w → slice_get (watchers w.watches l) place ≡ None → Walked (k + 1) o s v w
 visiting_ends k l place o s v w visit end = record {
   watching = visit.watching;
-  ready = visit.ready;
+  fits = visit.fits;
   extends = visit.extends;
   front = visit.front;
   walked = λ n q h.
@@ -269,9 +275,25 @@ visiting_ends k l place o s v w visit end = record {
       };
 }
 
-pub visiting_breaks : (k : ℕ) (l : Signed) (place n : ℕ) (p : WatchedLiterals) (o s t : SearchState) (v w x : Watching) → IsVisiting k l place o s v w → pair_at w.watched.items n ≡ Some p → Breaks n s t w x → Conflicts n o t v x
-visiting_breaks k l place n p o s t v w x visit is b =
-    let below : n < length w.watched.items = pair_in_range w.watched.items n p is in
-    let each : length w.watched.items ≡ length s.clauses = visit.ready.each in
-    let here : Conflicts n o s v w = record { watching = visit.watching; ready = visit.ready; extends = visit.extends; broken = record { in_range = omega arith; falls = b.falls } } in
-    subst (λ (u : SearchState). Conflicts n o u v x) (sym b.same_state) (subst (λ (y : Watching). Conflicts n o s v y) (sym b.same_watching) here)
+-- a clause is wholly false: propagation begins anew
+pub visiting_breaks : (k : ℕ) (l : Signed) (place n : ℕ) (p : WatchedLiterals) (o s t : SearchState) (u : Tracked) (v w x : Watching) → IsVisiting k l place o s v w → pair_at w.watched.items n ≡ Some p → Breaks n s t w x → u ≡ record t.tracker { front = 0 } → Conflicts n o (record t { tracker = u }) v x
+visiting_breaks k l place n p o s t u v w x visit is b again =
+    subst (λ (m : SearchState). Conflicts n o (record m { tracker = u }) v x) (sym b.same_state)
+    (subst (λ (y : Watching). Conflicts n o (record s { tracker = u }) v y) (sym b.same_watching) here)
+  where
+    anew : u ≡ record s.tracker { front = 0 }
+    anew = subst (λ (m : SearchState). u ≡ record m.tracker { front = 0 }) b.same_state again
+
+    trail : u.trail ≡ s.tracker.trail
+    trail = ap (λ (y : Tracked). y.trail) anew
+
+    here : Conflicts n o (record s { tracker = u }) v w
+    here =
+        let below : n < length w.watched.items = pair_in_range w.watched.items n p is in
+        let each : length w.watched.items ≡ length s.clauses = visit.fits.each in
+        record {
+          watching = visit.watching;
+          ready = ready_anew s u w visit.extends.state visit.fits anew;
+          extends = extends_more o s (record s { tracker = u }) visit.extends (front_extends s u visit.extends.state trail);
+          broken = record { in_range = omega arith; falls = subst (λ (xs : List Entry). IsFalseUnder (made_true (reverse xs)) (clause_at (clauses_of s) n)) (sym trail) b.falls };
+        }

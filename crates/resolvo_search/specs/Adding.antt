@@ -1,8 +1,7 @@
--- A clause comes, with what it watches.
-use Rattle.std.specs.Prelude.{◌≡◌, ◌≤◌, Bool, true, false, not, [], ◌∷◌, ◌++◌, List, length, Option, Some, None}
+-- A clause comes, and waits until it watches two of its literals.
+use Rattle.std.specs.Prelude.{◌≡◌, ◌≤◌, ◌&&◌, Bool, true, false, not, [], ◌∷◌, ◌++◌, List, length, None}
 use Rattle.resolvo_pool.specs.declared.id.ClauseId.{ClauseId}
-use Rattle.resolvo_store.specs.Watches.{watchers, IsWatched}
-use Rattle.resolvo_store.specs.declared.watched_literals.WatchedLiterals.{WatchedLiterals}
+use Rattle.resolvo_store.specs.Signed.{Signed}
 use Rattle.resolvo_search.specs.declared.state.HeldClause.{HeldClause}
 use Rattle.resolvo_search.specs.declared.state.SearchState.{SearchState}
 use Rattle.resolvo_search.specs.declared.watching.Watching.{Watching}
@@ -12,22 +11,27 @@ use Rattle.resolvo_search.specs.declared.analysis.Learnt.{Learnt}
 use Rattle.resolvo_search.specs.Entries.{top_level, IsUndone}
 use Rattle.resolvo_search.specs.State.{history}
 use Rattle.resolvo_search.specs.Steps.{Adds, forced_entry}
-use Rattle.resolvo_search.specs.Propagation.{IsReady, AreCovered}
+use Rattle.resolvo_search.specs.Propagation.{HasTwo, IsOnly, IsReady, AreCovered}
 
--- the clauses of one literal, with this one behind the others
-abbrev pub with_single : Option WatchedLiterals → Bool → Single → List Single → List Single
-with_single (Some p) wanted x xs = xs
-with_single None true x xs = xs ++ x ∷ []
-with_single None false x xs = xs
+-- the list, with this one behind the others where it belongs there
+abbrev pub with_last : {X : Type 0} → Bool → X → List X → List X
+with_last true x xs = xs ++ x ∷ []
+with_last false x xs = xs
 
--- the clause of the next number watches its pair, or is noted as a rule or a learnt clause of one literal
-pub record Begins (x : Single) (p : Option WatchedLiterals) (is_rule : Bool) (old new : Watching) : Type 0 where
-  pub watched : new.watched.items ≡ old.watched.items ++ p ∷ []
-  pub fit : x.clause.0 ≡ length old.watched.items → IsWatched old.watched.items (watchers old.watches) → IsWatched new.watched.items (watchers new.watches)
-  pub assertions : new.assertions.items ≡ with_single p is_rule x old.assertions.items
-  pub learnt : new.learnt.items ≡ with_single p (not is_rule) x old.learnt.items
+-- the clause has a literal beside this one, or has this one alone
+abbrev pub HasAnother : List Signed → Signed → Bool → Type 0
+HasAnother clause l true = HasTwo clause
+HasAnother clause l false = IsOnly clause l
 
--- the clause came behind the others, and the watches know it
+-- the clause of the next number watches nothing: it waits, or is noted as a rule or a learnt clause of one literal
+pub record Begins (x : Single) (is_long is_rule : Bool) (old new : Watching) : Type 0 where
+  pub watched : new.watched.items ≡ old.watched.items ++ None ∷ []
+  pub watches : new.watches ≡ old.watches
+  pub waiting : new.waiting.items ≡ with_last is_long x.clause old.waiting.items
+  pub assertions : new.assertions.items ≡ with_last (not is_long && is_rule) x old.assertions.items
+  pub learnt : new.learnt.items ≡ with_last (not is_long && not is_rule) x old.learnt.items
+
+-- the clause came behind the others, and the watches know of it
 pub record Comes (c : HeldClause) (id : ClauseId) (old : SearchState) (v : Watching) (new : SearchState) (w : Watching) : Type 0 where
   pub adds : Adds c id old new
   pub ready : IsReady new w

@@ -5,6 +5,7 @@ pub mod State
 pub mod Analysis
 pub mod Steps
 pub mod Propagation
+pub mod Waiting
 pub mod Adding
 pub mod Beginning
 pub mod Advancing

@@ -1,5 +1,5 @@
 -- What follows from the trail: walks over the clauses that watch what fell.
-use Rattle.std.specs.Prelude.{◌≡◌, ℕ, ◌+◌, ◌<◌, ◌≤◌, ◌⊎◌, Bool, true, false, List, [], ◌∷◌, ◌++◌, drop, length, Option, Some, None}
+use Rattle.std.specs.Prelude.{◌≡◌, ℕ, ◌+◌, ◌-◌, ◌<◌, ◌≤◌, ◌⊎◌, Bool, true, false, List, [], ◌∷◌, ◌++◌, drop, length, Option, Some, None}
 use Rattle.resolvo_pool.specs.declared.id.ClauseId.{ClauseId}
 use Rattle.resolvo_store.specs.Signed.{Signed, negation, same_literal, has}
 use Rattle.resolvo_store.specs.Clauses.{yes, root}
@@ -35,25 +35,23 @@ abbrev pub AreSingles : List (List Signed) → List Single → Type 0
 AreSingles clauses [] = Unit {0}
 AreSingles clauses (x ∷ xs) = (x.clause.0 < length clauses) × IsOnly (clause_at clauses x.clause.0) x.literal × AreSingles clauses xs
 
--- what holds of the watches between calls: nothing is said of which literals are true or false
-pub record IsReady (s : SearchState) (w : Watching) : Type 0 where
-  pub state : IsState s
+-- the clause has two different literals
+abbrev pub HasTwo : List Signed → Type 0
+HasTwo clause = (l : Signed) × (m : Signed) × (has clause l ≡ true) × (has clause m ≡ true) × (same_literal l m ≡ false)
+
+-- the clause came, and is still to watch two of its literals
+abbrev pub Waits : ℕ → Watching → Type 0
+Waits n w = 0 < count n w.waiting.items
+
+-- the watches fit the clauses, whatever is true or false: a clause that watches something watches its own literals; a clause
+-- that waits watches nothing, has two different literals, and waits once
+pub record IsFit (s : SearchState) (w : Watching) : Type 0 where
   pub fit : IsWatched w.watched.items (watchers w.watches)
   pub each : length w.watched.items ≡ length s.clauses
   pub own : (n : ℕ) (p : WatchedLiterals) → pair_at w.watched.items n ≡ Some p → IsOwnPair (clause_at (clauses_of s) n) p
-
--- the clauses that watch nothing have one literal, but for the root's, which comes first
-pub record AreCovered (s : SearchState) (w : Watching) : Type 0 where
-  pub assertions : AreSingles (clauses_of s) w.assertions.items
-  pub learnt : AreSingles (clauses_of s) w.learnt.items
-  pub covered : (n : ℕ) → n < length s.clauses → pair_at w.watched.items n ≡ None → (n ≡ 0) ⊎ ((x : Single) × (x.clause.0 ≡ n) × (HasSingle w.assertions.items x ⊎ HasSingle w.learnt.items x))
-  pub first : has (clause_at (clauses_of s) 0) (yes root) ≡ true
-
--- no clause began to watch, and none stopped; no clause of one literal came
-pub record SameWatching (v w : Watching) : Type 0 where
-  pub assertions : w.assertions ≡ v.assertions
-  pub learnt : w.learnt ≡ v.learnt
-  pub pairs : (n : ℕ) → pair_at w.watched.items n ≡ None → pair_at v.watched.items n ≡ None
+  pub unwatched : (n : ℕ) → Waits n w → pair_at w.watched.items n ≡ None
+  pub two : (n : ℕ) → Waits n w → HasTwo (clause_at (clauses_of s) n)
+  pub once : (n : ℕ) → count n w.waiting.items ≤ 1
 
 -- where one of the two fell among the first literals, the other one is true
 pub record Guards (fallen known : List Signed) (p : WatchedLiterals) : Type 0 where
@@ -64,6 +62,32 @@ pub record Guards (fallen known : List Signed) (p : WatchedLiterals) : Type 0 wh
 -- fell by them, the other one is true
 abbrev pub IsWalkedTo : ℕ → SearchState → Watching → Type 0
 IsWalkedTo k s w = (n : ℕ) (p : WatchedLiterals) → pair_at w.watched.items n ≡ Some p → Guards (made_true (before s.tracker.trail k)) (made_true (history s)) p
+
+-- what holds of the watches between calls: they fit the clauses, and the trail was walked up to its front
+pub record IsReady (s : SearchState) (w : Watching) : Type 0 where
+  pub state : IsState s
+  pub fits : IsFit s w
+  pub front : s.tracker.front ≤ length s.tracker.trail
+  pub walked : IsWalkedTo s.tracker.front s w
+
+-- the clause is noted as one of one literal
+abbrev pub IsNoted : ℕ → Watching → Type 0
+IsNoted n w = (x : Single) × (x.clause.0 ≡ n) × (HasSingle w.assertions.items x ⊎ HasSingle w.learnt.items x)
+
+-- a clause that watches nothing is the root's, which comes first, or is noted as one of one literal, or waits
+pub record AreCovered (s : SearchState) (w : Watching) : Type 0 where
+  pub assertions : AreSingles (clauses_of s) w.assertions.items
+  pub learnt : AreSingles (clauses_of s) w.learnt.items
+  pub covered : (n : ℕ) → n < length s.clauses → pair_at w.watched.items n ≡ None → (n ≡ 0) ⊎ (IsNoted n w ⊎ Waits n w)
+  pub first : has (clause_at (clauses_of s) 0) (yes root) ≡ true
+
+-- no clause stopped watching, and none came: what waited waits still or watches, and the clauses of one literal are the same
+pub record SameWatching (v w : Watching) : Type 0 where
+  pub assertions : w.assertions ≡ v.assertions
+  pub learnt : w.learnt ≡ v.learnt
+  pub pairs : (n : ℕ) → pair_at w.watched.items n ≡ None → pair_at v.watched.items n ≡ None
+  pub waited : (n : ℕ) → Waits n w → Waits n v
+  pub waits : (n : ℕ) → Waits n v → pair_at w.watched.items n ≡ None → Waits n w
 
 -- where one of the two is this literal, the other one is true
 pub record Passed (l : Signed) (known : List Signed) (p : WatchedLiterals) : Type 0 where
@@ -80,7 +104,7 @@ pub record Extends (old new : SearchState) : Type 0 where
 
 -- the walk over the literal, whose negation is entry k, has come to this place
 pub record IsVisiting (k : ℕ) (l : Signed) (place : ℕ) (old s : SearchState) (v w : Watching) : Type 0 where
-  pub ready : IsReady s w
+  pub fits : IsFit s w
   pub extends : Extends old s
   pub front : s.tracker.front ≡ old.tracker.front
   pub walked : IsWalkedTo k s w
@@ -108,6 +132,7 @@ pub record Replaces (l : Signed) (place n : ℕ) (s t : SearchState) (w x : Watc
   pub moves : Moves l place to w.watched.items x.watched.items (watchers w.watches) (watchers x.watches)
   pub assertions : x.assertions ≡ w.assertions
   pub learnt : x.learnt ≡ w.learnt
+  pub waiting : x.waiting ≡ w.waiting
   pub own : has (clause_at (clauses_of s) n) to ≡ true
   pub unwatched : watches (pair_at w.watched.items n) to ≡ false
   pub free : has (made_true (history s)) (negation to) ≡ false
@@ -132,7 +157,7 @@ pub record IsBroken (n : ℕ) (s : SearchState) : Type 0 where
 -- the first k entries of the trail were walked, and what follows was added
 pub record Walked (k : ℕ) (old new : SearchState) (v w : Watching) : Type 0 where
   pub watching : SameWatching v w
-  pub ready : IsReady new w
+  pub fits : IsFit new w
   pub extends : Extends old new
   pub front : new.tracker.front ≡ old.tracker.front
   pub walked : IsWalkedTo k new w
@@ -146,11 +171,13 @@ abbrev pub IsQuiet : List Signed → List Signed → Type 0
 IsQuiet known clause = ((l : Signed) × (has clause l ≡ true) × (has known l ≡ true))
     ⊎ ((l : Signed) × (m : Signed) × (has clause l ≡ true) × (has clause m ≡ true) × (same_literal l m ≡ false) × (has known (negation l) ≡ false) × (has known (negation m) ≡ false))
 
--- nothing is left to set: no clause is wholly false, and none has one literal left
+-- nothing is left to set: no clause is wholly false, and none has one literal left; all of the trail was walked, and no clause waits
 pub record IsComplete (old new : SearchState) (v w : Watching) : Type 0 where
   pub watching : SameWatching v w
   pub ready : IsReady new w
   pub extends : Extends old new
+  pub front : new.tracker.front ≡ length new.tracker.trail
+  pub settled : (n : ℕ) → Waits n w → ⊥
   pub quiet : (n : ℕ) → n < length new.clauses → IsQuiet (made_true (history new)) (clause_at (clauses_of new) n)
 
 -- the clause is wholly false by what follows
@@ -182,17 +209,27 @@ pub record SetsSingles (part : List Single) (old new : SearchState) : Type 0 whe
 
 abbrev pub IsSinglesEnd : List Single → SearchState → SearchState → Option ClauseId → Type 0
 IsSinglesEnd singles old new None = SetsSingles singles old new
-IsSinglesEnd singles old new (Some n) = Extends old new × IsBroken n.0 new
+IsSinglesEnd singles old new (Some n) = Extends old new × (new.tracker.front ≡ old.tracker.front) × IsBroken n.0 new
 
--- the entry at the front was taken as walked, or there is none behind it
-abbrev pub IsTaken : SearchState → SearchState → Bool → Type 0
-IsTaken old new true = (old.tracker.front < length old.tracker.trail) × Extends old new × (new.tracker.trail ≡ old.tracker.trail) × (new.tracker.front ≡ old.tracker.front + 1)
-IsTaken old new false = (length old.tracker.trail ≤ old.tracker.front) × Extends old new × (new.tracker.trail ≡ old.tracker.trail)
+-- the literal fell by the entry of this place
+pub record FellAt (l : Signed) (place : ℕ) (s : SearchState) : Type 0 where
+  pub in_range : place < length s.tracker.trail
+  pub entry : made_true (before s.tracker.trail (place + 1)) ≡ negation l ∷ made_true (before s.tracker.trail place)
 
--- propagation has come to this entry of the trail
+-- the place of the entry that was taken last
+abbrev pub last_taken : SearchState → ℕ
+last_taken s = s.tracker.front - 1
+
+-- the entry at the front was taken, by which the literal fell; or there is none behind it
+abbrev pub IsTaken : SearchState → SearchState → Option Signed → Type 0
+IsTaken old new None = (length old.tracker.trail ≤ old.tracker.front) × Extends old new × (new.tracker.trail ≡ old.tracker.trail) × (new.tracker.front ≡ length old.tracker.trail)
+IsTaken old new (Some l) = FellAt l old.tracker.front old × Extends old new × (new.tracker.trail ≡ old.tracker.trail) × (new.tracker.front ≡ old.tracker.front + 1)
+
+-- propagation has come to this entry of the trail, and no clause waits
 pub record Running (old s : SearchState) (v w : Watching) : Type 0 where
   pub watching : SameWatching v w
-  pub ready : IsReady s w
+  pub settled : (n : ℕ) → Waits n w → ⊥
+  pub fits : IsFit s w
   pub extends : Extends old s
   pub walked : IsWalkedTo s.tracker.front s w
   pub assertions : AllTrue (made_true (history s)) v.assertions.items

@@ -1,8 +1,9 @@
 -- What the steps of the search do.
-use Rattle.std.specs.Prelude.{◌≡◌, ℕ, suc, ◌<◌, ◌≤◌, true, List, [], ◌∷◌, ◌++◌, length}
+use Rattle.std.specs.Prelude.{◌≡◌, ℕ, suc, ◌<◌, ◌≤◌, ◌⊎◌, true, List, [], ◌∷◌, ◌++◌, length, min}
 use Rattle.resolvo_pool.specs.declared.id.ClauseId.{ClauseId}
 use Rattle.resolvo_pool.specs.declared.id.VariableId.{VariableId}
 use Rattle.resolvo_store.specs.Signed.{Signed, has}
+use Rattle.resolvo_store.specs.Trail.{Tracked}
 use Rattle.resolvo_store.specs.declared.decision.Entry.{Entry}
 use Rattle.resolvo_search.specs.declared.state.HeldClause.{HeldClause}
 use Rattle.resolvo_search.specs.declared.state.SearchState.{SearchState}
@@ -43,6 +44,11 @@ pub record Chooses (v : VariableId) (c : ClauseId) (old new : SearchState) : Typ
   pub state : IsState new
   pub same : SameBut old new
   pub pushed : new.tracker.trail ≡ old.tracker.trail ++ choice_entry v c (history old) ∷ []
+  pub front : new.tracker.front ≡ old.tracker.front
+
+-- propagation begins anew at the trail's first entry; or it goes on, as no entry was taken away
+abbrev pub IsFrontUndone : Tracked → Tracked → Type 0
+IsFrontUndone old new = (new.front ≡ 0) ⊎ ((new.trail ≡ old.trail) × (new.front ≡ min old.front (length old.trail)))
 
 -- the entries above the level are gone
 pub record Undoes (level : ℕ) (old new : SearchState) : Type 0 where
@@ -50,6 +56,7 @@ pub record Undoes (level : ℕ) (old new : SearchState) : Type 0 where
   pub same : SameBut old new
   pub undone : IsUndone level (history old) (history new)
   pub low : top_level (history new) ≤ level
+  pub front : IsFrontUndone old.tracker new.tracker
 
 -- the clause came behind the others
 pub record Adds (c : HeldClause) (id : ClauseId) (old new : SearchState) : Type 0 where

@@ -1,82 +1,72 @@
-//! A clause comes, with what it watches.
-ghost use Rattle.std.specs.Prelude.{◌≡◌, ◌<◌, length, Bool, false, Some, None, IfOk, IfSome, IsErrOf, IsOkUnless};
+//! A clause comes, and waits until it watches two of its literals.
+ghost use Rattle.std.specs.Prelude.{◌≡◌, ◌<◌, length, true, not, IfOk, IsErrOf, IsOkUnless};
 ghost use Rattle.resolvo_pool.specs.declared.want.Want.TheVariants.{Memory, Ids};
-ghost use Rattle.resolvo_store.specs.Signed.{same_literal};
-ghost use Rattle.resolvo_store.specs.Watchable.{CanWatch};
+ghost use Rattle.resolvo_store.specs.Signed.{has};
 ghost use Rattle.resolvo_search.specs.State.{IsDerived, clauses_of, count_of};
 ghost use Rattle.resolvo_search.specs.Steps.{AreInRange};
 ghost use Rattle.resolvo_search.specs.Propagation.{IsReady, AreCovered};
-ghost use Rattle.resolvo_search.specs.declared.watching.Single.{Single};
-ghost use Rattle.resolvo_search.specs.Adding.{Begins, Comes};
+ghost use Rattle.resolvo_search.specs.Adding.{HasAnother, with_last, Begins, Comes};
 
 use crate::state::{HeldClause, SearchState};
 use crate::watching::{Single, Watching};
 use resolvo_pool::id::ClauseId;
 use resolvo_pool::want::R;
 use resolvo_store::literal::Literal;
-use resolvo_store::watched_literals::WatchedLiterals;
 
 impl SearchState {
-    /// Adds a clause, a rule or one that follows from its causes, which begins to watch two of its
-    /// literals; a clause of one literal watches nothing.
-    pub fn add_clause(
-        &mut self,
-        watching: &mut Watching,
-        clause: HeldClause,
-        watched: Option<WatchedLiterals>,
-    ) -> R<ClauseId>
+    /// Adds a clause, a rule or one that follows from its causes. It waits until propagation lets it
+    /// watch two of its literals; a clause of one literal is noted as such, and watches nothing.
+    pub fn add_clause(&mut self, watching: &mut Watching, clause: HeldClause) -> R<ClauseId>
         requires ready { IsReady self.old watching.old }
         requires covered { AreCovered self.old watching.old }
         requires follows { 0 < length clause.causes.items → IsDerived (clauses_of self.old) clause.literals.items clause.causes.items }
         requires in_range { AreInRange (count_of self.old) clause.literals.items }
         requires some { 0 < length clause.literals.items }
-        requires watches { CanWatch clause.literals.items watched }
         ensures added { IfOk result (λ id. Comes clause id self.old watching.old self.new watching.new) }
         ensures ids { IsErrOf result Ids → length self.old.clauses ≡ 4294967295 }
     {
         let literal = clause.literals[0];
+        let is_long = has_another(clause.literals.as_slice(), literal);
         let is_rule = clause.causes.is_empty();
         let clause = self.hold(clause)?;
-        watching.begin(clause, watched, literal, is_rule)?;
+        watching.begin(Single { clause, literal }, is_long, is_rule)?;
         Ok(clause)
     }
 }
 
-impl Watching {
-    /// Takes a clause that came behind the others: it watches two literals, or has this one alone.
-    fn begin(
-        &mut self,
-        clause: ClauseId,
-        watched: Option<WatchedLiterals>,
-        literal: Literal,
-        is_rule: bool,
-    ) -> R<()>
-        requires { IfSome watched (λ p. same_literal p.first p.second ≡ false) }
-        ensures begun { IfOk result (λ _. Begins (record { clause = clause; literal = literal }) watched is_rule self.old self.new) }
-        ensures refusal { IsOkUnless result Memory }
-    {
-        match watched {
-            Some(watched) => self.begin_watching(clause, watched),
-            None => self.note(Single { clause, literal }, is_rule),
+/// Whether a clause has a literal beside this one of its own.
+fn has_another(literals: &[Literal], first: Literal) -> bool
+    requires { has literals.now first ≡ true }
+    ensures { HasAnother literals.now first result }
+{
+    for literal in literals {
+        if *literal != first {
+            return true;
         }
     }
+    false
+}
 
-    /// Lets a clause that came behind the others watch two literals.
-    fn begin_watching(&mut self, clause: ClauseId, watched: WatchedLiterals) -> R<()>
-        requires { same_literal watched.first watched.second ≡ false }
-        ensures begun { IfOk result (λ _. (x : Single) (b : Bool) → x.clause ≡ clause → Begins x (Some watched) b self.old self.new) }
+impl Watching {
+    /// Takes a clause that came behind the others: it waits, or has this one literal alone.
+    fn begin(&mut self, single: Single, is_long: bool, is_rule: bool) -> R<()>
+        ensures begun { IfOk result (λ _. Begins single is_long is_rule self.old self.new) }
         ensures refusal { IsOkUnless result Memory }
     {
-        let WatchedLiterals { first, second } = watched;
-        self.watches
-            .start_watching(WatchedLiterals { first, second }, clause)?;
-        self.watched.push(Some(WatchedLiterals { first, second }))?;
+        if is_long {
+            self.waiting.push(single.clause)?;
+        } else {
+            self.note(single, is_rule)?;
+        }
+        self.watched.push(None)?;
         Ok(())
     }
 
-    /// Notes a clause of one literal that came behind the others.
+    /// Notes a clause of one literal.
     fn note(&mut self, single: Single, is_rule: bool) -> R<()>
-        ensures noted { IfOk result (λ _. Begins single None is_rule self.old self.new) }
+        ensures assertions { IfOk result (λ _. self.new.assertions.items ≡ with_last is_rule single self.old.assertions.items) }
+        ensures learnt { IfOk result (λ _. self.new.learnt.items ≡ with_last (not is_rule) single self.old.learnt.items) }
+        ensures others { (self.new.watched ≡ self.old.watched) × (self.new.watches ≡ self.old.watches) × (self.new.waiting ≡ self.old.waiting) }
         ensures refusal { IsOkUnless result Memory }
     {
         if is_rule {
@@ -84,7 +74,6 @@ impl Watching {
         } else {
             self.learnt.push(single)?;
         }
-        self.watched.push(None)?;
         Ok(())
     }
 }

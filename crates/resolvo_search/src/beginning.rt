@@ -46,6 +46,7 @@ pub fn begin(alloc: Global) -> R<(SearchState, Watching)>
         watches: WatchMap::new(alloc),
         assertions: Vec::new(alloc),
         learnt: Vec::new(alloc),
+        waiting: Vec::new(alloc),
     };
     Ok((state, watching))
 }

@@ -1,8 +1,6 @@
 //! What was learnt is added, after a jump to the level at which it asserts its literal.
-ghost use Rattle.std.specs.Prelude.{◌≡◌, true, length, IfOk, IsErrOf};
+ghost use Rattle.std.specs.Prelude.{◌≡◌, length, IfOk, IsErrOf};
 ghost use Rattle.resolvo_pool.specs.declared.want.Want.TheVariants.{Ids};
-ghost use Rattle.resolvo_store.specs.Signed.{has};
-ghost use Rattle.resolvo_store.specs.Watchable.{CanWatch};
 ghost use Rattle.resolvo_search.specs.Analysis.{IsLearnt};
 ghost use Rattle.resolvo_search.specs.Propagation.{IsReady, AreCovered};
 ghost use Rattle.resolvo_search.specs.Adding.{Learns};
@@ -12,11 +10,10 @@ use crate::state::{HeldClause, SearchState};
 use crate::watching::Watching;
 use resolvo_pool::id::ClauseId;
 use resolvo_pool::want::R;
-use resolvo_store::literal::Literal;
-use resolvo_store::watched_literals::WatchedLiterals;
 
 impl SearchState {
-    /// Jumps to the level of what was learnt, adds the clause, and makes its asserted literal true.
+    /// Jumps to the level of what was learnt, adds the clause, which waits, and makes its asserted
+    /// literal true.
     pub fn learn(&mut self, watching: &mut Watching, learnt: Learnt) -> R<ClauseId>
         requires ready { IsReady self.old watching.old }
         requires covered { AreCovered self.old watching.old }
@@ -31,25 +28,8 @@ impl SearchState {
             level,
         } = learnt;
         self.undo_until(level);
-        let watched = pair_with(literals.as_slice(), asserted);
-        let clause = self.add_clause(watching, HeldClause { literals, causes }, watched)?;
+        let clause = self.add_clause(watching, HeldClause { literals, causes })?;
         self.set_forced(clause, asserted)?;
         Ok(clause)
     }
-}
-
-/// A literal with another one of the clause, unless it has no other.
-pub fn pair_with(literals: &[Literal], first: Literal) -> Option<WatchedLiterals>
-    requires { has literals.now first ≡ true }
-    ensures { CanWatch literals.now result }
-{
-    for literal in literals {
-        if *literal != first {
-            return Some(WatchedLiterals {
-                first,
-                second: *literal,
-            });
-        }
-    }
-    None
 }

@@ -11,4 +11,5 @@ pub mod propagation;
 pub mod reasoning;
 pub mod state;
 pub mod steps;
+pub mod waiting;
 pub mod watching;

@@ -1,15 +1,14 @@
-//! What follows from the trail. Propagation begins at the trail's front, so that nothing has to be
-//! known of which watched literals are true or false before it.
-ghost use Rattle.std.specs.Prelude.{◌≡◌, ◌<◌, ◌≤◌, ◌+◌, length, slice_get, Some, true, IfOk, IsOkUnless};
+//! What follows from the trail. Propagation goes on at the trail's front: in each clause one of whose
+//! watched literals fell before it, the other one is true. Clauses that came since wait for it.
+ghost use Rattle.std.specs.Prelude.{◌≡◌, ◌<◌, slice_get, length, Some, true, IfOk, IsOkUnless};
 ghost use Rattle.resolvo_pool.specs.declared.want.Want.TheVariants.{Memory};
 ghost use Rattle.resolvo_store.specs.Signed.{negation, has};
 ghost use Rattle.resolvo_store.specs.Watches.{watchers, pair_at};
 ghost use Rattle.resolvo_search.specs.Known.{clause_at};
 ghost use Rattle.resolvo_search.specs.Entries.{made_true};
 ghost use Rattle.resolvo_search.specs.State.{IsState, history, clauses_of};
-ghost use Rattle.resolvo_search.specs.Propagation.{IsReady, AreCovered, AreSingles, IsFree, IsMeeting, IsVisit, IsWalkedTo, IsOnly, IsSingleSet, IsSinglesEnd, IsTaken, IsPropagation};
+ghost use Rattle.resolvo_search.specs.Propagation.{IsReady, IsFit, AreCovered, AreSingles, IsFree, FellAt, last_taken, IsMeeting, IsVisit, IsWalkedTo, IsOnly, IsSingleSet, IsSinglesEnd, IsTaken, IsPropagation};
 
-use crate::analysis::literal_made_true;
 use crate::state::SearchState;
 use crate::watching::{Single, Watching};
 use resolvo_pool::id::ClauseId;
@@ -53,7 +52,8 @@ impl SearchState {
         clause: ClauseId,
         watched: WatchedLiterals,
     ) -> R<Met>
-        requires ready { IsReady self.old watching.old }
+        requires state { IsState self.old }
+        requires fits { IsFit self.old watching.old }
         requires known { has (made_true (history self.old)) (negation cursor.literal) ≡ true }
         requires stands { slice_get (watchers watching.old.watches cursor.literal) cursor.place ≡ Some clause }
         requires pair { pair_at watching.old.watched.items clause.0 ≡ Some watched }
@@ -80,22 +80,26 @@ impl SearchState {
         }
     }
 
-    /// Walks over the clauses that watch a literal, which the entry at `front` made false.
-    fn visit(&mut self, watching: &mut Watching, front: usize) -> R<Option<ClauseId>>
-        requires ready { IsReady self.old watching.old }
-        requires in_range { front < length self.old.tracker.trail }
-        requires walked { IsWalkedTo front self.old watching.old }
-        ensures visit { IfOk result (IsVisit front self.old self.new watching.old watching.new) }
+    /// Walks over the clauses that watch a literal, which fell by the entry that was taken last. Where
+    /// one of them is wholly false, its walk is left unfinished, and propagation is to begin anew.
+    fn visit(&mut self, watching: &mut Watching, literal: Literal) -> R<Option<ClauseId>>
+        requires state { IsState self.old }
+        requires fits { IsFit self.old watching.old }
+        requires fell { FellAt literal (last_taken self.old) self.old }
+        requires walked { IsWalkedTo (last_taken self.old) self.old watching.old }
+        ensures visit { IfOk result (IsVisit (last_taken self.old) self.old self.new watching.old watching.new) }
         ensures refusal { IsOkUnless result Memory }
     {
-        let entry = self.entry(front);
-        let mut cursor = watching.watches.cursor(literal_made_true(entry).negate());
+        let mut cursor = watching.watches.cursor(literal);
         while let Some(clause) = cursor.clause_id(&watching.watches) {
             let watched = cursor.watched_literals(&watching.watches, watching.watched.as_slice());
             match self.meet(watching, cursor, clause, watched)? {
                 Met::Kept => cursor.next(),
                 Met::Moved => {}
-                Met::Broken => return Ok(Some(clause)),
+                Met::Broken => {
+                    self.tracker.again();
+                    return Ok(Some(clause));
+                }
             }
         }
         Ok(None)
@@ -133,12 +137,15 @@ impl SearchState {
         Ok(None)
     }
 
-    /// Takes the next entry of the trail as walked; false where all were.
-    fn take_next(&mut self) -> bool
+    /// Takes the entry at the trail's front, and gives the literal that fell by it; none behind the last.
+    fn take_next(&mut self) -> Option<Literal>
         requires state { IsState self.old }
         ensures { IsTaken self.old self.new result }
     {
-        self.tracker.next_unpropagated().is_some()
+        match self.tracker.next_unpropagated() {
+            Some(decision) => Some(Literal::new(decision.variable, decision.value)),
+            None => None,
+        }
     }
 
     /// Sets what the clauses force, from the trail's front on, or gives a clause that is wholly false.
@@ -148,19 +155,19 @@ impl SearchState {
         ensures propagation { IfOk result (IsPropagation self.old self.new watching.old watching.new) }
         ensures refusal { IsOkUnless result Memory }
     {
-        self.tracker.again();
         if let Some(clause) = self.set_singles(watching.assertions.as_slice())? {
             return Ok(Some(clause));
         }
         if let Some(clause) = self.set_singles(watching.learnt.as_slice())? {
             return Ok(Some(clause));
         }
-        let mut front = 0;
-        while self.take_next() {
-            if let Some(clause) = self.visit(watching, front)? {
+        if let Some(clause) = self.settle_all(watching)? {
+            return Ok(Some(clause));
+        }
+        while let Some(literal) = self.take_next() {
+            if let Some(clause) = self.visit(watching, literal)? {
                 return Ok(Some(clause));
             }
-            front += 1;
         }
         Ok(None)
     }

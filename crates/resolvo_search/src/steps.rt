@@ -67,13 +67,18 @@ impl SearchState {
         Ok(())
     }
 
-    /// Takes the entries above a level away.
+    /// Takes the entries above a level away. Where there were such, propagation begins anew, since what
+    /// stood in the way of a false literal may be gone.
     pub fn undo_until(&mut self, level: u32)
         requires state { IsState self.old }
         requires one { 1 ≤ level }
         ensures { Undoes level self.old self.new }
     {
+        let count = self.tracker.stack().len();
         self.tracker.undo_until(level);
+        if self.tracker.stack().len() < count {
+            self.tracker.again();
+        }
     }
 
     /// Adds a clause: a rule, or one that follows from its causes.

@@ -11,7 +11,6 @@ use resolvo_pool::id::{ClauseId, VariableId};
 use resolvo_pool::want::R;
 use resolvo_search::advancing::Progress;
 use resolvo_search::beginning::begin;
-use resolvo_search::learning::pair_with;
 use resolvo_search::state::{HeldClause, SearchState, VariableKind};
 use resolvo_search::watching::Watching;
 use resolvo_store::literal::Literal;
@@ -58,14 +57,12 @@ fn add_rule(
     if literals.is_empty() {
         return Ok(());
     }
-    let watched = pair_with(literals.as_slice(), literals[0]);
     state.add_clause(
         watching,
         HeldClause {
             literals,
             causes: Vec::new(alloc),
         },
-        watched,
     )?;
     Ok(())
 }

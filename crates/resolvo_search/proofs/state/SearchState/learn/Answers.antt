@@ -1,7 +1,15 @@
 use Rattle.std.proofs.Common.{refl}
 use Rattle.resolvo_search.specs.declared.state.HeldClause.{HeldClause}
+use Rattle.resolvo_search.proofs.Readiness.{ready_undone}
+use Rattle.resolvo_search.proofs.Choosing.{undo_covered}
 use Rattle.resolvo_search.proofs.Jumping.{added_forces, learns}
 use Rattle.resolvo_search.proofs.state.SearchState.learn.Goals as goal
+
+pub add_clause-requires-clause-ready : goal.add_clause-requires-clause-ready
+add_clause-requires-clause-ready c = ready_undone c.args.self.now c.undo_until.new.self c.args.watching.now c.args.learnt.level c.undo_until.ensures c.requires.ready
+
+pub add_clause-requires-clause-covered : goal.add_clause-requires-clause-covered
+add_clause-requires-clause-covered c = undo_covered c.args.self.now c.undo_until.new.self c.args.watching.now c.args.learnt.level c.undo_until.ensures c.requires.covered
 
 pub set_forced-requires-clause-forces : goal.set_forced-requires-clause-forces
 set_forced-requires-clause-forces c =

@@ -13,8 +13,8 @@ set_forced-requires-clause-forces c =
     let known = made_true (history s) in
     let is : c.other-other.result ≡ other_of c.args.watched c.args.cursor.literal = c.other-other.ensures in
     subst (λ (l : Signed). Forces known (clause_at (clauses_of s) c.args.clause.0) l) (sym is)
-    (forces_other known (clause_at (clauses_of s) c.args.clause.0) c.args.watched c.args.cursor.literal (c.requires.ready.own c.args.clause.0 c.args.watched c.requires.pair)
-    (pair_watches s c.args.watching.now c.args.cursor.literal c.args.cursor.place c.args.clause c.args.watched c.requires.ready c.requires.stands c.requires.pair)
+    (forces_other known (clause_at (clauses_of s) c.args.clause.0) c.args.watched c.args.cursor.literal (c.requires.fits.own c.args.clause.0 c.args.watched c.requires.pair)
+    (pair_watches s c.args.watching.now c.args.cursor.literal c.args.cursor.place c.args.clause c.args.watched c.requires.fits c.requires.stands c.requires.pair)
     c.requires.known c.in-None.ensures
     (subst (λ (l : Signed). has known l ≡ false) is (sym c.is_true.ensures ∙ c.if-is_true.false))
     (subst (λ (l : Signed). has known (negation l) ≡ false) is (sym c.is_false.ensures ∙ c.if-is_false.false)))
@@ -28,7 +28,7 @@ returns-then-is_false-clause-met c =
       same_state = refl;
       same_watching = refl;
       falls = falls_whole known (clause_at (clauses_of s) c.args.clause.0) c.args.watched c.args.cursor.literal
-          (pair_watches s c.args.watching.now c.args.cursor.literal c.args.cursor.place c.args.clause c.args.watched c.requires.ready c.requires.stands c.requires.pair)
+          (pair_watches s c.args.watching.now c.args.cursor.literal c.args.cursor.place c.args.clause c.args.watched c.requires.fits c.requires.stands c.requires.pair)
           c.requires.known c.in-None.ensures
           (subst (λ (l : Signed). has known (negation l) ≡ true) is (sym c.is_false.ensures ∙ c.if-is_false.true));
     }

@@ -1,67 +1,56 @@
-use Rattle.std.proofs.Common.{◌≡◌, ◌+◌, ◌<◌, ◌≤◌, ◌^◌, ℕ, List, Vec, Global, length, sym, ◌∙◌, ap, subst, arith}
-use Rattle.resolvo_store.specs.Trail.{Tracked}
+use Rattle.std.proofs.Common.{List, Some, None, subst}
 use Rattle.resolvo_search.specs.declared.state.SearchState.{SearchState}
-use Rattle.resolvo_search.specs.declared.state.VariableKind.{VariableKind}
 use Rattle.resolvo_search.specs.declared.watching.Single.{Single}
-use Rattle.resolvo_search.specs.State.{count_of}
-use Rattle.resolvo_search.specs.Propagation.{IsSinglesEnd, SetsSingles, IsVisit, IsTaken, Walked}
-use Rattle.resolvo_search.proofs.Completing.{front_extends, running_starts, running_goes_on, running_breaks, running_ends, complete_same, entries_bounded}
+use Rattle.resolvo_search.specs.Propagation.{IsSinglesEnd, SetsSingles, IsVisit, IsTaken, last_taken}
+use Rattle.resolvo_search.specs.Waiting.{IsWaitingEnd}
+use Rattle.resolvo_search.proofs.Extending.{extends_more}
+use Rattle.resolvo_search.proofs.Readiness.{ready_extends, same_watching}
+use Rattle.resolvo_search.proofs.Completing.{running_starts, running_goes_on, running_ends, running_smaller, singles_ready, singles_break, conflicts_later}
 use Rattle.resolvo_search.proofs.state.SearchState.propagate.Goals as goal
 
-pub loop-self-init : goal.loop-self-init
-loop-self-init c =
-    let o : SearchState = c.args.self.now in
-    let a : SearchState = record o { tracker = c.again.new.self } in
-    let trail : c.again.new.self.trail ≡ o.tracker.trail = ap (λ (t : Tracked). t.trail) c.again.ensures in
-    let began = front_extends o c.again.new.self c.requires.ready.state trail in
-    let front : a.tracker.front ≡ 0 = ap (λ (t : Tracked). t.front) c.again.ensures in
-    let rules : SetsSingles c.args.watching.now.assertions.items a c.set_singles.new.self = subst (λ (xs : List Single). SetsSingles xs a c.set_singles.new.self) c.as_slice.ensures.value (subst (IsSinglesEnd c.as_slice.result.now a c.set_singles.new.self) c.in_default.is c.in_ok-clause.ensures.set) in
-    let learnt : SetsSingles c.args.watching.now.learnt.items c.set_singles.new.self c.set_singles-2.new.self = subst (λ (xs : List Single). SetsSingles xs c.set_singles.new.self c.set_singles-2.new.self) c.as_slice-2.ensures.value (subst (IsSinglesEnd c.as_slice-2.result.now c.set_singles.new.self c.set_singles-2.new.self) c.in_default-2.is c.in_ok-clause-2.ensures.set) in
-    record {
-      running = running_starts o a c.set_singles.new.self c.set_singles-2.new.self c.args.watching.now c.requires.ready began front rules learnt;
-      front = sym (learnt.front ∙ rules.front ∙ front);
-    }
+pub loop-literal-init : goal.loop-literal-init
+loop-literal-init c =
+    let s : SearchState = c.set_singles-2.new.self in
+    let rules : SetsSingles c.args.watching.now.assertions.items c.args.self.now c.set_singles.new.self = subst (λ (xs : List Single). SetsSingles xs c.args.self.now c.set_singles.new.self) c.as_slice.ensures.value (subst (IsSinglesEnd c.as_slice.result.now c.args.self.now c.set_singles.new.self) c.in_default.is c.in_ok-clause.ensures.set) in
+    let learnt : SetsSingles c.args.watching.now.learnt.items c.set_singles.new.self s = subst (λ (xs : List Single). SetsSingles xs c.set_singles.new.self s) c.as_slice-2.ensures.value (subst (IsSinglesEnd c.as_slice-2.result.now c.set_singles.new.self s) c.in_default-2.is c.in_ok-clause-2.ensures.set) in
+    let settled : IsWaitingEnd s c.settle_all.new.self c.args.watching.now c.settle_all.new.watching None = subst (IsWaitingEnd s c.settle_all.new.self c.args.watching.now c.settle_all.new.watching) c.in_default-3.is c.in_ok-clause-3.ensures.settled in
+    running_starts c.args.self.now c.set_singles.new.self s c.settle_all.new.self c.args.watching.now c.settle_all.new.watching rules learnt settled.0 settled.1
 
-pub returns-in-Some-3-clause-propagation : goal.returns-in-Some-3-clause-propagation
-returns-in-Some-3-clause-propagation c =
-    let t = subst (IsTaken c.loop-self.self c.take_next.new.self) c.loop-self-test.true c.take_next.ensures in
-    running_breaks c.in-Some-3.clause.0 c.args.self.now c.loop-self.self c.take_next.new.self c.visit.new.self c.args.watching.now c.loop-self.watching c.visit.new.watching c.loop-self.invariant.running t.1
-    (subst (IsVisit c.loop-self.front c.take_next.new.self c.visit.new.self c.loop-self.watching c.visit.new.watching) c.in-Some-3.is c.in_ok-clause-3.ensures.visit)
+pub returns-in-Some-clause-propagation : goal.returns-in-Some-clause-propagation
+returns-in-Some-clause-propagation c =
+    singles_break c.in-Some.clause.0 c.args.self.now c.set_singles.new.self c.args.watching.now c.requires.ready
+    (subst (IsSinglesEnd c.as_slice.result.now c.args.self.now c.set_singles.new.self) c.in-Some.is c.in_ok-clause.ensures.set)
 
-pub overflow_add-front : goal.overflow_add-front
-overflow_add-front c =
-    let t = subst (IsTaken c.loop-self.self c.take_next.new.self) c.loop-self-test.true c.take_next.ensures in
-    let within : c.loop-self.self.tracker.front < length c.loop-self.self.tracker.trail = t.0 in
-    let at : c.loop-self.front ≡ c.loop-self.self.tracker.front = c.loop-self.invariant.front in
-    let bound : length c.loop-self.self.tracker.trail ≤ count_of c.loop-self.self = entries_bounded c.loop-self.self c.loop-self.invariant.running.extends.state in
-    let small : count_of c.loop-self.self < 2 ^ 31 = c.loop-self.invariant.running.extends.state.small in
-    omega arith
+pub returns-in-Some-2-clause-propagation : goal.returns-in-Some-2-clause-propagation
+returns-in-Some-2-clause-propagation c =
+    let rules : SetsSingles c.as_slice.result.now c.args.self.now c.set_singles.new.self = subst (IsSinglesEnd c.as_slice.result.now c.args.self.now c.set_singles.new.self) c.in_default.is c.in_ok-clause.ensures.set in
+    conflicts_later c.in-Some-2.clause.0 c.args.self.now c.set_singles.new.self c.set_singles-2.new.self c.args.watching.now c.args.watching.now c.args.watching.now (same_watching c.args.watching.now) rules.extends
+    (singles_break c.in-Some-2.clause.0 c.set_singles.new.self c.set_singles-2.new.self c.args.watching.now (ready_extends c.args.self.now c.set_singles.new.self c.args.watching.now c.requires.ready rules.extends rules.front)
+    (subst (IsSinglesEnd c.as_slice-2.result.now c.set_singles.new.self c.set_singles-2.new.self) c.in-Some-2.is c.in_ok-clause-2.ensures.set))
 
-pub loop-self-smaller : goal.loop-self-smaller
-loop-self-smaller c =
-    let t = subst (IsTaken c.loop-self.self c.take_next.new.self) c.loop-self-test.true c.take_next.ensures in
-    let walked : Walked (c.loop-self.front + 1) c.take_next.new.self c.visit.new.self c.loop-self.watching c.visit.new.watching =
-    subst (IsVisit c.loop-self.front c.take_next.new.self c.visit.new.self c.loop-self.watching c.visit.new.watching) c.in_default-3.is c.in_ok-clause-3.ensures.visit in
-    let within : c.loop-self.self.tracker.front < length c.loop-self.self.tracker.trail = t.0 in
-    let at : c.loop-self.front ≡ c.loop-self.self.tracker.front = c.loop-self.invariant.front in
-    let bound : length c.loop-self.self.tracker.trail ≤ count_of c.loop-self.self = entries_bounded c.loop-self.self c.loop-self.invariant.running.extends.state in
-    let same : count_of c.visit.new.self ≡ count_of c.loop-self.self = ap (λ (v : Vec VariableKind Global). length v.items) (walked.extends.same.variables ∙ t.1.same.variables) in
-    omega arith
+pub settle_all-requires : goal.settle_all-requires
+settle_all-requires c = record {
+  ready = singles_ready c.args.self.now c.set_singles.new.self c.set_singles-2.new.self c.args.watching.now c.as_slice.result.now c.as_slice-2.result.now c.requires.ready
+      (subst (IsSinglesEnd c.as_slice.result.now c.args.self.now c.set_singles.new.self) c.in_default.is c.in_ok-clause.ensures.set)
+      (subst (IsSinglesEnd c.as_slice-2.result.now c.set_singles.new.self c.set_singles-2.new.self) c.in_default-2.is c.in_ok-clause-2.ensures.set);
+}
 
-pub loop-self-preserved : goal.loop-self-preserved
-loop-self-preserved c =
-    let t = subst (IsTaken c.loop-self.self c.take_next.new.self) c.loop-self-test.true c.take_next.ensures in
-    let walked : Walked (c.loop-self.front + 1) c.take_next.new.self c.visit.new.self c.loop-self.watching c.visit.new.watching =
-    subst (IsVisit c.loop-self.front c.take_next.new.self c.visit.new.self c.loop-self.watching c.visit.new.watching) c.in_default-3.is c.in_ok-clause-3.ensures.visit in
-    let at : c.loop-self.front ≡ c.loop-self.self.tracker.front = c.loop-self.invariant.front in
-    record {
-      running = running_goes_on c.args.self.now c.loop-self.self c.take_next.new.self c.visit.new.self c.args.watching.now c.loop-self.watching c.visit.new.watching c.loop-self.invariant.running t.0 t.1 t.3
-          (subst (λ (k : ℕ). Walked (k + 1) c.take_next.new.self c.visit.new.self c.loop-self.watching c.visit.new.watching) at walked);
-      front = ap (λ k. k + 1) at ∙ sym t.3 ∙ sym walked.front;
-    }
+pub returns-in-Some-4-clause-propagation : goal.returns-in-Some-4-clause-propagation
+returns-in-Some-4-clause-propagation c =
+    let taken : IsTaken c.loop-literal.self c.take_next.new.self (Some c.in-Some-take_next.literal) = c.in-Some-take_next.ensures in
+    conflicts_later c.in-Some-4.clause.0 c.args.self.now c.take_next.new.self c.visit.new.self c.args.watching.now c.loop-literal.watching c.visit.new.watching c.loop-literal.invariant.watching
+    (extends_more c.args.self.now c.loop-literal.self c.take_next.new.self c.loop-literal.invariant.extends taken.1)
+    (subst (IsVisit (last_taken c.take_next.new.self) c.take_next.new.self c.visit.new.self c.loop-literal.watching c.visit.new.watching) c.in-Some-4.is c.in_ok-clause-4.ensures.visit)
+
+pub loop-literal-smaller : goal.loop-literal-smaller
+loop-literal-smaller c =
+    running_smaller c.args.self.now c.loop-literal.self c.take_next.new.self c.visit.new.self c.args.watching.now c.loop-literal.watching c.visit.new.watching c.in-Some-take_next.literal c.loop-literal.invariant c.in-Some-take_next.ensures
+    (subst (IsVisit (last_taken c.take_next.new.self) c.take_next.new.self c.visit.new.self c.loop-literal.watching c.visit.new.watching) c.in_default-4.is c.in_ok-clause-4.ensures.visit)
+
+pub loop-literal-preserved : goal.loop-literal-preserved
+loop-literal-preserved c =
+    running_goes_on c.args.self.now c.loop-literal.self c.take_next.new.self c.visit.new.self c.args.watching.now c.loop-literal.watching c.visit.new.watching c.in-Some-take_next.literal c.loop-literal.invariant c.in-Some-take_next.ensures
+    (subst (IsVisit (last_taken c.take_next.new.self) c.take_next.new.self c.visit.new.self c.loop-literal.watching c.visit.new.watching) c.in_default-4.is c.in_ok-clause-4.ensures.visit)
 
 pub returns-clause-propagation : goal.returns-clause-propagation
-returns-clause-propagation c =
-    let t = subst (IsTaken c.loop-self.self c.take_next.new.self) c.loop-self-test.false c.take_next.ensures in
-    complete_same c.args.self.now c.loop-self.self c.take_next.new.self c.args.watching.now c.loop-self.watching
-    (running_ends c.args.self.now c.loop-self.self c.args.watching.now c.loop-self.watching c.loop-self.invariant.running c.requires.covered t.0) t.1 t.2
+returns-clause-propagation c = running_ends c.args.self.now c.loop-literal.self c.take_next.new.self c.args.watching.now c.loop-literal.watching c.loop-literal.invariant c.requires.covered c.in_default-take_next.ensures

@@ -12,7 +12,7 @@ set_single-requires-clause-alone c =
 pub returns-in-false-clause-set : goal.returns-in-false-clause-set
 returns-in-false-clause-set c =
     let at = single_at (clauses_of c.args.self.now) c.args.singles.now c.loop-single.single-index c.single-item.result c.requires.alone c.loop-single-test.true c.single-item.is in
-    single_breaks c.args.self.now c.loop-single.self c.set_single.new.self c.single-item.result c.loop-single.invariant.extends at.0 at.1
+    single_breaks c.args.self.now c.loop-single.self c.set_single.new.self c.single-item.result c.loop-single.invariant.extends c.loop-single.invariant.front at.0 at.1
     (subst (IsSingleSet c.single-item.result c.loop-single.self c.set_single.new.self) c.in-false.is c.in_ok-set_single.ensures.set)
 
 pub loop-single-preserved : goal.loop-single-preserved

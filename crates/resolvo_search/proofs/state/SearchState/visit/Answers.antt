@@ -4,12 +4,17 @@ use Rattle.resolvo_store.specs.declared.watched_literals.WatchedLiterals.{Watche
 use Rattle.resolvo_store.proofs.Walks.{shorter}
 use Rattle.resolvo_store.specs.declared.watch_map.WatchMapCursor.{WatchMapCursor}
 use Rattle.resolvo_search.specs.declared.watching.Watching.{Watching}
-use Rattle.resolvo_search.specs.Propagation.{IsMeeting, IsVisiting, Keeps, Replaces}
-use Rattle.resolvo_search.proofs.Visiting.{got_in_range, fallen_now, visiting_keeps, visiting_moves, visiting_ends, visiting_breaks}
+use Rattle.resolvo_search.specs.Propagation.{last_taken, IsMeeting, IsVisiting, Keeps, Replaces}
+use Rattle.resolvo_search.proofs.Visiting.{got_in_range, fallen_now, visiting_starts, visiting_keeps, visiting_moves, visiting_ends, visiting_breaks}
 use Rattle.resolvo_search.proofs.state.SearchState.visit.Goals as goal
 
+pub loop-clause-init : goal.loop-clause-init
+loop-clause-init c =
+    subst (λ (x : WatchMapCursor). IsVisiting (last_taken c.args.self.now) x.literal x.place c.args.self.now c.args.self.now c.args.watching.now c.args.watching.now) (sym c.cursor-cursor.ensures)
+    (visiting_starts (last_taken c.args.self.now) c.args.self.now c.args.watching.now c.args.literal c.requires.state c.requires.fits c.requires.fell c.requires.walked)
+
 pub meet-requires-clause-known : goal.meet-requires-clause-known
-meet-requires-clause-known c = fallen_now c.args.front c.loop-clause.cursor.literal c.loop-clause.cursor.place c.args.self.now c.loop-clause.self c.args.watching.now c.loop-clause.watching c.loop-clause.invariant
+meet-requires-clause-known c = fallen_now (last_taken c.args.self.now) c.loop-clause.cursor.literal c.loop-clause.cursor.place c.args.self.now c.loop-clause.self c.args.watching.now c.loop-clause.watching c.loop-clause.invariant
 
 pub loop-clause-smaller-in-Kept : goal.loop-clause-smaller-in-Kept
 loop-clause-smaller-in-Kept c =
@@ -22,8 +27,8 @@ loop-clause-smaller-in-Kept c =
 
 pub loop-clause-preserved-in-Kept : goal.loop-clause-preserved-in-Kept
 loop-clause-preserved-in-Kept c =
-    subst (λ (x : WatchMapCursor). IsVisiting c.args.front x.literal x.place c.args.self.now c.meet.new.self c.args.watching.now c.meet.new.watching) (sym c.next.ensures)
-    (visiting_keeps c.args.front c.loop-clause.cursor.literal c.loop-clause.cursor.place c.in-Some.clause c.watched_literals-watched.result c.args.self.now c.loop-clause.self c.meet.new.self c.args.watching.now c.loop-clause.watching c.meet.new.watching c.loop-clause.invariant (sym c.in-Some.ensures.clause)
+    subst (λ (x : WatchMapCursor). IsVisiting (last_taken c.args.self.now) x.literal x.place c.args.self.now c.meet.new.self c.args.watching.now c.meet.new.watching) (sym c.next.ensures)
+    (visiting_keeps (last_taken c.args.self.now) c.loop-clause.cursor.literal c.loop-clause.cursor.place c.in-Some.clause c.watched_literals-watched.result c.args.self.now c.loop-clause.self c.meet.new.self c.args.watching.now c.loop-clause.watching c.meet.new.watching c.loop-clause.invariant (sym c.in-Some.ensures.clause)
     (subst (λ (xs : List (Option WatchedLiterals)). pair_at xs c.in-Some.clause.0 ≡ Some c.watched_literals-watched.result) c.as_slice.ensures.value (c.watched_literals-watched.ensures c.in-Some.clause (sym c.in-Some.ensures.clause)))
     (subst (IsMeeting c.loop-clause.cursor.literal c.loop-clause.cursor.place c.in-Some.clause.0 c.watched_literals-watched.result c.loop-clause.self c.loop-clause.watching c.meet.new.self c.meet.new.watching) c.in-Kept.is c.in_ok-meet.ensures.met))
 
@@ -36,13 +41,14 @@ loop-clause-smaller c =
 
 pub loop-clause-preserved : goal.loop-clause-preserved
 loop-clause-preserved c =
-    visiting_moves c.args.front c.loop-clause.cursor.literal c.loop-clause.cursor.place c.in-Some.clause c.args.self.now c.loop-clause.self c.meet.new.self c.args.watching.now c.loop-clause.watching c.meet.new.watching c.loop-clause.invariant (sym c.in-Some.ensures.clause)
+    visiting_moves (last_taken c.args.self.now) c.loop-clause.cursor.literal c.loop-clause.cursor.place c.in-Some.clause c.args.self.now c.loop-clause.self c.meet.new.self c.args.watching.now c.loop-clause.watching c.meet.new.watching c.loop-clause.invariant (sym c.in-Some.ensures.clause)
     (subst (IsMeeting c.loop-clause.cursor.literal c.loop-clause.cursor.place c.in-Some.clause.0 c.watched_literals-watched.result c.loop-clause.self c.loop-clause.watching c.meet.new.self c.meet.new.watching) c.in-Moved.is c.in_ok-meet.ensures.met)
 
 pub returns-in-Broken-clause-visit : goal.returns-in-Broken-clause-visit
 returns-in-Broken-clause-visit c =
-    visiting_breaks c.args.front c.loop-clause.cursor.literal c.loop-clause.cursor.place c.in-Some.clause.0 c.watched_literals-watched.result c.args.self.now c.loop-clause.self c.meet.new.self c.args.watching.now c.loop-clause.watching c.meet.new.watching c.loop-clause.invariant (subst (λ (xs : List (Option WatchedLiterals)). pair_at xs c.in-Some.clause.0 ≡ Some c.watched_literals-watched.result) c.as_slice.ensures.value (c.watched_literals-watched.ensures c.in-Some.clause (sym c.in-Some.ensures.clause)))
+    visiting_breaks (last_taken c.args.self.now) c.loop-clause.cursor.literal c.loop-clause.cursor.place c.in-Some.clause.0 c.watched_literals-watched.result c.args.self.now c.loop-clause.self c.meet.new.self c.again.new.self c.args.watching.now c.loop-clause.watching c.meet.new.watching c.loop-clause.invariant (subst (λ (xs : List (Option WatchedLiterals)). pair_at xs c.in-Some.clause.0 ≡ Some c.watched_literals-watched.result) c.as_slice.ensures.value (c.watched_literals-watched.ensures c.in-Some.clause (sym c.in-Some.ensures.clause)))
     (subst (IsMeeting c.loop-clause.cursor.literal c.loop-clause.cursor.place c.in-Some.clause.0 c.watched_literals-watched.result c.loop-clause.self c.loop-clause.watching c.meet.new.self c.meet.new.watching) c.in-Broken.is c.in_ok-meet.ensures.met)
+    c.again.ensures
 
 pub returns-clause-visit : goal.returns-clause-visit
-returns-clause-visit c = visiting_ends c.args.front c.loop-clause.cursor.literal c.loop-clause.cursor.place c.args.self.now c.loop-clause.self c.args.watching.now c.loop-clause.watching c.loop-clause.invariant (sym c.in_default.ensures.clause)
+returns-clause-visit c = visiting_ends (last_taken c.args.self.now) c.loop-clause.cursor.literal c.loop-clause.cursor.place c.args.self.now c.loop-clause.self c.args.watching.now c.loop-clause.watching c.loop-clause.invariant (sym c.in_default.ensures.clause)
