@@ -19,7 +19,7 @@ static ROWS: [Row; 18] = [
         catalogue: "version a 1\nversion a 2\n",
         request: "needs a 2\nneeds a 1\n",
         printed: "refused\nrequest line 1\nrequest line 2\n",
-        message: "\n| The following packages are incompatible\n| ├─ a 1 can be installed with any of the following options:\n| │  └─ a 1\n| └─ a 2 cannot be installed because there are no viable options:\n|    └─ a 2, which conflicts with the versions reported above.\n",
+        message: "\n| The following packages are incompatible\n| ├─ a 2 can be installed with any of the following options:\n| │  └─ a 2\n| └─ a 1 cannot be installed because there are no viable options:\n|    └─ a 1, which conflicts with the versions reported above.\n",
     },
     // the first line without a match alone
     Row {
@@ -39,7 +39,7 @@ static ROWS: [Row; 18] = [
         catalogue: "version a 1\nversion a 2\nversion a 3\n",
         request: "needs a 1..3\nneeds a 2..4\nneeds a 1\nneeds a 3\n",
         printed: "refused\nrequest line 3\nrequest line 4\nstep 1 ",
-        message: "\n| The following packages are incompatible\n| ├─ a 3 can be installed with any of the following options:\n| │  └─ a 3\n| └─ a 1 cannot be installed because there are no viable options:\n|    └─ a 1, which conflicts with the versions reported above.\n",
+        message: "\n| The following packages are incompatible\n| ├─ a 1 can be installed with any of the following options:\n| │  └─ a 1\n| └─ a 3 cannot be installed because there are no viable options:\n|    └─ a 3, which conflicts with the versions reported above.\n",
     },
     // a need without a match, below two that clash
     Row {
@@ -67,7 +67,7 @@ static ROWS: [Row; 18] = [
         catalogue: "version a 1\nneeds c 1\nversion b 1\nneeds c 2\nversion c 1\nversion c 2\n",
         request: "needs a\nneeds b\n",
         printed: "refused\ncatalogue line 2\ncatalogue line 4\nrequest line 1\nrequest line 2\nstep 1 ",
-        message: "\n| The following packages are incompatible\n| ├─ b * can be installed with any of the following options:\n| │  └─ b 1 would require\n| │     └─ c 2, which can be installed with any of the following options:\n| │        └─ c 2\n| └─ a * cannot be installed because there are no viable options:\n|    └─ a 1 would require\n|       └─ c 1, which cannot be installed because there are no viable options:\n|          └─ c 1, which conflicts with the versions reported above.\n",
+        message: "\n| The following packages are incompatible\n| ├─ a * can be installed with any of the following options:\n| │  └─ a 1 would require\n| │     └─ c 1, which can be installed with any of the following options:\n| │        └─ c 1\n| └─ b * cannot be installed because there are no viable options:\n|    └─ b 1 would require\n|       └─ c 2, which cannot be installed because there are no viable options:\n|          └─ c 2, which conflicts with the versions reported above.\n",
     },
     // a limit that no candidate keeps
     Row {
@@ -115,8 +115,8 @@ static ROWS: [Row; 18] = [
     Row {
         catalogue: "version p 1\nneeds c\nversion q 1\nneeds c\nversion c 1\nversion c 2\nversion c 3\nversion c 4\nversion r 1\nlimits c 9\n",
         request: "needs p\nneeds q\nneeds r\n",
-        printed: "refused\ncatalogue line 4\ncatalogue line 10\nrequest line 2\nrequest line 3\nstep 1 ",
-        message: "\n| The following packages are incompatible\n| ├─ q * can be installed with any of the following options:\n| │  └─ q 1 would require\n| │     └─ c *, which can be installed with any of the following options:\n| │        └─ c 4 | 3 | 2 | 1\n| └─ r * cannot be installed because there are no viable options:\n|    └─ r 1 would constrain\n|       └─ c 9, which conflicts with any installable versions previously reported\n",
+        printed: "refused\ncatalogue line 2\ncatalogue line 10\nrequest line 1\nrequest line 3\nstep 1 ",
+        message: "\n| The following packages are incompatible\n| ├─ p * can be installed with any of the following options:\n| │  └─ p 1 would require\n| │     └─ c *, which can be installed with any of the following options:\n| │        └─ c 4 | 3 | 2 | 1\n| └─ r * cannot be installed because there are no viable options:\n|    └─ r 1 would constrain\n|       └─ c 9, which conflicts with any installable versions previously reported\n",
     },
     // a gate with two requirers, and versions that are told as one
     Row {
