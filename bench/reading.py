@@ -3,8 +3,8 @@
 run: median of five, and memory at its peak.
 
 Usage: bench/reading.py [PATH OF THE PROGRAM]   (default: crates/resolve/out/resolve, which `rt run` leaves)
-The program that only reads is proved and built over copies of the crates under it: some minutes, one where their
-`out/` is kept. Prints a table for docs/BENCHMARKS.md. Files are made anew in a temporary folder from a fixed seed.
+The program that only reads is that of bench/reader.py, which is proved and built first. Prints a table for
+docs/BENCHMARKS.md. Files are made anew in a temporary folder from a fixed seed.
 """
 import os
 import random
@@ -15,56 +15,10 @@ import sys
 import tempfile
 import time
 
-import program
+import reader
 
 SIZE = 16_000_000
 AWK = ["awk", "{n[$2]++} END {print length(n)}"]
-
-CRATES = """\
-resolvo_text: thiserror
-resolvo_catalogue: resolvo_text
-reading: resolvo_text resolvo_catalogue
-"""
-
-READER = """\
-//! Reads a catalogue, and tells how many versions it lists.
-#![tactic(auto)]
-
-use resolvo_catalogue::{Catalogue, Counted};
-use std::env;
-use std::fs::File;
-use std::process::ExitCode;
-
-/// The number of versions, if the catalogue is read.
-fn count(rt: &HostRuntime, path: &str) -> Option<usize> {
-    let Ok(file) = File::open(rt, path) else {
-        return None;
-    };
-    let Ok(catalogue) = Catalogue::read(rt.alloc(), &mut Counted::new(file)) else {
-        return None;
-    };
-    Some(catalogue.versions().len())
-}
-
-fn main(rt: HostRuntime) -> ExitCode {
-    let Ok(args) = env::args(&rt) else {
-        return ExitCode::from(2);
-    };
-    let Ok(words) = args.skip(1).collect::<Vec<String>>(rt.alloc()) else {
-        return ExitCode::from(2);
-    };
-    let [path, ..] = words.as_slice() else {
-        return ExitCode::from(2);
-    };
-    match count(&rt, path.as_str()) {
-        Some(number) => {
-            let _ = println!(rt; "{number}");
-            ExitCode::from(0)
-        }
-        None => ExitCode::from(1),
-    }
-}
-"""
 
 
 def write(path, lines):
@@ -130,10 +84,10 @@ def median(command):
     return statistics.median(r[0] for r in runs), statistics.median(r[1] for r in runs), max(r[2] for r in runs), runs[0][3]
 
 
-def row(name, path, reader, solver, request):
+def row(name, path, proved, solver, request):
     """A line of the table."""
     size = os.path.getsize(path)
-    awk, alone, solved = median(AWK + [path]), median([reader, path]), median([solver, "solve", path, request])
+    awk, alone, solved = median(AWK + [path]), median([proved, path]), median([solver, "solve", path, request])
     parts = [name, size, f"{awk[0]:.2f}"]
     for run in (alone, solved):
         parts += [f"{run[0]:.2f}", f"{run[0] / awk[0]:.2f}", f"{run[2] / size:.1f}", run[3]]
@@ -144,7 +98,7 @@ def main():
     here = os.path.dirname(os.path.abspath(__file__))
     solver = sys.argv[1] if len(sys.argv) > 1 else os.path.join(here, "../crates/resolve/out/resolve")
     with tempfile.TemporaryDirectory() as folder:
-        reader = program.build(folder, "reading", READER, CRATES)
+        proved = reader.build(folder)
         request = os.path.join(folder, "request")
         open(request, "w").close()
         print("| catalogue | bytes | awk, s | reading, s | / awk | memory / text | status | `solve`, s | / awk | memory / text | status |")
@@ -152,7 +106,7 @@ def main():
         for name, lines in [("100,000 packages", many_packages()), ("one package", one_package()), ("mixed", mixed())]:
             path = os.path.join(folder, "catalogue")
             write(path, lines)
-            print(row(name, path, reader, solver, request))
+            print(row(name, path, proved, solver, request))
 
 
 if __name__ == "__main__":
