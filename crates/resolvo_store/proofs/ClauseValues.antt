@@ -1,5 +1,5 @@
 -- Lemmas on the values of clauses.
-use Rattle.std.proofs.Common.{◌≡◌, ◌<◌, arith, subst, length, Contains, List, [], ◌∷◌, ◌++◌, Bool, true, false, Option, Some, None, All, refl, sym, ◌∙◌, ap}
+use Rattle.std.proofs.Common.{◌≡◌, arith, subst, Contains, List, [], ◌∷◌, ◌++◌, Bool, true, false, Option, Some, None, All, refl, sym, ◌∙◌, ap}
 use Rattle.std.proofs.lemmas.List.{append_assoc}
 use Rattle.std.proofs.lemmas.List.Elements.{All-push, Contains-push, Contains-append_left, Contains-append_right}
 use Rattle.resolvo_store.specs.Signed.{Signed}

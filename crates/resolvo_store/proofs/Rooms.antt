@@ -2,7 +2,7 @@
 use Rattle.std.proofs.Common.{length-append, ◌≡◌, ℕ, zero, suc, ◌+◌, ◌-◌, ◌<◌, ◌≤◌, List, [], ◌∷◌, ◌++◌, take, drop, length, get_or, set, Option, Some, None, Vec, Global, vec_len, vec_capacity, refl, sym, ◌∙◌, ap, subst, arith}
 use Rattle.std.proofs.lemmas.List.{take_more}
 use Rattle.resolvo_pool.specs.declared.id.ClauseId.{ClauseId}
-use Rattle.resolvo_store.specs.Signed.{Signed, index_in}
+use Rattle.resolvo_store.specs.Signed.{Signed}
 use Rattle.resolvo_store.specs.declared.watch_map.WatchMap.{WatchMap}
 use Rattle.resolvo_store.specs.Watches.{room_at, room, HasRoom}
 use Rattle.resolvo_store.specs.Walk.{first_target}

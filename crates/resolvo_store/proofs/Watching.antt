@@ -1,18 +1,18 @@
 -- Lemmas on the lists that the calls of a watch map write, as functions of a literal.
-use Rattle.std.proofs.Common.{◌≡◌, ℕ, suc, ◌<◌, ◌⊎◌, inl, inr, true, false, List, ◌∷◌, ◌++◌, take, drop, length, get_or, set, Option, Some, Vec, Global, sym, ◌∙◌, ap, subst}
+use Rattle.std.proofs.Common.{◌≡◌, ℕ, suc, ◌-◌, ◌<◌, ◌⊎◌, inl, inr, true, false, List, [], ◌∷◌, ◌++◌, take, drop, reverse, length, get_or, set, Option, Some, Vec, Global, sym, ◌∙◌, ap, subst}
 use Rattle.std.specs.Prelude.{slice_get, slice_set}
 use Rattle.resolvo_pool.specs.declared.id.ClauseId.{ClauseId}
 use Rattle.resolvo_store.specs.Signed.{Signed, same_literal, index_in}
 use Rattle.resolvo_store.specs.Pairs.{watches, moved_pair}
 use Rattle.resolvo_store.specs.declared.watched_literals.WatchedLiterals.{WatchedLiterals}
 use Rattle.resolvo_store.specs.Watches.{list_at, pair_at, IsWatched, StartsIn, MovesIn, Moves, PutsFirst, TakesOut, SameLists}
-use Rattle.resolvo_store.proofs.ClauseLists.{list_at-read, list_at-set_same, list_at-set_other, list_same}
+use Rattle.resolvo_store.proofs.ClauseLists.{list_at-read, list_at-set_same, list_at-set_other, list_same, reverse_push, reverse_taken}
 use Rattle.resolvo_store.proofs.Watched.{differs_sym, both_false, cases_literal, index_differs, moved_well, pair_of_watcher, not_same_watch}
 
-pub wrote_first : (ls mid new : List (Vec ClauseId Global)) (l : Signed) (i : ℕ) (c : ClauseId) (v v' : Vec ClauseId Global) → i ≡ index_in l → ((j : ℕ) → list_at mid j ≡ list_at ls j) → i < length mid → v ≡ get_or mid i v → v'.items ≡ c ∷ v.items → new ≡ set mid i v'
+pub wrote_first : (ls mid new : List (Vec ClauseId Global)) (l : Signed) (i : ℕ) (c : ClauseId) (v v' : Vec ClauseId Global) → i ≡ index_in l → ((j : ℕ) → list_at mid j ≡ list_at ls j) → i < length mid → v ≡ get_or mid i v → v'.items ≡ v.items ++ c ∷ [] → new ≡ set mid i v'
     → PutsFirst c l (λ m. list_at ls (index_in m)) (λ m. list_at new (index_in m))
 wrote_first ls mid new l i c v v' at same within read put is = record {
-  put = ap (λ j. list_at new j) (sym at) ∙ ap (λ (xs : List (Vec ClauseId Global)). list_at xs i) is ∙ list_at-set_same mid i v' within ∙ put ∙ ap (λ (xs : List ClauseId). c ∷ xs) (sym (list_at-read mid i v within read) ∙ same i ∙ ap (λ j. list_at ls j) at);
+  put = ap (λ j. list_at new j) (sym at) ∙ ap (λ (xs : List (Vec ClauseId Global)). list_at xs i) is ∙ list_at-set_same mid i v' within ∙ ap reverse put ∙ reverse_push v.items c ∙ ap (λ (xs : List ClauseId). c ∷ xs) (sym (list_at-read mid i v within read) ∙ same i ∙ ap (λ j. list_at ls j) at);
   others = λ m n. ap (λ (xs : List (Vec ClauseId Global)). list_at xs (index_in m)) is ∙ list_at-set_other mid i (index_in m) v' (λ e. index_differs l m n (sym at ∙ e)) ∙ same (index_in m);
 }
 
@@ -20,13 +20,13 @@ pub wrote_same : (ls mid new : List (Vec ClauseId Global)) (i : ℕ) (v v' : Vec
     → SameLists (λ m. list_at ls (index_in m)) (λ m. list_at new (index_in m))
 wrote_same ls mid new i v v' same within read items is m = ap (λ (xs : List (Vec ClauseId Global)). list_at xs (index_in m)) is ∙ list_same mid i (index_in m) v v' within read items ∙ same (index_in m)
 
-pub took_out : (ls new : List (Vec ClauseId Global)) (l : Signed) (i place : ℕ) (v v' : Vec ClauseId Global) → i ≡ index_in l → i < length ls → v ≡ get_or ls i v → v'.items ≡ take place v.items ++ drop (suc place) v.items → new ≡ set ls i v'
+pub took_out : (ls new : List (Vec ClauseId Global)) (l : Signed) (i place at : ℕ) (v v' : Vec ClauseId Global) → i ≡ index_in l → i < length ls → v ≡ get_or ls i v → place < length v.items → at ≡ length v.items - 1 - place → v'.items ≡ take at v.items ++ drop (suc at) v.items → new ≡ set ls i v'
     → TakesOut l place (λ m. list_at ls (index_in m)) (λ m. list_at new (index_in m))
-took_out ls new l i place v v' at within read taken is =
-    let here : v.items ≡ list_at ls (index_in l) = sym (list_at-read ls i v within read) ∙ ap (λ j. list_at ls j) at in
+took_out ls new l i place at v v' index within read below from_end taken is =
+    let here : reverse v.items ≡ list_at ls (index_in l) = sym (list_at-read ls i v within read) ∙ ap (λ j. list_at ls j) index in
     record {
-      taken = ap (λ j. list_at new j) (sym at) ∙ ap (λ (xs : List (Vec ClauseId Global)). list_at xs i) is ∙ list_at-set_same ls i v' within ∙ taken ∙ ap (λ (xs : List ClauseId). take place xs ++ drop (suc place) xs) here;
-      others = λ m n. ap (λ (xs : List (Vec ClauseId Global)). list_at xs (index_in m)) is ∙ list_at-set_other ls i (index_in m) v' (λ e. index_differs l m n (sym at ∙ e));
+      taken = ap (λ j. list_at new j) (sym index) ∙ ap (λ (xs : List (Vec ClauseId Global)). list_at xs i) is ∙ list_at-set_same ls i v' within ∙ ap reverse taken ∙ reverse_taken v.items place at below from_end ∙ ap (λ (xs : List ClauseId). take place xs ++ drop (suc place) xs) here;
+      others = λ m n. ap (λ (xs : List (Vec ClauseId Global)). list_at xs (index_in m)) is ∙ list_at-set_other ls i (index_in m) v' (λ e. index_differs l m n (sym index ∙ e));
     }
 
 -- a clause that was put to the front of two lists

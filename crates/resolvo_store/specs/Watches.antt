@@ -1,5 +1,5 @@
 -- The clauses that watch a literal.
-use Rattle.std.specs.Prelude.{◌≡◌, ℕ, zero, suc, ◌+◌, ◌-◌, ◌≤◌, ⊤, vec_len, vec_capacity, Bool, true, false, nat_eq, List, [], ◌∷◌, ◌++◌, take, drop, slice_set, slice_get, slice_index_or, length, not, ◌==◌, Vec, Option, Some, None}
+use Rattle.std.specs.Prelude.{◌≡◌, ℕ, zero, suc, ◌+◌, ◌-◌, ◌≤◌, ⊤, vec_len, vec_capacity, Bool, true, false, nat_eq, List, [], ◌∷◌, ◌++◌, take, drop, reverse, slice_set, slice_get, slice_index_or, length, not, ◌==◌, Vec, Option, Some, None}
 use Rattle.std.specs.List.{count_by}
 use Rattle.std.specs.declared.alloc.Global.{Global}
 use Rattle.resolvo_pool.specs.declared.id.ClauseId.{ClauseId}
@@ -8,10 +8,10 @@ use Rattle.resolvo_store.specs.Pairs.{watches, moved_pair}
 use Rattle.resolvo_store.specs.declared.watched_literals.WatchedLiterals.{WatchedLiterals}
 use Rattle.resolvo_store.specs.declared.watch_map.WatchMap.{WatchMap}
 
--- the list of an index; there is none beyond the lists
+-- the list of an index, whose front is the end of its vector; there is none beyond the lists
 abbrev pub list_at : List (Vec ClauseId Global) → ℕ → List ClauseId
 list_at [] n = []
-list_at (v ∷ vs) zero = v.items
+list_at (v ∷ vs) zero = reverse v.items
 list_at (v ∷ vs) (suc n) = list_at vs n
 
 -- the clauses that watch the literal, the latest first

@@ -2,8 +2,9 @@
 //! What a clause watches stands with the clauses, in the list of their watched literals, which the
 //! calls take; the map and that list fit each other (`IsWatched`): each clause stands once in the list
 //! of each of its two literals, and in no other. A clause that begins to watch a literal comes to the
-//! front of its list. A walk is a cursor that the caller leads on.
-ghost use Rattle.std.specs.Prelude.{◌≡◌, ℕ, ◌<◌, ◌≤◌, ◌+◌, ◌++◌, ◌∷◌, [], List, Option, length, slice_get, false, Some, drop, OnOk, OnErr, IfOk, IsOk, IsOkUnless, IfSome, vec_capacity};
+//! front of its list. A walk is a cursor that the caller leads on. The front of a list is the end of
+//! its vector, where a clause comes at no cost, however many watch the literal already.
+ghost use Rattle.std.specs.Prelude.{◌≡◌, ℕ, ◌<◌, ◌≤◌, ◌+◌, ◌-◌, ◌++◌, ◌∷◌, [], List, Option, length, slice_get, false, Some, drop, OnOk, OnErr, IfOk, IsOk, IsOkUnless, IfSome, vec_capacity};
 ghost use Rattle.resolvo_pool.specs.declared.want.Want.TheVariants.{Memory};
 ghost use Rattle.resolvo_pool.specs.declared.id.ClauseId.{ClauseId};
 ghost use Rattle.resolvo_store.specs.Signed.{Signed, same_literal};
@@ -180,7 +181,7 @@ impl WatchMap {
         if index < self.lists.len() {
             let list = &self.lists[index];
             if place < list.len() {
-                return Some(list[place]);
+                return Some(list[from_end(list.len(), place)]);
             }
         }
         None
@@ -196,7 +197,7 @@ impl WatchMap {
     {
         let index = literal.to_index();
         add_lists(&mut self.lists, index + 1, self.alloc)?;
-        self.lists[index].insert(0, clause)?;
+        self.lists[index].push(clause)?;
         Ok(())
     }
 
@@ -206,8 +207,8 @@ impl WatchMap {
         ensures taken { TakesOut literal place (watchers self.old) (watchers self.new) }
         ensures room { (l : Signed) → room self.old l ≤ room self.new l }
     {
-        let index = literal.to_index();
-        self.lists[index].remove(place);
+        let list = &mut self.lists[literal.to_index()];
+        list.remove(from_end(list.len(), place));
     }
 }
 
@@ -299,6 +300,14 @@ impl WatchMapCursor {
             None => unreachable!(),
         }
     }
+}
+
+/// Where a place of a list lies in its vector, whose end is the list's front.
+fn from_end(len: usize, place: usize) -> usize
+    requires { place < len }
+    ensures { result ≡ len - 1 - place }
+{
+    len - 1 - place
 }
 
 /// What a clause watches, if it watches anything.

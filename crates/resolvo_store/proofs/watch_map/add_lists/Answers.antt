@@ -1,4 +1,4 @@
-use Rattle.std.proofs.Common.{◌≡◌, ◌+◌, ◌≤◌, ◌<◌, List, Vec, Global, length, sym, ◌∙◌, ap, subst, arith}
+use Rattle.std.proofs.Common.{◌≤◌, List, Vec, Global, sym, ◌∙◌, ap, subst, arith}
 use Rattle.resolvo_pool.specs.declared.id.ClauseId.{ClauseId}
 use Rattle.resolvo_store.specs.Watches.{list_at, room_at}
 use Rattle.resolvo_store.proofs.ClauseLists.{list_at-push}

@@ -8,7 +8,7 @@ pub returns-then-place-len-clause-clause : goal.returns-then-place-len-clause-cl
 returns-then-place-len-clause-clause c =
     let ls = c.args.self.now.lists.items in
     sym (subst (λ (i : ℕ). slice_get (list_at ls i) c.args.place ≡ Some c.index.result.now) c.to_index-index.ensures.index
-    (watcher_is ls c.to_index-index.result c.args.place c.index.result.now c.index-list.result.now (omega arith) c.index-list.ensures (omega arith) c.index.ensures))
+    (watcher_is ls c.to_index-index.result c.args.place _ c.index.result.now c.index-list.result.now (omega arith) c.index-list.ensures (omega arith) (omega arith) c.index.ensures))
 
 pub returns-else-place-len-clause-clause : goal.returns-else-place-len-clause-clause
 returns-else-place-len-clause-clause c =

@@ -1,4 +1,4 @@
-use Rattle.std.proofs.Common.{◌≡◌, ◌+◌, ◌≤◌, Option, Some, None, take, length, sym, ◌∙◌, subst, arith}
+use Rattle.std.proofs.Common.{◌≡◌, ◌+◌, ◌≤◌, Some, None, take, length, sym, ◌∙◌, subst, arith}
 use Rattle.resolvo_store.specs.Signed.{Signed}
 use Rattle.resolvo_store.specs.declared.watch_map.WatchMap.{WatchMap}
 use Rattle.resolvo_store.specs.Watches.{room, HasRoom, watchers, SameLists}

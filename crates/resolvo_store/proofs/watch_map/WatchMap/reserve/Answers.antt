@@ -1,7 +1,7 @@
-use Rattle.std.proofs.Common.{◌≡◌, ℕ, ◌≤◌, length, refl, sym, subst, arith}
+use Rattle.std.proofs.Common.{ℕ, ◌≤◌, refl, subst, arith}
 use Rattle.std.specs.Vec.{with_item}
 use Rattle.resolvo_store.specs.Signed.{index_in}
-use Rattle.resolvo_store.specs.Watches.{watchers, room, room_at}
+use Rattle.resolvo_store.specs.Watches.{room_at}
 use Rattle.resolvo_store.proofs.Watching.{wrote_same}
 use Rattle.resolvo_store.proofs.Rooms.{room_here, room_reserved}
 use Rattle.resolvo_store.proofs.watch_map.WatchMap.reserve.Goals as goal
