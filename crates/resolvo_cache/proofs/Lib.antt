@@ -1,2 +1,3 @@
 pub mod Favoured
+pub mod HintedLemmas
 pub mod KeptLemmas

@@ -1,3 +1,4 @@
 pub mod Cached
 pub mod Fault
+pub mod Hinted
 pub mod Keyed

@@ -2,7 +2,8 @@
 //! The model is the provider with the keys whose answers are kept, and the sorted lists; what is
 //! kept at a key is the provider's answer. The solver asks the provider through it alone. Each
 //! answer comes by two calls, one that sees to it that the answer is kept and one that looks; the
-//! `get_or_cache` calls are both in one.
+//! `get_or_cache` calls are both in one. Which solvables kept candidates hint is kept as a set, so
+//! that whether one is hinted is one look-up.
 ghost use Rattle.std.specs.Prelude.{◌≡◌, ◌||◌, ◌&&◌, [], ◌∷◌, true, false, not, All, None, Some, List, IfOk, IfErr, IsOk, OnErr, OnOk, ⊤, IfSome, length, position, ◌<◌};
 ghost use Rattle.std.specs.List.{flat_map};
 ghost use Rattle.std.specs.Map.{lookup};
@@ -11,11 +12,12 @@ ghost use Rattle.resolvo_pool.specs.Text.{alternatives_of};
 ghost use Rattle.resolvo_pool.specs.Provider.{kept, listed, listing, listing_or_empty, hints, needs_of, matching_in, favoured_first, IsTried, tried_first, IsTriedFor};
 ghost use Rattle.resolvo_cache.specs.Cached.{among, same_set, same_union, sorted_of, has_sorted, is_sorted, Extends, IsCancelledBy};
 
+use crate::hinted::put_hinted;
 use resolvo_pool::id::{Exact, VersionSetId, VersionSetUnionId};
-use resolvo_pool::provider::{
-    Candidates, Dependencies, DependencyProvider, HintDependenciesAvailable,
-};
+use resolvo_pool::id_map::IdSet;
+use resolvo_pool::provider::{Candidates, Dependencies, DependencyProvider};
 use resolvo_pool::requirement::Requirement;
+use resolvo_pool::solver_id::SolverId;
 use resolvo_pool::want::{R, Want};
 use std::alloc::{AllocError, AllocFailed, Global};
 use std::collections::HashMap;
@@ -83,13 +85,15 @@ pub struct SolverCache<D: DependencyProvider> {
     sorted: HashMap<VersionSetId, Vec<D::SolvableId>>,
     unions: HashMap<VersionSetUnionId, Vec<D::SolvableId>>,
     dependencies: HashMap<D::SolvableId, Dependencies>,
+    hinted: <D::SolvableId as SolverId>::Set,
 }
 
 impl<D: DependencyProvider> Model for SolverCache<D> {
     ghost use Rattle.std.specs.Prelude.{true, false};
     ghost use Rattle.std.specs.HashMap.{keys};
     ghost use Rattle.resolvo_pool.specs.Provider.{matching_in, tried_first};
-    ghost use Rattle.resolvo_cache.specs.Cached.{Cached, IsKept, IsListing, IsList, IsSortedList, IsUnionList, IsNeeds, same_set, same_union, lists_of};
+    ghost use Rattle.resolvo_cache.specs.Cached.{Cached, IsKept, IsListing, IsList, IsSortedList, IsUnionList, IsNeeds, same_set, same_union, lists_of, among};
+    ghost use Rattle.resolvo_cache.specs.Hinted.{is_hinted, HoldsHinted};
 
     ghost Value = { Cached D D.NameId D.SolvableId };
 
@@ -101,11 +105,13 @@ impl<D: DependencyProvider> Model for SolverCache<D> {
         × IsKept same_set (IsList (matching_in (D.name_of_version_set c.provider) (D.candidates_of c.provider) (D.matches c.provider) true)) c.non_matching.entries
         × IsKept same_set (IsSortedList (D.sorts c.provider) D.SolvableId.eq (tried_first (D.name_of_version_set c.provider) (D.candidates_of c.provider)) (matching_in (D.name_of_version_set c.provider) (D.candidates_of c.provider) (D.matches c.provider) false)) c.sorted.entries
         × IsKept same_union (IsUnionList (D.members_of c.provider) (lists_of c.sorted.entries)) c.unions.entries
-        × IsKept D.SolvableId.eq (IsNeeds (D.dependencies_of c.provider)) c.dependencies.entries };
+        × IsKept D.SolvableId.eq (IsNeeds (D.dependencies_of c.provider)) c.dependencies.entries
+        × HoldsHinted (λ s. among D.NameId.eq (keys c.lists) (D.name_of_solvable c.provider s)) (is_hinted D.SolvableId.eq (D.name_of_solvable c.provider) (D.candidates_of c.provider)) (D.SolvableId.Set.has c.hinted) };
 }
 
 impl<D: DependencyProvider> SolverCache<D> {
     /// A cache that has asked nothing.
+    #[tactic(auto, using(crate::proofs::HintedLemmas::hinted_none))]
     pub fn new(alloc: Global, provider: D) -> SolverCache<D>
         ensures { result ≡ record { provider = provider; names = []; matching = []; non_matching = []; sorted = []; unions = []; solvables = [] } }
     {
@@ -118,6 +124,7 @@ impl<D: DependencyProvider> SolverCache<D> {
             sorted: HashMap::new(alloc),
             unions: HashMap::new(alloc),
             dependencies: HashMap::new(alloc),
+            hinted: <D::SolvableId as SolverId>::Set::new(alloc),
         }
     }
 
@@ -171,6 +178,7 @@ impl<D: DependencyProvider> SolverCache<D> {
             return Err(CacheFault::Cancelled(value));
         }
         let list = candidates_from(&self.provider, self.alloc, name)?;
+        put_hinted(&mut self.hinted, &self.provider, name, &list)?;
         self.lists.insert(name, list)?;
         Ok(())
     }
@@ -599,7 +607,7 @@ impl<D: DependencyProvider> SolverCache<D> {
             return true;
         }
         let name = self.provider.solvable_name(solvable);
-        self.has_candidates(name) && is_hinted(self.candidates(name), solvable)
+        self.has_candidates(name) && self.hinted.contains(solvable)
     }
 }
 
@@ -614,17 +622,6 @@ fn candidates_from<D: DependencyProvider>(
     match provider.get_candidates(alloc, name)? {
         Some(list) => Ok(list),
         None => Ok(Candidates::new(alloc)),
-    }
-}
-
-/// Whether a list of candidates says that the dependencies of a solvable are at hand.
-fn is_hinted<S: Copy + Eq>(list: &Candidates<S>, solvable: S) -> bool
-    ensures { result ≡ hints S.eq (listing list.now) solvable }
-{
-    match &list.hint_dependencies_available {
-        HintDependenciesAvailable::None => false,
-        HintDependenciesAvailable::All => list.candidates.contains(&solvable),
-        HintDependenciesAvailable::Some(hinted) => hinted.contains(&solvable),
     }
 }
 

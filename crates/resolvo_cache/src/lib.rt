@@ -3,3 +3,4 @@
 
 pub mod cache;
 pub mod frozen_copy_map;
+mod hinted;
