@@ -5,14 +5,14 @@
 //! calls the readers of parts.
 
 ghost use Rattle.std.specs.Prelude.{◌≡◌, ◌<◌, ◌≤◌, ◌∷◌, List, ℕ, length, Err, IfOk, IfSome};
-ghost use Rattle.std.specs.List.{position, slice_split};
+ghost use Rattle.std.specs.List.{position, slice_split, count_by};
 ghost use Rattle.std.specs.Option.{option_map};
 ghost use Rattle.std.specs.String.{string_bytes};
 ghost use Rattle.resolvo_text.specs.Line as says;
 ghost use Rattle.resolvo_text.specs.Spelling.{SaysLine};
 ghost use Rattle.resolvo_text.specs.declared.line.LineFault.TheVariants.{Fault};
 ghost use Rattle.resolvo_text.specs.View.{version_of, spec_of, specs_of, view};
-ghost use Rattle.resolvo_text.specs.Reading.{Gives, word_at, version_at, reason_at, span_at, spec_at, skip, alternatives_at, name_in, number_in, end_at, version_in, reason_in, spec_in, needs_in, said_by, is_space, words_in, is_skipped, line_in};
+ghost use Rattle.resolvo_text.specs.Reading.{Gives, word_at, version_at, reason_at, span_at, spec_at, skip, alternatives_at, name_in, number_in, end_at, version_in, reason_in, spec_in, needs_in, said_by, is_space, words_in, is_bar, is_skipped, line_in};
 
 use crate::condition::condition_in;
 use crate::line::{Line, LineFault};
@@ -125,11 +125,18 @@ pub fn skip<'a>(words: &'a [u8], word: &[u8]) -> (bool, &'a [u8])
     (false, words)
 }
 
-/// One alternative or more.
+/// How many bars stand in a text.
+fn bars_in(text: &[u8]) -> usize
+    ensures { result ≡ count_by is_bar text.now }
+{
+    text.iter().filter(|b| **b == b'|').count()
+}
+
+/// One alternative or more. There is room for as many as the bars part, so that the list of a need takes no more.
 pub fn alternatives_at(alloc: Global, words: &[u8]) -> Result<(Vec<Spec>, &[u8]), LineFault>
     ensures { Gives (λ x. (specs_of x.0.items, words_in x.1.now)) result (alternatives_at (length (words_in words.now)) (words_in words.now)) }
 {
-    let mut specs = Vec::new(alloc);
+    let mut specs = Vec::with_capacity(alloc, bars_in(words).saturating_add(1))?;
     let mut rest = words;
     loop {
         let (spec, after) = spec_at(alloc, rest)?;

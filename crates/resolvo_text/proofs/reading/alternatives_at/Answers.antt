@@ -10,7 +10,7 @@ use Rattle.resolvo_text.proofs.reading.alternatives_at.Goals as goal
 pub returns-in_err-spec : goal.returns-in_err-spec
 returns-in_err-spec c =
     let inv = c.loop-specs.invariant in
-    let p = err_from_is_err_and c.from_residual.result c.from_residual.ensures.1 in
+    let p = err_from_is_err_and c.from_residual-in_err-spec.result c.from_residual-in_err-spec.ensures.1 in
     rw (p.1, p.2) (fails_so c.in_err-spec.field-0.0 (specs_of c.loop-specs.specs.items) inv.0 (words_in c.loop-specs.rest.now) _ c.in_err-spec.ensures.words inv.2)
 
 pub returns-then-not-more : goal.returns-then-not-more
