@@ -1,11 +1,11 @@
 -- What is known stays so as the trail goes back and on, and what is known to be met or idle has nothing to decide.
 use Rattle.std.proofs.Common.{◌≡◌, ℕ, zero, suc, ◌+◌, ◌-◌, ◌<◌, ◌≤◌, ◌⊎◌, inl, inr, cond, Bool, true, false, List, [], ◌∷◌, ◌++◌, map, length, take, drop, get_or, Option, Some, None, refl, sym, ◌∙◌, ap, subst, arith}
-use Rattle.std.specs.Prelude.{nat_lt, ◌&&◌, ◌||◌, slice_get, Contains}
+use Rattle.std.specs.Prelude.{nat_lt, ◌&&◌, ◌||◌, slice_get, slice_set, Contains}
 use Rattle.std.specs.Option.{option_map}
 use Rattle.std.specs.List.{list_any, list_all, find}
 use Rattle.std.proofs.Math.Bool.{beq}
-use Rattle.std.proofs.lemmas.Bool.{ltb-false}
-use Rattle.std.proofs.lemmas.List.{append_assoc, length-append, length-drop, length-map, take_more, take_all, take-append-drop}
+use Rattle.std.proofs.lemmas.Bool.{ltb-false, cases_lt}
+use Rattle.std.proofs.lemmas.List.{append_assoc, length-append, length-drop, length-map, length-set, take_more, take_all, drop_all, take-append-drop}
 use Rattle.std.proofs.Math.Seq.{take-length}
 use Rattle.resolvo_pool.specs.declared.requirement.Requirement.{Requirement}
 use Rattle.resolvo_store.specs.Signed.{Signed, value_under, is_true, is_false, is_open}
@@ -18,11 +18,12 @@ use Rattle.resolvo_store.specs.declared.decide_queue.NeedClause.{NeedClause}
 use Rattle.resolvo_store.specs.declared.decide_queue.NextDecision.{NextDecision}
 use Rattle.resolvo_store.specs.declared.lists.Candidate.{Candidate}
 use Rattle.resolvo_store.specs.declared.lists.FixedLists.{FixedLists}
-use Rattle.resolvo_needs.specs.declared.open_needs.NeedState.{NeedState}
-use Rattle.resolvo_needs.specs.declared.open_needs.NeedState.TheVariants.{Open, Met, Idle}
+use Rattle.resolvo_needs.specs.declared.states.NeedState.{NeedState}
+use Rattle.resolvo_needs.specs.declared.states.NeedState.TheVariants.{Open, Met, Idle}
 use Rattle.resolvo_needs.specs.declared.open_needs.OpenNeeds.{OpenNeeds}
-use Rattle.resolvo_needs.specs.Needs.{literals_in, is_met, state_at, places_at, reopened, is_open_state, IsMetNow, IsSo, Fits, KeepsFitting, AddsNeed}
-use Rattle.resolvo_needs.proofs.States.{state_end, state_map, state_out}
+use Rattle.resolvo_needs.specs.States.{state_at, reopened, is_open_state}
+use Rattle.resolvo_needs.specs.Needs.{literals_in, is_met, places_at, IsMetNow, IsSo, Fits, KeepsFitting, AddsNeed}
+use Rattle.resolvo_needs.proofs.Positions.{state_end, state_map, state_out, state_put, state_set_other}
 use Rattle.resolvo_needs.proofs.Seen.{met_take, met_whole, take_less, idle_take, idle_more}
 
 module _ (literals : Requirement → List Signed) (q : NeedClause) where
@@ -55,39 +56,39 @@ pub so_put : (literals : Requirement → List Signed) (es : List Entry) (q : Nee
 so_put literals es q found new so (inl is) = subst (IsSo literals es q) (sym is) so
 so_put literals es q found new so (inr is) = so_open literals q es new is
 
-pub fits_back : (common : ℕ) (old new : OpenNeeds) → new.seen.items ≡ take common old.seen.items → new.states.items ≡ map (reopened common) old.states.items → new.places ≡ old.places → KeepsFitting old new
+pub fits_back : (common : ℕ) (old new : OpenNeeds) → new.seen.items ≡ take common old.seen.items → new.states ≡ map (reopened common) old.states → new.places ≡ old.places → KeepsFitting old new
 fits_back common old new seen states places = λ literals queue f. record {
-  count = ap length states ∙ length-map old.states.items (reopened common) ∙ f.count;
-  each = λ i q at. subst (λ (es : List Entry). IsSo literals es q (state_at new.states.items i)) (sym seen)
-      (subst (IsSo literals (take common old.seen.items) q) (sym (ap (λ ss. state_at ss i) states ∙ state_map common old.states.items i)) (so_back literals q common old.seen.items (state_at old.states.items i) (f.each i q at)));
+  count = ap length states ∙ length-map old.states (reopened common) ∙ f.count;
+  each = λ i q at. subst (λ (es : List Entry). IsSo literals es q (state_at new.states i)) (sym seen)
+      (subst (IsSo literals (take common old.seen.items) q) (sym (ap (λ ss. state_at ss i) states ∙ state_map common old.states i)) (so_back literals q common old.seen.items (state_at old.states i) (f.each i q at)));
   placed = λ i q at. subst (λ ps. Contains (places_at ps.items q.parent.0) i) (sym places) (f.placed i q at);
 }
 
 -- the states are as before, or open, and the clauses of a parent that the entry makes true are open
-pub fits_on : (e : Entry) (old new : OpenNeeds) → new.seen.items ≡ old.seen.items ++ e ∷ [] → new.places ≡ old.places → length new.states.items ≡ length old.states.items
-    → ((i : ℕ) → (state_at new.states.items i ≡ state_at old.states.items i) ⊎ (state_at new.states.items i ≡ Open))
-    → (e.decision.value ≡ true → (i : ℕ) → Contains (places_at old.places.items e.decision.variable.0) i → state_at new.states.items i ≡ Open) → KeepsFitting old new
+pub fits_on : (e : Entry) (old new : OpenNeeds) → new.seen.items ≡ old.seen.items ++ e ∷ [] → new.places ≡ old.places → length new.states ≡ length old.states
+    → ((i : ℕ) → (state_at new.states i ≡ state_at old.states i) ⊎ (state_at new.states i ≡ Open))
+    → (e.decision.value ≡ true → (i : ℕ) → Contains (places_at old.places.items e.decision.variable.0) i → state_at new.states i ≡ Open) → KeepsFitting old new
 fits_on e old new seen places long others opened = λ literals queue f. record {
   count = long ∙ f.count;
-  each = λ i q at. subst (λ (es : List Entry). IsSo literals es q (state_at new.states.items i)) (sym seen) (each literals queue f i q at);
+  each = λ i q at. subst (λ (es : List Entry). IsSo literals es q (state_at new.states i)) (sym seen) (each literals queue f i q at);
   placed = λ i q at. subst (λ ps. Contains (places_at ps.items q.parent.0) i) (sym places) (f.placed i q at);
 }
   where
     open_not : (s : NeedState) → s ≡ Open → s ≡ Idle → ⊥
     open_not s a b = (let no : Open ≡ Idle = sym a ∙ b in absurd cc)
 
-    each : (literals : Requirement → List Signed) (queue : List NeedClause) → Fits literals old queue → (i : ℕ) (q : NeedClause) → slice_get queue i ≡ Some q → IsSo literals (old.seen.items ++ e ∷ []) q (state_at new.states.items i)
+    each : (literals : Requirement → List Signed) (queue : List NeedClause) → Fits literals old queue → (i : ℕ) (q : NeedClause) → slice_get queue i ≡ Some q → IsSo literals (old.seen.items ++ e ∷ []) q (state_at new.states i)
     each literals queue f i q at = elim (others i) [
-      | inr open_ ↦ so_open literals q (old.seen.items ++ e ∷ []) (state_at new.states.items i) open_
-      | inl same ↦ so_on literals q old.seen.items e (state_at new.states.items i) (subst (IsSo literals old.seen.items q) (sym same) (f.each i q at))
-          (λ is parent. open_not (state_at new.states.items i) (opened is i (subst (λ v. Contains (places_at old.places.items v) i) (sym parent) (f.placed i q at))))
+      | inr open_ ↦ so_open literals q (old.seen.items ++ e ∷ []) (state_at new.states i) open_
+      | inl same ↦ so_on literals q old.seen.items e (state_at new.states i) (subst (IsSo literals old.seen.items q) (sym same) (f.each i q at))
+          (λ is parent. open_not (state_at new.states i) (opened is i (subst (λ v. Contains (places_at old.places.items v) i) (sym parent) (f.placed i q at))))
     ]
 
 -- where a clause comes
 pub fits_add : (literals : Requirement → List Signed) (q : NeedClause) (old new : OpenNeeds) (queue : List NeedClause) → Fits literals old queue → AddsNeed q.parent old new → Fits literals new (queue ++ q ∷ [])
 fits_add literals q old new queue f a = record {
-  count = ap length a.states ∙ length-append old.states.items (Open ∷ []) ∙ ap (λ n. n + 1) f.count ∙ sym (length-append queue (q ∷ []));
-  each = λ i r at. subst (λ (es : List Entry). IsSo literals es r (state_at new.states.items i)) (sym (ap (λ v. v.items) a.seen)) (each i r (at_end queue i r at));
+  count = ap length a.states ∙ length-append old.states (Open ∷ []) ∙ ap (λ n. n + 1) f.count ∙ sym (length-append queue (q ∷ []));
+  each = λ i r at. subst (λ (es : List Entry). IsSo literals es r (state_at new.states i)) (sym (ap (λ v. v.items) a.seen)) (each i r (at_end queue i r at));
   placed = λ i r at. placed i r (at_end queue i r at);
 }
   where
@@ -97,12 +98,12 @@ fits_add literals q old new queue f a = record {
     at_end (x ∷ qs) zero r h = inl h
     at_end (x ∷ qs) (suc i) r h = elim (at_end qs i r h) [ inl before ↦ inl before | inr (last, is, none) ↦ inr (ap suc last, is, none) ]
 
-    same : (i : ℕ) → state_at new.states.items i ≡ state_at old.states.items i
-    same i = ap (λ ss. state_at ss i) a.states ∙ state_end old.states.items i
+    same : (i : ℕ) → state_at new.states i ≡ state_at old.states i
+    same i = ap (λ ss. state_at ss i) a.states ∙ state_end old.states i
 
-    each : (i : ℕ) (r : NeedClause) → (slice_get queue i ≡ Some r) ⊎ ((i ≡ length queue) × (r ≡ q) × (slice_get queue i ≡ None)) → IsSo literals old.seen.items r (state_at new.states.items i)
+    each : (i : ℕ) (r : NeedClause) → (slice_get queue i ≡ Some r) ⊎ ((i ≡ length queue) × (r ≡ q) × (slice_get queue i ≡ None)) → IsSo literals old.seen.items r (state_at new.states i)
     each i r (inl before) = subst (IsSo literals old.seen.items r) (sym (same i)) (f.each i r before)
-    each i r (inr (last, is, none)) = so_open literals r old.seen.items (state_at new.states.items i) (same i ∙ state_out old.states.items i (let a : length old.states.items ≡ length queue = f.count in omega arith))
+    each i r (inr (last, is, none)) = so_open literals r old.seen.items (state_at new.states i) (same i ∙ state_out old.states i (let a : length old.states ≡ length queue = f.count in omega arith))
 
     placed : (i : ℕ) (r : NeedClause) → (slice_get queue i ≡ Some r) ⊎ ((i ≡ length queue) × (r ≡ q) × (slice_get queue i ≡ None)) → Contains (places_at new.places.items r.parent.0) i
     placed i r (inl before) = a.kept r.parent.0 i (f.placed i r before)
@@ -140,21 +141,17 @@ later_none (Some d) = refl
 pub some_one : {X : Type 0} (x y : X) → Some x ≡ Some y → x ≡ y
 some_one x y h = cc
 
--- what is found of one clause
-pub fits_found : (literals : Requirement → List Signed) (old new : OpenNeeds) (queue : List NeedClause) (position : ℕ) (q : NeedClause) → Fits literals old queue → slice_get queue position ≡ Some q
-    → IsSo literals old.seen.items q (state_at new.states.items position) → ((i : ℕ) → (state_at new.states.items i ≡ state_at old.states.items i) ⊎ (i ≡ position)) → length new.states.items ≡ length old.states.items
-    → new ≡ record old { states = new.states } → Fits literals new queue
-fits_found literals old new queue position q f here so others long rest = record {
-  count = long ∙ f.count;
-  each = λ i r at. subst (λ (es : List Entry). IsSo literals es r (state_at new.states.items i)) (sym (ap (λ (n : OpenNeeds). n.seen.items) rest)) (each i r at);
-  placed = λ i r at. subst (λ ps. Contains (places_at ps.items r.parent.0) i) (sym (ap (λ (n : OpenNeeds). n.places) rest)) (f.placed i r at);
-}
+-- what is found of one clause is noted
+pub fits_found : (literals : Requirement → List Signed) (needs : OpenNeeds) (queue : List NeedClause) (position : ℕ) (q : NeedClause) (found : NeedState) → Fits literals needs queue → slice_get queue position ≡ Some q
+    → IsSo literals needs.seen.items q found → Fits literals (record needs { states = slice_set needs.states position found }) queue
+fits_found literals needs queue position q found f here so = record { count = length-set needs.states position found ∙ f.count; each = each; placed = f.placed }
   where
-    each : (i : ℕ) (r : NeedClause) → slice_get queue i ≡ Some r → IsSo literals old.seen.items r (state_at new.states.items i)
-    each i r at = elim (others i) [
-      | inl same ↦ subst (IsSo literals old.seen.items r) (sym same) (f.each i r at)
+    each : (i : ℕ) (r : NeedClause) → slice_get queue i ≡ Some r → IsSo literals needs.seen.items r (state_at (slice_set needs.states position found) i)
+    each i r at = elim (state_set_other needs.states position found i) [
+      | inl same ↦ subst (IsSo literals needs.seen.items r) (sym same) (f.each i r at)
       | inr is ↦ (let one : r ≡ q = some_one r q (sym at ∙ ap (slice_get queue) is ∙ here) in
-          subst (λ (x : NeedClause). IsSo literals old.seen.items x (state_at new.states.items i)) (sym one) (subst (λ j. IsSo literals old.seen.items q (state_at new.states.items j)) (sym is) so))
+          subst (λ (x : NeedClause). IsSo literals needs.seen.items x (state_at (slice_set needs.states position found) i)) (sym one)
+          (subst (λ j. IsSo literals needs.seen.items q (state_at (slice_set needs.states position found) j)) (sym is) (so_put literals needs.seen.items q found (state_at (slice_set needs.states position found) position) so (state_put needs.states position found))))
     ]
 
 -- one thing after the other
@@ -173,6 +170,28 @@ module _ {N : Type 0} (lists : FixedLists N) (values : ℕ → Option Bool) (sco
   pick_passed best (x ∷ qs) zero h none = ap (λ b. pick_after lists values score b qs) (ap (later best) (none x refl) ∙ later_none best)
   pick_passed best (x ∷ qs) (suc i) h none = let more : suc i + 1 ≡ suc (i + 1) = omega arith in rw more (pick_passed best qs i (omega arith) none)
 
+  -- and behind clauses that have nothing to decide
+  pub pick_behind : (best : Option NextDecision) (qs : List NeedClause) (n from to : ℕ) → to ≡ from + n → ((i : ℕ) → from ≤ i → i < to → (q : NeedClause) → slice_get qs i ≡ Some q → offer lists values score q ≡ None)
+      → pick_after lists values score best (drop from qs) ≡ pick_after lists values score best (drop to qs)
+  pick_behind best qs zero from to is none = (let same : to ≡ from = omega arith in ap (λ i. pick_after lists values score best (drop i qs)) (sym same))
+  pick_behind best qs (suc n) from to is none = elim (cases_lt from (length qs)) [
+    | inl low ↦ pick_passed best qs from low (none from (omega arith) (omega arith)) ∙ pick_behind best qs n (from + 1) to (omega arith) (λ i above below. none i (omega arith) below)
+    | inr high ↦ ap (pick_after lists values score best) (drop_all from qs high ∙ sym (drop_all to qs (omega arith)))
+  ]
+
+-- and behind clauses that are known to be shut
+pub pick_shut : {N : Type 0} (lists : FixedLists N) (values : ℕ → Option Bool) (score : N → ℕ) (needs : OpenNeeds) (queue : List NeedClause) → Fits (literals_in lists) needs queue → ((v : ℕ) → values v ≡ value_in needs.seen.items v) → (best : Option NextDecision) (from to : ℕ) → from ≤ to
+    → ((i : ℕ) → from ≤ i → i < to → is_open_state (state_at needs.states i) ≡ false) → pick_after lists values score best (drop from queue) ≡ pick_after lists values score best (drop to queue)
+pick_shut lists values score needs queue f agree best from to order shut = pick_behind lists values score best queue (to - from) from to (omega arith) (λ i above below q at. so_nothing lists values needs.seen.items agree q (state_at needs.states i) (f.each i q at) (shut i above below) score)
+
+-- what is known is told by the states, not by the marks beside them
+pub fits_same : (literals : Requirement → List Signed) (needs : OpenNeeds) (queue : List NeedClause) (states : List NeedState) → states ≡ needs.states → Fits literals needs queue → Fits literals (record needs { states = states }) queue
+fits_same literals needs queue states is f = record {
+  count = ap length is ∙ f.count;
+  each = λ i q at. subst (λ (ss : List NeedState). IsSo literals needs.seen.items q (state_at ss i)) (sym is) (f.each i q at);
+  placed = f.placed;
+}
+
 -- the clause that is read is the one at its position
 pub read_at : (qs : List NeedClause) (i : ℕ) (d : NeedClause) → i < length qs → slice_get qs i ≡ Some (get_or qs i d)
 read_at [] i d h = absurd (omega arith)
@@ -186,8 +205,8 @@ read_nothing lists values es agree qs i d h s so shut score q at = so_nothing li
 
 -- and it is noted
 pub read_fits : (literals : Requirement → List Signed) (old new : OpenNeeds) (queue : List NeedClause) (i : ℕ) (d : NeedClause) → i < length queue → Fits literals old queue → (found : NeedState) → IsSo literals old.seen.items (get_or queue i d) found
-    → (state_at new.states.items i ≡ found) ⊎ (state_at new.states.items i ≡ Open) → ((j : ℕ) → (state_at new.states.items j ≡ state_at old.states.items j) ⊎ (j ≡ i)) → length new.states.items ≡ length old.states.items → new ≡ record old { states = new.states } → Fits literals new queue
-read_fits literals old new queue i d h f found so here others long rest = fits_found literals old new queue i (get_or queue i d) f (read_at queue i d h) (so_put literals old.seen.items (get_or queue i d) found (state_at new.states.items i) so here) others long rest
+    → new ≡ record old { states = slice_set old.states i found } → Fits literals new queue
+read_fits literals old new queue i d h f found so is = subst (λ (n : OpenNeeds). Fits literals n queue) (sym is) (fits_found literals old queue i (get_or queue i d) found f (read_at queue i d h) so)
 
 -- one entry more was seen
 pub seen_more : (first rest before after : List Entry) (i : ℕ) (d : Entry) → before ≡ first ++ take i rest → i < length rest → after ≡ before ++ get_or rest i d ∷ [] → after ≡ first ++ take (i + 1) rest
@@ -201,7 +220,7 @@ seen_all n i es seen low is end =
 
 -- where requirements get literals
 pub fits_more : (old new : Requirement → List Signed) (needs : OpenNeeds) (queue : List NeedClause) → ((r : Requirement) (es : List Entry) → is_met es (old r) ≡ true → is_met es (new r) ≡ true) → Fits old needs queue → Fits new needs queue
-fits_more old new needs queue more f = record { count = f.count; each = λ i q at. so q (state_at needs.states.items i) (f.each i q at); placed = f.placed }
+fits_more old new needs queue more f = record { count = f.count; each = λ i q at. so q (state_at needs.states i) (f.each i q at); placed = f.placed }
   where
     so : (q : NeedClause) (s : NeedState) → IsSo old needs.seen.items q s → IsSo new needs.seen.items q s
     so q Open h = tt
@@ -209,7 +228,7 @@ fits_more old new needs queue more f = record { count = f.count; each = λ i q a
     so q Idle h = h
 
 -- where there is no clause
-pub fits_none : (literals : Requirement → List Signed) (needs : OpenNeeds) → needs.states.items ≡ [] → Fits literals needs []
+pub fits_none : (literals : Requirement → List Signed) (needs : OpenNeeds) → needs.states ≡ [] → Fits literals needs []
 fits_none literals needs none = record { count = ap length none; each = λ i q at. absurd (nothing i q at); placed = λ i q at. absurd (nothing i q at) }
   where
     nothing : (i : ℕ) (q : NeedClause) → slice_get [] i ≡ Some q → ⊥

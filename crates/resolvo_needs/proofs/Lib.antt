@@ -1,3 +1,3 @@
-pub mod States
+pub mod Positions
 pub mod Seen
 pub mod Fitting

@@ -1,5 +1,5 @@
 -- What is known of the need clauses under a trail.
-use Rattle.std.specs.Prelude.{◌≡◌, ℕ, zero, suc, cond, nat_lt, ⊤, Bool, true, false, List, [], ◌∷◌, ◌++◌, take, length, slice_get, Option, Some, Vec, Contains}
+use Rattle.std.specs.Prelude.{◌≡◌, ℕ, ⊤, Bool, true, false, List, [], ◌∷◌, ◌++◌, take, length, slice_get, Option, Some, Vec, Contains}
 use Rattle.std.specs.declared.alloc.Global.{Global}
 use Rattle.std.specs.List.{list_any}
 use Rattle.resolvo_pool.specs.declared.id.VariableId.{VariableId}
@@ -16,9 +16,10 @@ use Rattle.resolvo_store.specs.declared.decide_queue.NeedClause.{NeedClause}
 use Rattle.resolvo_store.specs.declared.decide_queue.NextDecision.{NextDecision}
 use Rattle.resolvo_store.specs.declared.decision_map.Assignment.{Assignment}
 use Rattle.resolvo_store.specs.declared.lists.FixedLists.{FixedLists}
-use Rattle.resolvo_needs.specs.declared.open_needs.NeedState.{NeedState}
-use Rattle.resolvo_needs.specs.declared.open_needs.NeedState.TheVariants.{Open, Met, Idle}
+use Rattle.resolvo_needs.specs.declared.states.NeedState.{NeedState}
+use Rattle.resolvo_needs.specs.declared.states.NeedState.TheVariants.{Open, Met, Idle}
 use Rattle.resolvo_needs.specs.declared.open_needs.OpenNeeds.{OpenNeeds}
+use Rattle.resolvo_needs.specs.States.{state_at}
 
 -- the literals of a requirement's candidates
 abbrev pub literals_in : {N : Type 0} → FixedLists N → Requirement → List Signed
@@ -28,27 +29,9 @@ literals_in lists r = candidate_literals (candidates_in lists r)
 abbrev pub is_met : List Entry → List Signed → Bool
 is_met es literals = list_any (λ l. is_true (value_under (value_in es) l)) literals
 
--- the state of the clause at a position; any clause may have something to decide of which nothing was noted
-abbrev pub state_at : List NeedState → ℕ → NeedState
-state_at [] i = Open
-state_at (s ∷ ss) zero = s
-state_at (s ∷ ss) (suc i) = state_at ss i
-
--- it may have something to decide
-abbrev pub is_open_state : NeedState → Bool
-is_open_state Open = true
-is_open_state (Met within) = false
-is_open_state Idle = false
-
 -- the positions of the clauses of a parent
 abbrev pub places_at : List (Vec ℕ Global) → ℕ → List ℕ
 places_at ps v = items_or_none (slice_get ps v)
-
--- what is known where no more than so many first entries stay
-abbrev pub reopened : ℕ → NeedState → NeedState
-reopened common Open = Open
-reopened common (Met within) = cond (nat_lt common within) Open (Met within)
-reopened common Idle = Idle
 
 -- that a candidate is true among so many entries, or nothing
 abbrev pub IsMetNow : ℕ → NeedState → Type 0
@@ -64,8 +47,8 @@ IsSo literals trail q Idle = is_true (value_in trail q.parent.0) ≡ false
 
 -- what is known is so of each clause of the queue, and the clauses of each parent are listed
 pub record Fits (literals : Requirement → List Signed) (needs : OpenNeeds) (queue : List NeedClause) : Type 0 where
-  pub count : length needs.states.items ≡ length queue
-  pub each : (i : ℕ) (q : NeedClause) → slice_get queue i ≡ Some q → IsSo literals needs.seen.items q (state_at needs.states.items i)
+  pub count : length needs.states ≡ length queue
+  pub each : (i : ℕ) (q : NeedClause) → slice_get queue i ≡ Some q → IsSo literals needs.seen.items q (state_at needs.states i)
   pub placed : (i : ℕ) (q : NeedClause) → slice_get queue i ≡ Some q → Contains (places_at needs.places.items q.parent.0) i
 
 -- it fits the queues that it fitted
@@ -74,9 +57,9 @@ KeepsFitting old new = (literals : Requirement → List Signed) (queue : List Ne
 
 -- a clause of this parent was noted
 pub record AddsNeed (parent : VariableId) (old new : OpenNeeds) : Type 0 where
-  pub states : new.states.items ≡ old.states.items ++ Open ∷ []
+  pub states : new.states ≡ old.states ++ Open ∷ []
   pub seen : new.seen ≡ old.seen
-  pub placed : Contains (places_at new.places.items parent.0) (length old.states.items)
+  pub placed : Contains (places_at new.places.items parent.0) (length old.states)
   pub kept : (v i : ℕ) → Contains (places_at old.places.items v) i → Contains (places_at new.places.items v) i
 
 -- the pick under the trail's values, as a map has them

@@ -4,3 +4,4 @@
 #![tactic(auto)]
 
 pub mod open_needs;
+pub mod states;

@@ -10,9 +10,11 @@ ghost use Rattle.resolvo_store.specs.Values.{value_at};
 ghost use Rattle.resolvo_store.specs.Trail.{value_in};
 ghost use Rattle.resolvo_store.specs.Pick.{pick, offer, later};
 ghost use Rattle.resolvo_store.specs.declared.decide_queue.NeedClause.{NeedClause};
-ghost use Rattle.resolvo_needs.specs.declared.open_needs.NeedState.TheVariants.{Open};
-ghost use Rattle.resolvo_needs.specs.Needs.{literals_in, state_at, is_open_state, places_at, reopened, IsMetNow, IsSo, Fits, KeepsFitting, IsPick, AddsNeed};
+ghost use Rattle.resolvo_needs.specs.declared.states.NeedState.TheVariants.{Open};
+ghost use Rattle.resolvo_needs.specs.States.{state_at};
+ghost use Rattle.resolvo_needs.specs.Needs.{literals_in, places_at, IsMetNow, IsSo, Fits, KeepsFitting, IsPick, AddsNeed};
 
+use crate::states::{NeedState, NeedStates};
 use resolvo_pool::id::VariableId;
 use resolvo_pool::id_map::ScoreMap;
 use resolvo_pool::solver_id::SolverId;
@@ -24,34 +26,11 @@ use resolvo_store::decision_tracker::DecisionTracker;
 use resolvo_store::lists::{Candidate, FixedLists};
 use std::alloc::Global;
 
-/// What is known of a need clause.
-#[derive(Clone, Copy, Debug)]
-pub enum NeedState {
-    /// It may have something to decide.
-    Open,
-    /// One of its candidates is true among so many first entries of the trail.
-    Met(u32),
-    /// Its parent is not true.
-    Idle,
-}
-
-impl NeedState {
-    /// Whether the clause may have something to decide.
-    pub fn is_open(self) -> bool
-        ensures { result ≡ is_open_state self }
-    {
-        match self {
-            NeedState::Open => true,
-            _ => false,
-        }
-    }
-}
-
 /// What is known of the need clauses of a queue.
 #[derive(Drop)]
 pub struct OpenNeeds {
     /// The state of each clause, by its position in the queue.
-    states: Vec<NeedState>,
+    states: NeedStates,
     /// The trail for which the states hold.
     seen: Vec<Entry>,
     /// The positions of the clauses of each parent, by the parent's variable.
@@ -61,12 +40,12 @@ pub struct OpenNeeds {
 impl OpenNeeds {
     /// For a queue without clauses.
     pub fn new(alloc: Global) -> OpenNeeds
-        ensures states { result.states.items ≡ [] }
+        ensures states { result.states ≡ [] }
         ensures seen { result.seen.items ≡ [] }
         ensures places { result.places.items ≡ [] }
     {
         OpenNeeds {
-            states: Vec::new(alloc),
+            states: NeedStates::new(alloc),
             seen: Vec::new(alloc),
             places: Vec::new(alloc),
         }
@@ -80,7 +59,7 @@ impl OpenNeeds {
         let index = parent.0 as usize;
         make_room(&mut self.places, alloc, index + 1)?;
         self.places[index].push(self.states.len())?;
-        self.states.push(NeedState::Open)?;
+        self.states.push()?;
         Ok(())
     }
 
@@ -145,7 +124,7 @@ impl OpenNeeds {
     {
         if common < self.seen.len() {
             self.seen.truncate(common);
-            reopen(&mut self.states, common);
+            self.states.reopen(common);
         }
     }
 
@@ -164,14 +143,14 @@ impl OpenNeeds {
 
     /// Opens the clauses of a parent.
     fn open_needs_of(&mut self, parent: VariableId)
-        ensures opened { (i : ℕ) → Contains (places_at self.old.places.items parent.0) i → state_at self.new.states.items i ≡ Open }
-        ensures others { (i : ℕ) → (state_at self.new.states.items i ≡ state_at self.old.states.items i) ⊎ (state_at self.new.states.items i ≡ Open) }
-        ensures len { length self.new.states.items ≡ length self.old.states.items }
+        ensures opened { (i : ℕ) → Contains (places_at self.old.places.items parent.0) i → state_at self.new.states i ≡ Open }
+        ensures others { (i : ℕ) → (state_at self.new.states i ≡ state_at self.old.states i) ⊎ (state_at self.new.states i ≡ Open) }
+        ensures len { length self.new.states ≡ length self.old.states }
         ensures rest { self.new ≡ record self.old { states = self.new.states } }
     {
         let index = parent.0 as usize;
         if index < self.places.len() {
-            open_each(&mut self.states, &self.places[index]);
+            self.states.open_each(&self.places[index]);
         }
     }
 
@@ -191,16 +170,17 @@ impl OpenNeeds {
         ensures fits { Fits (literals_in lists.now) self.new queue.now }
     {
         let mut best = None;
-        for position in 0..queue.len() {
+        let mut position = self.states.next_open(0);
+        while position < queue.len() {
             if self.may_decide(position, queue, lists, values) {
                 best = or_offered(best, &queue[position], lists, values, scores);
             }
+            position = self.states.next_open(position + 1);
         }
         best
     }
 
-    /// Whether the clause at this position may have something to decide, which is found out where it
-    /// isn't known.
+    /// Finds out whether the clause at this position may have something to decide.
     fn may_decide<N: SolverId>(
         &mut self,
         position: usize,
@@ -217,23 +197,9 @@ impl OpenNeeds {
         ensures fits { Fits (literals_in lists.now) self.new queue.now }
         ensures seen { self.new.seen ≡ self.old.seen }
     {
-        if !self.state(position).is_open() {
-            return false;
-        }
         let state = self.found(&queue[position], lists, values);
-        put(&mut self.states, position, state);
+        self.states.put(position, state);
         state.is_open()
-    }
-
-    /// What is known of the clause at this position.
-    fn state(&self, position: usize) -> NeedState
-        ensures { result ≡ state_at self.now.states.items position }
-    {
-        if position < self.states.len() {
-            self.states[position]
-        } else {
-            NeedState::Open
-        }
     }
 
     /// What these values tell of a clause.
@@ -349,51 +315,4 @@ fn make_room(places: &mut Vec<Vec<usize>>, alloc: Global, count: usize) -> R<()>
         places.push(Vec::new(alloc))?;
     }
     Ok(())
-}
-
-/// Notes a state, unless the position is behind all states.
-fn put(states: &mut Vec<NeedState>, position: usize, state: NeedState)
-    ensures here { (state_at states.new.items position ≡ state) ⊎ (state_at states.new.items position ≡ Open) }
-    ensures others { (i : ℕ) → (state_at states.new.items i ≡ state_at states.old.items i) ⊎ (i ≡ position) }
-    ensures len { length states.new.items ≡ length states.old.items }
-{
-    if position < states.len() {
-        states[position] = state;
-    }
-}
-
-/// Opens the clauses at these positions.
-fn open_each(states: &mut Vec<NeedState>, places: &[usize])
-    ensures opened { (i : ℕ) → Contains places.now i → state_at states.new.items i ≡ Open }
-    ensures others { (i : ℕ) → (state_at states.new.items i ≡ state_at states.old.items i) ⊎ (state_at states.new.items i ≡ Open) }
-    ensures len { length states.new.items ≡ length states.old.items }
-{
-    for place in places {
-        put(states, *place, NeedState::Open);
-    }
-}
-
-/// Opens the clauses whose true candidates stand behind so many first entries.
-fn reopen(states: &mut Vec<NeedState>, common: usize)
-    ensures { states.new.items ≡ map (reopened common) states.old.items }
-{
-    for state in states.iter_mut() {
-        *state = reopened(*state, common);
-    }
-}
-
-/// What is known of a clause where no more than so many first entries stay.
-fn reopened(state: NeedState, common: usize) -> NeedState
-    ensures { result ≡ reopened common state }
-{
-    match state {
-        NeedState::Met(within) => {
-            if common < within as usize {
-                NeedState::Open
-            } else {
-                state
-            }
-        }
-        _ => state,
-    }
 }

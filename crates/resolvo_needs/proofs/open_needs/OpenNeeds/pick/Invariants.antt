@@ -1,4 +1,4 @@
-use Rattle.std.proofs.Common.{◌≡◌, drop}
+use Rattle.std.proofs.Common.{◌≡◌, ◌-◌, length, drop}
 use Rattle.resolvo_store.specs.Values.{value_at}
 use Rattle.resolvo_store.specs.Pick.{pick, pick_after}
 use Rattle.resolvo_needs.specs.Needs.{literals_in, Fits}
@@ -8,6 +8,9 @@ use Rattle.resolvo_needs.proofs.open_needs.OpenNeeds.pick.Given as goal
 abbrev pub invariant-loop-position : goal.invariant-loop-position
 invariant-loop-position g l = record {
   fits : Fits (literals_in l.lists) l.self l.queue;
-  seen : l.self.seen ≡ l.initial.self.seen;
+  seen : l.self.seen ≡ l.fn.self.seen;
   picked : pick l.lists (value_at l.values) (g.N.Scores.ScoreMap.score_of l.scores) l.queue ≡ pick_after l.lists (value_at l.values) (g.N.Scores.ScoreMap.score_of l.scores) l.best (drop l.position l.queue);
 }
+
+abbrev pub decreases-loop-position : goal.decreases-loop-position
+decreases-loop-position g l = length l.queue - l.position

@@ -2,14 +2,10 @@
 use Rattle.std.proofs.Common.{◌≡◌, ℕ, zero, suc, ◌+◌, ◌<◌, ◌≤◌, ◌⊎◌, inl, inr, List, [], ◌∷◌, ◌++◌, map, length, take, drop, get_or, Vec, Global, refl, sym, ◌∙◌, ap, subst, arith}
 use Rattle.std.specs.Prelude.{slice_set, Contains}
 use Rattle.std.proofs.lemmas.List.Elements.{Contains-append_cases}
-use Rattle.resolvo_needs.specs.declared.open_needs.NeedState.{NeedState}
-use Rattle.resolvo_needs.specs.declared.open_needs.NeedState.TheVariants.{Open}
-use Rattle.resolvo_needs.specs.Needs.{state_at, places_at, reopened}
-
-pub state_read : (ss : List NeedState) (i : ℕ) (d s : NeedState) → i < length ss → s ≡ get_or ss i d → s ≡ state_at ss i
-state_read [] i d s h e = absurd (omega arith)
-state_read (x ∷ ss) zero d s h e = e
-state_read (x ∷ ss) (suc i) d s h e = state_read ss i d s (omega arith) e
+use Rattle.resolvo_needs.specs.declared.states.NeedState.{NeedState}
+use Rattle.resolvo_needs.specs.declared.states.NeedState.TheVariants.{Open}
+use Rattle.resolvo_needs.specs.States.{state_at, reopened}
+use Rattle.resolvo_needs.specs.Needs.{places_at}
 
 pub state_out : (ss : List NeedState) (i : ℕ) → length ss ≤ i → state_at ss i ≡ Open
 state_out [] i h = refl
@@ -33,6 +29,14 @@ state_set_other (x ∷ ss) zero s zero = inr refl
 state_set_other (x ∷ ss) zero s (suc j) = inl refl
 state_set_other (x ∷ ss) (suc i) s zero = inl refl
 state_set_other (x ∷ ss) (suc i) s (suc j) = elim (state_set_other ss i s j) [ inl same ↦ inl same | inr is ↦ inr (ap suc is) ]
+
+pub state_put : (ss : List NeedState) (i : ℕ) (s : NeedState) → (state_at (slice_set ss i s) i ≡ s) ⊎ (state_at (slice_set ss i s) i ≡ Open)
+state_put [] i s = inr refl
+state_put (x ∷ ss) zero s = inl refl
+state_put (x ∷ ss) (suc i) s = state_put ss i s
+
+state_open : (ss : List NeedState) (i : ℕ) → state_at (slice_set ss i Open) i ≡ Open
+state_open ss i = elim (state_put ss i Open) [ inl is ↦ is | inr is ↦ is ]
 
 pub state_map : (common : ℕ) (ss : List NeedState) (i : ℕ) → state_at (map (reopened common) ss) i ≡ reopened common (state_at ss i)
 state_map common [] i = refl
@@ -76,7 +80,7 @@ set_step f [] i d h = absurd (omega arith)
 set_step f (y ∷ xs) zero d h = refl
 set_step f (y ∷ xs) (suc i) d h = let more : suc i + 1 ≡ suc (i + 1) = omega arith in rw more (ap (λ zs. f y ∷ zs) (set_step f xs i d (omega arith)))
 
-length_changed : {X : Type 0} (f : X → X) (xs : List X) (i : ℕ) → length (map f (take i xs) ++ drop i xs) ≡ length xs
+pub length_changed : {X : Type 0} (f : X → X) (xs : List X) (i : ℕ) → length (map f (take i xs) ++ drop i xs) ≡ length xs
 length_changed f [] zero = refl
 length_changed f [] (suc i) = refl
 length_changed f (x ∷ xs) zero = refl
@@ -90,23 +94,19 @@ changed_more f xs ys i d y so less is =
 -- states that are opened one after the other
 
 pub opened_more : (ps more : List ℕ) (place : ℕ) (old new : List NeedState) → more ≡ ps ++ place ∷ [] → ((i : ℕ) → Contains ps i → state_at old i ≡ Open)
-    → (state_at new place ≡ Open) ⊎ (state_at new place ≡ Open) → ((i : ℕ) → (state_at new i ≡ state_at old i) ⊎ (i ≡ place)) → (i : ℕ) → Contains more i → state_at new i ≡ Open
-opened_more ps more place old new is before here others i h = elim (Contains-append_cases ps (place ∷ []) i (subst (λ (xs : List ℕ). Contains xs i) is h)) [
-  | inl a ↦ elim (others i) [ inl same ↦ same ∙ before i a | inr at ↦ ap (state_at new) at ∙ open_ here ]
-  | inr a ↦ ap (state_at new) (only i a) ∙ open_ here
+    → new ≡ slice_set old place Open → (i : ℕ) → Contains more i → state_at new i ≡ Open
+opened_more ps more place old new is before put i h = ap (λ ss. state_at ss i) put ∙ elim (Contains-append_cases ps (place ∷ []) i (subst (λ (xs : List ℕ). Contains xs i) is h)) [
+  | inl a ↦ elim (state_set_other old place Open i) [ inl same ↦ same ∙ before i a | inr at ↦ ap (state_at (slice_set old place Open)) at ∙ state_open old place ]
+  | inr a ↦ ap (state_at (slice_set old place Open)) (only i a) ∙ state_open old place
 ]
   where
-    open_ : (state_at new place ≡ Open) ⊎ (state_at new place ≡ Open) → state_at new place ≡ Open
-    open_ (inl o) = o
-    open_ (inr o) = o
-
     only : (i : ℕ) → Contains (place ∷ []) i → i ≡ place
     only i (zero, low, at) = sym at
     only i (suc k, low, at) = absurd (omega (arith, low))
 
 pub others_more : (first old new : List NeedState) (place : ℕ) → ((i : ℕ) → (state_at old i ≡ state_at first i) ⊎ (state_at old i ≡ Open))
-    → (state_at new place ≡ Open) ⊎ (state_at new place ≡ Open) → ((i : ℕ) → (state_at new i ≡ state_at old i) ⊎ (i ≡ place)) → (i : ℕ) → (state_at new i ≡ state_at first i) ⊎ (state_at new i ≡ Open)
-others_more first old new place before here others i = elim (others i) [
+    → new ≡ slice_set old place Open → (i : ℕ) → (state_at new i ≡ state_at first i) ⊎ (state_at new i ≡ Open)
+others_more first old new place before put i = subst (λ (ss : List NeedState). (state_at ss i ≡ state_at first i) ⊎ (state_at ss i ≡ Open)) (sym put) (elim (state_set_other old place Open i) [
   | inl same ↦ elim (before i) [ inl a ↦ inl (same ∙ a) | inr a ↦ inr (same ∙ a) ]
-  | inr at ↦ elim here [ inl o ↦ inr (ap (state_at new) at ∙ o) | inr o ↦ inr (ap (state_at new) at ∙ o) ]
-]
+  | inr at ↦ inr (ap (state_at (slice_set old place Open)) at ∙ state_open old place)
+])
