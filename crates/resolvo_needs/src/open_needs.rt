@@ -1,10 +1,11 @@
 //! What is known of each need clause: whether one of its candidates is true, or its parent is not.
-//! It stands beside the queue of the clauses. It keeps the trail for which it holds; before each pick it
-//! goes back to where that trail and the present one part, and follows the present one from there.
+//! It stands beside the queue of the clauses. It keeps the trail for which it holds: each pick sees the
+//! entries that came since, and where entries were taken away it goes back to those that stayed.
 ghost use Rattle.std.specs.Prelude.{◌≡◌, ℕ, ◌<◌, ◌≤◌, ◌++◌, ◌∷◌, ◌⊎◌, [], List, map, take, length, false, true, slice_get, Some, None, Contains, OnOk, IfOk, IsOkUnless};
 ghost use Rattle.resolvo_pool.specs.declared.want.Want.TheVariants.{Memory};
 ghost use Rattle.std.specs.List.{find, list_any};
 ghost use Rattle.std.specs.Option.{option_copied};
+ghost use Rattle.resolvo_store.specs.AtMostOne.{IsFrontOf};
 ghost use Rattle.resolvo_store.specs.Signed.{value_under, is_true, is_open};
 ghost use Rattle.resolvo_store.specs.Values.{value_at};
 ghost use Rattle.resolvo_store.specs.Trail.{value_in};
@@ -63,7 +64,8 @@ impl OpenNeeds {
         Ok(())
     }
 
-    /// What is to be decided next under the trail: the pick over all clauses of the queue.
+    /// What is to be decided next under the trail: the pick over all clauses of the queue. The trail goes on
+    /// from the one that was seen; where entries were taken away, `follow` comes first.
     pub fn next_decision<N: SolverId>(
         &mut self,
         queue: &DecideQueue,
@@ -73,24 +75,35 @@ impl OpenNeeds {
     ) -> R<Option<NextDecision>>
     where
         N: Drop,
-        requires { Fits (literals_in lists.now) self.old queue.now }
+        requires fits { Fits (literals_in lists.now) self.old queue.now }
+        requires seen { IsFrontOf self.old.seen.items trail.now.trail }
         ensures picked { IfOk result (IsPick lists.now trail.now.trail (N.Scores.score_of scores.now) queue.now) }
         ensures fits { OnOk result (Fits (literals_in lists.now) self.new queue.now) }
+        ensures seen { OnOk result (self.new.seen.items ≡ trail.now.trail) }
         ensures refusal { IsOkUnless result Memory }
     {
-        self.catch_up(trail.stack())?;
+        self.go_on(trail.stack())?;
         Ok(self.pick(queue.registered(), lists, trail.map(), scores))
     }
 
-    /// Makes the states hold for this trail.
-    fn catch_up(&mut self, trail: &[Entry]) -> R<()>
+    /// Goes back to where the trail that was seen and this one part.
+    pub fn follow(&mut self, trail: &[Entry])
+        ensures seen { IsFrontOf self.new.seen.items trail.now }
+        ensures fits { KeepsFitting self.old self.new }
+    {
+        let common = self.common(trail);
+        self.go_back(common);
+    }
+
+    /// Sees the entries of this trail that weren't seen yet.
+    fn go_on(&mut self, trail: &[Entry]) -> R<()>
+        requires { IsFrontOf self.old.seen.items trail.now }
         ensures seen { OnOk result (self.new.seen.items ≡ trail.now) }
         ensures fits { OnOk result (KeepsFitting self.old self.new) }
         ensures refusal { IsOkUnless result Memory }
     {
-        let common = self.common(trail);
-        self.go_back(common);
-        for entry in &trail[common..] {
+        let seen = self.seen.len();
+        for entry in &trail[seen..] {
             self.see(*entry)?;
         }
         Ok(())
@@ -168,6 +181,7 @@ impl OpenNeeds {
         requires values { (v : ℕ) → value_at values.now v ≡ value_in self.old.seen.items v }
         ensures picked { result ≡ pick lists.now (value_at values.now) (N.Scores.score_of scores.now) queue.now }
         ensures fits { Fits (literals_in lists.now) self.new queue.now }
+        ensures seen { self.new.seen ≡ self.old.seen }
     {
         let mut best = None;
         let mut position = self.states.next_open(0);

@@ -7,7 +7,7 @@ use Rattle.resolvo_needs.proofs.open_needs.OpenNeeds.next_decision.Goals as goal
 
 pub pick-requires-clause-fits : goal.pick-requires-clause-fits
 pick-requires-clause-fits g c =
-    subst (λ (qs : List NeedClause). Fits (literals_in c.args.lists.now) c.catch_up.new.self qs) (sym c.registered.ensures) (c.in_ok-catch_up.ensures.fits (literals_in c.args.lists.now) c.args.queue.now c.requires)
+    subst (λ (qs : List NeedClause). Fits (literals_in c.args.lists.now) c.go_on.new.self qs) (sym c.registered.ensures) (c.in_ok-go_on.ensures.fits (literals_in c.args.lists.now) c.args.queue.now c.requires.fits)
 
 pub returns-clause-picked : goal.returns-clause-picked
 returns-clause-picked g c = record {
@@ -15,3 +15,6 @@ returns-clause-picked g c = record {
   agree = c.map.ensures;
   picked = ap (pick c.args.lists.now (value_at c.map.result.now) (g.N.Scores.ScoreMap.score_of c.args.scores.now)) (sym c.registered.ensures) ∙ sym c.pick.ensures.picked;
 }
+
+pub returns-clause-seen : goal.returns-clause-seen
+returns-clause-seen g c = ap (λ es. es.items) c.pick.ensures.seen ∙ c.in_ok-go_on.ensures.seen ∙ c.stack.ensures.trail

@@ -1,4 +1,4 @@
-use Rattle.std.proofs.Common.{◌+◌, ap, drop, refl, sym, ◌∙◌}
+use Rattle.std.proofs.Common.{◌≡◌, ◌+◌, ap, drop, refl, sym, ◌∙◌}
 use Rattle.resolvo_store.specs.Pick.{pick_after}
 use Rattle.resolvo_store.specs.Trail.{value_in}
 use Rattle.resolvo_store.specs.Values.{value_at}
@@ -20,14 +20,19 @@ loop-position-preserved g c =
     let values = value_at c.args.values.now in
     let score = g.N.Scores.ScoreMap.score_of c.args.scores.now in
     let best = c.loop-position.best in
+    let more = c.if-may_decide.best in
     let qs = c.args.queue.now in
     let i = c.loop-position.position in
     let next = c.next_open-position-in-loop-position in
+    let same = c.may_decide.ensures.seen ∙ c.loop-position.invariant.seen in
+    let here : pick_after lists values score best (drop i qs) ≡ pick_after lists values score more (drop (i + 1) qs) = elim c.if-may_decide.branch [
+      | then-may_decide w ↦ pick_taken lists values score best qs i _ c.loop-position-test.true ∙ ap (λ b. pick_after lists values score b (drop (i + 1) qs)) (sym (w.best-is ∙ w.or_offered-best.ensures))
+      | else-may_decide w ↦ pick_passed lists values score best qs i c.loop-position-test.true (c.may_decide.ensures.nothing w.if-may_decide.false score) ∙ ap (λ b. pick_after lists values score b (drop (i + 1) qs)) (sym w.best-is)
+    ] in
+    let behind : pick_after lists values score more (drop (i + 1) qs) ≡ pick_after lists values score more (drop next.result qs) =
+    pick_shut lists values score c.may_decide.new.self qs c.may_decide.ensures.fits (λ v. c.requires.values v ∙ ap (λ es. value_in es.items v) (sym same)) more (i + 1) next.result next.ensures.behind next.ensures.passed in
     record {
       fits = fits_same (literals_in lists) c.may_decide.new.self qs next.new.self next.ensures.same c.may_decide.ensures.fits;
-      seen = c.may_decide.ensures.seen ∙ c.loop-position.invariant.seen;
-      picked = c.loop-position.invariant.picked ∙ elim c.if-may_decide.branch [
-        | then-may_decide w ↦ pick_taken lists values score best qs i _ c.loop-position-test.true ∙ ap (λ b. pick_after lists values score b (drop (i + 1) qs)) (sym (w.best-is ∙ w.or_offered-best.ensures))
-        | else-may_decide w ↦ pick_passed lists values score best qs i c.loop-position-test.true (c.may_decide.ensures.nothing w.if-may_decide.false score) ∙ ap (λ b. pick_after lists values score b (drop (i + 1) qs)) (sym w.best-is)
-      ] ∙ pick_shut lists values score c.may_decide.new.self qs c.may_decide.ensures.fits (λ v. c.requires.values v ∙ ap (λ es. value_in es.items v) (sym (c.may_decide.ensures.seen ∙ c.loop-position.invariant.seen))) c.if-may_decide.best (i + 1) next.result next.ensures.behind next.ensures.passed;
+      seen = same;
+      picked = c.loop-position.invariant.picked ∙ here ∙ behind;
     }
