@@ -1,13 +1,15 @@
-//! The pick over three need clauses where what is known of them is kept, as a trail goes on and back.
+//! The pick over need clauses where what is known of them is kept, as a trail goes on and back: over three of
+//! them, and over a long chain.
 
 ghost use Rattle.std.specs.Prelude.{List, OnOk, IfOk};
 ghost use Rattle.resolvo_pool.specs.declared.requirement.Requirement.{Requirement};
 ghost use Rattle.resolvo_store.specs.Signed.{Signed};
 ghost use Rattle.resolvo_needs.specs.Needs.{Fits, literals_in};
 
-use crate::tests::picking::{no_scores, three_needs};
+use crate::tests::picking::{fix, no_scores, three_needs};
 use resolvo_needs::open_needs::OpenNeeds;
-use resolvo_pool::id::{ClauseId, NameId, VariableId};
+use resolvo_pool::id::{ClauseId, NameId, VariableId, VersionSetId};
+use resolvo_pool::requirement::Requirement;
 use resolvo_pool::want::R;
 use resolvo_store::decide_queue::{DecideQueue, NeedClause};
 use resolvo_store::decision::Decision;
@@ -35,6 +37,9 @@ const MOVES: &[Move] = &[
     (3, (2, true), 4, None),
     (0, (6, true), 1, Some(4)),
 ];
+
+/// The length of the chain, of which only some blocks have an open need at a time.
+const LINKS: u16 = 250;
 
 /// Needs with what is known of them, and the trail.
 #[derive(Drop)]
@@ -85,6 +90,7 @@ fn next_after(known: &mut Known, step: &Move) -> R<Option<u32>>
         derived_from: ClauseId(0),
     };
     known.trail.try_add_decision(decision, *level)?;
+    known.needs.follow(known.trail.stack());
     let next = known
         .needs
         .next_decision::<NameId>(&known.queue, &known.lists, &known.trail, &known.scores)?;
@@ -97,6 +103,46 @@ fn picks_the_same(rt: &impl Abort, known: &mut Known) -> R<()>
     for step in MOVES {
         assert_eq!(rt; next_after(known, step)?, step.3);
     }
+    Ok(())
+}
+
+/// Needs in a chain: the first is the root's, and the candidate of each is the parent of the next.
+fn chained_needs(alloc: Global) -> R<(FixedLists<NameId>, DecideQueue)> {
+    let mut lists = FixedLists::new(alloc)?;
+    let mut queue = DecideQueue::new(alloc);
+    for place in 0..LINKS {
+        let number = u32::from(place);
+        fix(&mut lists, alloc, number, number, &[place + 1])?;
+        queue.register_clause(NeedClause {
+            parent: VariableId(number),
+            requirement: Requirement::Single(VersionSetId(number)),
+            condition: None,
+            clause: ClauseId(number + 1),
+        })?;
+    }
+    Ok((lists, queue))
+}
+
+/// Each candidate is chosen in its turn; then the chain breaks in its middle, and behind its first link.
+fn picks_along_the_chain(rt: &impl Abort, known: &mut Known) -> R<()>
+    requires { Fits (literals_in known.old.lists) known.old.needs known.old.queue }
+{
+    for place in 0..u32::from(LINKS) {
+        assert_eq!(rt; next_after(known, &(place, (place, true), place + 1, None))?, Some(place + 1));
+    }
+    assert_eq!(rt; next_after(known, &(250, (250, true), 251, None))?, None);
+    assert_eq!(rt; next_after(known, &(150, (150, false), 151, None))?, None);
+    assert_eq!(rt; next_after(known, &(150, (150, true), 151, None))?, Some(151));
+    assert_eq!(rt; next_after(known, &(1, (2, true), 2, None))?, Some(1));
+    Ok(())
+}
+
+#[test]
+fn decisions_along_a_chain(rt: HostRuntime) -> Result<(), Fail> {
+    picks_along_the_chain(
+        &rt,
+        &mut nothing_known(rt.alloc(), chained_needs(rt.alloc())?)?,
+    )?;
     Ok(())
 }
 

@@ -13,7 +13,7 @@ use std::process::Abort;
 use std::test::Fail;
 
 /// Gives a version set the candidates of a package.
-fn fix(
+pub(crate) fn fix(
     lists: &mut FixedLists<NameId>,
     alloc: Global,
     set: u32,
