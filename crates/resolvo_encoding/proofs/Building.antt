@@ -1,5 +1,5 @@
 -- What the calls rest on stays, step by step.
-use Rattle.std.proofs.Common.{◌≡◌, ℕ, ◌+◌, ◌<◌, ◌≤◌, inl, inr, Bool, false, [], ◌∷◌, ◌++◌, length, Option, Some, None, refl, sym, ◌∙◌, ap, subst, arith, true}
+use Rattle.std.proofs.Common.{◌≡◌, ℕ, ◌+◌, ◌<◌, ◌≤◌, inl, inr, Bool, false, [], ◌∷◌, ◌++◌, length, Option, Some, None, Vec, Global, refl, sym, ◌∙◌, ap, subst, arith, true}
 use Rattle.std.specs.Prelude.{Contains}
 use Rattle.resolvo_store.specs.Lists.{items_or_none}
 use Rattle.std.proofs.lemmas.Bool.{both_ways}
@@ -8,6 +8,7 @@ use Rattle.resolvo_pool.specs.declared.id.DisjunctionTag.{DisjunctionTag}
 use Rattle.resolvo_pool.specs.declared.id.VariableId.{VariableId}
 use Rattle.resolvo_pool.specs.declared.requirement.Requirement.{Requirement}
 use Rattle.resolvo_pool.specs.ByRequirement.{slot_of, PutsAt}
+use Rattle.resolvo_store.specs.AtMostOne.{IsFrontOf}
 use Rattle.resolvo_store.specs.Signed.{Signed}
 use Rattle.resolvo_store.specs.Clauses.{yes, no, candidate_literals}
 use Rattle.resolvo_store.specs.Lists.{named_by, candidates_in, condition_in, FixesDisjunction}
@@ -15,7 +16,8 @@ use Rattle.resolvo_store.specs.declared.lists.Disjunction.{Disjunction}
 use Rattle.resolvo_store.specs.declared.lists.FixedLists.{FixedLists}
 use Rattle.resolvo_store.specs.Pick.{pick_by}
 use Rattle.resolvo_store.specs.declared.decide_queue.NextDecision.{NextDecision}
-use Rattle.resolvo_needs.specs.Needs.{literals_in, is_met, Fits}
+use Rattle.resolvo_store.specs.declared.decision.Entry.{Entry}
+use Rattle.resolvo_needs.specs.Needs.{literals_in, is_met, Fits, KeepsFitting}
 use Rattle.resolvo_needs.specs.declared.open_needs.OpenNeeds.{OpenNeeds}
 use Rattle.resolvo_needs.proofs.Fitting.{fits_add, fits_more, fits_none}
 use Rattle.resolvo_store.specs.declared.decide_queue.NeedClause.{NeedClause}
@@ -24,16 +26,18 @@ use Rattle.resolvo_search.specs.Known.{IsUndecided}
 use Rattle.resolvo_search.specs.State.{history, count_of}
 use Rattle.resolvo_search.specs.Steps.{AreInRange}
 use Rattle.resolvo_search.proofs.Literals.{has-cons, has-append}
+use Rattle.resolvo_coding.specs.declared.atom.ProofAtom.{ProofAtom}
 use Rattle.resolvo_coding.specs.declared.atom.ProofAtom.TheVariants.{Solvable, Gate}
 use Rattle.resolvo_coding.specs.declared.registry.Registry.{Registry}
 use Rattle.resolvo_coding.specs.declared.stated.Stated.{Stated}
 use Rattle.resolvo_coding.specs.declared.stated.Stated.TheVariants.{Digit}
 use Rattle.resolvo_coding.specs.Atoms.{StandsFor}
-use Rattle.resolvo_coding.specs.Coding.{IsCoding, Grows}
+use Rattle.resolvo_coding.specs.declared.coding.Coding.{Coding}
+use Rattle.resolvo_coding.specs.Coding.{IsCoding, Grows, SameTrail, Gives}
 use Rattle.resolvo_coding.specs.Registered.{AreTied}
 use Rattle.resolvo_coding.proofs.Growth.{stands_grow, stands_in_range}
-use Rattle.resolvo_coding.proofs.Positions.{front_long}
-use Rattle.resolvo_coding.proofs.Registering.{KeepsDigits, digits_more, ties_grow, nothing_tied}
+use Rattle.resolvo_coding.proofs.Positions.{front_equal, front_long, front_then}
+use Rattle.resolvo_coding.proofs.Registering.{KeepsDigits, digits_more, digits_same, ties_grow, nothing_tied}
 use Rattle.resolvo_rules.proofs.Lists.{contains_none}
 use Rattle.resolvo_encoding.specs.Steps.{StatesNeed, SameButCoding, IsBuilt, IsBegunEncoding, AddsParent}
 use Rattle.resolvo_encoding.specs.Casing.{Defers, Fires}
@@ -43,25 +47,45 @@ use Rattle.resolvo_encoding.proofs.Deciding.{picked, offers, for_listed, open_un
 use Rattle.resolvo_encoding.proofs.Needing.{literal_in}
 use Rattle.resolvo_encoding.proofs.Requiring.{put_at, put_other, some_one}
 
+-- where the trail stays, so does what was seen of it
+pub trail_on : {N S : Type 0} (old new : Coding N S) → SameTrail old new → IsFrontOf old.search.tracker.trail new.search.tracker.trail
+trail_on old new same = front_equal old.search.tracker.trail new.search.tracker.trail (ap (λ t. t.trail) same.tracker)
+
+pub seen_same : {N S : Type 0} (old new : Encoding N S) → IsBuilt old → SameTrail old.coding new.coding → new.needs.seen ≡ old.needs.seen → IsFrontOf new.needs.seen.items new.coding.search.tracker.trail
+seen_same old new b same seen = subst (λ (es : Vec Entry Global). IsFrontOf es.items new.coding.search.tracker.trail) (sym seen) (front_then old.needs.seen.items old.coding.search.tracker.trail new.coding.search.tracker.trail b.seen (trail_on old.coding new.coding same))
+
 -- where only clauses, variables and the queue change
 pub built_grows : {N S : Type 0} (old new : Encoding N S) → IsBuilt old → IsCoding new.coding → Grows old.coding new.coding → new.registry ≡ old.registry → new.lists ≡ old.lists → new.gates ≡ old.gates
-    → new.parents ≡ old.parents → new.encoded ≡ old.encoded → KeepsDigits old.coding new.coding → Fits (literals_in old.lists) new.needs new.queue → IsBuilt new
-built_grows {N} {S} old new b coding grows registry lists gates parents encoded digits needs = record {
+    → new.parents ≡ old.parents → new.encoded ≡ old.encoded → KeepsDigits old.coding new.coding → Fits (literals_in old.lists) new.needs new.queue → IsFrontOf new.needs.seen.items new.coding.search.tracker.trail → IsBuilt new
+built_grows {N} {S} old new b coding grows registry lists gates parents encoded digits needs seen = record {
   coding = coding;
   tied = subst (λ (t : Registry N). AreTied t new.coding) (sym registry) (ties_grow old.registry old.coding new.coding grows digits b.tied);
   candidates = λ r c a. (let (positive, (s, stands)) = b.candidates r c (subst (λ ls. Contains (candidates_in ls r) c) lists a) in (positive, (s, stands_grow old.coding new.coding c.literal.variable (Solvable s) grows stands)));
   gates = λ r v at. stands_grow old.coding new.coding v (Gate r) grows (b.gates r v (sym (ap (λ gs. slot_of gs r) gates) ∙ at));
   within = subst (λ n. n ≤ length new.parents.keys) (sym encoded) (subst (λ ps. old.encoded ≤ length ps.keys) (sym parents) b.within);
   needs = subst (λ ls. Fits (literals_in ls) new.needs new.queue) (sym lists) needs;
+  seen = seen;
 }
 
-pub built_rest : {N S : Type 0} (old new : Encoding N S) → IsBuilt old → IsCoding new.coding → Grows old.coding new.coding → KeepsDigits old.coding new.coding → SameButCoding old new → new.needs ≡ old.needs → IsBuilt new
-built_rest old new b coding grows digits rest needs = built_grows old new b coding grows rest.registry rest.lists rest.gates rest.parents rest.encoded digits
+pub built_rest : {N S : Type 0} (old new : Encoding N S) → IsBuilt old → IsCoding new.coding → Grows old.coding new.coding → KeepsDigits old.coding new.coding → SameButCoding old new → new.needs ≡ old.needs → IsFrontOf old.coding.search.tracker.trail new.coding.search.tracker.trail → IsBuilt new
+built_rest old new b coding grows digits rest needs on = built_grows old new b coding grows rest.registry rest.lists rest.gates rest.parents rest.encoded digits
     (subst (λ (n : OpenNeeds). Fits (literals_in old.lists) n new.queue) (sym needs) (subst (λ qs. Fits (literals_in old.lists) old.needs qs) (sym rest.queue) b.needs))
+    (subst (λ (n : OpenNeeds). IsFrontOf n.seen.items new.coding.search.tracker.trail) (sym needs) (front_then old.needs.seen.items old.coding.search.tracker.trail new.coding.search.tracker.trail b.seen on))
 
 pub built_states : {N S : Type 0} (x : Stated N S) (v : VariableId) (condition : Option (DenseId DisjunctionTag ℕ)) (r : Requirement) (old new : Encoding N S) → IsBuilt old → ((name : N) (s : S) (place bit : ℕ) → x ≡ Digit name s place bit → ⊥) → StatesNeed x v condition r old new → IsBuilt new
 built_states x v condition r old new b other s = built_grows old new b s.states.coding s.states.grows s.registry s.lists s.gates s.parents s.encoded (digits_more x old.coding new.coding s.states.stated other)
     (let q : NeedClause = record { parent = v; requirement = r; condition = condition; clause = s.number } in subst (λ qs. Fits (literals_in old.lists) new.needs qs) (sym s.queue) (fits_add (literals_in old.lists) q old.needs new.needs old.queue b.needs s.needs))
+    (seen_same old new b s.states.trail s.needs.seen)
+
+-- where a variable came, or nothing
+pub built_gives : {N S : Type 0} (atom : ProofAtom N S) (v : VariableId) (old : Encoding N S) (c : Coding N S) → IsBuilt old → Gives atom v old.coding c → IsBuilt (record old { coding = c })
+built_gives atom v old c b gives =
+    let new : Encoding _ _ = record old { coding = c } in
+    built_grows old new b gives.coding gives.grows refl refl refl refl refl (digits_same old.coding c gives.stated) b.needs (seen_same old new b gives.trail refl)
+
+-- where entries were taken away, and what is known went back to those that stayed
+pub built_back : {N S : Type 0} (old : Encoding N S) (c : Coding N S) (n : OpenNeeds) → IsBuilt old → IsCoding c → Grows old.coding c → KeepsDigits old.coding c → KeepsFitting old.needs n → IsFrontOf n.seen.items c.search.tracker.trail → IsBuilt (record old { coding = c; needs = n })
+built_back old c n b coding grows digits fits seen = built_grows old (record old { coding = c; needs = n }) b coding grows refl refl refl refl refl digits (fits (literals_in old.lists) old.queue b.needs) seen
 
 -- where a disjunction came
 pub built_disjunction : {N S : Type 0} (number : ℕ) (given : Disjunction) (old : Encoding N S) (ls : FixedLists N) → IsBuilt old → FixesDisjunction number given old.lists ls → IsBuilt (record old { lists = ls })
@@ -72,6 +96,7 @@ built_disjunction number given old ls b f = record {
   gates = b.gates;
   within = b.within;
   needs = fits_more (literals_in old.lists) (literals_in ls) old.needs old.queue (λ r es met. subst (λ cs. is_met es (candidate_literals (items_or_none (slot_of cs r))) ≡ true) (sym f.candidates) met) b.needs;
+  seen = b.seen;
 }
 
 -- where a gate was noted
@@ -87,6 +112,7 @@ built_gate {N} {S} old new r v b stands puts is = subst (λ (x : Encoding N S). 
   ];
   within = b.within;
   needs = b.needs;
+  seen = b.seen;
 })
 
 -- where parents came
@@ -98,18 +124,19 @@ built_parents {N} {S} old new b added = subst (λ (x : Encoding N S). IsBuilt x)
   gates = b.gates;
   within = (let a : length old.parents.keys ≤ length new.parents.keys = front_long old.parents.keys new.parents.keys added.front in let c : old.encoded ≤ length old.parents.keys = b.within in omega arith);
   needs = b.needs;
+  seen = b.seen;
 })
 
 -- where the needs of the next parent were encoded
 pub built_next : {N S : Type 0} (e : Encoding N S) → IsBuilt e → e.encoded < length e.parents.keys → IsBuilt (record e { encoded = e.encoded + 1 })
-built_next e b below = record { coding = b.coding; tied = b.tied; candidates = b.candidates; gates = b.gates; within = omega arith; needs = b.needs }
+built_next e b below = record { coding = b.coding; tied = b.tied; candidates = b.candidates; gates = b.gates; within = omega arith; needs = b.needs; seen = b.seen }
 
 -- where cases came that wait, or one fired
 pub built_defers : {N S : Type 0} (old new : Encoding N S) → IsBuilt old → Defers old new → IsBuilt new
-built_defers {N} {S} old new b d = subst (λ (x : Encoding N S). IsBuilt x) (sym d.rest) (record { coding = b.coding; tied = b.tied; candidates = b.candidates; gates = b.gates; within = b.within; needs = b.needs })
+built_defers {N} {S} old new b d = subst (λ (x : Encoding N S). IsBuilt x) (sym d.rest) (record { coding = b.coding; tied = b.tied; candidates = b.candidates; gates = b.gates; within = b.within; needs = b.needs; seen = b.seen })
 
 pub built_fires : {N S : Type 0} (index : ℕ) (old new : Encoding N S) → IsBuilt old → Fires index old new → IsBuilt new
-built_fires {N} {S} index old new b f = subst (λ (x : Encoding N S). IsBuilt x) (sym f.rest) (record { coding = b.coding; tied = b.tied; candidates = b.candidates; gates = b.gates; within = b.within; needs = b.needs })
+built_fires {N} {S} index old new b f = subst (λ (x : Encoding N S). IsBuilt x) (sym f.rest) (record { coding = b.coding; tied = b.tied; candidates = b.candidates; gates = b.gates; within = b.within; needs = b.needs; seen = b.seen })
 
 -- at first
 pub built_begun : {N S : Type 0} (e : Encoding N S) → IsBegunEncoding e → IsBuilt e
@@ -120,11 +147,12 @@ built_begun {N} {S} e begun = record {
   gates = λ r v at. (let none : None ≡ Some v = sym (begun.gates r) ∙ at in absurd cc);
   within = (let none : e.encoded ≡ 0 = begun.encoded in omega arith);
   needs = subst (λ qs. Fits (literals_in e.lists) e.needs qs) (sym begun.queue) (fits_none (literals_in e.lists) e.needs begun.needs);
+  seen = subst (λ es. IsFrontOf es e.coding.search.tracker.trail) (sym begun.seen) (e.coding.search.tracker.trail, refl);
 }
 
 -- where what is known of the need clauses is noted
-pub built_needs : {N S : Type 0} (e : Encoding N S) (n : OpenNeeds) → IsBuilt e → Fits (literals_in e.lists) n e.queue → IsBuilt (record e { needs = n })
-built_needs e n b fits = record { coding = b.coding; tied = b.tied; candidates = b.candidates; gates = b.gates; within = b.within; needs = fits }
+pub built_needs : {N S : Type 0} (e : Encoding N S) (n : OpenNeeds) → IsBuilt e → Fits (literals_in e.lists) n e.queue → IsFrontOf n.seen.items e.coding.search.tracker.trail → IsBuilt (record e { needs = n })
+built_needs e n b fits seen = record { coding = b.coding; tied = b.tied; candidates = b.candidates; gates = b.gates; within = b.within; needs = fits; seen = seen }
 
 -- ---- what calls ask for
 

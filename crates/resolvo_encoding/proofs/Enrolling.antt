@@ -33,6 +33,7 @@ use Rattle.resolvo_encoding.specs.Encoded as E
 use Rattle.resolvo_encoding.specs.Helped.{Admits}
 use Rattle.resolvo_encoding.specs.Steps.{IsBuilt, Extends, IsOfferedAs, RegistersAll, KeepsLists, AddsCandidates, IsListed, Enrols, Fixes}
 use Rattle.resolvo_encoding.specs.declared.encoding.Encoding.{Encoding}
+use Rattle.resolvo_encoding.proofs.Building.{seen_same}
 use Rattle.resolvo_encoding.proofs.Picking.{candidates_grow}
 use Rattle.resolvo_encoding.proofs.Requiring.{Came, Carries, carried, candidate_grows, noted_grows, cases_keep, fix_at, fix_other, some_one, offer_named, offer_meets, meets_offer, meets_listed, registered_split, queued_keeps, gates_keep, NoneAsks, fixed_keeps, asked_keeps, within_keeps, encoded_keeps, cased_keeps, bar_keeps, digit_came, extends_then, extends_same}
 
@@ -213,6 +214,7 @@ module _ {N S : Type 0} (same : S → S → Bool) where
     gates = λ r v at. stands_grow old.coding c v (Gate r) all.grows (b.gates r v at);
     within = b.within;
     needs = b.needs;
+    seen = seen_same old (enrolled old t c) b all.trail refl;
   }
 
   -- what is offered is admitted, and then registered
@@ -267,6 +269,7 @@ module _ {N S : Type 0} (same : S → S → Bool) where
       gates = enrols.built.gates;
       within = enrols.built.within;
       needs = fits_more (literals_in middle.lists) (literals_in new.lists) middle.needs middle.queue (still_met middle given fixes (ap (λ ls. has_candidates ls r) enrols.lists ∙ fresh)) enrols.built.needs;
+      seen = enrols.built.seen;
     })
   ]
     where

@@ -36,14 +36,14 @@ use Rattle.resolvo_coding.specs.Statements.{rule_of}
 use Rattle.resolvo_coding.proofs.Growth.{grows_same, rules_grow, stands_grow}
 use Rattle.resolvo_coding.proofs.Origins.{means_atom}
 use Rattle.resolvo_coding.proofs.Positions.{front_same}
-use Rattle.resolvo_coding.proofs.Registering.{digits_same, digits_more}
+use Rattle.resolvo_coding.proofs.Registering.{digits_more}
 use Rattle.resolvo_encoding.specs.declared.encoding.Encoding.{Encoding}
 use Rattle.resolvo_encoding.specs.declared.encoding.Noted.{Noted}
 use Rattle.resolvo_encoding.specs.Encoded.{IsEncoding, IsNoted, IsParentVariable, HasOrder}
 use Rattle.resolvo_encoding.specs.Encoded as E
 use Rattle.resolvo_encoding.specs.Steps.{IsBuilt, Extends}
 use Rattle.resolvo_encoding.specs.Telling.{bar_of, IsRestraint, IsPair, StatesPair, Tells, bar_rules, limit_rules, out_rules}
-use Rattle.resolvo_encoding.proofs.Building.{built_grows, built_rest}
+use Rattle.resolvo_encoding.proofs.Building.{built_gives, built_rest, trail_on}
 use Rattle.resolvo_encoding.proofs.Denials.{Reads, pair_members, pair_spells, one_spells, not_digit}
 use Rattle.resolvo_encoding.proofs.Needing.{gives_keeps, clause_keeps}
 use Rattle.resolvo_encoding.proofs.Requiring.{each_of, parent_grows, extends_same, extends_then}
@@ -102,7 +102,7 @@ module _ {N S : Type 0} (same : S → S → Bool) (exact : IsExact same) where
   -- a variable came, or nothing
   pub gives_tells : (atom : ProofAtom N S) (v : VariableId) (old : Encoding N S) (c : Coding N S) → IsBuilt old → Gives atom v old.coding c → Tells same [] old (record old { coding = c })
   gives_tells atom v old c built gives = record {
-    built = built_grows old (record old { coding = c }) built gives.coding gives.grows refl refl refl refl refl (digits_same old.coding c gives.stated) built.needs;
+    built = built_gives atom v old c built gives;
     extends = record { grows = gives.grows; trail = gives.trail; wishes = refl; parents = refl; encoded = refl; deferred = refl; fired = refl };
     lists = refl;
     registry = refl;
@@ -117,7 +117,7 @@ module _ {N S : Type 0} (same : S → S → Bool) (exact : IsExact same) where
   pub pair_tells : (x : Stated N S) (rule : Rule N S) (a b : Signed) (old new : Encoding N S) → IsBuilt old → rule_of x ≡ Some rule → IsRestraint rule
       → ((p : Packages N S) (literals : List Signed) → IsPair a b literals → Spells (origin old.coding.atoms.keys) literals (literals_of same p rule)) → StatesPair x a b old new → Tells same (rule ∷ []) old new
   pair_tells x rule a b old new built is denial spells came = record {
-    built = built_rest old new built came.states.coding came.states.grows (digits_more x old.coding new.coding came.states.stated (not_digit x rule is denial)) came.rest came.needs;
+    built = built_rest old new built came.states.coding came.states.grows (digits_more x old.coding new.coding came.states.stated (not_digit x rule is denial)) came.rest came.needs (trail_on old.coding new.coding came.states.trail);
     extends = record { grows = came.states.grows; trail = came.states.trail; wishes = ap (λ (x : Noted N S). x.wishes.items) came.rest.noted; parents = came.rest.parents; encoded = came.rest.encoded; deferred = came.rest.deferred; fired = came.rest.fired };
     lists = came.rest.lists;
     registry = came.rest.registry;
@@ -266,4 +266,4 @@ module _ {N S : Type 0} (same : S → S → Bool) (exact : IsExact same) where
         (λ t h. elim (only t h) [ inl b ↦ e.cases.there t b | inr is ↦ subst (λ y. E.rules_of old (Rule.is_there (p.package_of y) y)) (sym is) stands ]) refl)
 
 pub built_noted : {N S : Type 0} (e : Encoding N S) (x : Noted N S) → IsBuilt e → IsBuilt (record e { noted = x })
-built_noted e x b = record { coding = b.coding; tied = b.tied; candidates = b.candidates; gates = b.gates; within = b.within; needs = b.needs }
+built_noted e x b = record { coding = b.coding; tied = b.tied; candidates = b.candidates; gates = b.gates; within = b.within; needs = b.needs; seen = b.seen }

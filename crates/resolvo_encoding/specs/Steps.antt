@@ -37,7 +37,8 @@ use Rattle.resolvo_coding.specs.Registered.{AreTied, IsTracked, IsDigitClause, I
 use Rattle.resolvo_encoding.specs.declared.encoding.Encoding.{Encoding}
 
 -- What the calls rest on, whatever the packages are: the search is ready, registered solvables are tied, candidates are
--- solvables that are to be chosen, each gate is its requirement's, and what is known of the need clauses is so.
+-- solvables that are to be chosen, each gate is its requirement's, and what is known of the need clauses is so for entries that
+-- begin the trail.
 pub record IsBuilt {N S : Type 0} (e : Encoding N S) : Type 0 where
   pub coding : IsCoding e.coding
   pub tied : AreTied e.registry e.coding
@@ -45,6 +46,7 @@ pub record IsBuilt {N S : Type 0} (e : Encoding N S) : Type 0 where
   pub gates : (r : Requirement) (v : VariableId) → slot_of e.gates r ≡ Some v → StandsFor e.coding.atoms.keys v (Gate r)
   pub within : e.encoded ≤ length e.parents.keys
   pub needs : Fits (literals_in e.lists) e.needs e.queue
+  pub seen : IsFrontOf e.needs.seen.items e.coding.search.tracker.trail
 
 -- clauses and what they state came, and the trail, the wishes and the parents stay, and so do the cases that wait
 pub record Extends {N S : Type 0} (old new : Encoding N S) : Type 0 where
@@ -178,7 +180,8 @@ pub record IsBegunEncoding {N S : Type 0} (e : Encoding N S) : Type 0 where
   pub registry : IsNothing e.registry
   pub lists : IsEmpty e.lists
   pub queue : e.queue ≡ []
-  pub needs : e.needs.states.items ≡ []
+  pub needs : e.needs.states ≡ []
+  pub seen : e.needs.seen.items ≡ []
   pub gates : (r : Requirement) → slot_of e.gates r ≡ None
   pub packages : e.noted.packages.keys ≡ []
   pub version_sets : e.noted.version_sets.keys ≡ []

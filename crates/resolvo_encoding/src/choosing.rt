@@ -73,6 +73,7 @@ impl<N: SolverId + Drop, S: SolverId> Encoding<N, S> {
     {
         let level = self.coding.search.floor.saturating_sub(1);
         self.coding.undo_until(level.max(1));
+        self.needs.follow(self.coding.search.tracker.stack());
     }
 
     /// Sets what follows; then learns where a clause is broken, and chooses where none is.
@@ -86,7 +87,10 @@ impl<N: SolverId + Drop, S: SolverId> Encoding<N, S> {
     {
         match self.coding.advance(alloc)? {
             Progress::Refused(refusal) => Ok(Step::Refused(refusal)),
-            Progress::Learnt(clause) => Ok(Step::Learnt(clause)),
+            Progress::Learnt(clause) => {
+                self.needs.follow(self.coding.search.tracker.stack());
+                Ok(Step::Learnt(clause))
+            }
             Progress::Complete => {
                 let has_chosen = self.choose_next(scores)?;
                 if has_chosen {

@@ -73,7 +73,8 @@ pub struct Encoding<N: Eq + Hash, S: Eq + Hash> {
     pub registry: Registry<N>,
     pub lists: FixedLists<N>,
     pub queue: DecideQueue,
-    /// What is known of the queue's clauses, which spares the next decision to look at each.
+    /// What is known of the queue's clauses, which spares the next decision to look at each. It goes back
+    /// where entries are taken from the trail.
     pub needs: OpenNeeds,
     /// The gate of each requirement that has one.
     pub gates: RequirementMap<VariableId>,

@@ -1,4 +1,4 @@
-use Rattle.std.proofs.Common.{◌<◌, ◌∙◌, sym, subst, ap, refl, inr}
+use Rattle.std.proofs.Common.{[], ◌∷◌, ◌<◌, ◌∙◌, sym, subst, ap, refl, inr}
 use Rattle.resolvo_store.specs.Lists.{named_by}
 use Rattle.resolvo_search.specs.Advancing.{weight_left}
 use Rattle.resolvo_rules.specs.Encoding.{IsExact}
@@ -70,7 +70,7 @@ returns-in_ok-choose-in-Some-clause-built g c =
     let new : Encoding _ _ = record noted { coding = c.choose.new.self } in
     let built = c.in_ok-next_decision.ensures.built in
     let goes = choice_goes noted c.choose.new.self c.in-Some.next.candidate c.in-Some.next.clause_id c.in_ok-choose-in-Some.ensures.chosen c.in_ok-choose-in-Some.ensures.kept in
-    built_rest noted new built goes.coding goes.grows (digits_kept noted new built.coding goes) goes.rest refl
+    built_rest noted new built goes.coding goes.grows (digits_kept noted new built.coding goes) goes.rest refl (_ ∷ [], c.in_ok-choose-in-Some.ensures.chosen.pushed)
 
 pub returns-in_ok-choose-in-Some-clause-first : goal.returns-in_ok-choose-in-Some-clause-first
 returns-in_ok-choose-in-Some-clause-first g c =

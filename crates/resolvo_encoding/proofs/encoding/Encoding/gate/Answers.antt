@@ -7,17 +7,16 @@ use Rattle.resolvo_coding.specs.declared.stated.Stated.TheVariants as Says
 use Rattle.resolvo_encoding.specs.declared.encoding.Encoding.{Encoding}
 use Rattle.resolvo_encoding.specs.Steps.{SameButCoding}
 use Rattle.resolvo_coding.proofs.Growth.{stands_grow, stands_in_range}
-use Rattle.resolvo_coding.proofs.Registering.{digits_same}
 use Rattle.resolvo_encoding.proofs.Requiring.{guard_grows}
 use Rattle.resolvo_encoding.proofs.Needing.{need_keeps, shared_ready, gives_keeps, gate_noted}
-use Rattle.resolvo_encoding.proofs.Building.{built_grows, built_states, built_gate, built_in_range, none_in_range}
+use Rattle.resolvo_encoding.proofs.Building.{built_gives, built_states, built_gate, built_in_range, none_in_range}
 use Rattle.resolvo_encoding.proofs.encoding.Encoding.gate.Goals as goal
 
 pub state_need-requires-clause-in_range : goal.state_need-requires-clause-in_range
 state_need-requires-clause-in_range g c =
     let middle : Encoding _ _ = record c.args.self.now { coding = c.variable.new.self } in
     let gives = c.in_ok-gate.ensures.given in
-    built_in_range middle c.in_ok-gate.gate None c.args.requirement (built_grows c.args.self.now middle c.requires gives.coding gives.grows refl refl refl refl refl (digits_same c.args.self.now.coding c.variable.new.self gives.stated) c.requires.needs)
+    built_in_range middle c.in_ok-gate.gate None c.args.requirement (built_gives (Gate c.args.requirement) c.in_ok-gate.gate c.args.self.now c.variable.new.self c.requires gives)
     (stands_in_range c.variable.new.self c.in_ok-gate.gate (Gate c.args.requirement) gives.coding gives.stands) (none_in_range (count_of c.variable.new.self.search))
 
 pub returns-clause-encoded : goal.returns-clause-encoded
@@ -41,6 +40,6 @@ returns-clause-built g c =
     let middle : Encoding _ _ = record c.args.self.now { coding = c.variable.new.self } in
     let gives = c.in_ok-gate.ensures.given in
     let came = c.in_ok-state_need.ensures.stated in
-    let stated = built_states (Says.Shared c.args.requirement) c.in_ok-gate.gate None c.args.requirement middle c.state_need.new.self (built_grows c.args.self.now middle c.requires gives.coding gives.grows refl refl refl refl refl (digits_same c.args.self.now.coding c.variable.new.self gives.stated) c.requires.needs) (λ name s place bit h. absurd cc) came in
+    let stated = built_states (Says.Shared c.args.requirement) c.in_ok-gate.gate None c.args.requirement middle c.state_need.new.self (built_gives (Gate c.args.requirement) c.in_ok-gate.gate c.args.self.now c.variable.new.self c.requires gives) (λ name s place bit h. absurd cc) came in
     let stands = stands_grow c.variable.new.self c.state_need.new.self.coding c.in_ok-gate.gate (Gate c.args.requirement) came.states.grows gives.stands in
     built_gate c.state_need.new.self (record c.state_need.new.self { gates = c.insert.new.self }) c.args.requirement c.in_ok-gate.gate stated stands c.in_ok-insert.ensures.put refl

@@ -1,6 +1,6 @@
 use Rattle.std.proofs.Common.{refl}
 use Rattle.resolvo_rules.specs.Encoding.{IsExact}
-use Rattle.resolvo_encoding.proofs.Building.{built_rest}
+use Rattle.resolvo_encoding.proofs.Building.{built_rest, trail_on}
 use Rattle.resolvo_encoding.proofs.Staying.{digits_kept, bar_goes, bar_keeps}
 use Rattle.resolvo_encoding.proofs.Bases.{same_turns}
 use Rattle.resolvo_encoding.proofs.encoding.Encoding.learn_refusal.Goals as goal
@@ -16,7 +16,7 @@ returns-clause-goes_on g c = bar_goes c.args.self.now c.bar.new.self _ _ c.in_ok
 pub returns-clause-built : goal.returns-clause-built
 returns-clause-built g c =
     let goes = bar_goes c.args.self.now c.bar.new.self _ _ c.in_ok-clause.clause c.requires.built.coding c.in_ok-clause.ensures.barred in
-    built_rest c.args.self.now (record c.args.self.now { coding = c.bar.new.self }) c.requires.built goes.coding goes.grows (digits_kept c.args.self.now (record c.args.self.now { coding = c.bar.new.self }) c.requires.built.coding goes) goes.rest refl
+    built_rest c.args.self.now (record c.args.self.now { coding = c.bar.new.self }) c.requires.built goes.coding goes.grows (digits_kept c.args.self.now (record c.args.self.now { coding = c.bar.new.self }) c.requires.built.coding goes) goes.rest refl (trail_on c.args.self.now.coding c.bar.new.self c.in_ok-clause.ensures.barred.trail)
 
 pub returns-clause-turn : goal.returns-clause-turn
 returns-clause-turn g c = same_turns c.args.self.now (record c.args.self.now { coding = c.bar.new.self }) c.in_ok-clause.ensures.barred.grows c.in_ok-clause.ensures.barred.trail refl

@@ -6,17 +6,15 @@ use Rattle.resolvo_coding.specs.declared.stated.Stated.TheVariants as Says
 use Rattle.resolvo_encoding.specs.declared.encoding.Encoding.{Encoding}
 use Rattle.resolvo_encoding.specs.Steps.{SameButCoding, Extends}
 use Rattle.resolvo_coding.proofs.Growth.{stands_grow, rules_grow, stands_in_range}
-use Rattle.resolvo_coding.proofs.Registering.{digits_same, digits_more}
+use Rattle.resolvo_coding.proofs.Registering.{digits_more}
 use Rattle.resolvo_encoding.proofs.Requiring.{extends_then, guard_grows}
 use Rattle.resolvo_encoding.proofs.Needing.{needed_keeps, need_extends, gated_keeps, gives_keeps, needed_asks}
-use Rattle.resolvo_encoding.proofs.Building.{built_grows, built_rest, built_states}
+use Rattle.resolvo_encoding.proofs.Building.{built_gives, built_rest, built_states, trail_on}
 use Rattle.resolvo_encoding.proofs.encoding.Encoding.require_of.Goals as goal
 
 pub need_directly-requires-clause-built : goal.need_directly-requires-clause-built
 need_directly-requires-clause-built g c =
-    let middle : Encoding _ _ = record c.args.self.now { coding = c.variable.new.self } in
-    let gives = c.in_ok-variable.ensures.given in
-    built_grows c.args.self.now middle c.requires gives.coding gives.grows refl refl refl refl refl (digits_same c.args.self.now.coding c.variable.new.self gives.stated) c.requires.needs
+    built_gives (Solvable c.args.solvable) c.in_ok-variable.variable c.args.self.now c.variable.new.self c.requires c.in_ok-variable.ensures.given
 
 pub need_directly-requires-clause-in_range : goal.need_directly-requires-clause-in_range
 need_directly-requires-clause-in_range g c = stands_in_range c.variable.new.self c.in_ok-variable.variable (Solvable c.args.solvable) c.in_ok-variable.ensures.given.coding c.in_ok-variable.ensures.given.stands
@@ -40,9 +38,7 @@ returns-then-count-lt-GATED-clause-kept g c =
 
 pub gate-requires : goal.gate-requires
 gate-requires g c =
-    let middle : Encoding _ _ = record c.args.self.now { coding = c.variable.new.self } in
-    let gives = c.in_ok-variable.ensures.given in
-    built_grows c.args.self.now middle c.requires gives.coding gives.grows refl refl refl refl refl (digits_same c.args.self.now.coding c.variable.new.self gives.stated) c.requires.needs
+    built_gives (Solvable c.args.solvable) c.in_ok-variable.variable c.args.self.now c.variable.new.self c.requires c.in_ok-variable.ensures.given
 
 pub open_gate-requires-clause-coding : goal.open_gate-requires-clause-coding
 open_gate-requires-clause-coding g c = c.in_ok-gate.ensures.built.coding
@@ -79,12 +75,11 @@ pub returns-clause-built : goal.returns-clause-built
 returns-clause-built g c =
     let opened = c.in_ok-open_gate.ensures.opened in
     built_rest c.gate.new.self c.open_gate.new.self c.in_ok-gate.ensures.built opened.states.coding opened.states.grows
-    (digits_more (Says.Gated c.args.solvable c.args.need.requirement) c.gate.new.self.coding c.open_gate.new.self.coding opened.states.stated (λ name s place bit h. absurd cc)) opened.rest opened.needs
+    (digits_more (Says.Gated c.args.solvable c.args.need.requirement) c.gate.new.self.coding c.open_gate.new.self.coding opened.states.stated (λ name s place bit h. absurd cc)) opened.rest opened.needs (trail_on c.gate.new.self.coding c.open_gate.new.self.coding opened.states.trail)
 
 pub returns-then-count-lt-GATED-clause-built : goal.returns-then-count-lt-GATED-clause-built
 returns-then-count-lt-GATED-clause-built g c =
     let middle : Encoding _ _ = record c.args.self.now { coding = c.variable.new.self } in
-    let gives = c.in_ok-variable.ensures.given in
     let needed = c.in_ok-need_directly.ensures.needed in
     built_states (Says.Needs (Some c.args.solvable) c.args.need needed.case) c.in_ok-variable.variable None c.args.need.requirement middle c.need_directly.new.self
-    (built_grows c.args.self.now middle c.requires gives.coding gives.grows refl refl refl refl refl (digits_same c.args.self.now.coding c.variable.new.self gives.stated) c.requires.needs) (λ name s place bit h. absurd cc) needed.states
+    (built_gives (Solvable c.args.solvable) c.in_ok-variable.variable c.args.self.now c.variable.new.self c.requires c.in_ok-variable.ensures.given) (λ name s place bit h. absurd cc) needed.states

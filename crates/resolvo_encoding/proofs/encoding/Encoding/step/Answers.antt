@@ -1,19 +1,21 @@
 use Rattle.std.proofs.Common.{◌<◌, ◌≤◌, Bool, subst, arith, refl}
+use Rattle.resolvo_store.specs.AtMostOne.{IsFrontOf}
 use Rattle.resolvo_search.specs.declared.advancing.Progress.{Progress}
 use Rattle.resolvo_search.specs.Advancing.{weight_left}
 use Rattle.resolvo_rules.specs.Encoding.{IsExact}
 use Rattle.resolvo_coding.specs.Coding.{Advances}
 use Rattle.resolvo_encoding.specs.declared.encoding.Encoding.{Encoding}
 use Rattle.resolvo_encoding.specs.Going.{IsChoice}
-use Rattle.resolvo_encoding.proofs.Building.{built_rest}
-use Rattle.resolvo_encoding.proofs.Staying.{digits_kept, step_goes, step_keeps, learnt_heavier, complete_gains, goes_then}
+use Rattle.resolvo_encoding.proofs.Building.{built_back, built_rest}
+use Rattle.resolvo_encoding.proofs.Staying.{digits_kept, step_goes, step_keeps, learnt_heavier, complete_gains, goes_then, needs_go, needs_keep}
 use Rattle.resolvo_encoding.proofs.Bases.{step_first, first_then}
 use Rattle.resolvo_encoding.proofs.encoding.Encoding.step.Goals as goal
 
 pub choose_next-requires : goal.choose_next-requires
 choose_next-requires g c =
+    let step : Advances c.args.self.now.coding c.advance.new.self Progress.Complete = subst (λ (q : Progress). Advances c.args.self.now.coding c.advance.new.self q) c.in-Complete.is c.in_ok-refusal.ensures.advanced in
     let goes = step_goes c.args.self.now c.advance.new.self c.in_ok-refusal.field-0 c.requires.coding c.in_ok-refusal.ensures.advanced in
-    built_rest c.args.self.now (record c.args.self.now { coding = c.advance.new.self }) c.requires goes.coding goes.grows (digits_kept c.args.self.now (record c.args.self.now { coding = c.advance.new.self }) c.requires.coding goes) goes.rest refl
+    built_rest c.args.self.now (record c.args.self.now { coding = c.advance.new.self }) c.requires goes.coding goes.grows (digits_kept c.args.self.now (record c.args.self.now { coding = c.advance.new.self }) c.requires.coding goes) goes.rest refl (step.progress.extends.more, step.progress.extends.added)
 
 pub returns-in-Refused-clause-stays : goal.returns-in-Refused-clause-stays
 returns-in-Refused-clause-stays g c = λ p root lawful e.
@@ -23,7 +25,7 @@ returns-in-Refused-clause-stays g c = λ p root lawful e.
 pub returns-in-Learnt-clause-stays : goal.returns-in-Learnt-clause-stays
 returns-in-Learnt-clause-stays g c = λ p root lawful e.
     let exact : IsExact g.S.PartialEq.eq = record { one = g.met.S.Exact.exact; own = g.met.S.Eq.laws.refl } in
-    step_keeps c.args.self.now c.advance.new.self g.S.PartialEq.eq exact p root lawful c.in_ok-refusal.field-0 c.in_ok-refusal.ensures.advanced e
+    needs_keep (record c.args.self.now { coding = c.advance.new.self }) c.follow.new.self g.S.PartialEq.eq exact p root lawful (step_keeps c.args.self.now c.advance.new.self g.S.PartialEq.eq exact p root lawful c.in_ok-refusal.field-0 c.in_ok-refusal.ensures.advanced e)
 
 pub returns-in-Refused-clause-goes_on : goal.returns-in-Refused-clause-goes_on
 returns-in-Refused-clause-goes_on g c =
@@ -31,7 +33,9 @@ returns-in-Refused-clause-goes_on g c =
 
 pub returns-in-Learnt-clause-goes_on : goal.returns-in-Learnt-clause-goes_on
 returns-in-Learnt-clause-goes_on g c =
-    step_goes c.args.self.now c.advance.new.self c.in_ok-refusal.field-0 c.requires.coding c.in_ok-refusal.ensures.advanced
+    let went : Encoding _ _ = record c.args.self.now { coding = c.advance.new.self } in
+    let goes = step_goes c.args.self.now c.advance.new.self c.in_ok-refusal.field-0 c.requires.coding c.in_ok-refusal.ensures.advanced in
+    goes_then c.args.self.now went (record went { needs = c.follow.new.self }) goes (needs_go went c.follow.new.self goes.coding)
 
 pub returns-in-Learnt-clause-step : goal.returns-in-Learnt-clause-step
 returns-in-Learnt-clause-step g c =
@@ -72,13 +76,15 @@ returns-else-has_chosen-clause-step g c =
 
 pub returns-in-Refused-clause-built : goal.returns-in-Refused-clause-built
 returns-in-Refused-clause-built g c =
+    let step : Advances c.args.self.now.coding c.advance.new.self (Progress.Refused c.in-Refused.refusal) = subst (λ (q : Progress). Advances c.args.self.now.coding c.advance.new.self q) c.in-Refused.is c.in_ok-refusal.ensures.advanced in
     let goes = step_goes c.args.self.now c.advance.new.self c.in_ok-refusal.field-0 c.requires.coding c.in_ok-refusal.ensures.advanced in
-    built_rest c.args.self.now (record c.args.self.now { coding = c.advance.new.self }) c.requires goes.coding goes.grows (digits_kept c.args.self.now (record c.args.self.now { coding = c.advance.new.self }) c.requires.coding goes) goes.rest refl
+    built_rest c.args.self.now (record c.args.self.now { coding = c.advance.new.self }) c.requires goes.coding goes.grows (digits_kept c.args.self.now (record c.args.self.now { coding = c.advance.new.self }) c.requires.coding goes) goes.rest refl (step.progress.2.more, step.progress.2.added)
 
 pub returns-in-Learnt-clause-built : goal.returns-in-Learnt-clause-built
 returns-in-Learnt-clause-built g c =
     let goes = step_goes c.args.self.now c.advance.new.self c.in_ok-refusal.field-0 c.requires.coding c.in_ok-refusal.ensures.advanced in
-    built_rest c.args.self.now (record c.args.self.now { coding = c.advance.new.self }) c.requires goes.coding goes.grows (digits_kept c.args.self.now (record c.args.self.now { coding = c.advance.new.self }) c.requires.coding goes) goes.rest refl
+    built_back c.args.self.now c.advance.new.self c.follow.new.self c.requires goes.coding goes.grows (digits_kept c.args.self.now (record c.args.self.now { coding = c.advance.new.self }) c.requires.coding goes) c.follow.ensures.fits
+    (subst (IsFrontOf c.follow.new.self.seen.items) c.stack.ensures.trail c.follow.ensures.seen)
 
 pub returns-in-Refused-clause-first : goal.returns-in-Refused-clause-first
 returns-in-Refused-clause-first g c = step_first c.args.self.now c.advance.new.self c.in_ok-refusal.field-0 c.in_ok-refusal.ensures.advanced
