@@ -1,6 +1,7 @@
 pub mod CopyLemmas
 pub mod GraphLemmas
 pub mod IndentLemmas
+pub mod LinkLemmas
 pub mod ListLemmas
 pub mod MergeLemmas
 pub mod MessageLemmas

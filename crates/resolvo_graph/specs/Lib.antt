@@ -1,6 +1,7 @@
 pub mod Graph
 pub mod Indent
 pub mod Kept
+pub mod Links
 pub mod Merging
 pub mod Message
 pub mod Outlook

@@ -1,14 +1,19 @@
 //! The conflict graph: which versions, wishes and reasons made an answer impossible.
 //! The model is the list of its nodes and the list of its edges, each in the order in which they were
-//! added. The solver builds it from a conflict; the message is told over it.
-ghost use Rattle.std.specs.Prelude.{◌≡◌, ◌<◌, ◌++◌, ◌∷◌, [], IfOk, OnOk, OnErr, IsOkUnless, length, map, slice_get, Some, None, nat_lt};
+//! added. The solver builds it from a conflict; the message is told over it. The edges are linked, so
+//! that those at a node are found without a look at the others.
+ghost use Rattle.std.specs.Prelude.{◌≡◌, ◌<◌, ◌++◌, ◌∷◌, [], IfOk, OnOk, OnErr, IsOkUnless, length, map, filter, reverse, slice_get, Some, None, nat_lt};
 ghost use Rattle.std.specs.List.{position_or_len};
 ghost use Rattle.indexmap.specs.IndexSet.{insert_key};
 ghost use Rattle.resolvo_pool.specs.declared.want.Want.TheVariants.{Memory};
 ghost use Rattle.resolvo_graph.specs.declared.graph.ConflictNode.TheVariants.{Root};
 ghost use Rattle.resolvo_graph.specs.Removal.{has_edge_at, moved, with_ends_moved, without_unused_unresolved};
+ghost use Rattle.resolvo_graph.specs.Links.{is_at, newest_of, linked_with_ends_moved};
 ghost use Rattle.resolvo_graph.specs.Graph.{edges_of, edges_to, requirement_of, is_conflict, is_exclusion, is_forbidden, admitted_by, is_unresolved, is_unresolved_at, unresolved_of, is_excluding};
 
+use crate::links::{
+    LinkedEdge, Links, Side, cover, move_links, newest_at_ends, newest_on, put_newest,
+};
 use indexmap::IndexSet;
 use resolvo_pool::id::{Exact, SolvableId, StringId, VersionSetId};
 use resolvo_pool::requirement::Requirement;
@@ -126,19 +131,22 @@ impl<S: Copy> ConflictNode<S> {
 #[derive(Drop)]
 pub struct ConflictGraph<S: Eq + Hash = SolvableId> {
     nodes: IndexSet<ConflictNode<S>>,
-    edges: Vec<Edge<S>>,
+    /// For each node its newest edges; for a node past the end there are none.
+    newest: Vec<Links>,
+    edges: Vec<LinkedEdge<S>>,
 }
 
 impl<S: Eq + Hash> Model for ConflictGraph<S> {
     ghost use Rattle.std.specs.Prelude.{◌≡◌, slice_get, Some, All};
     ghost use Rattle.resolvo_graph.specs.Graph.{Graph, IsWithin};
+    ghost use Rattle.resolvo_graph.specs.Links.{edges_in, AreLinked};
     ghost use Rattle.resolvo_graph.specs.declared.graph.ConflictNode.TheVariants.{Root};
 
     ghost Value = { Graph S };
 
-    ghost view = { λ g. record { nodes = g.nodes.keys; edges = g.edges.items } };
+    ghost view = { λ g. record { nodes = g.nodes.keys; edges = edges_in g.edges.items } };
 
-    ghost invariant = { λ g. (slice_get g.nodes.keys 0 ≡ Some Root) × All (IsWithin g.nodes.keys) g.edges.items };
+    ghost invariant = { λ g. (slice_get g.nodes.keys 0 ≡ Some Root) × All (IsWithin g.nodes.keys) (edges_in g.edges.items) × AreLinked g.newest.items g.edges.items };
 }
 
 impl<S: Copy + Exact + Hash> ConflictGraph<S> {
@@ -151,6 +159,7 @@ impl<S: Copy + Exact + Hash> ConflictGraph<S> {
         nodes.insert_full(ConflictNode::Root)?;
         Ok(ConflictGraph {
             nodes,
+            newest: Vec::new(alloc),
             edges: Vec::new(alloc),
         })
     }
@@ -187,13 +196,17 @@ impl<S: Copy + Exact + Hash> ConflictGraph<S> {
         ensures err { OnErr result (self.new ≡ self.old) }
         ensures refusal { IsOkUnless result Memory }
     {
-        let index = self.edges.len();
-        self.edges.push(Edge {
+        cover(&mut self.newest, self.nodes.len())?;
+        let edge = Edge {
             source,
             target,
             weight,
-        })?;
-        Ok(EdgeIndex(index))
+        };
+        let older = newest_at_ends(&self.newest, edge);
+        let index = EdgeIndex(self.edges.len());
+        self.edges.push(LinkedEdge { edge, older })?;
+        put_newest(&mut self.newest, edge, index);
+        Ok(index)
     }
 
     /// The node that stands for the problem itself.
@@ -239,7 +252,10 @@ impl<S: Copy + Exact + Hash> ConflictGraph<S> {
     pub fn edge(&self, edge: EdgeIndex) -> Option<Edge<S>>
         ensures { result ≡ slice_get self.now.edges edge.0 }
     {
-        self.edges.get(edge.0).copied()
+        match self.edges.get(edge.0) {
+            Some(linked) => Some(linked.edge),
+            None => None,
+        }
     }
 
     /// The edges that leave a node, the newest first.
@@ -247,14 +263,7 @@ impl<S: Copy + Exact + Hash> ConflictGraph<S> {
         ensures edges { IfOk result (λ v. v.items ≡ edges_of self.now node) }
         ensures refusal { IsOkUnless result Memory }
     {
-        let mut found = Vec::new(alloc);
-        for edge in &self.edges {
-            if edge.source == node {
-                found.push(*edge)?;
-            }
-        }
-        found.reverse();
-        Ok(found)
+        self.edges_at(alloc, node, Side::Leaving)
     }
 
     /// The edges that enter a node, the oldest first.
@@ -262,13 +271,31 @@ impl<S: Copy + Exact + Hash> ConflictGraph<S> {
         ensures edges { IfOk result (λ v. v.items ≡ edges_to self.now node) }
         ensures refusal { IsOkUnless result Memory }
     {
+        let mut found = self.edges_at(alloc, node, Side::Entering)?;
+        found.reverse();
+        Ok(found)
+    }
+
+    /// The edges at a node on one side, the newest first.
+    fn edges_at(&self, alloc: Global, node: NodeIndex, side: Side) -> R<Vec<Edge<S>>>
+        ensures edges { IfOk result (λ v. v.items ≡ reverse (filter (is_at side node) self.now.edges)) }
+        ensures refusal { IsOkUnless result Memory }
+    {
         let mut found = Vec::new(alloc);
-        for edge in &self.edges {
-            if edge.target == node {
-                found.push(*edge)?;
-            }
+        let mut next = self.newest_at(node, side);
+        while let Some(EdgeIndex(place)) = next {
+            let linked = &self.edges[place];
+            found.push(linked.edge)?;
+            next = linked.older.on(side);
         }
         Ok(found)
+    }
+
+    /// The newest edge at a node on one side.
+    fn newest_at(&self, node: NodeIndex, side: Side) -> Option<EdgeIndex>
+        ensures { result ≡ newest_of (is_at side node) self.now.edges (length self.now.edges) }
+    {
+        newest_on(&self.newest, node, side)
     }
 
     /// The nodes, each at its index.
@@ -282,18 +309,24 @@ impl<S: Copy + Exact + Hash> ConflictGraph<S> {
     pub fn is_excluding(&self, node: NodeIndex) -> bool
         ensures { result ≡ is_excluding self.now node }
     {
-        self.edges
-            .iter()
-            .any(|edge| edge.target == node && edge.weight.is_exclusion())
+        let mut next = self.newest_at(node, Side::Entering);
+        while let Some(EdgeIndex(place)) = next {
+            let linked = &self.edges[place];
+            if linked.edge.weight.is_exclusion() {
+                return true;
+            }
+            next = linked.older.on(Side::Entering);
+        }
+        false
     }
 
     /// Whether an edge enters or leaves a node.
     pub fn has_edge_at(&self, node: NodeIndex) -> bool
         ensures { result ≡ has_edge_at self.now node }
     {
-        self.edges
-            .iter()
-            .any(|edge| edge.source == node || edge.target == node)
+        let leaving = self.newest_at(node, Side::Leaving);
+        let entering = self.newest_at(node, Side::Entering);
+        leaving.is_some() || entering.is_some()
     }
 
     /// Removes the node where requirements without candidates lead, unless an edge is at it. The last
@@ -310,6 +343,7 @@ impl<S: Copy + Exact + Hash> ConflictGraph<S> {
         self.nodes.swap_remove_index(unresolved.0);
         let last = self.nodes.len();
         move_ends(&mut self.edges, last, unresolved.0);
+        move_links(&mut self.newest, last, unresolved.0);
     }
 
     /// The same graph again.
@@ -321,17 +355,21 @@ impl<S: Copy + Exact + Hash> ConflictGraph<S> {
     {
         Ok(ConflictGraph {
             nodes: copied(alloc, &self.nodes)?,
+            newest: Vec::from_slice(alloc, self.newest.as_slice())?,
             edges: Vec::from_slice(alloc, self.edges.as_slice())?,
         })
     }
 }
 
 /// Gives the ends of edges at the node of index `last` the index `place`.
-fn move_ends<S: Copy>(edges: &mut Vec<Edge<S>>, last: usize, place: usize)
-    ensures { edges.new.items ≡ map (with_ends_moved last place) edges.old.items }
+fn move_ends<S: Copy>(edges: &mut Vec<LinkedEdge<S>>, last: usize, place: usize)
+    ensures { edges.new.items ≡ map (linked_with_ends_moved last place) edges.old.items }
 {
-    for edge in edges.iter_mut() {
-        *edge = with_ends_moved(*edge, last, place);
+    for linked in edges.iter_mut() {
+        *linked = LinkedEdge {
+            edge: with_ends_moved(linked.edge, last, place),
+            older: linked.older,
+        };
     }
 }
 

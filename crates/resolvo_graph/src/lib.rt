@@ -5,6 +5,7 @@ pub mod display_unsat;
 pub mod graph;
 pub mod indenter;
 pub mod line;
+mod links;
 pub mod merging;
 mod outlook;
 mod runs;

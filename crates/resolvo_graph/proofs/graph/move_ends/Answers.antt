@@ -1,9 +1,12 @@
-use Rattle.std.proofs.Common.{◌<◌, ◌∙◌, length, ap, sym, arith}
-use Rattle.resolvo_graph.specs.Removal.{with_ends_moved}
+use Rattle.std.proofs.Common.{◌<◌, ◌∙◌, length, get_or, ap, sym, arith}
+use Rattle.resolvo_graph.specs.Links.{linked_with_ends_moved}
 use Rattle.resolvo_graph.proofs.RemovalLemmas.{changed_more}
 use Rattle.resolvo_graph.proofs.graph.move_ends.Goals as goal
 
-pub loop-edge-preserved : goal.loop-edge-preserved
-loop-edge-preserved g c =
-    let less : c.loop-edge.edge-index < length c.loop-edge.edge-items = omega arith in
-    changed_more (with_ends_moved c.args.last c.args.place) c.deref_mut-edge-items.result.now c.loop-edge.edge-items c.loop-edge.edge-index c.edge-item.result c.with_ends_moved.result c.loop-edge.invariant less c.edge-item.is (c.with_ends_moved.ensures ∙ ap (with_ends_moved c.args.last c.args.place) (sym c.edge-item.is))
+pub loop-linked-preserved : goal.loop-linked-preserved
+loop-linked-preserved g c =
+    let less : c.loop-linked.linked-index < length c.loop-linked.linked-items = omega arith in
+    let l = get_or c.loop-linked.linked-items c.loop-linked.linked-index c.linked-item.result in
+    let f = linked_with_ends_moved {S = g.row.S.Denot} c.args.last c.args.place in
+    changed_more f c.deref_mut-linked-items.result.now c.loop-linked.linked-items c.loop-linked.linked-index c.linked-item.result (record { edge = c.with_ends_moved.result; older = l.older }) c.loop-linked.invariant less c.linked-item.is
+    (ap (λ e. record { edge = e; older = l.older }) c.with_ends_moved.ensures ∙ ap f (sym c.linked-item.is))
