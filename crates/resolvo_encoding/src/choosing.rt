@@ -1,6 +1,8 @@
 //! The search goes on over what was encoded: it sets what follows, learns and chooses.
 ghost use Rattle.std.specs.Prelude.{◌≡◌, ◌-◌, max, IfOk, OnOk};
 ghost use Rattle.resolvo_pool.specs.RuleKeeping.{Packages, Rules, IsLawful};
+ghost use Rattle.resolvo_store.specs.AtMostOne.{IsFrontOf};
+ghost use Rattle.resolvo_needs.specs.Needs.{KeepsFitting};
 ghost use Rattle.resolvo_search.specs.Steps.{Undoes};
 ghost use Rattle.resolvo_encoding.specs.Encoded.{IsEncoding};
 ghost use Rattle.resolvo_encoding.specs.Steps.{IsBuilt};
@@ -8,12 +10,14 @@ ghost use Rattle.resolvo_encoding.specs.Going.{IsNext, GoesOn, IsStep, IsChoice}
 ghost use Rattle.resolvo_encoding.specs.Base.{KeepsFirst, KeepsTurns};
 
 use crate::encoding::Encoding;
+use resolvo_needs::open_needs::OpenNeeds;
 use resolvo_pool::id::ClauseId;
 use resolvo_pool::solver_id::SolverId;
 use resolvo_pool::want::R;
 use resolvo_search::advancing::Progress;
 use resolvo_search::analysis::Refusal;
 use resolvo_store::decide_queue::NextDecision;
+use resolvo_store::decision_tracker::DecisionTracker;
 use std::alloc::Global;
 
 /// What one step came to.
@@ -73,7 +77,7 @@ impl<N: SolverId + Drop, S: SolverId> Encoding<N, S> {
     {
         let level = self.coding.search.floor.saturating_sub(1);
         self.coding.undo_until(level.max(1));
-        self.needs.follow(self.coding.search.tracker.stack());
+        look_back(&mut self.needs, &self.coding.search.tracker);
     }
 
     /// Sets what follows; then learns where a clause is broken, and chooses where none is.
@@ -88,7 +92,7 @@ impl<N: SolverId + Drop, S: SolverId> Encoding<N, S> {
         match self.coding.advance(alloc)? {
             Progress::Refused(refusal) => Ok(Step::Refused(refusal)),
             Progress::Learnt(clause) => {
-                self.needs.follow(self.coding.search.tracker.stack());
+                look_back(&mut self.needs, &self.coding.search.tracker);
                 Ok(Step::Learnt(clause))
             }
             Progress::Complete => {
@@ -101,4 +105,12 @@ impl<N: SolverId + Drop, S: SolverId> Encoding<N, S> {
             }
         }
     }
+}
+
+/// What is known of the need clauses goes back to the entries that stayed, where some were taken away.
+fn look_back(needs: &mut OpenNeeds, trail: &DecisionTracker)
+    ensures seen { IsFrontOf needs.new.seen.items trail.now.trail }
+    ensures fits { KeepsFitting needs.old needs.new }
+{
+    needs.follow(trail.stack());
 }

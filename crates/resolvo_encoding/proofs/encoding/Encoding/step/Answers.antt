@@ -1,5 +1,4 @@
 use Rattle.std.proofs.Common.{◌<◌, ◌≤◌, Bool, subst, arith, refl}
-use Rattle.resolvo_store.specs.AtMostOne.{IsFrontOf}
 use Rattle.resolvo_search.specs.declared.advancing.Progress.{Progress}
 use Rattle.resolvo_search.specs.Advancing.{weight_left}
 use Rattle.resolvo_rules.specs.Encoding.{IsExact}
@@ -25,7 +24,7 @@ returns-in-Refused-clause-stays g c = λ p root lawful e.
 pub returns-in-Learnt-clause-stays : goal.returns-in-Learnt-clause-stays
 returns-in-Learnt-clause-stays g c = λ p root lawful e.
     let exact : IsExact g.S.PartialEq.eq = record { one = g.met.S.Exact.exact; own = g.met.S.Eq.laws.refl } in
-    needs_keep (record c.args.self.now { coding = c.advance.new.self }) c.follow.new.self g.S.PartialEq.eq exact p root lawful (step_keeps c.args.self.now c.advance.new.self g.S.PartialEq.eq exact p root lawful c.in_ok-refusal.field-0 c.in_ok-refusal.ensures.advanced e)
+    needs_keep (record c.args.self.now { coding = c.advance.new.self }) c.look_back.new.needs g.S.PartialEq.eq exact p root lawful (step_keeps c.args.self.now c.advance.new.self g.S.PartialEq.eq exact p root lawful c.in_ok-refusal.field-0 c.in_ok-refusal.ensures.advanced e)
 
 pub returns-in-Refused-clause-goes_on : goal.returns-in-Refused-clause-goes_on
 returns-in-Refused-clause-goes_on g c =
@@ -35,7 +34,7 @@ pub returns-in-Learnt-clause-goes_on : goal.returns-in-Learnt-clause-goes_on
 returns-in-Learnt-clause-goes_on g c =
     let went : Encoding _ _ = record c.args.self.now { coding = c.advance.new.self } in
     let goes = step_goes c.args.self.now c.advance.new.self c.in_ok-refusal.field-0 c.requires.coding c.in_ok-refusal.ensures.advanced in
-    goes_then c.args.self.now went (record went { needs = c.follow.new.self }) goes (needs_go went c.follow.new.self goes.coding)
+    goes_then c.args.self.now went (record went { needs = c.look_back.new.needs }) goes (needs_go went c.look_back.new.needs goes.coding)
 
 pub returns-in-Learnt-clause-step : goal.returns-in-Learnt-clause-step
 returns-in-Learnt-clause-step g c =
@@ -83,8 +82,7 @@ returns-in-Refused-clause-built g c =
 pub returns-in-Learnt-clause-built : goal.returns-in-Learnt-clause-built
 returns-in-Learnt-clause-built g c =
     let goes = step_goes c.args.self.now c.advance.new.self c.in_ok-refusal.field-0 c.requires.coding c.in_ok-refusal.ensures.advanced in
-    built_back c.args.self.now c.advance.new.self c.follow.new.self c.requires goes.coding goes.grows (digits_kept c.args.self.now (record c.args.self.now { coding = c.advance.new.self }) c.requires.coding goes) c.follow.ensures.fits
-    (subst (IsFrontOf c.follow.new.self.seen.items) c.stack.ensures.trail c.follow.ensures.seen)
+    built_back c.args.self.now c.advance.new.self c.look_back.new.needs c.requires goes.coding goes.grows (digits_kept c.args.self.now (record c.args.self.now { coding = c.advance.new.self }) c.requires.coding goes) c.look_back.ensures.fits c.look_back.ensures.seen
 
 pub returns-in-Refused-clause-first : goal.returns-in-Refused-clause-first
 returns-in-Refused-clause-first g c = step_first c.args.self.now c.advance.new.self c.in_ok-refusal.field-0 c.in_ok-refusal.ensures.advanced

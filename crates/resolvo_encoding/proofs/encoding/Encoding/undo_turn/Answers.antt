@@ -1,6 +1,5 @@
 use Rattle.std.proofs.Common.{◌≡◌, ℕ, ◌-◌, ◌≤◌, ◌∙◌, ap, subst, arith}
 use Rattle.std.specs.Prelude.{max}
-use Rattle.resolvo_store.specs.AtMostOne.{IsFrontOf}
 use Rattle.resolvo_search.specs.Steps.{Undoes}
 use Rattle.resolvo_rules.specs.Encoding.{IsExact}
 use Rattle.resolvo_encoding.specs.declared.encoding.Encoding.{Encoding}
@@ -19,7 +18,7 @@ the_level floor below level is one = one ∙ ap (λ n. max n 1) is
 pub returns-clause-stays : goal.returns-clause-stays
 returns-clause-stays g c = λ p root lawful e.
     let exact : IsExact g.S.PartialEq.eq = record { one = g.met.S.Exact.exact; own = g.met.S.Eq.laws.refl } in
-    needs_keep (record c.args.self.now { coding = c.undo_until.new.self }) c.follow.new.self g.S.PartialEq.eq exact p root lawful (undo_keeps c.args.self.now c.undo_until.new.self g.S.PartialEq.eq exact p root lawful c.max.result
+    needs_keep (record c.args.self.now { coding = c.undo_until.new.self }) c.look_back.new.needs g.S.PartialEq.eq exact p root lawful (undo_keeps c.args.self.now c.undo_until.new.self g.S.PartialEq.eq exact p root lawful c.max.result
     (above_earlier c.args.self.now.coding.search.floor c.saturating_sub-level.result c.max.result c.saturating_sub-level.ensures c.max.ensures) c.undo_until.ensures.undone c.undo_until.ensures.kept e)
 
 pub returns-clause-goes_on : goal.returns-clause-goes_on
@@ -27,7 +26,7 @@ returns-clause-goes_on g c =
     let went : Encoding _ _ = record c.args.self.now { coding = c.undo_until.new.self } in
     let goes = undo_goes c.args.self.now c.undo_until.new.self c.max.result
     (above_earlier c.args.self.now.coding.search.floor c.saturating_sub-level.result c.max.result c.saturating_sub-level.ensures c.max.ensures) c.undo_until.ensures.undone c.undo_until.ensures.kept in
-    goes_then c.args.self.now went (record went { needs = c.follow.new.self }) goes (needs_go went c.follow.new.self goes.coding)
+    goes_then c.args.self.now went (record went { needs = c.look_back.new.needs }) goes (needs_go went c.look_back.new.needs goes.coding)
 
 pub returns-clause-undone : goal.returns-clause-undone
 returns-clause-undone g c =
@@ -37,8 +36,7 @@ returns-clause-undone g c =
 pub returns-clause-built : goal.returns-clause-built
 returns-clause-built g c =
     let goes = returns-clause-goes_on g c in
-    built_back c.args.self.now c.undo_until.new.self c.follow.new.self c.requires goes.coding goes.grows (digits_kept c.args.self.now _ c.requires.coding goes) c.follow.ensures.fits
-    (subst (IsFrontOf c.follow.new.self.seen.items) c.stack.ensures.trail c.follow.ensures.seen)
+    built_back c.args.self.now c.undo_until.new.self c.look_back.new.needs c.requires goes.coding goes.grows (digits_kept c.args.self.now _ c.requires.coding goes) c.look_back.ensures.fits c.look_back.ensures.seen
 
 pub returns-clause-turn : goal.returns-clause-turn
-returns-clause-turn g c = turn_undone c.args.self.now (record c.args.self.now { coding = c.undo_until.new.self; needs = c.follow.new.self }) (returns-clause-goes_on g c) (returns-clause-undone g c)
+returns-clause-turn g c = turn_undone c.args.self.now (record c.args.self.now { coding = c.undo_until.new.self; needs = c.look_back.new.needs }) (returns-clause-goes_on g c) (returns-clause-undone g c)
