@@ -3,6 +3,7 @@ pub mod GraphLemmas
 pub mod IndentLemmas
 pub mod LinkLemmas
 pub mod ListLemmas
+pub mod MemberLemmas
 pub mod MergeLemmas
 pub mod MessageLemmas
 pub mod OutlookLemmas

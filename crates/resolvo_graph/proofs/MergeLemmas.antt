@@ -1,11 +1,15 @@
--- Profiles go with versions one by one, and groups are kept one by one.
-use Rattle.std.proofs.Common.{◌≡◌, ℕ, ◌+◌, ◌<◌, ◌≤◌, length-drop, Bool, true, false, cond, List, [], ◌∷◌, ◌++◌, length, take, drop, get_or, Option, None, Some, refl, sym, ap, subst, ◌∙◌, arith}
-use Rattle.std.specs.Prelude.{◌&&◌}
+-- Profiles go with versions one by one, and groups grow and are kept one by one.
+use Rattle.std.proofs.Common.{◌≡◌, ℕ, zero, suc, ◌+◌, ◌<◌, ◌≤◌, length-drop, Bool, true, false, cond, List, [], ◌∷◌, ◌++◌, length, map, take, drop, get_or, Option, None, Some, refl, sym, ap, subst, ◌∙◌, arith}
+use Rattle.std.specs.Prelude.{◌&&◌, ◌==◌, slice_get, slice_set}
 use Rattle.std.specs.List.{AllZip}
-use Rattle.std.specs.Option.{option_or}
+use Rattle.std.specs.Option.{option_or, option_map, option_map_or}
+use Rattle.std.proofs.lemmas.Option.{slice_get-map, slice_get_read, slice_get_past}
+use Rattle.std.proofs.lemmas.Bool.{eqb-true, eqb-false}
 use Rattle.std.proofs.lemmas.List.{take_more, length-take, append-nil, nil_from_length}
 use Rattle.resolvo_graph.specs.declared.graph.NodeIndex.{NodeIndex}
 use Rattle.resolvo_graph.specs.declared.graph.ConflictNode.{ConflictNode}
+use Rattle.resolvo_graph.specs.declared.merging.MergedConflictNode.{MergedConflictNode}
+use Rattle.resolvo_graph.specs.Kept.{ids_at}
 use Rattle.resolvo_graph.specs.Merging.{solvable_of, with_version, versions_from}
 
 pub zip_one : {A B : Type 0} (R : A → B → Type 0) (xs : List A) (ys : List B) (x : A) (y : B) → AllZip R xs ys → R x y → AllZip R (xs ++ x ∷ []) (ys ++ y ∷ [])
@@ -48,21 +52,46 @@ or_assoc : {A : Type 0} (a b c : Option A) → option_or (option_or a b) c ≡ o
 or_assoc None b c = refl
 or_assoc (Some x) b c = refl
 
--- the group of one version was kept under it
-pub kept_one : {G : Type 0} (whole rest kept now : Option G) (b t : Bool) (x : G) → whole ≡ option_or (option_or rest (cond (b && t) (Some x) None)) kept → t ≡ true → now ≡ cond b (Some x) kept → whole ≡ option_or rest now
-kept_one whole rest kept now b t x h many put = h ∙ or_assoc rest (cond (b && t) (Some x) None) kept ∙ ap (option_or rest) (ap (λ c. option_or (cond (b && c) (Some x) None) kept) many ∙ go b ∙ sym put)
+-- the group of one version was kept under it, or it has none
+pub kept_one : {G : Type 0} (whole rest kept now : Option G) (b : Bool) (x : G) → whole ≡ option_or (option_or rest (cond b (Some x) None)) kept → now ≡ cond b (Some x) kept → whole ≡ option_or rest now
+kept_one whole rest kept now b x h put = h ∙ or_assoc rest (cond b (Some x) None) kept ∙ ap (option_or rest) (go b ∙ sym put)
   where
-    go : (c : Bool) → option_or (cond (c && true) (Some x) None) kept ≡ cond c (Some x) kept
+    go : (c : Bool) → option_or (cond c (Some x) None) kept ≡ cond c (Some x) kept
     go true = refl
     go false = refl
 
--- a version that is told alone
-pub kept_none : {G : Type 0} (whole rest kept : Option G) (b t : Bool) (x : G) → whole ≡ option_or (option_or rest (cond (b && t) (Some x) None)) kept → t ≡ false → whole ≡ option_or rest kept
-kept_none whole rest kept b t x h few = h ∙ or_assoc rest (cond (b && t) (Some x) None) kept ∙ ap (option_or rest) (ap (λ c. option_or (cond (b && c) (Some x) None) kept) few ∙ go b)
+pub and_false : (b : Bool) → (b && false) ≡ false
+and_false true = refl
+and_false false = refl
+
+slice_get-set_same : {X : Type 0} (xs : List X) (i : ℕ) (x y : X) → slice_get xs i ≡ Some x → slice_get (slice_set xs i y) i ≡ Some y
+slice_get-set_same [] i x y h = cc
+slice_get-set_same (z ∷ zs) zero x y h = refl
+slice_get-set_same (z ∷ zs) (suc i) x y h = slice_get-set_same zs i x y h
+
+slice_get-set_other : {X : Type 0} (xs : List X) (i j : ℕ) (y : X) → (i ≡ j → ⊥) → slice_get (slice_set xs i y) j ≡ slice_get xs j
+slice_get-set_other [] i j y apart = refl
+slice_get-set_other (z ∷ zs) zero zero y apart = absurd (apart refl)
+slice_get-set_other (z ∷ zs) zero (suc j) y apart = refl
+slice_get-set_other (z ∷ zs) (suc i) zero y apart = refl
+slice_get-set_other (z ∷ zs) (suc i) (suc j) y apart = slice_get-set_other zs i j y (λ e. apart (ap suc e))
+
+-- one version more in the group of index i
+pub ids_at-put : {S : Type 0} (groups : List (MergedConflictNode S)) (i : ℕ) (was now : MergedConflictNode S) (s : S) → slice_get groups i ≡ Some was → now.ids.items ≡ was.ids.items ++ s ∷ [] → (n : ℕ) → ids_at (slice_set groups i now) n ≡ ids_at groups n ++ cond (i == n) (s ∷ []) []
+ids_at-put {S} groups i was now s at put n = go (i == n) refl
   where
-    go : (c : Bool) → option_or (cond (c && false) (Some x) None) kept ≡ kept
-    go true = refl
-    go false = refl
+    go : (b : Bool) → (i == n) ≡ b → ids_at (slice_set groups i now) n ≡ ids_at groups n ++ cond b (s ∷ []) []
+    go true e =
+        let same : i ≡ n = eqb-true i n e in
+        subst (λ k. ids_at (slice_set groups i now) k ≡ ids_at groups k ++ s ∷ []) same (ap (λ o. option_map_or (λ m. m.ids.items) o []) (slice_get-set_same groups i was now at) ∙ put ∙ ap (λ o. option_map_or (λ m. m.ids.items) o [] ++ s ∷ []) (sym at))
+    go false e = ap (λ o. option_map_or (λ m. m.ids.items) o []) (slice_get-set_other groups i n now (eqb-false i n e)) ∙ sym (append-nil (ids_at groups n))
+
+-- the versions of the group that is found, or none
+pub ids_found : {S X : Type 0} (f : X → MergedConflictNode S) (xs : List X) (i : ℕ) (x : X) → i < length xs → x ≡ get_or xs i x → ids_at (map f xs) i ≡ (f x).ids.items
+ids_found f xs i x h at = ap (λ o. option_map_or (λ n. n.ids.items) o []) (slice_get-map f xs i ∙ ap (option_map f) (slice_get_read xs (length xs) i x refl h at))
+
+pub ids_past : {S X : Type 0} (f : X → MergedConflictNode S) (xs : List X) (i : ℕ) → length xs ≤ i → ids_at (map f xs) i ≡ []
+ids_past f xs i h = ap (λ o. option_map_or (λ n. n.ids.items) o []) (slice_get-map f xs i ∙ ap (option_map f) (slice_get_past xs i h))
 
 -- nothing is left
 pub dropped : {A : Type 0} (xs : List A) (i : ℕ) → length xs ≤ i → drop i xs ≡ []

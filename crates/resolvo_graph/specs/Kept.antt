@@ -1,6 +1,6 @@
 -- What a map of merged versions keeps.
-use Rattle.std.specs.Prelude.{Bool, List, Option}
-use Rattle.std.specs.Option.{option_map}
+use Rattle.std.specs.Prelude.{ℕ, Bool, List, [], Option, slice_get}
+use Rattle.std.specs.Option.{option_map, option_map_or}
 use Rattle.std.specs.HashMap.{HashMap, get}
 use Rattle.std.specs.declared.rc.Rc.{Rc}
 use Rattle.std.specs.declared.alloc.Global.{Global}
@@ -12,6 +12,10 @@ use Rattle.resolvo_graph.specs.Tree.{Findings}
 -- the versions that are told with this one
 abbrev pub kept_with : {S H : Type 0} → (S → S → Bool) → HashMap S (Rc (MergedConflictNode S) Global) H → S → Option (List S)
 kept_with eq m s = option_map (λ r. r.value.ids.items) (get eq m s)
+
+-- the versions of the group of this number, none where there is no such group
+abbrev pub ids_at : {S : Type 0} → List (MergedConflictNode S) → ℕ → List S
+ids_at groups g = option_map_or (λ n. n.ids.items) (slice_get groups g) []
 
 -- what a tree is told of, as the code keeps it
 abbrev pub findings : {S H : Type 0} → (S → S → Bool) → Graph S → List NodeIndex → HashMap S (Rc (MergedConflictNode S) Global) H → Findings S

@@ -12,6 +12,7 @@ use Rattle.resolvo_pool.specs.contracts.requirement.RequirementOrd.TheImpl as Or
 use Rattle.resolvo_graph.specs.declared.graph.NodeIndex.{NodeIndex}
 use Rattle.resolvo_graph.specs.declared.graph.ConflictNode.{ConflictNode}
 use Rattle.resolvo_graph.specs.declared.graph.ConflictNode.TheVariants.{Root, Solvable, UnresolvedDependency, Excluded}
+use Rattle.resolvo_graph.specs.declared.merging.Member.{Member}
 use Rattle.resolvo_graph.specs.Graph.{Graph, requirement_of, edges_of, edges_to}
 
 -- a neighbour, with the requirement of the edge; none for a conflict
@@ -73,6 +74,20 @@ module _ {N S : Type 0} (g : Graph S) (name_of : S → N) where
   abbrev pub AreProfiles : List (Profile N S) → Type 0
   AreProfiles ps = AllZip IsProfile (versions_in g) ps
 
+-- the versions with this number
+abbrev pub numbered : {S : Type 0} → List (Member S) → ℕ → List S
+numbered ms g = map (λ m. m.solvable) (filter (λ m. m.group == g) ms)
+
+module _ {S : Type 0} (same : S → S → Bool) (ids : ℕ → List S) where
+  -- the group of this member, if it is s and isn't alone
+  abbrev pub together : Member S → S → Option (List S)
+  together m s = cond (same m.solvable s && nat_lt 1 (length (ids m.group))) (Some (ids m.group)) None
+
+  -- the group of s, looked for among some members
+  abbrev pub told_together : List (Member S) → S → Option (List S)
+  told_together [] s = None
+  told_together (m ∷ ms) s = or_else (told_together ms s) (together m s)
+
 module _ {N S : Type 0} (same_name : N → N → Bool) where
   -- both versions are told as one
   abbrev pub alike : Profile N S → Profile N S → Bool
@@ -81,6 +96,10 @@ module _ {N S : Type 0} (same_name : N → N → Bool) where
   -- the versions that are told with this one, itself among them
   abbrev pub group : List (Profile N S) → Profile N S → List S
   group ps p = map (λ q. q.solvable) (filter (alike p) ps)
+
+  -- each goes with the profile of its version, and those with its number are that profile's group
+  abbrev pub AreMembers : List (Profile N S) → List (Member S) → Type 0
+  AreMembers ps ms = AllZip (λ p m. (m.solvable ≡ p.solvable) × (numbered ms m.group ≡ group ps p)) ps ms
 
   module _ (same : S → S → Bool) where
     -- the group of this version, if it is s and isn't alone

@@ -1,11 +1,13 @@
 //! Versions that are told as one: versions of one package with the same neighbours on both sides.
-//! `simplify` compares the sorted lists of each version's neighbours, each with its requirement.
-ghost use Rattle.std.specs.Prelude.{◌≡◌, IfOk, OnOk, Some, cond, map};
-ghost use Rattle.resolvo_graph.specs.Merging.{before, after, IsInOrder, IsProfile, AreProfiles, alike, group, solvable_of, IsMerged};
+//! `simplify` numbers what versions have in common, the sorted lists of their neighbours among it, each
+//! neighbour with its requirement; versions of one number are told as one.
+ghost use Rattle.std.specs.Prelude.{◌≡◌, ℕ, ◌<◌, ◌==◌, ◌++◌, ◌∷◌, [], IfOk, OnOk, Some, cond, length, map, nat_lt, ◌&&◌, vec_len};
+ghost use Rattle.resolvo_graph.specs.Merging.{before, after, IsInOrder, IsProfile, AreProfiles, AreMembers, numbered, told_together, solvable_of, IsMerged};
 ghost use Rattle.resolvo_graph.specs.Graph.{requirement_of};
-ghost use Rattle.resolvo_graph.specs.Kept.{kept_with};
+ghost use Rattle.resolvo_graph.specs.Kept.{kept_with, ids_at};
 
 use crate::graph::{ConflictGraph, ConflictNode, Edge, NodeIndex};
+use indexmap::IndexSet;
 use itertools::Itertools;
 use resolvo_pool::id::{Exact, SolvableId};
 use resolvo_pool::provider::Interner;
@@ -24,13 +26,19 @@ pub struct MergedConflictNode<S = SolvableId> {
     pub ids: Vec<S>,
 }
 
+/// What versions that are told as one have in common.
+#[derive(PartialEq, Eq, Hash, Drop)]
+struct Likeness<N> {
+    name: N,
+    before: Vec<(Option<Requirement>, NodeIndex)>,
+    after: Vec<(Option<Requirement>, NodeIndex)>,
+}
+
 /// A version, with all that decides which others it is told with.
 #[derive(Drop)]
 struct Profile<N, S> {
     solvable: S,
-    name: N,
-    before: Vec<(Option<Requirement>, NodeIndex)>,
-    after: Vec<(Option<Requirement>, NodeIndex)>,
+    likeness: Likeness<N>,
 }
 
 impl<N, S> Model for Profile<N, S> {
@@ -38,16 +46,14 @@ impl<N, S> Model for Profile<N, S> {
 
     ghost Value = { Profile N S };
 
-    ghost view = { λ p. record { solvable = p.solvable; name = p.name; before = p.before.items; after = p.after.items } };
+    ghost view = { λ p. record { solvable = p.solvable; name = p.likeness.name; before = p.likeness.before.items; after = p.likeness.after.items } };
 }
 
-impl<N: Copy + Exact, S: Copy + Exact> Profile<N, S> {
-    /// Whether both versions are told as one.
-    fn is_alike(&self, other: &Profile<N, S>) -> bool
-        ensures { result ≡ alike N.eq self.now other.now }
-    {
-        self.name == other.name && self.before == other.before && self.after == other.after
-    }
+/// A version, with the number of those that it is told with.
+#[derive(Clone, Copy)]
+struct Member<S> {
+    solvable: S,
+    group: usize,
 }
 
 impl<S: Copy> ConflictNode<S> {
@@ -72,49 +78,110 @@ impl<S: SolverId> ConflictGraph<S> {
     ) -> R<HashMap<S, Rc<MergedConflictNode<S>>>>
         ensures { IfOk result (λ m. IsMerged I.NameId.eq S.eq self.now (I.name_of_solvable interner.now) (kept_with S.eq m)) }
     {
-        let profiles = profiles(alloc, self, interner)?;
-        let mut merged = HashMap::new(alloc);
-        for profile in &profiles {
-            let ids = alike_ones(alloc, &profiles, profile)?;
-            if ids.len() > 1 {
-                keep(alloc, &mut merged, profile.solvable, ids)?;
-            }
-        }
-        Ok(merged)
+        let members = members(alloc, profiles(alloc, self, interner)?)?;
+        let groups = shared(alloc, groups(alloc, &members)?)?;
+        merged(alloc, &members, &groups)
     }
 }
 
-/// Keeps the versions that are told with one.
-fn keep<S: SolverId>(
+/// The versions with their numbers. Those that are told as one have one number.
+fn members<N: SolverId, S: SolverId>(
     alloc: Global,
-    merged: &mut HashMap<S, Rc<MergedConflictNode<S>>>,
-    solvable: S,
-    ids: Vec<S>,
-) -> R<()>
-    ensures { OnOk result ((s : S) → kept_with S.eq merged.new s ≡ cond (S.eq solvable s) (Some ids.items) (kept_with S.eq merged.old s)) }
+    profiles: Vec<Profile<N, S>>,
+) -> R<Vec<Member<S>>>
+    ensures { IfOk result (λ v. AreMembers N.eq profiles.items v.items) }
 {
-    let group = Rc::new(alloc, MergedConflictNode { ids })?;
-    merged.insert(solvable, group)?;
+    let mut likenesses = IndexSet::new(alloc);
+    let mut members = Vec::new(alloc);
+    for profile in profiles {
+        let Profile { solvable, likeness } = profile;
+        let (group, _) = likenesses.insert_full(likeness)?;
+        members.push(Member { solvable, group })?;
+    }
+    Ok(members)
+}
+
+/// The versions of each number, at that number.
+fn groups<S: SolverId>(alloc: Global, members: &[Member<S>]) -> R<Vec<MergedConflictNode<S>>>
+    ensures { IfOk result (λ v. (g : ℕ) → ids_at v.items g ≡ numbered members.now g) }
+{
+    let mut groups = Vec::new(alloc);
+    for member in members {
+        cover(alloc, &mut groups, member.group)?;
+        add(&mut groups, *member)?;
+    }
+    Ok(groups)
+}
+
+/// Adds a version to the group of its number.
+fn add<S: SolverId>(groups: &mut Vec<MergedConflictNode<S>>, member: Member<S>) -> R<()>
+    requires { member.group < vec_len groups.old }
+    ensures { OnOk result ((g : ℕ) → ids_at groups.new.items g ≡ ids_at groups.old.items g ++ cond (member.group == g) (member.solvable ∷ []) []) }
+{
+    groups[member.group].ids.push(member.solvable)?;
     Ok(())
 }
 
-/// The versions that are told with one, itself among them.
-fn alike_ones<N: Copy + Exact, S: Copy + Exact>(
+/// Adds groups without a version until there is one of this number.
+fn cover<S: SolverId>(
     alloc: Global,
-    profiles: &[Profile<N, S>],
-    one: &Profile<N, S>,
-) -> R<Vec<S>>
-where
-    S: Drop,
-    ensures { IfOk result (λ v. v.items ≡ group N.eq profiles.now one.now) }
+    groups: &mut Vec<MergedConflictNode<S>>,
+    number: usize,
+) -> R<()>
+    ensures same { (g : ℕ) → ids_at groups.new.items g ≡ ids_at groups.old.items g }
+    ensures covered { OnOk result (number < vec_len groups.new) }
 {
-    let mut ids = Vec::new(alloc);
-    for profile in profiles {
-        if one.is_alike(profile) {
-            ids.push(profile.solvable)?;
+    while groups.len() <= number {
+        groups.push(MergedConflictNode {
+            ids: Vec::new(alloc),
+        })?;
+    }
+    Ok(())
+}
+
+/// The same groups, to be shared.
+fn shared<S: SolverId>(
+    alloc: Global,
+    groups: Vec<MergedConflictNode<S>>,
+) -> R<Vec<Rc<MergedConflictNode<S>>>>
+    ensures { IfOk result (λ v. map (λ r. r.value) v.items ≡ groups.items) }
+{
+    let mut shared = Vec::new(alloc);
+    for group in groups {
+        shared.push(Rc::new(alloc, group)?)?;
+    }
+    Ok(shared)
+}
+
+/// The groups of two versions or more, under each of their versions.
+fn merged<S: SolverId>(
+    alloc: Global,
+    members: &[Member<S>],
+    groups: &[Rc<MergedConflictNode<S>>],
+) -> R<HashMap<S, Rc<MergedConflictNode<S>>>>
+    ensures { IfOk result (λ m. (s : S) → kept_with S.eq m s ≡ told_together S.eq (ids_at (map (λ r. r.value) groups.now)) members.now s) }
+{
+    let mut merged = HashMap::new(alloc);
+    for member in members {
+        if let Some(group) = groups.get(member.group) {
+            keep(&mut merged, member.solvable, group)?;
         }
     }
-    Ok(ids)
+    Ok(merged)
+}
+
+/// Keeps a group under one of its versions, unless that is its only one.
+fn keep<S: SolverId>(
+    merged: &mut HashMap<S, Rc<MergedConflictNode<S>>>,
+    solvable: S,
+    group: &Rc<MergedConflictNode<S>>,
+) -> R<()>
+    ensures { OnOk result ((s : S) → kept_with S.eq merged.new s ≡ cond (S.eq solvable s && nat_lt 1 (length group.now.value.ids.items)) (Some group.now.value.ids.items) (kept_with S.eq merged.old s)) }
+{
+    if group.ids.len() > 1 {
+        merged.insert(solvable, group.clone()?)?;
+    }
+    Ok(())
 }
 
 /// The versions of a graph, in the order of their nodes.
@@ -146,9 +213,11 @@ fn profile_of<S: SolverId, I: Interner<SolvableId = S>>(
 {
     Ok(Profile {
         solvable,
-        name: interner.solvable_name(solvable),
-        before: neighbours_before(alloc, graph, node)?,
-        after: neighbours_after(alloc, graph, node)?,
+        likeness: Likeness {
+            name: interner.solvable_name(solvable),
+            before: neighbours_before(alloc, graph, node)?,
+            after: neighbours_after(alloc, graph, node)?,
+        },
     })
 }
 
