@@ -59,8 +59,21 @@ impl Conflict {
         ensures interner { IfOk result (λ d. d.interner.now ≡ solver.now.provider) }
     {
         let graph = self.graph(alloc, solver)?;
-        DisplayUnsat::new(alloc, &graph, solver.provider())
+        told_over(alloc, &graph, solver)
     }
+}
+
+/// The message of a graph of the conflict that the solver keeps.
+fn told_over<'a, D: DependencyProvider>(
+    alloc: Global,
+    graph: &ConflictGraph<D::SolvableId>,
+    solver: &'a Solver<D>,
+) -> R<DisplayUnsat<'a, D>>
+    requires { IsGraphOf D.NameId.eq D.SolvableId.eq (D.name_of_solvable solver.now.provider) solver.now graph.now }
+    ensures lines { IfOk result (λ d. TellsConflict D.NameId.eq D.SolvableId.eq (D.name_of_solvable solver.now.provider) solver.now d.lines.items) }
+    ensures interner { IfOk result (λ d. d.interner.now ≡ solver.now.provider) }
+{
+    DisplayUnsat::new(alloc, graph, solver.provider())
 }
 
 /// What a solver keeps of a conflict: its clauses, and the candidates that were offered for the requirements of its rules.
