@@ -128,11 +128,17 @@ fn picks_along_the_chain(rt: &impl Abort, known: &mut Known) -> R<()>
     requires { Fits (literals_in known.old.lists) known.old.needs known.old.queue }
 {
     for place in 0..u32::from(LINKS) {
-        assert_eq!(rt; next_after(known, &(place, (place, true), place + 1, None))?, Some(place + 1));
+        assert_eq!(rt;
+            next_after(known, &(place, (place, true), place + 1, None))?,
+            Some(place + 1)
+        );
     }
     assert_eq!(rt; next_after(known, &(250, (250, true), 251, None))?, None);
     assert_eq!(rt; next_after(known, &(150, (150, false), 151, None))?, None);
-    assert_eq!(rt; next_after(known, &(150, (150, true), 151, None))?, Some(151));
+    assert_eq!(rt;
+        next_after(known, &(150, (150, true), 151, None))?,
+        Some(151)
+    );
     assert_eq!(rt; next_after(known, &(1, (2, true), 2, None))?, Some(1));
     Ok(())
 }
