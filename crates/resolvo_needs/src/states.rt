@@ -91,6 +91,7 @@ impl NeedStates {
     pub fn next_open(&mut self, from: usize) -> usize
         ensures behind { from ≤ result }
         ensures passed { (i : ℕ) → from ≤ i → i < result → is_open_state (state_at self.old i) ≡ false }
+        ensures open { is_open_state (state_at self.old result) ≡ true }
         ensures same { self.new ≡ self.old }
     {
         let mut position = from;
