@@ -132,11 +132,14 @@ fn bars_in(text: &[u8]) -> usize
     text.iter().filter(|b| **b == b'|').count()
 }
 
-/// One alternative or more. There is room for as many as the bars part, so that the list of a need takes no more.
+/// For so many alternatives at most there is room before they are read, so a line of nothing but bars asks for little.
+const FEW: usize = 4;
+
+/// One alternative or more. There is room for no more of them than the bars part.
 pub fn alternatives_at(alloc: Global, words: &[u8]) -> Result<(Vec<Spec>, &[u8]), LineFault>
     ensures { Gives (λ x. (specs_of x.0.items, words_in x.1.now)) result (alternatives_at (length (words_in words.now)) (words_in words.now)) }
 {
-    let mut specs = Vec::with_capacity(alloc, bars_in(words).saturating_add(1))?;
+    let mut specs = Vec::with_capacity(alloc, bars_in(words).saturating_add(1).min(FEW))?;
     let mut rest = words;
     loop {
         let (spec, after) = spec_at(alloc, rest)?;
