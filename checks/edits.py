@@ -1,0 +1,140 @@
+#!/usr/bin/env python3
+"""Tries the wrong bodies that the gate leaves out: checks/edits/CRATE/*.edit.
+
+    checks/edits.py [--apply] [CRATE ..]
+
+Each edit has the form of a must-fail edit: a file, then pairs of lines `old:` and `new:`. The program makes a copy
+of the repository in a temporary folder, puts the edits of each crate there into must-fail/, beside those of the gate,
+and runs `rt must-fail CRATE` in the copy: the prover must refuse each. What earlier checks kept in crates/*/out is
+used where it is there (by hard links), so run `rt all check` first, or it proves the libraries below each crate anew.
+With no name it tries every crate that has edits. With --apply it only looks whether each edit still applies.
+
+An edit that is refused only since a proof file names what the edit took away is counted apart: it says little of
+the contract. The status is 0 if all were refused, 1 if one was not, 2 where the program was called wrongly.
+"""
+import os
+import pathlib
+import shutil
+import subprocess
+import sys
+import tempfile
+
+TOP = pathlib.Path(__file__).resolve().parent.parent
+EDITS = TOP / "checks" / "edits"
+BY_NAME = "only because a proof file names"
+
+
+def changes_of(edit: pathlib.Path) -> list[tuple[str, str, str]]:
+    """The changes of an edit, in their order: a file, an old text, and the new one."""
+    changes, file, old = [], None, None
+    for number, line in enumerate(edit.read_text(encoding="utf-8").splitlines(), 1):
+        word, _, text = line.partition(":")
+        text = text.removeprefix(" ")
+        if word == "file" and old is None:
+            file = text
+        elif word == "old" and file and old is None:
+            old = text
+        elif word == "new" and old is not None:
+            changes.append((file, old, text))
+            old = None
+        else:
+            raise ValueError(f"line {number} has no place there: {line}")
+    if old is not None or not changes:
+        raise ValueError("it ends without a line 'new: ..'")
+    return changes
+
+
+def fault_of(crate: str, edit: pathlib.Path) -> str | None:
+    """Why an edit does not apply to its crate, or None."""
+    texts: dict[str, str] = {}
+    try:
+        for file, old, new in changes_of(edit):
+            if file not in texts:
+                texts[file] = (TOP / "crates" / crate / file).read_text(encoding="utf-8")
+            if texts[file].count(old) != 1:
+                return f"its old text stands {texts[file].count(old)} times in {file}: {old}"
+            texts[file] = texts[file].replace(old, new)
+    except (OSError, ValueError) as fault:
+        return str(fault)
+    return None
+
+
+def edits_of(crate: str) -> list[pathlib.Path]:
+    return sorted((EDITS / crate).glob("*.edit"))
+
+
+def apply_all(crates: list[str]) -> int:
+    """Looks whether each edit applies, those of the gate too; returns the status."""
+    tried, faults = 0, 0
+    for crate in crates:
+        for edit in edits_of(crate) + sorted((TOP / "crates" / crate / "must-fail").glob("*.edit")):
+            tried += 1
+            fault = fault_of(crate, edit)
+            if fault:
+                faults += 1
+                print(f"{edit.relative_to(TOP)}: {fault}")
+    print(f"{tried - faults} apply, {faults} don't")
+    return 1 if faults else 0
+
+
+def copy_to(room: pathlib.Path, crates: list[str]) -> None:
+    """A copy of the repository's files, with what checks kept in out/, and the edits in must-fail/."""
+    listed = subprocess.run(
+        ["git", "ls-files", "-z", "--cached", "--others", "--exclude-standard", "crates", "crates.txt", "HANDLES"],
+        cwd=TOP, check=True, capture_output=True, text=True,
+    ).stdout
+    for name in filter(None, listed.split("\0")):
+        if "/must-fail/" not in name and (TOP / name).is_file():
+            (room / name).parent.mkdir(parents=True, exist_ok=True)
+            shutil.copy2(TOP / name, room / name)
+    for out in TOP.glob("crates/*/out"):
+        shutil.copytree(out, room / out.relative_to(TOP), copy_function=os.link)
+    for crate in crates:
+        there = room / "crates" / crate / "must-fail"
+        there.mkdir(exist_ok=True)
+        for edit in edits_of(crate):
+            shutil.copy2(edit, there / edit.name)
+    (room / ".git").mkdir()
+
+
+def try_all(crates: list[str]) -> int:
+    """Runs `rt must-fail` over each crate of a copy, prints what it says, and returns the status."""
+    refused, by_name, others = 0, 0, 0
+    with tempfile.TemporaryDirectory(prefix="edits-", dir=TOP.parent) as folder:
+        room = pathlib.Path(folder)
+        copy_to(room, crates)
+        for crate in crates:
+            ran = subprocess.Popen(
+                ["rt", "must-fail", crate], cwd=room, stdout=subprocess.PIPE, stderr=subprocess.STDOUT, text=True,
+            )
+            for line in ran.stdout:
+                if "must-fail " in line:
+                    print(line, end="", flush=True)
+                    is_refused = ": refused" in line
+                    refused += is_refused and BY_NAME not in line
+                    by_name += is_refused and BY_NAME in line
+                    others += not is_refused
+            if ran.wait() and not others:
+                print(f"{crate}: rt must-fail ended with status {ran.returncode}")
+                others += 1
+    print(f"{refused} refused for their meaning, {by_name} for a name alone, {others} not refused")
+    return 1 if others else 0
+
+
+def main(words: list[str]) -> int:
+    if "-h" in words or "--help" in words:
+        print(__doc__, end="")
+        return 0
+    known = sorted(it.name for it in EDITS.iterdir() if it.is_dir())
+    is_apply = "--apply" in words
+    named = [it for it in words if it != "--apply"]
+    strangers = [it for it in named if it not in known]
+    if strangers:
+        print(f"checks/edits has no folder {strangers[0]}; it has: {' '.join(known)}", file=sys.stderr)
+        return 2
+    crates = named or known
+    return apply_all(crates) if is_apply else try_all(crates)
+
+
+if __name__ == "__main__":
+    sys.exit(main(sys.argv[1:]))
