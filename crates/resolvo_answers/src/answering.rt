@@ -10,11 +10,12 @@ ghost use Rattle.resolvo_answers.specs.Answering.{AreOffered, AreOutside, offere
 ghost use Rattle.resolvo_answers.specs.Barring.{AreBarred};
 
 use resolvo_cache::cache::CacheFault;
-use resolvo_pool::id::{ConditionId, StringId, VersionSetId};
+use resolvo_pool::id::{ConditionId, Exact, StringId, VersionSetId};
 use resolvo_pool::provider::Dependencies;
 use resolvo_pool::requirement::Requirement;
-use resolvo_pool::solver_id::SolverId;
 use resolvo_pool::want::R;
+use std::fmt::Debug;
+use std::hash::Hash;
 
 /// A candidate of a requirement, with its package.
 #[derive(Clone, Copy, Debug)]
@@ -42,9 +43,9 @@ pub struct Barred<S> {
 /// Answers to a solver's questions of packages. Each question is answered with the same value whenever it is
 /// asked; any question may be cancelled.
 pub trait Answering {
-    type NameId: SolverId;
+    type NameId: Copy + Exact + Hash + Debug;
 
-    type SolvableId: SolverId;
+    type SolvableId: Copy + Exact + Hash + Debug;
 
     /// What is handed out where a question is cancelled.
     type Cancel;

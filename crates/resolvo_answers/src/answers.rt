@@ -6,13 +6,14 @@ ghost use Rattle.resolvo_answers.specs.Barring.{excluded_by, locked_out, kept_ou
 
 use crate::answering::{Answering, Barred, Offered, Why};
 use resolvo_cache::cache::{CacheFault, SolverCache};
-use resolvo_pool::id::{ConditionId, StringId, VersionSetId};
+use resolvo_pool::id::{ConditionId, Exact, StringId, VersionSetId};
 use resolvo_pool::provider::{Candidates, Dependencies, DependencyProvider, KnownDependencies};
 use resolvo_pool::requirement::Requirement;
-use resolvo_pool::solver_id::SolverId;
 use resolvo_pool::want::R;
 use resolvo_store::conditions::convert_conditions_to_dnf;
 use std::alloc::Global;
+use std::fmt::Debug;
+use std::hash::Hash;
 use std::marker::Model;
 
 /// A provider's answers, each asked for once.
@@ -174,7 +175,10 @@ fn copy_of(alloc: Global, found: &Dependencies) -> R<Dependencies>
 }
 
 /// What its lock and its exclusions keep out of a package.
-fn bars_of<S: SolverId>(alloc: Global, found: &Candidates<S>) -> R<Vec<Barred<S>>>
+fn bars_of<S: Copy + Exact + Hash + Debug>(
+    alloc: Global,
+    found: &Candidates<S>,
+) -> R<Vec<Barred<S>>>
     ensures { IfOk result (λ v. v.items ≡ kept_out S.eq (listing found.now)) }
 {
     let mut barred = barred_by(alloc, found.locked, found.candidates.as_slice())?;
@@ -183,7 +187,11 @@ fn bars_of<S: SolverId>(alloc: Global, found: &Candidates<S>) -> R<Vec<Barred<S>
 }
 
 /// The candidates that a lock keeps out.
-fn barred_by<S: SolverId>(alloc: Global, lock: Option<S>, candidates: &[S]) -> R<Vec<Barred<S>>>
+fn barred_by<S: Copy + Exact + Hash + Debug>(
+    alloc: Global,
+    lock: Option<S>,
+    candidates: &[S],
+) -> R<Vec<Barred<S>>>
     ensures { IfOk result (λ v. v.items ≡ locked_out S.eq lock candidates.now) }
 {
     let mut barred = Vec::new(alloc);
@@ -203,7 +211,10 @@ fn barred_by<S: SolverId>(alloc: Global, lock: Option<S>, candidates: &[S]) -> R
 }
 
 /// Puts what is excluded behind the others.
-fn add_excluded<S: SolverId>(barred: &mut Vec<Barred<S>>, excluded: &[(S, StringId)]) -> R<()>
+fn add_excluded<S: Copy + Exact + Hash + Debug>(
+    barred: &mut Vec<Barred<S>>,
+    excluded: &[(S, StringId)],
+) -> R<()>
     ensures { OnOk result (barred.new.items ≡ barred.old.items ++ map excluded_by excluded.now) }
 {
     for one in excluded {

@@ -23,7 +23,6 @@ use resolvo_text::{Cond, Line, LineFault, Spec, Version, line_in};
 use std::alloc::{AllocError, Global};
 use std::collections::HashMap;
 
-#[derive(Drop)]
 pub struct Table {
     pub versions: Vec<(String, u32)>,
     pub said: Saids,
@@ -39,6 +38,23 @@ pub struct Table {
     /// The lines that belong to each version.
     pub belonging: Belonging,
     pub favours: Vec<(u32, VersionNo)>,
+}
+
+// split for the prover: what owns one calls this drop, and doesn't drop each field at each exit
+impl Drop for Table {
+    fn drop(self) {
+        let Table {
+            versions: _,
+            said: _,
+            packages: _,
+            locks: _,
+            favoured: _,
+            excluded: _,
+            unknown: _,
+            belonging: _,
+            favours: _,
+        } = self;
+    }
 }
 
 /// Adds a version to those of its package, if it isn't listed; whether it was added.

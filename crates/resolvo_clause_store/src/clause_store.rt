@@ -36,7 +36,6 @@ use std::marker::Model;
 const CLAUSES: usize = 4_294_967_295;
 
 /// Clauses with all that a decision rests on. `N` is the type of package names.
-#[derive(Drop)]
 pub struct ClauseStore<N: SolverId> {
     lists: FixedLists<N>,
     clauses: Vec<Clause<N>>,
@@ -46,6 +45,22 @@ pub struct ClauseStore<N: SolverId> {
     queue: DecideQueue,
     scores: N::Scores,
     alloc: Global,
+}
+
+// split for the prover: what owns one calls this drop, and doesn't drop each field at each exit
+impl<N: SolverId> Drop for ClauseStore<N> {
+    fn drop(self) {
+        let ClauseStore {
+            lists: _,
+            clauses: _,
+            watched: _,
+            watches: _,
+            tracker: _,
+            queue: _,
+            scores: _,
+            alloc: _,
+        } = self;
+    }
 }
 
 impl<N: SolverId> Model for ClauseStore<N> {

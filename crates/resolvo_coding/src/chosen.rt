@@ -6,11 +6,13 @@ ghost use Rattle.resolvo_search.specs.State.{history};
 ghost use Rattle.resolvo_coding.specs.Chosen.{AreChosen, choices};
 
 use crate::coding::Coding;
-use resolvo_pool::solver_id::SolverId;
+use resolvo_pool::id::Exact;
 use resolvo_pool::want::R;
 use std::alloc::Global;
+use std::fmt::Debug;
+use std::hash::Hash;
 
-impl<N: SolverId, S: SolverId> Coding<N, S> {
+impl<N: Copy + Exact + Hash + Debug, S: Copy + Exact + Hash + Debug> Coding<N, S> {
     /// The solvables whose variables the trail makes true, in the order of the trail.
     pub fn chosen(&self, alloc: Global) -> R<Vec<S>>
         ensures chosen { IfOk result (λ v. AreChosen self.now.atoms.keys (made_true (history self.now.search)) v.items) }

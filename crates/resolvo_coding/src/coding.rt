@@ -11,25 +11,36 @@ use crate::atom::ProofAtom;
 use crate::keys::{place_in, push_key};
 use crate::stated::Stated;
 use indexmap::IndexSet;
-use resolvo_pool::id::VariableId;
-use resolvo_pool::solver_id::SolverId;
+use resolvo_pool::id::{Exact, VariableId};
 use resolvo_pool::want::R;
 use resolvo_search::beginning::begin;
 use resolvo_search::state::SearchState;
 use resolvo_search::watching::Watching;
 use std::alloc::Global;
+use std::fmt::Debug;
 use std::hash::Hash;
 
 /// The search, with what its variables stand for and what its clauses state.
-#[derive(Drop)]
-pub struct Coding<N: Eq + Hash, S: Eq + Hash> {
+pub struct Coding<N: Copy + Eq + Hash, S: Copy + Eq + Hash> {
     pub search: SearchState,
     pub watching: Watching,
     pub atoms: IndexSet<ProofAtom<N, S>>,
     pub stated: Vec<Stated<N, S>>,
 }
 
-impl<N: SolverId, S: SolverId> Coding<N, S> {
+// split for the prover: what owns one calls this drop, and doesn't drop each field at each exit
+impl<N: Copy + Eq + Hash, S: Copy + Eq + Hash> Drop for Coding<N, S> {
+    fn drop(self) {
+        let Coding {
+            search: _,
+            watching: _,
+            atoms: _,
+            stated: _,
+        } = self;
+    }
+}
+
+impl<N: Copy + Exact + Hash + Debug, S: Copy + Exact + Hash + Debug> Coding<N, S> {
     /// The search at its start: the root alone.
     pub fn begin(alloc: Global) -> R<Coding<N, S>>
         ensures begun { IfOk result IsBegun }

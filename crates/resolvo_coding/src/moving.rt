@@ -10,13 +10,14 @@ ghost use Rattle.resolvo_coding.specs.Coding.{IsCoding, Advances, KeepsCode, Set
 
 use crate::coding::Coding;
 use crate::stated::Stated;
-use resolvo_pool::id::{ClauseId, VariableId};
-use resolvo_pool::solver_id::SolverId;
+use resolvo_pool::id::{ClauseId, Exact, VariableId};
 use resolvo_pool::want::R;
 use resolvo_search::advancing::Progress;
 use std::alloc::Global;
+use std::fmt::Debug;
+use std::hash::Hash;
 
-impl<N: SolverId, S: SolverId> Coding<N, S> {
+impl<N: Copy + Exact + Hash + Debug, S: Copy + Exact + Hash + Debug> Coding<N, S> {
     /// One step of the search: sets what the clauses force, and learns where one is broken.
     pub fn advance(&mut self, alloc: Global) -> R<Progress>
         requires { IsCoding self.old }

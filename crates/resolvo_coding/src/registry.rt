@@ -16,26 +16,35 @@ use crate::coding::Coding;
 use crate::keys::{place_in, push_key};
 use crate::stated::Stated;
 use indexmap::IndexSet;
-use resolvo_pool::id::VariableId;
-use resolvo_pool::solver_id::SolverId;
+use resolvo_pool::id::{Exact, VariableId};
 use resolvo_pool::want::R;
 use resolvo_store::binary_encoding::AtMostOnceTracker;
 use resolvo_store::literal::Literal;
 use std::alloc::Global;
+use std::fmt::Debug;
 use std::hash::Hash;
 
 /// The packages that have registered solvables, each with the tracker of its solvables' variables.
-#[derive(Drop)]
-pub struct Registry<N: Eq + Hash> {
+pub struct Registry<N: Copy + Eq + Hash> {
     names: IndexSet<N>,
     trackers: Vec<AtMostOnceTracker<VariableId>>,
+}
+
+// split for the prover: what owns one calls this drop, and doesn't drop each field at each exit
+impl<N: Copy + Eq + Hash> Drop for Registry<N> {
+    fn drop(self) {
+        let Registry {
+            names: _,
+            trackers: _,
+        } = self;
+    }
 }
 
 /// A variable of a solvable, one of a digit of its package, and the digit's value where the solvable is
 /// true.
 type Tie = (VariableId, VariableId, bool);
 
-impl<N: SolverId> Registry<N> {
+impl<N: Copy + Exact + Hash + Debug> Registry<N> {
     /// No solvable.
     pub fn new(alloc: Global) -> Registry<N>
         ensures { IsNothing result }
@@ -48,7 +57,7 @@ impl<N: SolverId> Registry<N> {
 
     /// Registers a solvable of a package, and gives its variable, which is made where there is none.
     /// A clause comes for each digit that tells it, or by now another one, apart.
-    pub fn register<S: SolverId>(
+    pub fn register<S: Copy + Exact + Hash + Debug>(
         &mut self,
         coding: &mut Coding<N, S>,
         name: N,
@@ -95,7 +104,7 @@ impl<N: SolverId> Registry<N> {
 
 /// Tracks the variable of a solvable, unless it is tracked, and states what ties it to the digits of
 /// its package.
-fn track<N: SolverId, S: SolverId>(
+fn track<N: Copy + Exact + Hash + Debug, S: Copy + Exact + Hash + Debug>(
     alloc: Global,
     tracker: &mut AtMostOnceTracker<VariableId>,
     coding: &mut Coding<N, S>,
@@ -128,7 +137,7 @@ fn first_place(digit: Option<VariableId>, count: u32) -> u32
 }
 
 /// The variable of the digit that a variable takes with it, if it takes one.
-fn next_digit<N: SolverId, S: SolverId>(
+fn next_digit<N: Copy + Exact + Hash + Debug, S: Copy + Exact + Hash + Debug>(
     tracker: &AtMostOnceTracker<VariableId>,
     coding: &mut Coding<N, S>,
     name: N,
@@ -150,7 +159,7 @@ fn next_digit<N: SolverId, S: SolverId>(
 
 /// States each tie of solvables of a package to its digits. The first tie is of this place, and each
 /// next one of the next place, up to the last place, of which all that are left are.
-fn state_ties<N: SolverId, S: SolverId>(
+fn state_ties<N: Copy + Exact + Hash + Debug, S: Copy + Exact + Hash + Debug>(
     alloc: Global,
     coding: &mut Coding<N, S>,
     name: N,
@@ -179,7 +188,7 @@ fn next_place(place: u32, last: u32) -> u32
 }
 
 /// States what ties a solvable at a place to a digit of its package.
-fn state_tie<N: SolverId, S: SolverId>(
+fn state_tie<N: Copy + Exact + Hash + Debug, S: Copy + Exact + Hash + Debug>(
     alloc: Global,
     coding: &mut Coding<N, S>,
     name: N,

@@ -9,14 +9,15 @@ ghost use Rattle.resolvo_coding.specs.Coding.{IsCoding, States, Bars};
 
 use crate::coding::Coding;
 use crate::stated::Stated;
-use resolvo_pool::id::ClauseId;
-use resolvo_pool::solver_id::SolverId;
+use resolvo_pool::id::{ClauseId, Exact};
 use resolvo_pool::want::R;
 use resolvo_search::analysis::Refusal;
 use resolvo_search::state::HeldClause;
 use resolvo_store::literal::Literal;
+use std::fmt::Debug;
+use std::hash::Hash;
 
-impl<N: SolverId, S: SolverId> Coding<N, S> {
+impl<N: Copy + Exact + Hash + Debug, S: Copy + Exact + Hash + Debug> Coding<N, S> {
     /// Adds a clause of some literals, which states a rule.
     pub fn state(&mut self, stated: Stated<N, S>, literals: Vec<Literal>) -> R<ClauseId>
         requires coding { IsCoding self.old }

@@ -16,11 +16,13 @@ use crate::linking::{each_limit_once, links_of};
 use crate::offers::Offers;
 use crate::rules::conflict_rules;
 use resolvo_graph::graph::{ConflictGraph, ConflictNode, NodeIndex};
+use resolvo_pool::id::Exact;
 use resolvo_pool::provider::Interner;
-use resolvo_pool::solver_id::SolverId;
 use resolvo_pool::want::R;
 use resolvo_proof::step::ProofStep;
 use std::alloc::Global;
+use std::fmt::Debug;
+use std::hash::Hash;
 
 /// The graph of the conflict that a refusal's steps end in, with the candidates that were offered. Its edges are true where
 /// the steps are a proof, and exactly what meets a requirement was offered for it.
@@ -43,7 +45,7 @@ pub fn conflict_graph<I: Interner>(
 }
 
 /// The root, the node where requirements without candidates lead, and what the links join.
-fn drawn<S: SolverId>(alloc: Global, links: &[Link<S>]) -> R<ConflictGraph<S>>
+fn drawn<S: Copy + Exact + Hash + Debug>(alloc: Global, links: &[Link<S>]) -> R<ConflictGraph<S>>
     ensures graph { IfOk result (λ g. g ≡ drawn S.eq links.now) }
     ensures refusal { IsOkUnless result Memory }
 {
@@ -56,7 +58,7 @@ fn drawn<S: SolverId>(alloc: Global, links: &[Link<S>]) -> R<ConflictGraph<S>>
 }
 
 /// Adds a link's nodes, as far as they aren't there, and its edge.
-fn draw<S: SolverId>(graph: &mut ConflictGraph<S>, link: Link<S>) -> R<()>
+fn draw<S: Copy + Exact + Hash + Debug>(graph: &mut ConflictGraph<S>, link: Link<S>) -> R<()>
     ensures nodes { OnOk result (graph.new.nodes ≡ insert_all (same_node S.eq) graph.old.nodes (ends_of link)) }
     ensures edges { OnOk result (graph.new.edges ≡ graph.old.edges ++ edges_in S.eq graph.new.nodes link) }
     ensures refusal { IsOkUnless result Memory }
@@ -75,7 +77,10 @@ fn draw<S: SolverId>(graph: &mut ConflictGraph<S>, link: Link<S>) -> R<()>
 }
 
 /// Adds a node behind the others, unless it is there, and answers its index.
-fn put_node<S: SolverId>(graph: &mut ConflictGraph<S>, node: ConflictNode<S>) -> R<NodeIndex>
+fn put_node<S: Copy + Exact + Hash + Debug>(
+    graph: &mut ConflictGraph<S>,
+    node: ConflictNode<S>,
+) -> R<NodeIndex>
     ensures index { IfOk result (λ i. i ≡ index_among S.eq graph.new.nodes node) }
     ensures within { IfOk result (λ i. i.0 < length graph.new.nodes) }
     ensures put { OnOk result (graph.new ≡ record graph.old { nodes = insert_key (same_node S.eq) graph.old.nodes node }) }

@@ -6,9 +6,10 @@ ghost use Rattle.resolvo_conflict.specs.Links.{parent_node, source_of, target_of
 use resolvo_graph::graph::{ConflictCause, ConflictEdge, ConflictNode};
 use resolvo_pool::id::{StringId, VersionSetId};
 use resolvo_pool::requirement::Requirement;
+use std::alloc::AllocError;
 
 /// An edge, by what stands at its ends. A parent is a solvable, or none for the root.
-#[derive(Clone, Copy, Debug)]
+#[derive(Debug)]
 pub enum Link<S> {
     /// The solvable is excluded for this reason.
     Excluded {
@@ -38,6 +39,18 @@ pub enum Link<S> {
         solvable: S,
     },
 }
+
+impl<S: Copy> Clone for Link<S> {
+    ghost is_clone = { λ x y. y ≡ x };
+
+    ghost is_infallible = { λ _. Unit {0} };
+
+    fn clone(&self) -> Result<Link<S>, AllocError> {
+        Ok(*self)
+    }
+}
+
+impl<S: Copy> Copy for Link<S> {}
 
 /// The node of a parent.
 pub(crate) fn parent_node<S: Copy>(parent: Option<S>) -> ConflictNode<S>

@@ -13,14 +13,15 @@ use crate::link::Link;
 use crate::offers::Offers;
 use crate::rules::rule_at;
 use indexmap::IndexSet;
-use resolvo_pool::id::VersionSetId;
+use resolvo_pool::id::{Exact, VersionSetId};
 use resolvo_pool::provider::Interner;
 use resolvo_pool::requirement::Requirement;
-use resolvo_pool::solver_id::SolverId;
 use resolvo_pool::want::R;
 use resolvo_proof::step::{ProofRule, ProofStep};
 use std::alloc::Global;
 use std::collections::HashMap;
+use std::fmt::Debug;
+use std::hash::Hash;
 
 /// The rules that are drawn together with others, wherever these stand in the conflict.
 #[derive(Drop)]
@@ -34,7 +35,7 @@ pub(crate) struct Shares<S> {
 }
 
 /// The rules that are drawn together with others, each kind in the conflict's order.
-pub(crate) fn shares_of<N: SolverId, S: SolverId>(
+pub(crate) fn shares_of<N: Copy + Exact + Hash + Debug, S: Copy + Exact + Hash + Debug>(
     alloc: Global,
     steps: &[ProofStep<N, S>],
     order: &[usize],
@@ -58,7 +59,10 @@ pub(crate) fn shares_of<N: SolverId, S: SolverId>(
 }
 
 /// Notes a rule that is drawn together with others.
-fn share<N: SolverId, S: SolverId>(shares: &mut Shares<S>, rule: &ProofRule<N, S>) -> R<()>
+fn share<N: Copy + Exact + Hash + Debug, S: Copy + Exact + Hash + Debug>(
+    shares: &mut Shares<S>,
+    rule: &ProofRule<N, S>,
+) -> R<()>
     ensures gates { OnOk result (shares.new.gates.items ≡ shares.old.gates.items ++ option_to_list (gate_in rule.now)) }
     ensures limits { OnOk result (shares.new.limits.items ≡ shares.old.limits.items ++ option_to_list (limit_in rule.now)) }
     ensures outsides { OnOk result (shares.new.outsides.items ≡ shares.old.outsides.items ++ option_to_list (outside_in rule.now)) }
@@ -130,7 +134,7 @@ fn note_instance<I: Interner>(
 }
 
 /// Adds the links of a rule. A digit is linked to the version before it.
-fn link<N: SolverId, S: SolverId>(
+fn link<N: Copy + Exact + Hash + Debug, S: Copy + Exact + Hash + Debug>(
     offers: &Offers<S>,
     shares: &Shares<S>,
     before: Option<S>,
@@ -193,7 +197,7 @@ fn link<N: SolverId, S: SolverId>(
 }
 
 /// Links a parent to each candidate of its requirement, or to none where there is none.
-fn link_need<S: SolverId>(
+fn link_need<S: Copy + Exact + Hash + Debug>(
     offers: &Offers<S>,
     parent: Option<S>,
     requirement: Requirement,
@@ -222,7 +226,7 @@ fn link_need<S: SolverId>(
 }
 
 /// Links each that opens the requirement's gate to its candidates.
-fn link_gate<S: SolverId>(
+fn link_gate<S: Copy + Exact + Hash + Debug>(
     offers: &Offers<S>,
     gates: &[(Requirement, S)],
     requirement: Requirement,
@@ -240,7 +244,7 @@ fn link_gate<S: SolverId>(
 }
 
 /// Links a parent to each that is outside its version set.
-fn link_limit<S: SolverId>(
+fn link_limit<S: Copy + Exact + Hash + Debug>(
     parent: Option<S>,
     version_set: VersionSetId,
     outsides: &[(VersionSetId, S)],
@@ -262,7 +266,7 @@ fn link_limit<S: SolverId>(
 }
 
 /// Links each parent with this version set to a solvable that is outside it.
-fn link_outside<S: SolverId>(
+fn link_outside<S: Copy + Exact + Hash + Debug>(
     version_set: VersionSetId,
     solvable: S,
     limits: &[(VersionSetId, Option<S>)],
@@ -287,7 +291,10 @@ fn link_outside<S: SolverId>(
 type Limited<S> = (Option<S>, VersionSetId, S);
 
 /// The links, of those of limits that join the same only the first.
-pub(crate) fn each_limit_once<S: SolverId>(alloc: Global, links: &[Link<S>]) -> R<Vec<Link<S>>>
+pub(crate) fn each_limit_once<S: Copy + Exact + Hash + Debug>(
+    alloc: Global,
+    links: &[Link<S>],
+) -> R<Vec<Link<S>>>
     ensures links { IfOk result (λ v. v.items ≡ each_limit_once S.eq links.now) }
     ensures refusal { IsOkUnless result Memory }
 {
@@ -302,7 +309,10 @@ pub(crate) fn each_limit_once<S: SolverId>(alloc: Global, links: &[Link<S>]) -> 
 }
 
 /// Whether a link is no limit's, or that of a limit that is not among these, which it then joins.
-fn is_new<S: SolverId>(limits: &mut IndexSet<Limited<S>>, link: Link<S>) -> R<bool>
+fn is_new<S: Copy + Exact + Hash + Debug>(
+    limits: &mut IndexSet<Limited<S>>,
+    link: Link<S>,
+) -> R<bool>
     ensures new { IfOk result (λ b. b ≡ is_new S.eq limits.old.keys (limited_in link)) }
     ensures noted { OnOk result (limits.new.keys ≡ cond (is_new S.eq limits.old.keys (limited_in link)) (limits.old.keys ++ option_to_list (limited_in link)) limits.old.keys) }
     ensures refusal { IsOkUnless result Memory }

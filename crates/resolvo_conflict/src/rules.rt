@@ -7,14 +7,16 @@ ghost use Rattle.resolvo_pool.specs.declared.want.Want.TheVariants.{Memory};
 ghost use Rattle.resolvo_conflict.specs.Order.{conflict_order, conflict_rules, requirements_in, named_by, rule_in, is_earlier};
 
 use indexmap::IndexSet;
+use resolvo_pool::id::Exact;
 use resolvo_pool::requirement::Requirement;
-use resolvo_pool::solver_id::SolverId;
 use resolvo_pool::want::R;
 use resolvo_proof::step::{ProofRule, ProofStep};
 use std::alloc::Global;
+use std::fmt::Debug;
+use std::hash::Hash;
 
 /// The places of the conflict's rules among the steps of a refusal, in the conflict's order.
-pub fn conflict_rules<N: SolverId, S: SolverId>(
+pub fn conflict_rules<N: Copy + Exact + Hash + Debug, S: Copy + Exact + Hash + Debug>(
     alloc: Global,
     steps: &[ProofStep<N, S>],
 ) -> R<Vec<usize>>
@@ -58,7 +60,7 @@ fn stack_causes(causes: &[usize], place: usize, stack: &mut Vec<usize>) -> R<()>
 }
 
 /// The rule at a place.
-pub(crate) fn rule_at<N: SolverId, S: SolverId>(
+pub(crate) fn rule_at<N: Copy + Exact + Hash + Debug, S: Copy + Exact + Hash + Debug>(
     steps: &[ProofStep<N, S>],
     place: usize,
 ) -> Option<&ProofRule<N, S>>
@@ -71,7 +73,7 @@ pub(crate) fn rule_at<N: SolverId, S: SolverId>(
 }
 
 /// The requirements that the conflict's rules name, each once.
-pub fn requirements_of<N: SolverId, S: SolverId>(
+pub fn requirements_of<N: Copy + Exact + Hash + Debug, S: Copy + Exact + Hash + Debug>(
     alloc: Global,
     steps: &[ProofStep<N, S>],
 ) -> R<Vec<Requirement>>
@@ -89,7 +91,7 @@ pub fn requirements_of<N: SolverId, S: SolverId>(
 }
 
 /// The requirement whose candidates the rule at a place names.
-fn requirement_at<N: SolverId, S: SolverId>(
+fn requirement_at<N: Copy + Exact + Hash + Debug, S: Copy + Exact + Hash + Debug>(
     steps: &[ProofStep<N, S>],
     place: usize,
 ) -> Option<Requirement>
@@ -100,7 +102,9 @@ fn requirement_at<N: SolverId, S: SolverId>(
 }
 
 /// The requirement whose candidates a rule names.
-fn requirement_named<N: SolverId, S: SolverId>(rule: &ProofRule<N, S>) -> Option<Requirement>
+fn requirement_named<N: Copy + Exact + Hash + Debug, S: Copy + Exact + Hash + Debug>(
+    rule: &ProofRule<N, S>,
+) -> Option<Requirement>
     ensures { result ≡ named_by rule.now }
 {
     match rule {

@@ -19,13 +19,14 @@ use crate::encoding::{Encoding, GATED, add_key};
 use resolvo_answers::answering::{Barred, Offered, Why};
 use resolvo_coding::atom::ProofAtom;
 use resolvo_coding::stated::Stated;
-use resolvo_pool::id::{StringId, VariableId, VersionSetId};
-use resolvo_pool::solver_id::SolverId;
+use resolvo_pool::id::{Exact, StringId, VariableId, VersionSetId};
 use resolvo_pool::want::R;
 use resolvo_store::literal::Literal;
 use std::alloc::Global;
+use std::fmt::Debug;
+use std::hash::Hash;
 
-impl<N: SolverId + Drop, S: SolverId> Encoding<N, S> {
+impl<N: Copy + Exact + Hash + Debug + Drop, S: Copy + Exact + Hash + Debug> Encoding<N, S> {
     /// Whether it was stated what locks and exclusions keep out of a package.
     pub fn is_noted(&self, name: N) -> bool
         ensures { Decides result (Contains self.now.noted.packages.keys name) }

@@ -17,14 +17,15 @@ use crate::encoding::{Deferred, Encoding, add_key};
 use resolvo_answers::answering::Offered;
 use resolvo_coding::atom::ProofAtom;
 use resolvo_coding::stated::Stated;
-use resolvo_pool::id::VersionSetId;
+use resolvo_pool::id::{Exact, VersionSetId};
 use resolvo_pool::requirement::ConditionalRequirement;
-use resolvo_pool::solver_id::SolverId;
 use resolvo_pool::want::R;
 use resolvo_store::conditions::DeferredConjunct;
 use resolvo_store::lists::Disjunction;
 use resolvo_store::literal::Literal;
 use std::alloc::Global;
+use std::fmt::Debug;
+use std::hash::Hash;
 
 /// A version set of a case that fires: its package, and the candidates of that outside it.
 #[derive(Drop)]
@@ -42,7 +43,7 @@ pub struct Waiting<S> {
     pub case: Vec<VersionSetId>,
 }
 
-impl<N: SolverId + Drop, S: SolverId> Encoding<N, S> {
+impl<N: Copy + Exact + Hash + Debug + Drop, S: Copy + Exact + Hash + Debug> Encoding<N, S> {
     /// Lets a case of a parent's need wait until each of its version sets has a chosen match.
     pub fn defer(
         &mut self,
@@ -183,7 +184,7 @@ impl<N: SolverId + Drop, S: SolverId> Encoding<N, S> {
 }
 
 /// Whether the parent is a solvable that one of these version sets keeps out.
-fn keeps_out<N, S: SolverId>(sets: &[CaseSet<N, S>], parent: Option<S>) -> bool
+fn keeps_out<N, S: Copy + Exact + Hash + Debug>(sets: &[CaseSet<N, S>], parent: Option<S>) -> bool
     ensures { result ≡ true → (s : S) × (c : Set N S) × (parent ≡ Some s) × Contains sets.now c × Contains (offered_solvables c.outside.items) s }
 {
     match parent {
@@ -200,7 +201,7 @@ fn keeps_out<N, S: SolverId>(sets: &[CaseSet<N, S>], parent: Option<S>) -> bool
 }
 
 /// Whether a solvable is one of these.
-fn is_offered<N, S: SolverId>(offered: &[Offered<N, S>], solvable: S) -> bool
+fn is_offered<N, S: Copy + Exact + Hash + Debug>(offered: &[Offered<N, S>], solvable: S) -> bool
     ensures { result ≡ true → Contains (offered_solvables offered.now) solvable }
 {
     for one in offered {

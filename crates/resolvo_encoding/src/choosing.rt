@@ -11,14 +11,16 @@ ghost use Rattle.resolvo_encoding.specs.Base.{KeepsFirst, KeepsTurns};
 
 use crate::encoding::Encoding;
 use resolvo_needs::open_needs::OpenNeeds;
-use resolvo_pool::id::ClauseId;
-use resolvo_pool::solver_id::SolverId;
+use resolvo_pool::id::{ClauseId, Exact};
+use resolvo_pool::id_map::ScoreMap;
 use resolvo_pool::want::R;
 use resolvo_search::advancing::Progress;
 use resolvo_search::analysis::Refusal;
 use resolvo_store::decide_queue::NextDecision;
 use resolvo_store::decision_tracker::DecisionTracker;
 use std::alloc::Global;
+use std::fmt::Debug;
+use std::hash::Hash;
 
 /// What one step came to.
 #[derive(Debug, Drop)]
@@ -33,11 +35,11 @@ pub enum Step {
     Refused(Refusal),
 }
 
-impl<N: SolverId + Drop, S: SolverId> Encoding<N, S> {
+impl<N: Copy + Exact + Hash + Debug + Drop, S: Copy + Exact + Hash + Debug> Encoding<N, S> {
     /// The candidate that is to be chosen next, if one is. What is found of need clauses is noted.
-    pub fn next_decision(&mut self, scores: &N::Scores) -> R<Option<NextDecision>>
+    pub fn next_decision<C: ScoreMap<N>>(&mut self, scores: &C) -> R<Option<NextDecision>>
         requires { IsBuilt self.old }
-        ensures next { IfOk result (IsNext (N.Scores.score_of scores.now) self.new) }
+        ensures next { IfOk result (IsNext (C.score_of scores.now) self.new) }
         ensures built { OnOk result (IsBuilt self.new) }
         ensures rest { OnOk result (self.new ≡ record self.old { needs = self.new.needs }) }
     {
@@ -49,7 +51,7 @@ impl<N: SolverId + Drop, S: SolverId> Encoding<N, S> {
     }
 
     /// Chooses the next candidate, or tells that none is left to choose.
-    pub fn choose_next(&mut self, scores: &N::Scores) -> R<bool>
+    pub fn choose_next<C: ScoreMap<N>>(&mut self, scores: &C) -> R<bool>
         requires { IsBuilt self.old }
         ensures stays { OnOk result ((p : Packages N S) (root : Rules) → IsLawful p → IsEncoding S.eq p root self.old → IsEncoding S.eq p root self.new) }
         ensures goes_on { OnOk result (GoesOn self.old self.new) }
@@ -81,7 +83,7 @@ impl<N: SolverId + Drop, S: SolverId> Encoding<N, S> {
     }
 
     /// Sets what follows; then learns where a clause is broken, and chooses where none is.
-    pub fn step(&mut self, alloc: Global, scores: &N::Scores) -> R<Step>
+    pub fn step<C: ScoreMap<N>>(&mut self, alloc: Global, scores: &C) -> R<Step>
         requires { IsBuilt self.old }
         ensures stays { OnOk result ((p : Packages N S) (root : Rules) → IsLawful p → IsEncoding S.eq p root self.old → IsEncoding S.eq p root self.new) }
         ensures goes_on { OnOk result (GoesOn self.old self.new) }

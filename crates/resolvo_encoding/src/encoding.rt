@@ -28,15 +28,16 @@ use resolvo_coding::coding::Coding;
 use resolvo_coding::registry::Registry;
 use resolvo_coding::stated::Stated;
 use resolvo_needs::open_needs::OpenNeeds;
-use resolvo_pool::id::{DisjunctionId, VariableId, VersionSetId};
+use resolvo_pool::id::{DisjunctionId, Exact, VariableId, VersionSetId};
 use resolvo_pool::requirement::{ConditionalRequirement, Requirement, RequirementMap};
-use resolvo_pool::solver_id::{SolvableIdOrRoot, SolverId};
+use resolvo_pool::solver_id::SolvableIdOrRoot;
 use resolvo_pool::want::R;
 use resolvo_store::conditions::DeferredConjunct;
 use resolvo_store::decide_queue::{DecideQueue, NeedClause};
 use resolvo_store::lists::{Candidate, FixedLists};
 use resolvo_store::literal::Literal;
 use std::alloc::Global;
+use std::fmt::Debug;
 use std::hash::Hash;
 
 /// From so many candidates on a gate stands between a requirement and those that ask for it, and a variable between a
@@ -44,8 +45,7 @@ use std::hash::Hash;
 pub const GATED: usize = 4;
 
 /// What was stated of packages, version sets and solvables as a whole, each once.
-#[derive(Drop)]
-pub struct Noted<N: Eq + Hash, S: Eq + Hash> {
+pub struct Noted<N: Copy + Eq + Hash, S: Copy + Eq + Hash> {
     /// The packages whose locks and exclusions are clauses.
     pub packages: IndexSet<N>,
     /// The version sets for which clauses say which candidates are outside.
@@ -58,6 +58,19 @@ pub struct Noted<N: Eq + Hash, S: Eq + Hash> {
     pub wishes: Vec<S>,
 }
 
+// split for the prover: what owns one calls this drop, and doesn't drop each field at each exit
+impl<N: Copy + Eq + Hash, S: Copy + Eq + Hash> Drop for Noted<N, S> {
+    fn drop(self) {
+        let Noted {
+            packages: _,
+            version_sets: _,
+            helped: _,
+            there: _,
+            wishes: _,
+        } = self;
+    }
+}
+
 /// A case of a parent's need, which waits until each of its version sets has a chosen match.
 #[derive(Drop)]
 pub struct Deferred<S> {
@@ -67,8 +80,7 @@ pub struct Deferred<S> {
 }
 
 /// What was encoded so far.
-#[derive(Drop)]
-pub struct Encoding<N: Eq + Hash, S: Eq + Hash> {
+pub struct Encoding<N: Copy + Eq + Hash, S: Copy + Eq + Hash> {
     pub coding: Coding<N, S>,
     pub registry: Registry<N>,
     pub lists: FixedLists<N>,
@@ -90,8 +102,27 @@ pub struct Encoding<N: Eq + Hash, S: Eq + Hash> {
     pub fired: IndexSet<usize>,
 }
 
+// split for the prover: what owns one calls this drop, and doesn't drop each field at each exit
+impl<N: Copy + Eq + Hash, S: Copy + Eq + Hash> Drop for Encoding<N, S> {
+    fn drop(self) {
+        let Encoding {
+            coding: _,
+            registry: _,
+            lists: _,
+            queue: _,
+            needs: _,
+            gates: _,
+            noted: _,
+            parents: _,
+            encoded: _,
+            deferred: _,
+            fired: _,
+        } = self;
+    }
+}
+
 /// An encoding of these, which have just begun, and of nothing else.
-fn begun<N: SolverId, S: SolverId>(
+fn begun<N: Copy + Exact + Hash + Debug, S: Copy + Exact + Hash + Debug>(
     alloc: Global,
     coding: Coding<N, S>,
     lists: FixedLists<N>,
@@ -125,7 +156,7 @@ fn begun<N: SolverId, S: SolverId>(
     }
 }
 
-impl<N: SolverId + Drop, S: SolverId> Encoding<N, S> {
+impl<N: Copy + Exact + Hash + Debug + Drop, S: Copy + Exact + Hash + Debug> Encoding<N, S> {
     /// Nothing but the root, whose needs are to be encoded.
     pub fn begin(alloc: Global) -> R<Encoding<N, S>>
         ensures begun { IfOk result IsBegunEncoding }

@@ -12,14 +12,15 @@ use crate::encoding::{Encoding, add_key, push_candidates};
 use resolvo_answers::answering::Offered;
 use resolvo_coding::atom::ProofAtom;
 use resolvo_coding::stated::Stated;
-use resolvo_pool::id::VariableId;
-use resolvo_pool::solver_id::SolverId;
+use resolvo_pool::id::{Exact, VariableId};
 use resolvo_pool::want::R;
 use resolvo_store::lists::Candidate;
 use resolvo_store::literal::Literal;
 use std::alloc::Global;
+use std::fmt::Debug;
+use std::hash::Hash;
 
-impl<N: SolverId + Drop, S: SolverId> Encoding<N, S> {
+impl<N: Copy + Exact + Hash + Debug + Drop, S: Copy + Exact + Hash + Debug> Encoding<N, S> {
     /// States of a solvable that one of its package is there, once.
     pub(crate) fn say_there(&mut self, alloc: Global, one: Offered<N, S>) -> R<()>
         requires { IsBuilt self.old }

@@ -11,14 +11,15 @@ use crate::encoding::Encoding;
 use resolvo_answers::answering::Offered;
 use resolvo_coding::coding::Coding;
 use resolvo_coding::registry::Registry;
-use resolvo_pool::id::VariableId;
-use resolvo_pool::solver_id::SolverId;
+use resolvo_pool::id::{Exact, VariableId};
 use resolvo_pool::want::R;
 use resolvo_store::lists::Candidate;
 use resolvo_store::literal::Literal;
 use std::alloc::Global;
+use std::fmt::Debug;
+use std::hash::Hash;
 
-impl<N: SolverId + Drop, S: SolverId> Encoding<N, S> {
+impl<N: Copy + Exact + Hash + Debug + Drop, S: Copy + Exact + Hash + Debug> Encoding<N, S> {
     /// Registers what is offered, and gives it as candidates.
     pub(crate) fn register(
         &mut self,
@@ -69,7 +70,7 @@ impl<N: SolverId + Drop, S: SolverId> Encoding<N, S> {
 }
 
 /// Registers what is offered, and gives it as candidates.
-fn register_all<N: SolverId, S: SolverId>(
+fn register_all<N: Copy + Exact + Hash + Debug, S: Copy + Exact + Hash + Debug>(
     alloc: Global,
     registry: &mut Registry<N>,
     coding: &mut Coding<N, S>,
@@ -88,7 +89,7 @@ fn register_all<N: SolverId, S: SolverId>(
 }
 
 /// Registers what is offered, and gives it as a candidate.
-fn register_one<N: SolverId, S: SolverId>(
+fn register_one<N: Copy + Exact + Hash + Debug, S: Copy + Exact + Hash + Debug>(
     registry: &mut Registry<N>,
     coding: &mut Coding<N, S>,
     one: Offered<N, S>,

@@ -14,14 +14,15 @@ ghost use Rattle.resolvo_encoding.specs.Base.{HasTurn, IsTried, KeepsTurn, Keeps
 
 use crate::encoding::Encoding;
 use resolvo_answers::answering::Offered;
-use resolvo_pool::id::{ClauseId, VariableId};
-use resolvo_pool::solver_id::SolverId;
+use resolvo_pool::id::{ClauseId, Exact, VariableId};
 use resolvo_pool::want::R;
 use resolvo_search::analysis::Refusal;
 use resolvo_store::literal::Literal;
 use std::alloc::Global;
+use std::fmt::Debug;
+use std::hash::Hash;
 
-impl<N: SolverId + Drop, S: SolverId> Encoding<N, S> {
+impl<N: Copy + Exact + Hash + Debug + Drop, S: Copy + Exact + Hash + Debug> Encoding<N, S> {
     /// Begins a turn: no jump goes below the next level. What stands is what stood before it.
     pub fn begin_turn(&mut self)
         requires { IsBuilt self.old }

@@ -14,12 +14,15 @@ use crate::outlook::{installable, missing};
 use crate::tree::{Findings, order_before};
 use crate::walk::post_order;
 use indexmap::IndexSet;
+use resolvo_pool::id::Exact;
 use resolvo_pool::provider::Interner;
 use resolvo_pool::solver_id::SolverId;
 use resolvo_pool::want::R;
 use std::alloc::Global;
 use std::collections::HashMap;
 use std::fmt;
+use std::fmt::Debug;
+use std::hash::Hash;
 use std::rc::Rc;
 
 /// The message of a conflict graph, to be written.
@@ -73,7 +76,7 @@ fn message_lines<S: SolverId, I: Interner<SolvableId = S>>(
 }
 
 /// The lines of the message along a walk, where these versions are told as one.
-fn lines_along<S: SolverId>(
+fn lines_along<S: Copy + Exact + Hash + Debug>(
     alloc: Global,
     graph: &ConflictGraph<S>,
     order: &[NodeIndex],
@@ -89,7 +92,7 @@ fn lines_along<S: SolverId>(
     findings.message_along(alloc, order)
 }
 
-impl<S: SolverId> Findings<'_, S> {
+impl<S: Copy + Exact + Hash + Debug> Findings<'_, S> {
     /// The lines of the message along a walk.
     fn message_along(&self, alloc: Global, order: &[NodeIndex]) -> R<Vec<MessageLine<S>>>
         ensures { IfOk result (λ v. AreParts (findings S.eq self.now.graph.now self.now.installable.keys self.now.merged) (missing_in self.now.graph.now order.now) (edges_of self.now.graph.now (record { 0 = 0 })) v.items) }
@@ -138,7 +141,7 @@ impl<S: SolverId> Findings<'_, S> {
 }
 
 /// The edges whose targets miss a candidate.
-fn missing_edges<S: SolverId>(
+fn missing_edges<S: Copy + Exact + Hash + Debug>(
     alloc: Global,
     edges: &[Edge<S>],
     missing: &IndexSet<NodeIndex>,
@@ -155,7 +158,7 @@ fn missing_edges<S: SolverId>(
 }
 
 /// The edges whose targets don't miss a candidate.
-fn other_edges<S: SolverId>(
+fn other_edges<S: Copy + Exact + Hash + Debug>(
     alloc: Global,
     edges: &[Edge<S>],
     missing: &IndexSet<NodeIndex>,
@@ -172,7 +175,10 @@ fn other_edges<S: SolverId>(
 }
 
 /// The lines of the problem's own conflicts.
-fn conflict_lines<S: SolverId>(alloc: Global, edges: &[Edge<S>]) -> R<Vec<MessageLine<S>>>
+fn conflict_lines<S: Copy + Exact + Hash + Debug>(
+    alloc: Global,
+    edges: &[Edge<S>],
+) -> R<Vec<MessageLine<S>>>
     ensures { IfOk result (λ v. v.items ≡ conflict_lines edges.now) }
 {
     let mut lines = Vec::new(alloc);
@@ -187,7 +193,7 @@ fn conflict_lines<S: SolverId>(alloc: Global, edges: &[Edge<S>]) -> R<Vec<Messag
 }
 
 /// Tells a conflict of the problem itself: a constraint, or a lock.
-fn tell_conflict<S: SolverId>(
+fn tell_conflict<S: Copy + Exact + Hash + Debug>(
     alloc: Global,
     weight: ConflictEdge<S>,
     indenter: Indenter,

@@ -16,6 +16,7 @@ use resolvo_pool::solver_id::SolverId;
 use resolvo_pool::want::R;
 use std::alloc::Global;
 use std::collections::HashMap;
+use std::fmt::Debug;
 use std::hash::Hash;
 use std::marker::Model;
 use std::rc::Rc;
@@ -85,7 +86,7 @@ impl<S: SolverId> ConflictGraph<S> {
 }
 
 /// The versions with their numbers. Those that are told as one have one number.
-fn members<N: SolverId, S: SolverId>(
+fn members<N: Copy + Exact + Hash + Debug, S: Copy + Exact + Hash + Debug>(
     alloc: Global,
     profiles: Vec<Profile<N, S>>,
 ) -> R<Vec<Member<S>>>
@@ -102,7 +103,10 @@ fn members<N: SolverId, S: SolverId>(
 }
 
 /// The versions of each number, at that number.
-fn groups<S: SolverId>(alloc: Global, members: &[Member<S>]) -> R<Vec<MergedConflictNode<S>>>
+fn groups<S: Copy + Exact + Hash + Debug>(
+    alloc: Global,
+    members: &[Member<S>],
+) -> R<Vec<MergedConflictNode<S>>>
     ensures { IfOk result (λ v. (g : ℕ) → ids_at v.items g ≡ numbered members.now g) }
 {
     let mut groups = Vec::new(alloc);
@@ -114,7 +118,10 @@ fn groups<S: SolverId>(alloc: Global, members: &[Member<S>]) -> R<Vec<MergedConf
 }
 
 /// Adds a version to the group of its number.
-fn add<S: SolverId>(groups: &mut Vec<MergedConflictNode<S>>, member: Member<S>) -> R<()>
+fn add<S: Copy + Exact + Hash + Debug>(
+    groups: &mut Vec<MergedConflictNode<S>>,
+    member: Member<S>,
+) -> R<()>
     requires { member.group < vec_len groups.old }
     ensures { OnOk result ((g : ℕ) → ids_at groups.new.items g ≡ ids_at groups.old.items g ++ cond (member.group == g) (member.solvable ∷ []) []) }
 {
@@ -123,7 +130,7 @@ fn add<S: SolverId>(groups: &mut Vec<MergedConflictNode<S>>, member: Member<S>) 
 }
 
 /// Adds groups without a version until there is one of this number.
-fn cover<S: SolverId>(
+fn cover<S: Copy + Exact + Hash + Debug>(
     alloc: Global,
     groups: &mut Vec<MergedConflictNode<S>>,
     number: usize,
@@ -140,7 +147,7 @@ fn cover<S: SolverId>(
 }
 
 /// The same groups, to be shared.
-fn shared<S: SolverId>(
+fn shared<S: Copy + Exact + Hash + Debug>(
     alloc: Global,
     groups: Vec<MergedConflictNode<S>>,
 ) -> R<Vec<Rc<MergedConflictNode<S>>>>
@@ -154,7 +161,7 @@ fn shared<S: SolverId>(
 }
 
 /// The groups of two versions or more, under each of their versions.
-fn merged<S: SolverId>(
+fn merged<S: Copy + Exact + Hash + Debug>(
     alloc: Global,
     members: &[Member<S>],
     groups: &[Rc<MergedConflictNode<S>>],
@@ -171,7 +178,7 @@ fn merged<S: SolverId>(
 }
 
 /// Keeps a group under one of its versions, unless that is its only one.
-fn keep<S: SolverId>(
+fn keep<S: Copy + Exact + Hash + Debug>(
     merged: &mut HashMap<S, Rc<MergedConflictNode<S>>>,
     solvable: S,
     group: &Rc<MergedConflictNode<S>>,

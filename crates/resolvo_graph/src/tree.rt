@@ -20,11 +20,12 @@ use crate::merging::MergedConflictNode;
 use crate::outlook::has_some;
 use crate::runs::{Run, runs};
 use indexmap::IndexSet;
-use resolvo_pool::id::{SolvableId, StringId, VersionSetId};
-use resolvo_pool::solver_id::SolverId;
+use resolvo_pool::id::{Exact, SolvableId, StringId, VersionSetId};
 use resolvo_pool::want::R;
 use std::alloc::Global;
 use std::collections::HashMap;
+use std::fmt::Debug;
+use std::hash::Hash;
 use std::marker::Model;
 use std::rc::Rc;
 
@@ -56,7 +57,7 @@ impl<S> Model for Entry<S> {
 
 /// What a message is told of: the graph, which nodes can be installed, which versions are told as one.
 #[derive(Drop)]
-pub(crate) struct Findings<'a, S: SolverId> {
+pub(crate) struct Findings<'a, S: Copy + Exact + Hash + Debug> {
     pub(crate) graph: &'a ConflictGraph<S>,
     pub(crate) installable: IndexSet<NodeIndex>,
     pub(crate) merged: HashMap<S, Rc<MergedConflictNode<S>>>,
@@ -64,7 +65,7 @@ pub(crate) struct Findings<'a, S: SolverId> {
 
 /// A tree that is being told.
 #[derive(Drop)]
-struct Telling<S: SolverId> {
+struct Telling<S: Copy + Exact + Hash + Debug> {
     /// The versions that were told as parts of merged ones.
     told: IndexSet<S>,
     /// What is left to tell, the next one at the end.
@@ -72,7 +73,7 @@ struct Telling<S: SolverId> {
     lines: Vec<MessageLine<S>>,
 }
 
-impl<S: SolverId> Findings<'_, S> {
+impl<S: Copy + Exact + Hash + Debug> Findings<'_, S> {
     /// The lines of the tree of the runs of some edges.
     pub(crate) fn tree(
         &self,
@@ -424,7 +425,7 @@ impl<S: SolverId> Findings<'_, S> {
 }
 
 /// Puts siblings one level below an indent on top of the stack, so that the first is told last.
-fn place<S: SolverId>(
+fn place<S: Copy + Exact + Hash + Debug>(
     alloc: Global,
     ops: Vec<DisplayOp<S>>,
     indenter: &Indenter,
@@ -442,7 +443,7 @@ fn place<S: SolverId>(
 }
 
 /// An entry one level below an indent.
-fn sibling<S: SolverId>(
+fn sibling<S: Copy + Exact + Hash + Debug>(
     alloc: Global,
     op: DisplayOp<S>,
     indenter: &Indenter,
@@ -459,7 +460,7 @@ fn sibling<S: SolverId>(
 }
 
 /// What a version with this verdict and these edges tells on lines of its own.
-fn further_lines<S: SolverId>(
+fn further_lines<S: Copy + Exact + Hash + Debug>(
     alloc: Global,
     verdict: Verdict,
     indenter: &Indenter,
@@ -474,21 +475,24 @@ fn further_lines<S: SolverId>(
 }
 
 /// Whether one of these edges says that both ends are versions of one package.
-fn has_forbidden<S: SolverId>(edges: &[Edge<S>]) -> bool
+fn has_forbidden<S: Copy + Exact + Hash + Debug>(edges: &[Edge<S>]) -> bool
     ensures { result ≡ list_any (λ e. is_forbidden e.weight) edges.now }
 {
     edges.iter().any(|edge| edge.weight.is_forbidden())
 }
 
 /// Whether the source of one of these edges admits some versions alone.
-fn has_admitted<S: SolverId>(edges: &[Edge<S>]) -> bool
+fn has_admitted<S: Copy + Exact + Hash + Debug>(edges: &[Edge<S>]) -> bool
     ensures { result ≡ list_any is_admitting edges.now }
 {
     edges.iter().any(|edge| edge.weight.admitted().is_some())
 }
 
 /// The version sets that a node with these edges admits alone, of neighbours alike one.
-fn admitted<S: SolverId>(alloc: Global, edges: &[Edge<S>]) -> R<Vec<VersionSetId>>
+fn admitted<S: Copy + Exact + Hash + Debug>(
+    alloc: Global,
+    edges: &[Edge<S>],
+) -> R<Vec<VersionSetId>>
     ensures { IfOk result (λ v. v.items ≡ dedup same_set (admitted_in edges.now)) }
 {
     let mut found = all_admitted(alloc, edges)?;
@@ -497,7 +501,10 @@ fn admitted<S: SolverId>(alloc: Global, edges: &[Edge<S>]) -> R<Vec<VersionSetId
 }
 
 /// The version sets that a node with these edges admits alone.
-fn all_admitted<S: SolverId>(alloc: Global, edges: &[Edge<S>]) -> R<Vec<VersionSetId>>
+fn all_admitted<S: Copy + Exact + Hash + Debug>(
+    alloc: Global,
+    edges: &[Edge<S>],
+) -> R<Vec<VersionSetId>>
     ensures { IfOk result (λ v. v.items ≡ admitted_in edges.now) }
 {
     let mut found = Vec::new(alloc);
@@ -510,7 +517,7 @@ fn all_admitted<S: SolverId>(alloc: Global, edges: &[Edge<S>]) -> R<Vec<VersionS
 }
 
 /// A line for each version set that a version admits alone, one level deeper.
-fn admitted_lines<S: SolverId>(
+fn admitted_lines<S: Copy + Exact + Hash + Debug>(
     alloc: Global,
     indenter: &Indenter,
     version_sets: &[VersionSetId],

@@ -24,12 +24,22 @@ use resolvo_steps::proof::causes_in;
 use std::alloc::{AllocError, Global};
 
 /// What is kept of the lines so far.
-#[derive(Drop)]
 pub struct Judging {
     /// The report says that no set serves the request.
     pub refused: bool,
     pub log: Log,
     pub entries: Entries,
+}
+
+// split for the prover: what owns one calls this drop, and doesn't drop each field at each exit
+impl Drop for Judging {
+    fn drop(self) {
+        let Judging {
+            refused: _,
+            log: _,
+            entries: _,
+        } = self;
+    }
 }
 
 /// What is kept of the first line.

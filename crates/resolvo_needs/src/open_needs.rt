@@ -18,7 +18,6 @@ ghost use Rattle.resolvo_needs.specs.Needs.{literals_in, places_at, IsMetNow, Is
 use crate::states::{NeedState, NeedStates};
 use resolvo_pool::id::VariableId;
 use resolvo_pool::id_map::ScoreMap;
-use resolvo_pool::solver_id::SolverId;
 use resolvo_pool::want::R;
 use resolvo_store::decide_queue::{DecideQueue, NeedClause, NextDecision, offered, or_later};
 use resolvo_store::decision::Entry;
@@ -66,18 +65,18 @@ impl OpenNeeds {
 
     /// What is to be decided next under the trail: the pick over all clauses of the queue. The trail goes on
     /// from the one that was seen; where entries were taken away, `follow` comes first.
-    pub fn next_decision<N: SolverId>(
+    pub fn next_decision<N: Copy + Eq, C: ScoreMap<N>>(
         &mut self,
         queue: &DecideQueue,
         lists: &FixedLists<N>,
         trail: &DecisionTracker,
-        scores: &N::Scores,
+        scores: &C,
     ) -> R<Option<NextDecision>>
     where
         N: Drop,
         requires fits { Fits (literals_in lists.now) self.old queue.now }
         requires seen { IsFrontOf self.old.seen.items trail.now.trail }
-        ensures picked { IfOk result (IsPick lists.now trail.now.trail (N.Scores.score_of scores.now) queue.now) }
+        ensures picked { IfOk result (IsPick lists.now trail.now.trail (C.score_of scores.now) queue.now) }
         ensures fits { OnOk result (Fits (literals_in lists.now) self.new queue.now) }
         ensures seen { OnOk result (self.new.seen.items ≡ trail.now.trail) }
         ensures refusal { IsOkUnless result Memory }
@@ -168,18 +167,18 @@ impl OpenNeeds {
     }
 
     /// The pick, where the trail is the one that was seen.
-    fn pick<N: SolverId>(
+    fn pick<N: Copy + Eq, C: ScoreMap<N>>(
         &mut self,
         queue: &[NeedClause],
         lists: &FixedLists<N>,
         values: &DecisionMap,
-        scores: &N::Scores,
+        scores: &C,
     ) -> Option<NextDecision>
     where
         N: Drop,
         requires fits { Fits (literals_in lists.now) self.old queue.now }
         requires values { (v : ℕ) → value_at values.now v ≡ value_in self.old.seen.items v }
-        ensures picked { result ≡ pick lists.now (value_at values.now) (N.Scores.score_of scores.now) queue.now }
+        ensures picked { result ≡ pick lists.now (value_at values.now) (C.score_of scores.now) queue.now }
         ensures fits { Fits (literals_in lists.now) self.new queue.now }
         ensures seen { self.new.seen ≡ self.old.seen }
     {
@@ -195,7 +194,7 @@ impl OpenNeeds {
     }
 
     /// Finds out whether the clause at this position may have something to decide.
-    fn may_decide<N: SolverId>(
+    fn may_decide<N: Copy>(
         &mut self,
         position: usize,
         queue: &[NeedClause],
@@ -217,7 +216,7 @@ impl OpenNeeds {
     }
 
     /// What these values tell of a clause.
-    fn found<N: SolverId>(
+    fn found<N: Copy>(
         &self,
         need: &NeedClause,
         lists: &FixedLists<N>,
@@ -264,16 +263,16 @@ fn begins_true<N: Copy>(candidates: &[Candidate<N>], values: &DecisionMap) -> bo
 }
 
 /// The decision so far, or what a clause has to decide where that beats it.
-fn or_offered<N: SolverId>(
+fn or_offered<N: Copy + Eq, C: ScoreMap<N>>(
     best: Option<NextDecision>,
     need: &NeedClause,
     lists: &FixedLists<N>,
     values: &DecisionMap,
-    scores: &N::Scores,
+    scores: &C,
 ) -> Option<NextDecision>
 where
     N: Drop,
-    ensures { result ≡ later best (offer lists.now (value_at values.now) (N.Scores.score_of scores.now) need.now) }
+    ensures { result ≡ later best (offer lists.now (value_at values.now) (C.score_of scores.now) need.now) }
 {
     if is_beaten(need, best, lists, values, scores) {
         best
@@ -284,16 +283,16 @@ where
 
 /// Whether the decision so far stands beside what a clause has to decide, which its first undecided
 /// candidate may tell.
-fn is_beaten<N: SolverId>(
+fn is_beaten<N: Copy + Eq, C: ScoreMap<N>>(
     need: &NeedClause,
     best: Option<NextDecision>,
     lists: &FixedLists<N>,
     values: &DecisionMap,
-    scores: &N::Scores,
+    scores: &C,
 ) -> bool
 where
     N: Drop,
-    ensures { result ≡ true → later best (offer lists.now (value_at values.now) (N.Scores.score_of scores.now) need.now) ≡ best }
+    ensures { result ≡ true → later best (offer lists.now (value_at values.now) (C.score_of scores.now) need.now) ≡ best }
 {
     let Some(best) = best else {
         return false;

@@ -15,13 +15,15 @@ ghost use Rattle.resolvo_proof.specs.Proof.{Proves, DenyRoot, EndsEmpty, Convinc
 use crate::step::ProofStep;
 use crate::writing::{write_derived, write_step};
 use resolvo_coding::coding::Coding;
-use resolvo_pool::solver_id::SolverId;
+use resolvo_pool::id::Exact;
 use resolvo_pool::want::R;
 use resolvo_search::analysis::Refusal;
 use std::alloc::Global;
+use std::fmt::Debug;
+use std::hash::Hash;
 
 /// The steps of the clauses behind the root's, in their order, and of a refusal, where there is one.
-pub fn proof_of<N: SolverId, S: SolverId>(
+pub fn proof_of<N: Copy + Exact + Hash + Debug, S: Copy + Exact + Hash + Debug>(
     alloc: Global,
     coding: &Coding<N, S>,
     last: Option<&Refusal>,
@@ -50,7 +52,7 @@ pub fn proof_of<N: SolverId, S: SolverId>(
 }
 
 /// The steps of the clauses behind the root's.
-fn steps_of<N: SolverId, S: SolverId>(
+fn steps_of<N: Copy + Exact + Hash + Debug, S: Copy + Exact + Hash + Debug>(
     alloc: Global,
     coding: &Coding<N, S>,
 ) -> R<Vec<ProofStep<N, S>>>

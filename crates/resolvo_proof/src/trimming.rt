@@ -9,9 +9,11 @@ ghost use Rattle.resolvo_proof.specs.Places.{HaveOnePlace};
 ghost use Rattle.resolvo_proof.specs.Trimmed.{number_of, Names, AreLeading, Flags, IsNumbered, Keeps, IsTrimmed, IsTrimmedWith, AreNamed, StaysProof};
 
 use crate::step::ProofStep;
-use resolvo_pool::solver_id::SolverId;
+use resolvo_pool::id::Exact;
 use resolvo_pool::want::R;
 use std::alloc::Global;
+use std::fmt::Debug;
+use std::hash::Hash;
 
 /// Steps of which some were left out.
 #[derive(Debug, Drop)]
@@ -22,7 +24,7 @@ pub struct Trimmed<N, S> {
 }
 
 /// The steps that lead to the last one, in their order, with their causes renumbered.
-pub fn trim<N: SolverId, S: SolverId>(
+pub fn trim<N: Copy + Exact + Hash + Debug, S: Copy + Exact + Hash + Debug>(
     alloc: Global,
     steps: Vec<ProofStep<N, S>>,
 ) -> R<Vec<ProofStep<N, S>>>
@@ -41,7 +43,7 @@ pub fn trim<N: SolverId, S: SolverId>(
 
 /// The steps that lead to those at these places, in their order, with their causes renumbered. A place
 /// where no step stands is passed over.
-pub fn trim_to<N: SolverId, S: SolverId>(
+pub fn trim_to<N: Copy + Exact + Hash + Debug, S: Copy + Exact + Hash + Debug>(
     alloc: Global,
     steps: Vec<ProofStep<N, S>>,
     wanted: &[usize],
@@ -67,7 +69,7 @@ pub fn trim_to<N: SolverId, S: SolverId>(
 }
 
 /// For each step, whether it leads to one of those at these places.
-fn leading<N: SolverId, S: SolverId>(
+fn leading<N: Copy + Exact + Hash + Debug, S: Copy + Exact + Hash + Debug>(
     alloc: Global,
     steps: &[ProofStep<N, S>],
     wanted: &[usize],
@@ -111,7 +113,7 @@ fn flag(places: &[usize], end: usize, flags: &mut Vec<bool>)
 }
 
 /// Puts the step behind those that are kept, where it leads to a wanted one.
-fn keep<N: SolverId, S: SolverId>(
+fn keep<N: Copy + Exact + Hash + Debug, S: Copy + Exact + Hash + Debug>(
     kept: &mut Vec<ProofStep<N, S>>,
     numbers: &[usize],
     leads: bool,

@@ -14,14 +14,15 @@ use crate::step::{ProofLiteral, ProofRule, ProofStep};
 use resolvo_coding::atom::ProofAtom;
 use resolvo_coding::coding::Coding;
 use resolvo_coding::stated::Stated;
-use resolvo_pool::id::{ClauseId, VariableId};
-use resolvo_pool::solver_id::SolverId;
+use resolvo_pool::id::{ClauseId, Exact, VariableId};
 use resolvo_pool::want::R;
 use resolvo_store::literal::Literal;
 use std::alloc::Global;
+use std::fmt::Debug;
+use std::hash::Hash;
 
 /// The step of a clause behind the root's.
-pub(crate) fn write_step<N: SolverId, S: SolverId>(
+pub(crate) fn write_step<N: Copy + Exact + Hash + Debug, S: Copy + Exact + Hash + Debug>(
     alloc: Global,
     coding: &Coding<N, S>,
     number: usize,
@@ -44,7 +45,7 @@ pub(crate) fn write_step<N: SolverId, S: SolverId>(
 }
 
 /// A derived step of these literals and causes.
-pub(crate) fn write_derived<N: SolverId, S: SolverId>(
+pub(crate) fn write_derived<N: Copy + Exact + Hash + Debug, S: Copy + Exact + Hash + Debug>(
     alloc: Global,
     coding: &Coding<N, S>,
     literals: &[Literal],
@@ -62,7 +63,7 @@ pub(crate) fn write_derived<N: SolverId, S: SolverId>(
 }
 
 /// What literals mean, but for the root's.
-fn write_literals<N: SolverId, S: SolverId>(
+fn write_literals<N: Copy + Exact + Hash + Debug, S: Copy + Exact + Hash + Debug>(
     alloc: Global,
     coding: &Coding<N, S>,
     literals: &[Literal],
@@ -85,7 +86,7 @@ fn write_literals<N: SolverId, S: SolverId>(
 }
 
 /// What a variable stands for; the root's stands for nothing.
-fn atom_of<N: SolverId, S: SolverId>(
+fn atom_of<N: Copy + Exact + Hash + Debug, S: Copy + Exact + Hash + Debug>(
     coding: &Coding<N, S>,
     variable: VariableId,
 ) -> Option<ProofAtom<N, S>>
@@ -110,7 +111,9 @@ fn write_causes(alloc: Global, causes: &[ClauseId]) -> R<Vec<usize>>
 }
 
 /// The rule that is stated. The root's clause and a learnt one state none.
-fn write_rule<N: SolverId, S: SolverId>(stated: &Stated<N, S>) -> R<Option<ProofRule<N, S>>>
+fn write_rule<N: Copy + Exact + Hash + Debug, S: Copy + Exact + Hash + Debug>(
+    stated: &Stated<N, S>,
+) -> R<Option<ProofRule<N, S>>>
     ensures told { IfOk result (IsTold stated.now) }
     ensures refusal { IsOkUnless result Memory }
 {

@@ -37,12 +37,22 @@ impl VersionSet for Numbers {
 }
 
 /// What was interned.
-#[derive(Drop)]
 pub struct IdTable {
     pool: Pool<Numbers>,
     /// The lists of alternatives, each once.
     unions: IndexSet<Vec<VersionSetId>>,
     alloc: Global,
+}
+
+// split for the prover: what owns one calls this drop, and doesn't drop each field at each exit
+impl Drop for IdTable {
+    fn drop(self) {
+        let IdTable {
+            pool: _,
+            unions: _,
+            alloc: _,
+        } = self;
+    }
 }
 
 impl Model for IdTable {

@@ -27,7 +27,6 @@ pub enum Hint {
 }
 
 /// A catalogue as a provider.
-#[derive(Drop)]
 pub struct CatalogueProvider {
     pub(crate) ids: IdTable,
     /// The versions of each package, by its id, in the order of their lines.
@@ -36,6 +35,20 @@ pub struct CatalogueProvider {
     pub(crate) marks: Vec<Marks>,
     pub(crate) hint: Hint,
     alloc: Global,
+}
+
+// split for the prover: what owns one calls this drop, and doesn't drop each field at each exit
+impl Drop for CatalogueProvider {
+    fn drop(self) {
+        let CatalogueProvider {
+            ids: _,
+            packages: _,
+            told: _,
+            marks: _,
+            hint: _,
+            alloc: _,
+        } = self;
+    }
 }
 
 impl Model for CatalogueProvider {

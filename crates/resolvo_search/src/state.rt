@@ -33,12 +33,23 @@ pub struct HeldClause {
 
 /// The variables by their numbers, the clauses, the trail, and the first level of the turn: no jump
 /// goes below it.
-#[derive(Drop)]
 pub struct SearchState {
     pub variables: Vec<VariableKind>,
     pub clauses: Arena<ClauseId, HeldClause>,
     pub tracker: DecisionTracker,
     pub floor: u32,
+}
+
+// split for the prover: what owns one calls this drop, and doesn't drop each field at each exit
+impl Drop for SearchState {
+    fn drop(self) {
+        let SearchState {
+            variables: _,
+            clauses: _,
+            tracker: _,
+            floor: _,
+        } = self;
+    }
 }
 
 impl SearchState {

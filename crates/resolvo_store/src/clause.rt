@@ -17,11 +17,11 @@ use crate::literals::Literals;
 use resolvo_pool::id::{DisjunctionId, LearntClauseId, StringId, VariableId, VersionSetId};
 use resolvo_pool::requirement::Requirement;
 use resolvo_pool::want::R;
-use std::alloc::Global;
+use std::alloc::{AllocError, Global};
 
 /// A clause, by its reason. Variables stand for solvables, for the root, or for helpers; `N` is the
 /// type of package names.
-#[derive(Clone, Copy, Debug)]
+#[derive(Debug)]
 pub enum Clause<N> {
     /// The root is true.
     InstallRoot,
@@ -44,6 +44,18 @@ pub enum Clause<N> {
     /// The helper that says that some version of the package is chosen is true, or the version is false.
     AnyOf(VariableId, VariableId),
 }
+
+impl<N: Copy> Clone for Clause<N> {
+    ghost is_clone = { λ x y. y ≡ x };
+
+    ghost is_infallible = { λ _. Unit {0} };
+
+    fn clone(&self) -> Result<Clause<N>, AllocError> {
+        Ok(*self)
+    }
+}
+
+impl<N: Copy> Copy for Clause<N> {}
 
 impl<N: Copy + Drop> Clause<N> {
     /// Whether the lists that it names are there.

@@ -187,15 +187,15 @@ fn does_beat(next: NextDecision, best: NextDecision) -> bool
 }
 
 /// What a clause has to decide, if it is eligible.
-pub fn offered<N: SolverId>(
+pub fn offered<N: Copy + Eq, C: ScoreMap<N>>(
     need: &NeedClause,
     lists: &FixedLists<N>,
     values: &DecisionMap,
-    scores: &N::Scores,
+    scores: &C,
 ) -> Option<NextDecision>
 where
     N: Drop,
-    ensures { result ≡ offer lists.now (value_at values.now) (N.Scores.score_of scores.now) need.now }
+    ensures { result ≡ offer lists.now (value_at values.now) (C.score_of scores.now) need.now }
 {
     if !is_needed(need, lists, values) {
         return None;
@@ -215,7 +215,7 @@ where
 }
 
 /// Whether the parent of a clause is true and its condition holds.
-fn is_needed<N: SolverId>(need: &NeedClause, lists: &FixedLists<N>, values: &DecisionMap) -> bool
+fn is_needed<N: Copy>(need: &NeedClause, lists: &FixedLists<N>, values: &DecisionMap) -> bool
 where
     N: Drop,
     ensures { result ≡ is_eligible lists.now (value_at values.now) need.now }
@@ -230,7 +230,7 @@ where
 }
 
 /// Whether all literals of a clause are false.
-fn is_falsified<N: SolverId>(need: &NeedClause, lists: &FixedLists<N>, values: &DecisionMap) -> bool
+fn is_falsified<N: Copy>(need: &NeedClause, lists: &FixedLists<N>, values: &DecisionMap) -> bool
 where
     N: Drop,
     ensures { result ≡ is_broken lists.now (value_at values.now) need.now }

@@ -11,14 +11,14 @@ pub loop-position-init : goal.loop-position-init
 loop-position-init g c = record {
   fits = fits_same (literals_in c.args.lists.now) c.args.self.now c.args.queue.now c.next_open-position.new.self c.next_open-position.ensures.same c.requires.fits;
   seen = refl;
-  picked = pick_shut c.args.lists.now (value_at c.args.values.now) (g.N.Scores.ScoreMap.score_of c.args.scores.now) c.args.self.now c.args.queue.now c.requires.fits c.requires.values _ 0 c.next_open-position.result c.next_open-position.ensures.behind c.next_open-position.ensures.passed;
+  picked = pick_shut c.args.lists.now (value_at c.args.values.now) (g.C.ScoreMap.score_of c.args.scores.now) c.args.self.now c.args.queue.now c.requires.fits c.requires.values _ 0 c.next_open-position.result c.next_open-position.ensures.behind c.next_open-position.ensures.passed;
 }
 
 pub loop-position-preserved : goal.loop-position-preserved
 loop-position-preserved g c =
     let lists = c.args.lists.now in
     let values = value_at c.args.values.now in
-    let score = g.N.Scores.ScoreMap.score_of c.args.scores.now in
+    let score = g.C.ScoreMap.score_of c.args.scores.now in
     let best = c.loop-position.best in
     let more = c.if-may_decide.best in
     let qs = c.args.queue.now in

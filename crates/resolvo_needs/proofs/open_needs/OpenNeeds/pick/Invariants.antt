@@ -9,7 +9,7 @@ abbrev pub invariant-loop-position : goal.invariant-loop-position
 invariant-loop-position g l = record {
   fits : Fits (literals_in l.lists) l.self l.queue;
   seen : l.self.seen ≡ l.fn.self.seen;
-  picked : pick l.lists (value_at l.values) (g.N.Scores.ScoreMap.score_of l.scores) l.queue ≡ pick_after l.lists (value_at l.values) (g.N.Scores.ScoreMap.score_of l.scores) l.best (drop l.position l.queue);
+  picked : pick l.lists (value_at l.values) (g.C.ScoreMap.score_of l.scores) l.queue ≡ pick_after l.lists (value_at l.values) (g.C.ScoreMap.score_of l.scores) l.best (drop l.position l.queue);
 }
 
 abbrev pub decreases-loop-position : goal.decreases-loop-position
