@@ -30,9 +30,9 @@ use Rattle.resolvo.specs.declared.search.Found.{Found}
 use Rattle.resolvo.specs.declared.search.Found.TheVariants.{Chosen, Clash}
 use Rattle.resolvo.specs.declared.turns.Turn.{Turn}
 use Rattle.resolvo.specs.declared.turns.Turns.{Turns}
-use Rattle.resolvo.specs.Turn.{IsRooted, IsTurn}
+use Rattle.resolvo_turn.specs.Turn.{IsRooted, IsTurn}
 use Rattle.resolvo.specs.Turns.{AreRight, AreTurns, AreWished, HasReason, HaveReasons, IsNextRight, StandSo, accepted_of, end_of, first_of}
-use Rattle.resolvo.specs.Encoder.{IsInOrder}
+use Rattle.resolvo_turn.specs.Encoder.{IsInOrder}
 use Rattle.resolvo.specs.Solution.{IsSolution, IsUnsolvable}
 use Rattle.resolvo.specs.Solving.{IsFoundIn, IsFound, IsListedIn, IsPreferred, IsDenial}
 use Rattle.resolvo.proofs.Next.{chosen_accepted}

@@ -26,8 +26,8 @@ use Rattle.resolvo_coding.specs.declared.stated.Stated.TheVariants.{Learnt}
 use Rattle.resolvo_coding.proofs.Origins.{means_solvable, solvable_means, stands_front}
 use Rattle.resolvo_encoding.specs.declared.encoding.Encoding.{Encoding}
 use Rattle.resolvo_encoding.proofs.Turning.{turn_accepts}
-use Rattle.resolvo.specs.Encoder.{IsInOrder}
-use Rattle.resolvo.specs.Turn.{IsTurn}
+use Rattle.resolvo_turn.specs.Encoder.{IsInOrder}
+use Rattle.resolvo_turn.specs.Turn.{IsTurn}
 use Rattle.resolvo.specs.Turns.{AreAt, AreRight, HasReason, HaveReasons, IsDeniable, Records, accepted_of, on_trail, step_of, was_accepted}
 use Rattle.resolvo.specs.declared.wishing.Wished.{Wished}
 use Rattle.resolvo.specs.Wished.{IsDenied, IsOutcome, IsReasonOf, IsTrue, KeepsTrail}
@@ -36,7 +36,7 @@ use Rattle.resolvo.specs.declared.turns.Turn.{Turn}
 use Rattle.resolvo.specs.declared.turns.Turns.{Turns}
 use Rattle.resolvo_coding.proofs.Positions.{front_get, front_same}
 use Rattle.resolvo.proofs.Listing.{accepted_more, accepted_next, next_right, refused_next}
-use Rattle.resolvo.proofs.Ending.{contains_longer}
+use Rattle.resolvo_turn.proofs.Ending.{contains_longer}
 use Rattle.resolvo.proofs.Trailing.{listed_are_chosen, listed_on_trail, trail_stays}
 
 -- ---- the accepted wishes and reasons

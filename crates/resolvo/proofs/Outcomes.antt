@@ -42,11 +42,11 @@ use Rattle.resolvo_encoding.specs.Steps.{IsBuilt, IsListed}
 use Rattle.resolvo_encoding.specs.Wishing.{turn_of, IsUntaken, IsWish, Notes, TakesBack}
 use Rattle.resolvo_encoding.proofs.Bases.{below_all, below_ends}
 use Rattle.resolvo_encoding.proofs.Picking.{ordered_stays}
-use Rattle.resolvo.specs.Encoder.{IsInOrder, AddsParents}
-use Rattle.resolvo.specs.Turn.{IsRooted, IsTurn}
+use Rattle.resolvo_turn.specs.Encoder.{IsInOrder, AddsParents}
+use Rattle.resolvo_turn.specs.Turn.{IsRooted, IsTurn}
 use Rattle.resolvo.specs.Wished.{IsLearntAs, IsOutcome, IsReasonOf, IsRefusable, IsTold, IsTrue, IsTurnedDown, KeepsRest, KeepsTrail}
 use Rattle.resolvo.specs.declared.wishing.Wished.{Wished}
-use Rattle.resolvo.proofs.Ending.{still_rooted}
+use Rattle.resolvo_turn.proofs.Ending.{still_rooted}
 use Rattle.resolvo.proofs.Wishes.{refused_all, refused_bars, refused_blamed, refused_denied, refused_empty, taken_true}
 
 -- ---- a turn is taken back

@@ -28,10 +28,10 @@ use Rattle.resolvo_encoding.specs.Steps.{IsBuilt, AddsParent}
 use Rattle.resolvo_encoding.specs.Wishing.{turn_of, IsWish}
 use Rattle.resolvo_encoding.proofs.Bases.{turn_begun}
 use Rattle.resolvo_encoding.proofs.Blaming.{blame_refuses, empty_refuses, reason_blames, refusal_blames}
-use Rattle.resolvo.specs.Encoder.{IsInOrder, AddsParents}
-use Rattle.resolvo.specs.Turn.{IsRefusedBy}
+use Rattle.resolvo_turn.specs.Encoder.{IsInOrder, AddsParents}
+use Rattle.resolvo_turn.specs.Turn.{IsRefusedBy}
 use Rattle.resolvo.specs.Wished.{IsDenied, IsTrue}
-use Rattle.resolvo.proofs.Adding.{all_then, needs_parents, parents_in_order, parents_needs}
+use Rattle.resolvo_turn.proofs.Adding.{all_then, needs_parents, parents_in_order, parents_needs}
 
 -- the root stands at the first level
 pub above_root : {N S : Type 0} (e : Encoding N S) → IsBuilt e → 1 ≤ top_level (history e.coding.search)

@@ -1,5 +1,3 @@
-pub mod Encoder
-pub mod Turn
 pub mod Solution
 pub mod Wished
 pub mod Turns

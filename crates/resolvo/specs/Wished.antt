@@ -23,7 +23,7 @@ use Rattle.resolvo_encoding.specs.declared.encoding.Encoding.{Encoding}
 use Rattle.resolvo.specs.declared.wishing.Wished.{Wished}
 use Rattle.resolvo.specs.declared.wishing.Wished.TheVariants.{Stood, Chosen, Refused, Clash}
 use Rattle.resolvo.specs.Solution.{IsUnsolvable}
-use Rattle.resolvo.specs.Turn.{IsRefusedBy, IsRooted, IsTurn}
+use Rattle.resolvo_turn.specs.Turn.{IsRefusedBy, IsRooted, IsTurn}
 
 -- the solvable is a candidate of its package
 abbrev pub IsCandidate : {N S : Type 0} → (S → S → Bool) → Packages N S → S → Type 0

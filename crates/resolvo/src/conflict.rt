@@ -5,11 +5,10 @@ ghost use Rattle.resolvo_answers.specs.Answering.{offered_solvables};
 ghost use Rattle.resolvo_cache.specs.Cached.{IsCancelledBy};
 ghost use Rattle.resolvo.specs.Conflicts.{AreOffers, IsLeft};
 ghost use Rattle.resolvo.specs.Solver.{HoldsConflict, IsGraphOf, IsTrueOf, TellsConflict};
-ghost use Rattle.resolvo.specs.Encoder.{IsRoot};
+ghost use Rattle.resolvo_turn.specs.Encoder.{IsRoot};
 ghost use Rattle.resolvo.specs.Solving.{IsSolved, EndsSo, Counts};
 ghost use Rattle.resolvo.specs.Wished.{AreCandidates};
 
-use crate::deciding::Activity;
 use crate::proving::{Solved, solve};
 use crate::search::Found;
 use crate::solver::Solver;
@@ -21,10 +20,12 @@ use resolvo_conflict::rules::requirements_of;
 use resolvo_graph::display_unsat::DisplayUnsat;
 use resolvo_graph::graph::ConflictGraph;
 use resolvo_pool::id::{ClauseId, VersionSetId};
+use resolvo_pool::id_map::ScoreMap;
 use resolvo_pool::provider::DependencyProvider;
 use resolvo_pool::requirement::ConditionalRequirement;
 use resolvo_pool::want::R;
 use resolvo_proof::step::ProofStep;
+use resolvo_turn::deciding::Activity;
 use std::alloc::Global;
 
 /// The clauses that can't be true together.
@@ -134,7 +135,7 @@ fn conflict_left<A: Answering>(
 }
 
 /// Searches as `solve` does. Of a clash it gives what a solver keeps of the conflict, too.
-pub(crate) fn solve_to_conflict<A: Answering>(
+pub(crate) fn solve_to_conflict<A: Answering, C: ScoreMap<A::NameId> + Drop>(
     alloc: Global,
     answers: &mut A,
     activity: Activity,
@@ -155,7 +156,7 @@ pub(crate) fn solve_to_conflict<A: Answering>(
     ensures left { IfOk result (λ s. IsLeft A.SolvableId.eq (A.packages answers.old) (A.orders answers.old) s.0.found s.0.proof.items s.1) }
     ensures cancelled { IfErr result (IsCancelledBy (A.may_cancel answers.old)) }
 {
-    let solved = solve(alloc, answers, activity, requirements, constraints, wishes)?;
+    let solved = solve::<A, C>(alloc, answers, activity, requirements, constraints, wishes)?;
     let conflict = conflict_left(alloc, answers, &solved)?;
     Ok((solved, conflict))
 }

@@ -3,14 +3,9 @@
 #![tactic(auto)]
 
 pub mod conflict;
-pub mod deciding;
-pub mod deferring;
-pub mod encoder;
-pub mod firing;
 pub mod problem;
 pub mod proving;
 pub mod search;
 pub mod solver;
-pub mod turn;
 pub mod turns;
 pub mod wishing;

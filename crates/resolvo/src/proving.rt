@@ -12,23 +12,25 @@ ghost use Rattle.resolvo_encoding.specs.Steps.{IsBegunEncoding};
 ghost use Rattle.resolvo_proof.specs.Drawn.{AreDrawn, HaveOneSigns};
 ghost use Rattle.resolvo_proof.specs.Places.{HaveOnePlace, AreNamedBy};
 ghost use Rattle.resolvo_proof.specs.Proof.{Proves};
-ghost use Rattle.resolvo.specs.Encoder.{IsRoot};
+ghost use Rattle.resolvo_turn.specs.Encoder.{IsRoot};
 ghost use Rattle.resolvo.specs.Wished.{AreCandidates};
 ghost use Rattle.resolvo.specs.Solving.{IsDenial, IsProvable, IsSolved, EndsSo, Counts, HasSteps};
 
-use crate::deciding::Activity;
 use crate::search::{Found, search};
 use resolvo_answers::answering::Answering;
 use resolvo_cache::cache::CacheFault;
 use resolvo_coding::coding::Coding;
 use resolvo_encoding::encoding::Encoding;
-use resolvo_pool::id::VersionSetId;
+use resolvo_pool::id::{Exact, VersionSetId};
+use resolvo_pool::id_map::ScoreMap;
 use resolvo_pool::requirement::ConditionalRequirement;
-use resolvo_pool::solver_id::SolverId;
 use resolvo_pool::want::R;
 use resolvo_proof::proof::proof_of;
 use resolvo_proof::step::ProofStep;
+use resolvo_turn::deciding::Activity;
 use std::alloc::Global;
+use std::fmt::Debug;
+use std::hash::Hash;
 
 /// What was found, of how many clauses, with how many cases left waiting, and the steps that prove it.
 #[derive(Drop)]
@@ -41,7 +43,7 @@ pub struct Solved<N, S> {
 }
 
 /// The steps of the clauses, and of a clash.
-fn steps_of<N: SolverId, S: SolverId>(
+fn steps_of<N: Copy + Exact + Hash + Debug, S: Copy + Exact + Hash + Debug>(
     alloc: Global,
     coding: &Coding<N, S>,
     found: &Found<S>,
@@ -63,7 +65,7 @@ fn steps_of<N: SolverId, S: SolverId>(
 }
 
 /// Writes the proof of what was found.
-fn prove<N: SolverId + Drop, S: SolverId>(
+fn prove<N: Copy + Exact + Hash + Debug + Drop, S: Copy + Exact + Hash + Debug>(
     alloc: Global,
     encoding: &Encoding<N, S>,
     found: Found<S>,
@@ -89,7 +91,7 @@ fn prove<N: SolverId + Drop, S: SolverId>(
 }
 
 /// Searches over an encoding that has just begun, and writes the proof.
-fn solve_in<A: Answering>(
+fn solve_in<A: Answering, C: ScoreMap<A::NameId> + Drop>(
     alloc: Global,
     answers: &mut A,
     encoding: &mut Encoding<A::NameId, A::SolvableId>,
@@ -105,7 +107,7 @@ fn solve_in<A: Answering>(
     ensures count { IfOk result (λ s. Counts s.found s.clause_count (length s.proof.items)) }
     ensures cancelled { IfErr result (IsCancelledBy (A.may_cancel answers.old)) }
 {
-    match search(
+    match search::<A, C>(
         alloc,
         answers,
         encoding,
@@ -124,7 +126,7 @@ fn solve_in<A: Answering>(
 
 /// Searches for solvables that keep the rules of a root with these requirements and constraints, and of each other, then for the
 /// wishes, in their order, and writes the proof. It stops with `Memory`, `Ids`, or a value with which the answers are cancelled.
-pub fn solve<A: Answering>(
+pub fn solve<A: Answering, C: ScoreMap<A::NameId> + Drop>(
     alloc: Global,
     answers: &mut A,
     activity: Activity,
@@ -139,7 +141,7 @@ pub fn solve<A: Answering>(
     ensures cancelled { IfErr result (IsCancelledBy (A.may_cancel answers.old)) }
 {
     let mut encoding = Encoding::begin(alloc)?;
-    solve_in(
+    solve_in::<A, C>(
         alloc,
         answers,
         &mut encoding,

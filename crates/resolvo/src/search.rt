@@ -4,25 +4,26 @@ ghost use Rattle.resolvo_cache.specs.Cached.{IsCancelledBy};
 ghost use Rattle.resolvo_pool.specs.RuleKeeping.{Rules};
 ghost use Rattle.resolvo_encoding.specs.Encoded.{IsEncoding};
 ghost use Rattle.resolvo_encoding.specs.Steps.{IsBegunEncoding, IsBuilt};
-ghost use Rattle.resolvo.specs.Encoder.{IsInOrder, IsRoot};
-ghost use Rattle.resolvo.specs.Turn.{IsRooted, IsTurn};
+ghost use Rattle.resolvo_turn.specs.Encoder.{IsInOrder, IsRoot};
+ghost use Rattle.resolvo_turn.specs.Turn.{IsRooted, IsTurn};
 ghost use Rattle.resolvo.specs.Wished.{AreCandidates};
 ghost use Rattle.resolvo.specs.Solving.{IsFound, IsFoundIn, IsListedIn, IsPreferred, IsSearch, IsDenial, IsProvable};
 
-use crate::deciding::Activity;
-use crate::turn::run_turn;
 use crate::turns::{Turn, Turns};
 use crate::wishing::run_wishes;
 use resolvo_answers::answering::Answering;
 use resolvo_cache::cache::CacheFault;
 use resolvo_encoding::encoding::Encoding;
-use resolvo_pool::id::VersionSetId;
+use resolvo_pool::id::{Exact, VersionSetId};
 use resolvo_pool::id_map::ScoreMap;
 use resolvo_pool::requirement::ConditionalRequirement;
-use resolvo_pool::solver_id::SolverId;
 use resolvo_pool::want::R;
 use resolvo_search::analysis::Refusal;
+use resolvo_turn::deciding::Activity;
+use resolvo_turn::turn::run_turn;
 use std::alloc::Global;
+use std::fmt::Debug;
+use std::hash::Hash;
 
 /// What was found.
 #[derive(Debug, Drop)]
@@ -38,7 +39,11 @@ pub enum Found<S> {
 }
 
 /// What was chosen in the turns; or why nothing can be.
-fn found_in<S: SolverId>(alloc: Global, turns: Turns<S>, clash: Option<Refusal>) -> R<Found<S>>
+fn found_in<S: Copy + Exact + Hash + Debug>(
+    alloc: Global,
+    turns: Turns<S>,
+    clash: Option<Refusal>,
+) -> R<Found<S>>
     ensures { IfOk result (IsFoundIn turns clash) }
 {
     match clash {
@@ -53,11 +58,11 @@ fn found_in<S: SolverId>(alloc: Global, turns: Turns<S>, clash: Option<Refusal>)
 }
 
 /// The turns of the wishes, after the root's, and what was found in all of them.
-fn run_others<A: Answering>(
+fn run_others<A: Answering, C: ScoreMap<A::NameId>>(
     alloc: Global,
     answers: &mut A,
     encoding: &mut Encoding<A::NameId, A::SolvableId>,
-    scores: &mut <A::NameId as SolverId>::Scores,
+    scores: &mut C,
     activity: Activity,
     requirements: &[ConditionalRequirement],
     constraints: &[VersionSetId],
@@ -92,11 +97,11 @@ fn run_others<A: Answering>(
 }
 
 /// All turns, and what was found in them.
-fn run_turns<A: Answering>(
+fn run_turns<A: Answering, C: ScoreMap<A::NameId>>(
     alloc: Global,
     answers: &mut A,
     encoding: &mut Encoding<A::NameId, A::SolvableId>,
-    scores: &mut <A::NameId as SolverId>::Scores,
+    scores: &mut C,
     activity: Activity,
     requirements: &[ConditionalRequirement],
     constraints: &[VersionSetId],
@@ -140,7 +145,7 @@ fn run_turns<A: Answering>(
 /// takes candidates in the order in which they are tried; then for the wishes, in their order. The solvables come in the order in
 /// which the trail made them true. What it encodes stands in the encoding, which has just begun. It stops with `Memory`, `Ids`,
 /// or a value with which the answers are cancelled.
-pub fn search<A: Answering>(
+pub fn search<A: Answering, C: ScoreMap<A::NameId> + Drop>(
     alloc: Global,
     answers: &mut A,
     encoding: &mut Encoding<A::NameId, A::SolvableId>,
@@ -160,7 +165,7 @@ pub fn search<A: Answering>(
         alloc,
         answers,
         encoding,
-        &mut <A::NameId as SolverId>::Scores::new(alloc),
+        &mut <C as ScoreMap<A::NameId>>::new(alloc),
         activity,
         requirements,
         constraints,

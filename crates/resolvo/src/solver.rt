@@ -10,7 +10,6 @@ ghost use Rattle.resolvo.specs.Conflicts.{Left, left_of};
 ghost use Rattle.resolvo.specs.Solver.{HoldsConflict, Kept, IfEnded, IsAnswer, IsStopped, Keeps, Leaves, root_of, stopped_by};
 
 use crate::conflict::{Conflict, KeptConflict, solve_to_conflict};
-use crate::deciding::Activity;
 use crate::problem::Problem;
 use crate::proving::Solved;
 use crate::search::Found;
@@ -19,7 +18,9 @@ use resolvo_answers::answers::Answers;
 use resolvo_cache::cache::CacheFault;
 use resolvo_conflict::offers::Offers;
 use resolvo_pool::provider::DependencyProvider;
+use resolvo_pool::solver_id::SolverId;
 use resolvo_proof::step::ProofStep;
+use resolvo_turn::deciding::Activity;
 use std::alloc::Global;
 use std::marker::Model;
 use thiserror::Error;
@@ -240,7 +241,7 @@ impl<D: DependencyProvider> Solver<D> {
             Ok(wishes) => wishes,
             Err(_) => return Err(UnsolvableOrCancelled::Memory),
         };
-        match solve_to_conflict(
+        match solve_to_conflict::<Answers<D>, <D::NameId as SolverId>::Scores>(
             self.alloc,
             &mut self.answers,
             self.activity,

@@ -7,9 +7,10 @@ ghost use Rattle.resolvo.specs.Turns.{Records, Tells, on_trail};
 use crate::wishing::Wished;
 use indexmap::IndexSet;
 use resolvo_encoding::encoding::{Encoding, add_key};
-use resolvo_pool::solver_id::SolverId;
+use resolvo_pool::id::Exact;
 use resolvo_pool::want::R;
 use std::alloc::Global;
+use std::fmt::Debug;
 use std::hash::Hash;
 
 /// The turn of a wish.
@@ -33,7 +34,7 @@ pub struct Turns<S: Eq + Hash> {
     pub turns: Vec<Turn<S>>,
 }
 
-impl<S: SolverId> Turns<S> {
+impl<S: Copy + Exact + Hash + Debug> Turns<S> {
     /// Nothing is chosen, and there was no turn.
     pub fn new(alloc: Global) -> Turns<S>
         ensures chosen { result.chosen.keys ≡ [] }
@@ -46,7 +47,11 @@ impl<S: SolverId> Turns<S> {
     }
 
     /// Lists what the trail chooses, in its order, behind what was listed.
-    pub fn list<N: SolverId>(&mut self, alloc: Global, encoding: &Encoding<N, S>) -> R<()>
+    pub fn list<N: Copy + Exact + Hash + Debug>(
+        &mut self,
+        alloc: Global,
+        encoding: &Encoding<N, S>,
+    ) -> R<()>
         ensures listed { OnOk result (IsFrontOf self.old.chosen.keys self.new.chosen.keys) }
         ensures in_order { OnOk result (self.new.chosen.keys ≡ insert_all S.eq self.old.chosen.keys (on_trail encoding.now)) }
         ensures turns { OnOk result (self.new.turns ≡ self.old.turns) }
@@ -86,7 +91,7 @@ fn turn_of<S>(wish: S, begin: usize, end: usize, wished: Wished) -> Turn<S>
 }
 
 /// Lists these behind the others, in their order and each once.
-fn list_each<S: SolverId>(listed: &mut IndexSet<S>, chosen: &[S]) -> R<()>
+fn list_each<S: Copy + Exact + Hash + Debug>(listed: &mut IndexSet<S>, chosen: &[S]) -> R<()>
     ensures adds { OnOk result (IsFrontOf listed.old.keys listed.new.keys) }
     ensures in_order { OnOk result (listed.new.keys ≡ insert_all S.eq listed.old.keys chosen.now) }
 {

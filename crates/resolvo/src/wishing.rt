@@ -12,25 +12,27 @@ ghost use Rattle.resolvo_encoding.specs.Base.{base_of, IsOpen};
 ghost use Rattle.resolvo_encoding.specs.Encoded.{IsEncoding};
 ghost use Rattle.resolvo_encoding.specs.Steps.{IsBuilt};
 ghost use Rattle.resolvo_encoding.specs.Wishing.{turn_of, IsWish};
-ghost use Rattle.resolvo.specs.Encoder.{IsInOrder, IsRoot, AddsParents};
-ghost use Rattle.resolvo.specs.Turn.{IsRooted, IsTurn};
+ghost use Rattle.resolvo_turn.specs.Encoder.{IsInOrder, IsRoot, AddsParents};
+ghost use Rattle.resolvo_turn.specs.Turn.{IsRooted, IsTurn};
 ghost use Rattle.resolvo.specs.Turns.{AreAt, AreRight, HaveReasons, IsNextRight, StandSo};
 ghost use Rattle.resolvo.specs.Wished.{AreCandidates, IsCandidate, IsOutcome, IsRefusable, IsTold, IsTurnedDown, KeepsRest, KeepsTrail};
 ghost use Rattle.resolvo.specs.declared.wishing.Wished.TheVariants.{Refused};
 
-use crate::deciding::Activity;
-use crate::turn::run_turn;
 use crate::turns::Turns;
 use resolvo_answers::answering::{Answering, Offered};
 use resolvo_cache::cache::CacheFault;
 use resolvo_encoding::encoding::Encoding;
-use resolvo_pool::id::{ClauseId, VariableId, VersionSetId};
+use resolvo_pool::id::{ClauseId, Exact, VariableId, VersionSetId};
+use resolvo_pool::id_map::ScoreMap;
 use resolvo_pool::requirement::ConditionalRequirement;
-use resolvo_pool::solver_id::SolverId;
 use resolvo_pool::want::R;
 use resolvo_search::analysis::Refusal;
 use resolvo_store::literal::Literal;
+use resolvo_turn::deciding::Activity;
+use resolvo_turn::turn::run_turn;
 use std::alloc::Global;
+use std::fmt::Debug;
+use std::hash::Hash;
 
 /// What the turn of a wish came to.
 #[derive(Debug, Drop)]
@@ -46,11 +48,11 @@ pub enum Wished {
 }
 
 /// The turn of a noted wish that isn't chosen. What stood before it stands.
-fn run_open<A: Answering>(
+fn run_open<A: Answering, C: ScoreMap<A::NameId>>(
     alloc: Global,
     answers: &mut A,
     encoding: &mut Encoding<A::NameId, A::SolvableId>,
-    scores: &mut <A::NameId as SolverId>::Scores,
+    scores: &mut C,
     activity: Activity,
     requirements: &[ConditionalRequirement],
     constraints: &[VersionSetId],
@@ -85,7 +87,10 @@ fn run_open<A: Answering>(
 }
 
 /// Takes the refused turn of the last wish back, and adds the clause that tells why.
-fn refuse<N: SolverId, S: SolverId>(encoding: &mut Encoding<N, S>, refusal: Refusal) -> R<ClauseId>
+fn refuse<N: Copy + Exact + Hash + Debug, S: Copy + Exact + Hash + Debug>(
+    encoding: &mut Encoding<N, S>,
+    refusal: Refusal,
+) -> R<ClauseId>
     requires built { IsBuilt encoding.old }
     requires refused { IsRefusable encoding.old refusal }
     requires some { 0 < length refusal.literals.items }
@@ -101,7 +106,10 @@ fn refuse<N: SolverId, S: SolverId>(encoding: &mut Encoding<N, S>, refusal: Refu
 }
 
 /// What the refused turn of the last wish came to: without literals the refusal is one of the whole problem.
-fn turn_down<N: SolverId, S: SolverId>(encoding: &mut Encoding<N, S>, refusal: Refusal) -> R<Wished>
+fn turn_down<N: Copy + Exact + Hash + Debug, S: Copy + Exact + Hash + Debug>(
+    encoding: &mut Encoding<N, S>,
+    refusal: Refusal,
+) -> R<Wished>
     requires built { IsBuilt encoding.old }
     requires refused { IsRefusable encoding.old refusal }
     ensures stays { OnOk result ((p : Packages N S) (root : Rules) → IsLawful p → IsEncoding S.eq p root encoding.old → IsEncoding S.eq p root encoding.new) }
@@ -117,11 +125,11 @@ fn turn_down<N: SolverId, S: SolverId>(encoding: &mut Encoding<N, S>, refusal: R
 }
 
 /// The turn of a wish.
-pub fn run_wish<A: Answering>(
+pub fn run_wish<A: Answering, C: ScoreMap<A::NameId>>(
     alloc: Global,
     answers: &mut A,
     encoding: &mut Encoding<A::NameId, A::SolvableId>,
-    scores: &mut <A::NameId as SolverId>::Scores,
+    scores: &mut C,
     activity: Activity,
     requirements: &[ConditionalRequirement],
     constraints: &[VersionSetId],
@@ -170,11 +178,11 @@ pub fn run_wish<A: Answering>(
 }
 
 /// The turn of the next wish, which is noted with what was chosen in it; or why no solvables keep all rules.
-fn run_next<A: Answering>(
+fn run_next<A: Answering, C: ScoreMap<A::NameId>>(
     alloc: Global,
     answers: &mut A,
     encoding: &mut Encoding<A::NameId, A::SolvableId>,
-    scores: &mut <A::NameId as SolverId>::Scores,
+    scores: &mut C,
     activity: Activity,
     requirements: &[ConditionalRequirement],
     constraints: &[VersionSetId],
@@ -222,11 +230,11 @@ fn run_next<A: Answering>(
 }
 
 /// The turns of these wishes, one after another; or why no solvables keep all rules.
-pub fn run_wishes<A: Answering>(
+pub fn run_wishes<A: Answering, C: ScoreMap<A::NameId>>(
     alloc: Global,
     answers: &mut A,
     encoding: &mut Encoding<A::NameId, A::SolvableId>,
-    scores: &mut <A::NameId as SolverId>::Scores,
+    scores: &mut C,
     activity: Activity,
     requirements: &[ConditionalRequirement],
     constraints: &[VersionSetId],

@@ -4,7 +4,7 @@ ghost use Rattle.std.specs.Prelude.{◌≡◌, IfOk, IfErr};
 ghost use Rattle.resolvo_text.specs.Device.{DeviceFailed, WriterFailed};
 ghost use Rattle.resolvo_catalogue.specs.Grammar.{AreRequestLines};
 ghost use Rattle.resolvo_report.specs.View.{report_of};
-ghost use Rattle.resolvo_turning.specs.Wishes.{AreWishesAt};
+ghost use Rattle.resolvo_reporting.specs.Wishes.{AreWishesAt};
 ghost use Rattle.resolvo_commands.specs.Answer.{IsAnswerOfLines, outcome_of};
 ghost use Rattle.resolvo_commands.specs.Running.{AnswersTexts, IsLack, StopsBefore, StopsRun, Writes};
 ghost use Rattle.resolvo_judging.specs.Devices.{reader_of, writer_of};

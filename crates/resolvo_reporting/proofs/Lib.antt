@@ -1,3 +1,4 @@
+pub mod Telling
 pub mod CaseForms
 pub mod FirstMatches
 pub mod FirstTried

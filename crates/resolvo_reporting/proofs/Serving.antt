@@ -50,9 +50,9 @@ use Rattle.resolvo.specs.Solving.{HasProof}
 use Rattle.resolvo.specs.Wished.{AreCandidates, IsCandidate}
 use Rattle.resolvo.proofs.Forward.{end_after, end_is, wished_in_turn}
 use Rattle.resolvo_reporting.specs.First.{AreFirstChosen, orders_of}
-use Rattle.resolvo_turning.specs.Wishes.{AreWishesOf, asked_by, free_of, unless_barred}
-use Rattle.resolvo_turning.specs.Turning.{Solved, AreTold, AreWanted, IsBetween, IsFirstTurn, IsWishedTurn, first_end, number_at, past}
-use Rattle.resolvo_turning.specs.declared.wishes.Wish.{Wish}
+use Rattle.resolvo_reporting.specs.Wishes.{AreWishesOf, asked_by, free_of, unless_barred}
+use Rattle.resolvo_reporting.specs.Turning.{Solved, AreTold, AreWanted, IsBetween, IsFirstTurn, IsWishedTurn, first_end, number_at, past}
+use Rattle.resolvo_reporting.specs.declared.wishes.Wish.{Wish}
 use Rattle.resolvo_reporting.proofs.FirstChosen.{first_chosen}
 use Rattle.resolvo_reporting.proofs.Walking.{AreServing, AreSoFar, IsKnownWish, index_is, IsServing, Serves, StandAt, keeps_lines, part_is, reached_so_far, serving_more, stand_for, take_next, versions_of, walk}
 

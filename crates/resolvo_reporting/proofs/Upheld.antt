@@ -45,15 +45,15 @@ use Rattle.resolvo_refusal.specs.Installing.{AreInstallSteps}
 use Rattle.resolvo.specs.declared.proving.Solved.{Solved}
 use Rattle.resolvo.specs.declared.search.Found.{Found}
 use Rattle.resolvo.specs.declared.search.Found.TheVariants.{Chosen, Clash}
-use Rattle.resolvo.specs.Encoder.{IsRoot}
+use Rattle.resolvo_turn.specs.Encoder.{IsRoot}
 use Rattle.resolvo.specs.Solving.{HaveProofs, Holds, IsPreferred, IsSolved, EndsSo}
 use Rattle.resolvo.specs.Wished.{AreCandidates}
 use Rattle.resolvo.specs.declared.turns.Turn as Solver
 use Rattle.resolvo.proofs.Forward.{one_each}
 use Rattle.resolvo.specs.Turns.{first_of}
-use Rattle.resolvo_turning.specs.Wishes.{AreWishesAt, AreWishesOf, free_of}
-use Rattle.resolvo_turning.specs.Turning.{AreTold, AreWanted, IsFirstTurn}
-use Rattle.resolvo_turning.specs.declared.wishes.Wish.{Wish}
+use Rattle.resolvo_reporting.specs.Wishes.{AreWishesAt, AreWishesOf, free_of}
+use Rattle.resolvo_reporting.specs.Turning.{AreTold, AreWanted, IsFirstTurn}
+use Rattle.resolvo_reporting.specs.declared.wishes.Wish.{Wish}
 use Rattle.resolvo_reporting.specs.First.{orders_of, AreFirstChosen}
 use Rattle.resolvo_reporting.specs.Message.{IsMessageOf, IsPlain, IsTextOf, with_message}
 use Rattle.resolvo_reporting.specs.Solved.{IsInstalledOver, IsRefutedOver, IsSolvedOver}
@@ -62,7 +62,7 @@ use Rattle.resolvo_reporting.proofs.Atoms.{same_atom, exact_atom}
 use Rattle.resolvo_reporting.proofs.Knowing.{known_kept}
 use Rattle.resolvo_reporting.proofs.Serving.{AreSteps, first_entries, free_candidates, one_step_more, refused_bars, serve_is, steps_hold, written_steps}
 use Rattle.resolvo_reporting.proofs.Using.{told_later, wish_turns, steps_used, zip_length}
-use Rattle.resolvo_turning.proofs.Telling.{steps_front}
+use Rattle.resolvo_reporting.proofs.Telling.{steps_front}
 
 pub if_ok : {A E : Type 0} {P Q : A → Type 0} (r : Result A E) → ((a : A) → P a → Q a) → IfOk r P → IfOk r Q
 if_ok (Ok a) f h = f a h

@@ -36,10 +36,10 @@ use Rattle.resolvo_entries.specs.Install.{Serve}
 use Rattle.resolvo_refusal.specs.Refusal.{IsToldBy}
 use Rattle.resolvo.specs.Solving.{HasProof}
 use Rattle.resolvo_reporting.specs.Reported.{AreUsed, AreWishTurns, IsNamedLater, wish_of}
-use Rattle.resolvo_turning.specs.Turning.{Solved, AreTold, AreWanted, IsWishedTurn, number_at, past}
-use Rattle.resolvo_turning.specs.Wishes.{asked_by, free_of, unless_barred}
-use Rattle.resolvo_turning.specs.declared.wishes.Wish.{Wish}
-use Rattle.resolvo_turning.proofs.Telling.{steps_front}
+use Rattle.resolvo_reporting.specs.Turning.{Solved, AreTold, AreWanted, IsWishedTurn, number_at, past}
+use Rattle.resolvo_reporting.specs.Wishes.{asked_by, free_of, unless_barred}
+use Rattle.resolvo_reporting.specs.declared.wishes.Wish.{Wish}
+use Rattle.resolvo_reporting.proofs.Telling.{steps_front}
 use Rattle.resolvo_reporting.proofs.Walking.{nth_is}
 
 lt-or-ge : (a b : ℕ) → (a < b) ⊎ (b ≤ a)

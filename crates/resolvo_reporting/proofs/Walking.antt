@@ -41,10 +41,10 @@ use Rattle.resolvo_entries.proofs.Reaching.{members_stand, has_version, reached_
 use Rattle.resolvo_refusal.specs.Installing.{IsBarringStepOf}
 use Rattle.resolvo.specs.Turns.{AreInTurn, IsTurnOf, accepted_by}
 use Rattle.resolvo.proofs.Forward.{end_after}
-use Rattle.resolvo_turning.specs.Wishes.{asked_by, free_of, unless_barred}
-use Rattle.resolvo_turning.specs.Turning.{Solved, AreTold, IsBetween, IsWishedTurn, number_at}
-use Rattle.resolvo_turning.specs.declared.wishes.Wish.{Wish}
-use Rattle.resolvo_turning.proofs.Telling.{steps_front}
+use Rattle.resolvo_reporting.specs.Wishes.{asked_by, free_of, unless_barred}
+use Rattle.resolvo_reporting.specs.Turning.{Solved, AreTold, IsBetween, IsWishedTurn, number_at}
+use Rattle.resolvo_reporting.specs.declared.wishes.Wish.{Wish}
+use Rattle.resolvo_reporting.proofs.Telling.{steps_front}
 
 -- ---- lists
 

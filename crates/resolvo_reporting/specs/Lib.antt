@@ -1,3 +1,5 @@
+pub mod Wishes
+pub mod Turning
 pub mod Flat
 pub mod First
 pub mod Solved

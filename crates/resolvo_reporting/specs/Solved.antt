@@ -19,8 +19,8 @@ use Rattle.resolvo.specs.declared.turns.Turn.{Turn}
 use Rattle.resolvo.specs.Solving.{AreProved, HasProof, IsSolved, EndsSo}
 use Rattle.resolvo.specs.Turns.{AreWished, first_of}
 use Rattle.resolvo_reporting.specs.First.{orders_of}
-use Rattle.resolvo_turning.specs.Wishes.{AreWishesOf, free_of}
-use Rattle.resolvo_turning.specs.declared.wishes.Wish.{Wish}
+use Rattle.resolvo_reporting.specs.Wishes.{AreWishesOf, free_of}
+use Rattle.resolvo_reporting.specs.declared.wishes.Wish.{Wish}
 
 -- What was found and its proof are a solver's, for the wishes that no step bars.
 pub record IsSolvedOver (catalogue : List Line) (said : Said) (provider : Provider) (wishes : List Wish) (solved : Solved NameId SolvableId) : Type 0 where

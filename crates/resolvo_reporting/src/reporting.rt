@@ -5,13 +5,14 @@ ghost use Rattle.resolvo_catalogue.specs.Grammar.{AreRequestLines};
 ghost use Rattle.resolvo_provider.specs.Over.{IsOver, AreAsked};
 ghost use Rattle.resolvo_report.specs.View.{messages_of, report_of};
 ghost use Rattle.resolvo_reporting.specs.Message.{with_message};
-ghost use Rattle.resolvo_turning.specs.Wishes.{AreWishesAt};
+ghost use Rattle.resolvo_reporting.specs.Wishes.{AreWishesAt};
 ghost use Rattle.resolvo_reporting.specs.Solved.{IsInstalledOver, IsRefutedOver, IsSolvedOver};
 ghost use Rattle.resolvo_reporting.specs.Reported.{IsReportOf};
 
 use crate::message::message_of;
+use crate::turns::{Outcome, report_turns, wanted_steps};
+use crate::wishes::{Wish, free_wishes, wishes_of};
 use resolvo::conflict::offers_for;
-use resolvo::deciding::Activity;
 use resolvo::proving::{Solved, solve};
 use resolvo::search::Found;
 use resolvo::turns::Turn;
@@ -27,8 +28,7 @@ use resolvo_provider::lawful::Never;
 use resolvo_provider::provider::{CatalogueProvider, Hint, RequestIds};
 use resolvo_refusal::{install_steps, refused_report};
 use resolvo_report::Report;
-use resolvo_turning::turning::{Outcome, report_turns, wanted_steps};
-use resolvo_turning::wishes::{Wish, free_wishes, wishes_of};
+use resolvo_turn::deciding::Activity;
 use std::alloc::Global;
 
 /// What the solver chose over the provider of a catalogue, as a report.
@@ -156,7 +156,7 @@ fn answered(
 {
     let wishes = wishes_of(alloc, catalogue, request)?;
     let free = free_wishes(alloc, wishes.as_slice())?;
-    let solved = solve(
+    let solved = solve::<Answers<CatalogueProvider>, Vec<u64>>(
         alloc,
         answers,
         Activity::standard(),

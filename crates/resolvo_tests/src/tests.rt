@@ -3,7 +3,6 @@
 mod pairs;
 mod sources;
 
-use resolvo::deciding::Activity;
 use resolvo::problem::Problem;
 use resolvo::proving::solve;
 use resolvo::search::Found;
@@ -15,6 +14,7 @@ use resolvo_pool::id::SolvableId;
 use resolvo_pool::want::Want;
 use resolvo_provider::lawful::Never;
 use resolvo_provider::provider::{CatalogueProvider, Hint, RequestIds};
+use resolvo_turn::deciding::Activity;
 use std::alloc::Global;
 use std::test::Fail;
 
@@ -61,7 +61,7 @@ fn chosen_of(
 ) -> Result<Option<Vec<VersionNo>>, Fail> {
     let requirements = root.requirements.as_slice();
     let constraints = root.constraints.as_slice();
-    match solve(
+    match solve::<Answers<CatalogueProvider>, Vec<u64>>(
         alloc,
         answers,
         Activity::standard(),

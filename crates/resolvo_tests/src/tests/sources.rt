@@ -1,7 +1,6 @@
 //! Sources that are no catalogue: one that cancels, and one whose ids are sparse.
 
 use super::{IF, MARKET, catalogue, request, solved_over};
-use resolvo::deciding::Activity;
 use resolvo::problem::Problem;
 use resolvo::proving::solve;
 use resolvo::search::Found;
@@ -11,10 +10,12 @@ use resolvo_cache::cache::CacheFault;
 use resolvo_catalogue::{Catalogue, Request, VersionNo};
 use resolvo_pool::id::{SolvableId, SparseId, VersionSetId};
 use resolvo_pool::requirement::ConditionalRequirement;
+use resolvo_pool::solver_id::SolverId;
 use resolvo_pool::want::{R, Want};
 use resolvo_provider::provider::{CatalogueProvider, Hint, RequestIds};
 use resolvo_sources::cancelling::Cancelling;
-use resolvo_sources::shelf::{Need, Shelf, Span, Version};
+use resolvo_sources::shelf::{Need, Package, Shelf, Span, Version};
+use resolvo_turn::deciding::Activity;
 use std::alloc::Global;
 use std::test::Fail;
 
@@ -238,7 +239,14 @@ fn chosen_from(
     needs: &[ConditionalRequirement],
     wishes: &[Version],
 ) -> Result<Option<Vec<u32>>, Fail> {
-    match solve(alloc, answers, Activity::standard(), needs, &[], wishes) {
+    match solve::<Answers<Shelf>, <Package as SolverId>::Scores>(
+        alloc,
+        answers,
+        Activity::standard(),
+        needs,
+        &[],
+        wishes,
+    ) {
         Ok(done) => Ok(shelved(alloc, &done.found)?),
         Err(CacheFault::Memory) => Err(Fail::from(Want::Memory)),
         Err(CacheFault::Ids) => Err(Fail::from(Want::Ids)),

@@ -3,8 +3,8 @@ use Rattle.resolvo_pool.specs.RuleKeeping.{Rules}
 use Rattle.resolvo_rules.specs.Encoding.{IsExact}
 use Rattle.resolvo_search.specs.declared.analysis.Refusal.{Refusal}
 use Rattle.resolvo_encoding.proofs.Building.{built_begun}
-use Rattle.resolvo.specs.Turn.{IsTurn}
-use Rattle.resolvo.specs.Encoder.{IsInOrder, IsRoot}
+use Rattle.resolvo_turn.specs.Turn.{IsTurn}
+use Rattle.resolvo_turn.specs.Encoder.{IsInOrder, IsRoot}
 use Rattle.resolvo.specs.Wished.{AreCandidates}
 use Rattle.resolvo.specs.Solving.{IsFound, IsPreferred}
 use Rattle.resolvo.proofs.Found.{begun_rooted, root_denial, root_refused}

@@ -8,7 +8,7 @@ use Rattle.resolvo_search.specs.State.{history}
 use Rattle.resolvo_answers.specs.declared.answering.Offered.{Offered}
 use Rattle.resolvo_rules.specs.Encoding.{IsExact}
 use Rattle.resolvo_encoding.specs.Steps.{IsListed}
-use Rattle.resolvo.specs.Turn.{IsTurn}
+use Rattle.resolvo_turn.specs.Turn.{IsTurn}
 use Rattle.resolvo.specs.Wished.{IsCandidate}
 use Rattle.resolvo.proofs.Outcomes.{noted_in_order, noted_keeps, noted_stood, noted_wish, down_in_order, down_keeps, down_outcome, down_told, turn_chosen, turn_keeps, turn_refusable}
 use Rattle.resolvo.proofs.wishing.run_wish.Goals as goal

@@ -3,7 +3,7 @@ use Rattle.std.proofs.lemmas.List.{take_more, take_all}
 use Rattle.resolvo_search.specs.declared.analysis.Refusal.{Refusal}
 use Rattle.resolvo_pool.specs.RuleKeeping.{Rules}
 use Rattle.resolvo_coding.proofs.Positions.{front_same, front_then}
-use Rattle.resolvo.specs.Encoder.{IsInOrder, IsRoot}
+use Rattle.resolvo_turn.specs.Encoder.{IsInOrder, IsRoot}
 use Rattle.resolvo.specs.Turns.{AreRight, HaveReasons, IsNextRight, StandSo}
 use Rattle.resolvo.specs.Wished.{IsCandidate}
 use Rattle.resolvo.proofs.Listing.{item_contained}

@@ -2,8 +2,8 @@ use Rattle.std.proofs.Common.{◌≡◌, ℕ, [], take}
 use Rattle.resolvo_pool.specs.RuleKeeping.{Rules}
 use Rattle.resolvo_store.specs.AtMostOne.{IsFrontOf}
 use Rattle.resolvo_encoding.specs.Steps.{IsBuilt}
-use Rattle.resolvo.specs.Encoder.{IsInOrder, IsRoot}
-use Rattle.resolvo.specs.Turn.{IsRooted}
+use Rattle.resolvo_turn.specs.Encoder.{IsInOrder, IsRoot}
+use Rattle.resolvo_turn.specs.Turn.{IsRooted}
 use Rattle.resolvo.specs.Turns.{AreAt, AreRight, HaveReasons}
 use Rattle.resolvo.specs.Wished.{AreCandidates}
 use Rattle.resolvo.proofs.wishing.run_wishes.Given as goal

@@ -1,6 +1,6 @@
 use Rattle.std.proofs.Common.{refl, ap, ◌∙◌}
 use Rattle.std.proofs.lemmas.Bool.{and_parts, and_from, eqb-true, eq-eqb}
-use Rattle.resolvo_turning.specs.Wishes.{free_of}
+use Rattle.resolvo_reporting.specs.Wishes.{free_of}
 use Rattle.resolvo_reporting.proofs.Upheld.{if_ok, solved_over}
 use Rattle.resolvo_reporting.proofs.reporting.answered.Goals as goal
 

@@ -8,7 +8,7 @@ use Rattle.resolvo_proof.specs.declared.step.ProofStep.{ProofStep}
 use Rattle.resolvo_provider.specs.Ids.{NameId, SolvableId}
 use Rattle.resolvo_report.specs.View.{report_of, steps_of}
 use Rattle.resolvo_entries.specs.Install.{Serve, IsInstallOf}
-use Rattle.resolvo_turning.specs.Turning.{AreWanted}
+use Rattle.resolvo_reporting.specs.Turning.{AreWanted}
 use Rattle.resolvo_reporting.proofs.Upheld.{installed_reported}
 use Rattle.resolvo_reporting.proofs.reporting.installed.Goals as goal
 

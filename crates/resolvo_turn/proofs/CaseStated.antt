@@ -1,0 +1,40 @@
+-- A case that waited becomes a clause.
+use Rattle.std.proofs.Common.{◌≡◌, ℕ, Bool, List, Some, sym, ◌∙◌, subst}
+use Rattle.std.specs.Prelude.{Contains, slice_get}
+use Rattle.resolvo_pool.specs.declared.id.VersionSetId.{VersionSetId}
+use Rattle.resolvo_pool.specs.declared.requirement.ConditionalRequirement.{ConditionalRequirement}
+use Rattle.resolvo_pool.specs.declared.requirement.Requirement.{Requirement}
+use Rattle.resolvo_pool.specs.RuleKeeping.{Packages, Rules, rules_for}
+use Rattle.resolvo_store.specs.AtMostOne.{IsFrontOf}
+use Rattle.resolvo_rules.specs.Encoding.{cases_for}
+use Rattle.resolvo_rules.specs.Ending.{IsNeedEncoded}
+use Rattle.resolvo_coding.proofs.Positions.{front_get}
+use Rattle.resolvo_encoding.specs.declared.casing.Waiting.{Waiting}
+use Rattle.resolvo_encoding.specs.declared.encoding.Deferred.{Deferred}
+use Rattle.resolvo_encoding.specs.declared.encoding.Encoding.{Encoding}
+use Rattle.resolvo_encoding.specs.Casing.{case_of, Fires, IsWaiting}
+use Rattle.resolvo_encoding.specs.Encoded.{rules_of, IsEncoding}
+use Rattle.resolvo_encoding.proofs.Requiring.{some_one}
+use Rattle.resolvo_turn.specs.Encoder.{IsInOrder}
+use Rattle.resolvo_turn.proofs.Adding.{fires_in_order}
+
+module _ {N S : Type 0} (same : S → S → Bool) (p : Packages N S) (orders : Requirement → List S → Type 0) (root : Rules) (index : ℕ) (old middle new : Encoding N S) (w : Waiting S) where
+  -- the encoding is one of the packages after the case was stated and noted, where the case was one of what waits
+  pub stated_in_order : IsWaiting old index w → IsInOrder same p orders root old → IsFrontOf old.deferred.items middle.deferred.items
+      → (Contains (rules_for same p root w.parent).requirements w.need → Contains (cases_for same p w.need) w.case.items → IsInOrder same p orders root middle × IsNeedEncoded same p (rules_of middle) w.parent w.need w.case.items)
+      → Fires index middle new → (IsEncoding same p root middle → ((d : Deferred S) → slice_get middle.deferred.items index ≡ Some d → IsNeedEncoded same p (rules_of middle) d.parent d.need (case_of d.conjuncts.items)) → IsEncoding same p root new)
+      → IsInOrder same p orders root new
+  stated_in_order is e front states fires keeps =
+      let d = is.deferred in
+      let of = e.encoding.cases.waiting index d is.at in
+      let listed : Contains (rules_for same p root w.parent).requirements w.need =
+      subst (λ x. Contains (rules_for same p root x).requirements w.need) (sym is.parent) (subst (λ (n : ConditionalRequirement). Contains (rules_for same p root d.parent).requirements n) (sym is.need) of.listed) in
+      let among : Contains (cases_for same p w.need) w.case.items =
+      subst (λ (n : ConditionalRequirement). Contains (cases_for same p n) w.case.items) (sym is.need) (subst (λ (xs : List VersionSetId). Contains (cases_for same p d.need) xs) (sym is.case) of.case) in
+      let (order, stated) = states listed among in
+      let own : IsNeedEncoded same p (rules_of middle) d.parent d.need (case_of d.conjuncts.items) =
+      subst (λ x. IsNeedEncoded same p (rules_of middle) x d.need (case_of d.conjuncts.items)) is.parent (subst (λ (n : ConditionalRequirement). IsNeedEncoded same p (rules_of middle) w.parent n (case_of d.conjuncts.items)) is.need
+      (subst (λ (xs : List VersionSetId). IsNeedEncoded same p (rules_of middle) w.parent w.need xs) is.case stated)) in
+      fires_in_order same p orders root middle new index fires (λ m. keeps m (λ other at. (
+      let one : other ≡ d = some_one other d (sym at ∙ front_get old.deferred.items middle.deferred.items index d front is.at) in
+      subst (λ (x : Deferred S). IsNeedEncoded same p (rules_of middle) x.parent x.need (case_of x.conjuncts.items)) (sym one) own))) order

@@ -1,0 +1,4 @@
+pub mod Adding
+pub mod Ending
+pub mod CaseStated
+pub mod Passing

@@ -1,0 +1,22 @@
+use Rattle.std.proofs.Common.{◌≡◌}
+use Rattle.resolvo_pool.specs.RuleKeeping.{Rules}
+use Rattle.resolvo_encoding.specs.Base.{KeepsTurn}
+use Rattle.resolvo_encoding.specs.Steps.{IsBuilt}
+use Rattle.resolvo_turn.specs.Encoder.{IsInOrder, IsRoot, AddsParents}
+use Rattle.resolvo_turn.specs.Turn.{IsRooted, rounds_left}
+use Rattle.resolvo_turn.proofs.turn.run_turn.Given as goal
+
+-- the encoding is one of the packages, and the root is the first parent
+abbrev pub invariant-loop-refusal : goal.invariant-loop-refusal
+invariant-loop-refusal g l = record {
+  same : l.answers ≡ l.initial.answers;
+  stays : (root : Rules) → IsRoot l.requirements l.constraints root → IsInOrder g.A.SolvableId.PartialEq.eq (g.A.Answering.packages l.initial.answers) (g.A.Answering.orders l.initial.answers) root l.initial.encoding
+      → IsInOrder g.A.SolvableId.PartialEq.eq (g.A.Answering.packages l.initial.answers) (g.A.Answering.orders l.initial.answers) root l.encoding;
+  adds : AddsParents l.initial.encoding l.encoding;
+  built : IsBuilt l.encoding;
+  turn : KeepsTurn l.fn.wish l.initial.encoding l.encoding;
+  rooted : IsRooted l.encoding;
+}
+
+abbrev pub decreases-loop-refusal : goal.decreases-loop-refusal
+decreases-loop-refusal g l = rounds_left l.encoding

@@ -1,0 +1,285 @@
+//! A turn, the root's or that of a wish: what was asked for is encoded, the wish is chosen, then decisions are made; what was
+//! chosen and isn't encoded yet is, in the order of the trail, then cases of conditions that hold, until nothing is left to encode.
+ghost use Rattle.std.specs.Prelude.{◌≡◌, true, false, IfOk, IfErr, OnOk};
+ghost use Rattle.resolvo_cache.specs.Cached.{IsCancelledBy};
+ghost use Rattle.resolvo_pool.specs.RuleKeeping.{Packages, Rules, IsLawful};
+ghost use Rattle.resolvo_encoding.specs.Base.{HasTurn, KeepsTurn, KeepsTurns};
+ghost use Rattle.resolvo_encoding.specs.Casing.{AreSpent};
+ghost use Rattle.resolvo_encoding.specs.Steps.{IsBuilt, AddsParent};
+ghost use Rattle.resolvo_encoding.specs.Encoded.{IsEncoding};
+ghost use Rattle.resolvo_encoding.specs.Going.{GoesOn};
+ghost use Rattle.resolvo_turn.specs.Encoder.{IsInOrder, IsRoot, AddsNeeds, AddsParents, AddsAll};
+ghost use Rattle.resolvo_turn.specs.Turn.{AddsChosen, FiresMore, IsBegunBy, IsDecisionOf, IsRooted, IsRound, IsTurn};
+
+use crate::deciding::{Activity, decide};
+use crate::encoder::encode_parents;
+use crate::firing::fire_cases;
+use resolvo_answers::answering::Answering;
+use resolvo_cache::cache::CacheFault;
+use resolvo_encoding::encoding::Encoding;
+use resolvo_pool::id::{Exact, VariableId, VersionSetId};
+use resolvo_pool::id_map::ScoreMap;
+use resolvo_pool::requirement::ConditionalRequirement;
+use resolvo_pool::want::R;
+use resolvo_search::analysis::Refusal;
+use resolvo_search::state::SearchState;
+use std::alloc::Global;
+use std::fmt::Debug;
+use std::hash::Hash;
+
+/// Lets the needs of each chosen solvable be encoded in its turn, in the order of the trail.
+fn add_chosen<N: Copy + Exact + Hash + Debug, S: Copy + Exact + Hash + Debug>(
+    alloc: Global,
+    encoding: &mut Encoding<N, S>,
+) -> R<()>
+    requires { IsBuilt encoding.old }
+    ensures { OnOk result (AddsChosen encoding.old encoding.new) }
+{
+    let chosen = encoding.coding.chosen(alloc)?;
+    for solvable in &chosen {
+        encoding.add_parent(*solvable)?;
+    }
+    Ok(())
+}
+
+/// Whether some clause from this number on has no literal that is true or open.
+fn is_any_broken(search: &SearchState, from: usize) -> bool {
+    let values = search.tracker.map();
+    search.clauses.iter().skip(from).any(|(_, clause)| {
+        clause
+            .literals
+            .iter()
+            .all(|literal| literal.eval(values) == Some(false))
+    })
+}
+
+/// Takes the turn's choices away where one of the clauses from this number on is broken.
+fn undo_broken<N: Copy + Exact + Hash + Debug, S: Copy + Exact + Hash + Debug>(
+    encoding: &mut Encoding<N, S>,
+    from: usize,
+)
+    requires { IsBuilt encoding.old }
+    ensures stays { (p : Packages N S) (root : Rules) → IsLawful p → IsEncoding S.eq p root encoding.old → IsEncoding S.eq p root encoding.new }
+    ensures goes_on { GoesOn encoding.old encoding.new }
+    ensures turn { KeepsTurns encoding.old encoding.new }
+    ensures built { IsBuilt encoding.new }
+{
+    if is_any_broken(&encoding.coding.search, from) {
+        encoding.undo_turn();
+    }
+}
+
+/// Encodes what is asked for. Where a clause that came is broken by choices, these are taken away.
+fn encode<A: Answering>(
+    alloc: Global,
+    answers: &mut A,
+    encoding: &mut Encoding<A::NameId, A::SolvableId>,
+    requirements: &[ConditionalRequirement],
+    constraints: &[VersionSetId],
+) -> Result<(), CacheFault<A::Cancel>>
+    requires { IsBuilt encoding.old }
+    ensures same { answers.new ≡ answers.old }
+    ensures encoded { OnOk result ((root : Rules) → IsRoot requirements.now constraints.now root → IsInOrder A.SolvableId.eq (A.packages answers.old) (A.orders answers.old) root encoding.old → IsInOrder A.SolvableId.eq (A.packages answers.old) (A.orders answers.old) root encoding.new) }
+    ensures all { OnOk result (AddsAll encoding.old encoding.new) }
+    ensures turn { OnOk result (KeepsTurns encoding.old encoding.new) }
+    ensures built { OnOk result (IsBuilt encoding.new) }
+    ensures cancelled { IfErr result (IsCancelledBy (A.may_cancel answers.old)) }
+{
+    let before = encoding.coding.search.clauses.len();
+    encode_parents(alloc, answers, encoding, requirements, constraints)?;
+    undo_broken(encoding, before);
+    Ok(())
+}
+
+/// States the cases that hold, when nothing is left to decide. Whether there was one; if there was none, nothing changed.
+/// Where a clause that came is broken by choices, these are taken away.
+fn fire<A: Answering>(
+    alloc: Global,
+    answers: &mut A,
+    encoding: &mut Encoding<A::NameId, A::SolvableId>,
+) -> Result<bool, CacheFault<A::Cancel>>
+    requires { IsBuilt encoding.old }
+    ensures same { answers.new ≡ answers.old }
+    ensures stays { OnOk result ((root : Rules) → IsInOrder A.SolvableId.eq (A.packages answers.old) (A.orders answers.old) root encoding.old → IsInOrder A.SolvableId.eq (A.packages answers.old) (A.orders answers.old) root encoding.new) }
+    ensures adds { OnOk result (AddsNeeds encoding.old encoding.new) }
+    ensures fires { IfOk result (λ b. b ≡ true → FiresMore encoding.old encoding.new) }
+    ensures spent { IfOk result (λ b. b ≡ false → (encoding.new ≡ encoding.old) × AreSpent A.SolvableId.eq encoding.new) }
+    ensures built { OnOk result (IsBuilt encoding.new) }
+    ensures cancelled { IfErr result (IsCancelledBy (A.may_cancel answers.old)) }
+{
+    let before = encoding.coding.search.clauses.len();
+    if !fire_cases(alloc, answers, encoding)? {
+        return Ok(false);
+    }
+    undo_broken(encoding, before);
+    Ok(true)
+}
+
+/// Chooses the turn's wish, if it has one and it isn't chosen. Where it is false before its turn, this tells why.
+fn choose_first<N: Copy + Exact + Hash + Debug, S: Copy + Exact + Hash + Debug>(
+    alloc: Global,
+    encoding: &mut Encoding<N, S>,
+    wish: Option<VariableId>,
+) -> R<Option<Refusal>>
+    requires built { IsBuilt encoding.old }
+    requires turn { HasTurn wish encoding.old }
+    ensures stays { OnOk result ((p : Packages N S) (root : Rules) → IsLawful p → IsEncoding S.eq p root encoding.old → IsEncoding S.eq p root encoding.new) }
+    ensures goes_on { OnOk result (GoesOn encoding.old encoding.new) }
+    ensures turn { OnOk result (KeepsTurn wish encoding.old encoding.new) }
+    ensures begun { IfOk result (IsBegunBy wish encoding.new) }
+    ensures built { OnOk result (IsBuilt encoding.new) }
+{
+    match wish {
+        None => Ok(None),
+        Some(variable) => encoding.choose_wish(alloc, variable),
+    }
+}
+
+/// Chooses the turn's wish, and decides what it leaves open.
+fn choose_and_decide<A: Answering, C: ScoreMap<A::NameId>>(
+    alloc: Global,
+    answers: &A,
+    encoding: &mut Encoding<A::NameId, A::SolvableId>,
+    scores: &mut C,
+    activity: Activity,
+    wish: Option<VariableId>,
+) -> Result<Option<Refusal>, CacheFault<A::Cancel>>
+    requires built { IsBuilt encoding.old }
+    requires turn { HasTurn wish encoding.old }
+    ensures stays { OnOk result ((root : Rules) → IsInOrder A.SolvableId.eq (A.packages answers.now) (A.orders answers.now) root encoding.old → IsInOrder A.SolvableId.eq (A.packages answers.now) (A.orders answers.now) root encoding.new) }
+    ensures goes_on { OnOk result (GoesOn encoding.old encoding.new) }
+    ensures turn { OnOk result (KeepsTurn wish encoding.old encoding.new) }
+    ensures decided { IfOk result (IsDecisionOf wish encoding.new) }
+    ensures built { OnOk result (IsBuilt encoding.new) }
+    ensures cancelled { IfErr result (IsCancelledBy (A.may_cancel answers.now)) }
+{
+    if let Some(refusal) = choose_first(alloc, encoding, wish)? {
+        return Ok(Some(refusal));
+    }
+    let refusal = decide(alloc, answers, encoding, scores, activity)?;
+    Ok(refusal)
+}
+
+/// Encodes what is asked for, and decides.
+fn encode_and_decide<A: Answering, C: ScoreMap<A::NameId>>(
+    alloc: Global,
+    answers: &mut A,
+    encoding: &mut Encoding<A::NameId, A::SolvableId>,
+    scores: &mut C,
+    activity: Activity,
+    requirements: &[ConditionalRequirement],
+    constraints: &[VersionSetId],
+    wish: Option<VariableId>,
+) -> Result<Option<Refusal>, CacheFault<A::Cancel>>
+    requires built { IsBuilt encoding.old }
+    requires turn { HasTurn wish encoding.old }
+    ensures same { answers.new ≡ answers.old }
+    ensures stays { OnOk result ((root : Rules) → IsRoot requirements.now constraints.now root → IsInOrder A.SolvableId.eq (A.packages answers.old) (A.orders answers.old) root encoding.old → IsInOrder A.SolvableId.eq (A.packages answers.old) (A.orders answers.old) root encoding.new) }
+    ensures all { OnOk result (AddsAll encoding.old encoding.new) }
+    ensures turn { OnOk result (KeepsTurn wish encoding.old encoding.new) }
+    ensures decided { IfOk result (IsDecisionOf wish encoding.new) }
+    ensures built { OnOk result (IsBuilt encoding.new) }
+    ensures cancelled { IfErr result (IsCancelledBy (A.may_cancel answers.old)) }
+{
+    encode(alloc, answers, encoding, requirements, constraints)?;
+    let refusal = choose_and_decide(alloc, answers, encoding, scores, activity, wish)?;
+    Ok(refusal)
+}
+
+/// What a round came to.
+#[derive(Debug, Drop)]
+enum Round {
+    /// A chosen solvable is to be encoded, or a case became a clause.
+    Goes,
+    /// Nothing is left to set, to choose or to encode.
+    Whole,
+    /// Choices can't stand together.
+    Refused(Refusal),
+}
+
+/// Encodes what is asked for, chooses the turn's wish, decides, and lets what was chosen be encoded in the next round. Where nothing was, the cases
+/// that hold become clauses.
+fn run_round<A: Answering, C: ScoreMap<A::NameId>>(
+    alloc: Global,
+    answers: &mut A,
+    encoding: &mut Encoding<A::NameId, A::SolvableId>,
+    scores: &mut C,
+    activity: Activity,
+    requirements: &[ConditionalRequirement],
+    constraints: &[VersionSetId],
+    wish: Option<VariableId>,
+) -> Result<Round, CacheFault<A::Cancel>>
+    requires built { IsBuilt encoding.old }
+    requires rooted { IsRooted encoding.old }
+    requires turn { HasTurn wish encoding.old }
+    ensures same { answers.new ≡ answers.old }
+    ensures stays { OnOk result ((root : Rules) → IsRoot requirements.now constraints.now root → IsInOrder A.SolvableId.eq (A.packages answers.old) (A.orders answers.old) root encoding.old → IsInOrder A.SolvableId.eq (A.packages answers.old) (A.orders answers.old) root encoding.new) }
+    ensures adds { OnOk result (AddsParents encoding.old encoding.new) }
+    ensures turn { OnOk result (KeepsTurn wish encoding.old encoding.new) }
+    ensures round { IfOk result (IsRound A.SolvableId.eq wish encoding.old encoding.new) }
+    ensures built { OnOk result (IsBuilt encoding.new) }
+    ensures cancelled { IfErr result (IsCancelledBy (A.may_cancel answers.old)) }
+{
+    let decided = encode_and_decide(
+        alloc,
+        answers,
+        encoding,
+        scores,
+        activity,
+        requirements,
+        constraints,
+        wish,
+    )?;
+    if let Some(refusal) = decided {
+        return Ok(Round::Refused(refusal));
+    }
+    add_chosen(alloc, encoding)?;
+    if encoding.next_parent().is_some() {
+        return Ok(Round::Goes);
+    }
+    if fire(alloc, answers, encoding)? {
+        Ok(Round::Goes)
+    } else {
+        Ok(Round::Whole)
+    }
+}
+
+/// Goes round after round, until nothing is left to encode or to choose, or choices can't stand together.
+pub fn run_turn<A: Answering, C: ScoreMap<A::NameId>>(
+    alloc: Global,
+    answers: &mut A,
+    encoding: &mut Encoding<A::NameId, A::SolvableId>,
+    scores: &mut C,
+    activity: Activity,
+    requirements: &[ConditionalRequirement],
+    constraints: &[VersionSetId],
+    wish: Option<VariableId>,
+) -> Result<Option<Refusal>, CacheFault<A::Cancel>>
+    requires built { IsBuilt encoding.old }
+    requires rooted { IsRooted encoding.old }
+    requires turn { HasTurn wish encoding.old }
+    ensures same { answers.new ≡ answers.old }
+    ensures stays { OnOk result ((root : Rules) → IsRoot requirements.now constraints.now root → IsInOrder A.SolvableId.eq (A.packages answers.old) (A.orders answers.old) root encoding.old → IsInOrder A.SolvableId.eq (A.packages answers.old) (A.orders answers.old) root encoding.new) }
+    ensures adds { OnOk result (AddsParents encoding.old encoding.new) }
+    ensures turn { OnOk result (KeepsTurn wish encoding.old encoding.new) }
+    ensures ended { IfOk result (IsTurn A.SolvableId.eq wish encoding.new) }
+    ensures built { OnOk result (IsBuilt encoding.new) }
+    ensures cancelled { IfErr result (IsCancelledBy (A.may_cancel answers.old)) }
+{
+    loop {
+        match run_round(
+            alloc,
+            answers,
+            encoding,
+            scores,
+            activity,
+            requirements,
+            constraints,
+            wish,
+        )? {
+            Round::Goes => {}
+            Round::Whole => return Ok(None),
+            Round::Refused(refusal) => return Ok(Some(refusal)),
+        }
+    }
+}

@@ -1,7 +1,0 @@
-use Rattle.std.proofs.Common.{take}
-use Rattle.resolvo_turning.specs.Turning.{AreWanted}
-use Rattle.resolvo_turning.proofs.turning.wanted_steps.Given as goal
-
--- the steps of the turns so far are wanted
-abbrev pub invariant-loop-turn : goal.invariant-loop-turn
-invariant-loop-turn l = record { are : AreWanted (take l.turn-index l.turns) l.wanted.items }

@@ -1,2 +1,0 @@
-pub mod Wishes
-pub mod Turning
