@@ -1,4 +1,4 @@
-//! Tests of `resolvo_graph`, apart from it so that a gate proves its functions once.
+//! Tests of `resolvo_graph` and `resolvo_conflict`, apart from them so that a gate proves their functions once.
 #![tactic(auto)]
 
 #[cfg(test)]

@@ -1,5 +1,6 @@
 //! What no clause says: that each call succeeds with ample memory, and the worked examples; and that
-//! a store answers generated lists of calls as a slow program over plain lists does.
+//! a store answers generated lists of calls as a slow program over plain lists does. The search on small sets of
+//! clauses, beside all values of their variables; rules as clauses; and the steps of proofs.
 
 mod clauses;
 mod draws;
@@ -9,9 +10,12 @@ mod known;
 mod names;
 mod picking;
 mod refused;
+mod registry;
+mod searches;
 mod slow_calls;
 mod slow_pick;
 mod slow_store;
+mod steps;
 mod tracking;
 mod trail;
 mod watching;

@@ -1,9 +1,0 @@
-use Rattle.resolvo_coding.specs.Coding.{IsCoding}
-use Rattle.resolvo_coding.specs.Registered.{AreTied}
-use Rattle.resolvo_coding_tests.proofs.tests.registering.register.Given as goal
-
-abbrev pub invariant-loop-number : goal.invariant-loop-number
-invariant-loop-number l = record {
-  coding : IsCoding l.coding;
-  tied : AreTied l.registry l.coding;
-}

@@ -1,5 +1,0 @@
-use Rattle.resolvo_coding.proofs.Registering.{nothing_tied}
-use Rattle.resolvo_coding_tests.proofs.tests.registering.registered.Goals as goal
-
-pub register-requires-clause-tied : goal.register-requires-clause-tied
-register-requires-clause-tied c = nothing_tied c.new.result c.in_ok-coding.coding c.new.ensures.names c.new.ensures.trackers c.in_ok-coding.ensures.begun.stated

@@ -1,3 +1,0 @@
-//! What no clause says: that each call succeeds with ample memory.
-
-mod registering;

@@ -1,6 +1,0 @@
-use Rattle.resolvo_search.specs.State.{count_of}
-use Rattle.resolvo_search.specs.Steps.{AreInRange}
-use Rattle.resolvo_proof_tests.proofs.tests.refusing.literals_of.Given as goal
-
-abbrev pub invariant-loop-variable : goal.invariant-loop-variable
-invariant-loop-variable l = AreInRange (count_of l.search) l.literals.items

@@ -1,5 +1,0 @@
-use Rattle.resolvo_search.specs.Steps.{AreInRange}
-use Rattle.resolvo_search_tests.proofs.tests.searching.literals_of.Given as goal
-
-abbrev pub invariant-loop-variable : goal.invariant-loop-variable
-invariant-loop-variable l = AreInRange l.count l.literals.items

@@ -1,0 +1,22 @@
+use Rattle.resolvo_coding.specs.declared.atom.ProofAtom.TheVariants.{Solvable}
+use Rattle.resolvo_coding.proofs.Growth.{stands_in_range, stands_grow}
+use Rattle.resolvo_store_tests.proofs.tests.registry.choose_one.Goals as goal
+
+pub need_one-requires-clause-first : goal.need_one-requires-clause-first
+need_one-requires-clause-first c =
+    let one = c.in_ok-first.ensures.registered in
+    let two = c.in_ok-second.ensures.registered in
+    stands_in_range c.register-2.new.coding c.in_ok-first.first (Solvable _) two.coding (stands_grow c.register.new.coding c.register-2.new.coding c.in_ok-first.first (Solvable _) two.grows one.stands)
+
+pub need_one-requires-clause-second : goal.need_one-requires-clause-second
+need_one-requires-clause-second c =
+    let two = c.in_ok-second.ensures.registered in
+    stands_in_range c.register-2.new.coding c.in_ok-second.second (Solvable _) two.coding two.stands
+
+pub exclude-requires-clause-variable : goal.exclude-requires-clause-variable
+exclude-requires-clause-variable c =
+    let one = c.in_ok-first.ensures.registered in
+    let two = c.in_ok-second.ensures.registered in
+    let need = c.in_ok-need_one.ensures in
+    stands_in_range c.need_one.new.coding c.in_ok-first.first (Solvable _) need.coding
+    (stands_grow c.register-2.new.coding c.need_one.new.coding c.in_ok-first.first (Solvable _) need.grows (stands_grow c.register.new.coding c.register-2.new.coding c.in_ok-first.first (Solvable _) two.grows one.stands))
