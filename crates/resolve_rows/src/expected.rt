@@ -1,0 +1,221 @@
+//! Whether what came for a row is what its sections expect.
+
+use crate::answer::{Answer, judged, read_back, solved};
+use crate::row::{Row, Section};
+use std::alloc::{AllocError, Global};
+
+/// How many bytes the devices move a call, for one run of a row each.
+const SIZES: [usize; 4] = [1, 2, 3, 4096];
+
+/// A longer catalogue is read by the last of these sizes alone.
+const SHORT: usize = 1_000_000;
+
+/// What came of a row: what its file expects, or what is told of the first difference.
+#[derive(Drop)]
+pub enum Compared {
+    Agrees,
+    Differs(String),
+}
+
+/// What a row is run on.
+#[derive(Drop)]
+struct Inputs {
+    catalogue: Vec<u8>,
+    request: Vec<u8>,
+    report: Vec<u8>,
+}
+
+/// The text of a section, or none: where it is absent, an empty text.
+fn input(alloc: Global, row: &Row<'_>, name: &str) -> Result<Option<Vec<u8>>, AllocError> {
+    match row.section(name) {
+        Some(section) => section.text(alloc),
+        None => Ok(Some(Vec::new(alloc))),
+    }
+}
+
+fn inputs_of(alloc: Global, row: &Row<'_>) -> Result<Option<Inputs>, AllocError> {
+    let catalogue = input(alloc, row, "catalogue")?;
+    let request = input(alloc, row, "request")?;
+    let report = input(alloc, row, "report")?;
+    let (Some(catalogue), Some(request), Some(report)) = (catalogue, request, report) else {
+        return Ok(None);
+    };
+    Ok(Some(Inputs {
+        catalogue,
+        request,
+        report,
+    }))
+}
+
+fn is_input(name: &str) -> bool {
+    matches!(name, "catalogue" | "request" | "report")
+}
+
+/// What comes of a row: of reading its report, of judging it, or of solving its texts.
+fn answer_to(
+    alloc: Global,
+    row: &Row<'_>,
+    inputs: &Inputs,
+    per_call: usize,
+) -> Result<Answer, AllocError> {
+    let (catalogue, request) = (inputs.catalogue.as_slice(), inputs.request.as_slice());
+    let report = inputs.report.as_slice();
+    if row.section("reads").is_some() {
+        return read_back(alloc, report, per_call);
+    }
+    if row.section("report").is_some() {
+        return judged(alloc, catalogue, request, report, per_call);
+    }
+    solved(alloc, catalogue, request, per_call)
+}
+
+/// The lines that begin so.
+fn lines_with(alloc: Global, text: &str, fronts: &[&str]) -> Result<String, AllocError> {
+    let mut lines = String::new(alloc);
+    for line in text.split_inclusive('\n') {
+        if fronts.iter().any(|front| line.starts_with(*front)) {
+            lines.push_str(line)?;
+        }
+    }
+    Ok(lines)
+}
+
+/// As much of a text as another has characters.
+fn front(alloc: Global, text: &str, wanted: &str) -> Result<String, AllocError> {
+    if text.starts_with(wanted) {
+        return String::from_str(alloc, wanted);
+    }
+    String::from_str(alloc, text)
+}
+
+/// The faulty line that is told, or `none`.
+fn fault(alloc: Global, text: &str, status: u8) -> Result<String, AllocError> {
+    let told = text.strip_prefix("fault at ").unwrap_or(text);
+    String::from_str(alloc, if status == 2 { told } else { "none\n" })
+}
+
+/// The wanted bound, where there are no more steps, or else how many there are.
+fn steps_within(alloc: Global, text: &str, wanted: &str) -> Result<String, AllocError> {
+    let count = text
+        .split('\n')
+        .filter(|line| line.starts_with("step "))
+        .count();
+    match wanted.trim().parse::<usize>() {
+        Ok(most) if count <= most => String::from_str(alloc, wanted),
+        _ => format!(in alloc; "{count}\n"),
+    }
+}
+
+/// What came where a section of this name expects something; none where there is no such section.
+fn came(
+    alloc: Global,
+    name: &str,
+    (text, status): (&str, u8),
+    wanted: &str,
+) -> Result<Option<String>, AllocError> {
+    Ok(Some(match name {
+        "prints" | "judge" | "reads" => String::from_str(alloc, text)?,
+        "begins" => front(alloc, text, wanted)?,
+        "named" => lines_with(alloc, text, &["catalogue line ", "request line "])?,
+        "steps" => lines_with(alloc, text, &["step "])?,
+        "message" => lines_with(alloc, text, &["| "])?,
+        "most steps" => steps_within(alloc, text, wanted)?,
+        "fault" => fault(alloc, text, status)?,
+        "status" => format!(in alloc; "{status}\n")?,
+        _ => return Ok(None),
+    }))
+}
+
+/// What is told where the answer isn't what a section expects.
+fn difference(
+    alloc: Global,
+    section: &Section<'_>,
+    answer: &Answer,
+) -> Result<Option<String>, AllocError> {
+    let name = section.name;
+    let Some(wanted) = section.text(alloc)? else {
+        return Ok(Some(format!(in alloc; "{name} has an escape that is none")?));
+    };
+    let texts = (
+        std::str::from_utf8(&wanted),
+        std::str::from_utf8(&answer.text),
+    );
+    let (Ok(wanted), Ok(text)) = texts else {
+        return Ok(Some(format!(in alloc; "{name} is no text")?));
+    };
+    let Some(came) = came(alloc, name, (text, answer.status), wanted)? else {
+        return Ok(Some(format!(in alloc; "no section is named {name}")?));
+    };
+    if came.as_str() == wanted {
+        return Ok(None);
+    }
+    let came = came.as_str();
+    Ok(Some(format!(in alloc; "{name}: {wanted:?} was expected, {came:?} came")?))
+}
+
+/// What is told of the first section that expects something else.
+fn first_difference(
+    alloc: Global,
+    row: &Row<'_>,
+    answer: &Answer,
+) -> Result<Option<String>, AllocError> {
+    for section in &row.sections {
+        if !is_input(section.name) {
+            if let Some(told) = difference(alloc, section, answer)? {
+                return Ok(Some(told));
+            }
+        }
+    }
+    Ok(None)
+}
+
+/// Whether the judge says yes to the report that was written for the texts, where one was.
+fn is_upheld(
+    alloc: Global,
+    row: &Row<'_>,
+    inputs: &Inputs,
+    (answer, per_call): (&Answer, usize),
+) -> Result<bool, AllocError> {
+    if row.section("report").is_some() || answer.status > 1 {
+        return Ok(true);
+    }
+    let (catalogue, request) = (inputs.catalogue.as_slice(), inputs.request.as_slice());
+    let verdict = judged(alloc, catalogue, request, &answer.text, per_call)?;
+    Ok(verdict.status == 0 && verdict.text.as_slice() == b"yes\n".as_slice())
+}
+
+/// What is told of a run of the row, where that differs.
+fn told_of(
+    alloc: Global,
+    row: &Row<'_>,
+    inputs: &Inputs,
+    per_call: usize,
+) -> Result<Option<String>, AllocError> {
+    let answer = answer_to(alloc, row, inputs, per_call)?;
+    if let Some(told) = first_difference(alloc, row, &answer)? {
+        return Ok(Some(told));
+    }
+    if !is_upheld(alloc, row, inputs, (&answer, per_call))? {
+        return Ok(Some(String::from_str(alloc, "the judge refuses its report")?));
+    }
+    Ok(None)
+}
+
+/// Runs a row at each size.
+pub fn compare(alloc: Global, row: &Row<'_>) -> Result<Compared, AllocError> {
+    let Some(inputs) = inputs_of(alloc, row)? else {
+        return Ok(Compared::Differs(String::from_str(alloc, "an escape that is none")?));
+    };
+    if row.sections.iter().all(|section| is_input(section.name)) {
+        return Ok(Compared::Differs(String::from_str(alloc, "nothing is expected")?));
+    }
+    for per_call in &SIZES {
+        if inputs.catalogue.len() > SHORT && *per_call < 4096 {
+            continue;
+        }
+        if let Some(told) = told_of(alloc, row, &inputs, *per_call)? {
+            return Ok(Compared::Differs(told));
+        }
+    }
+    Ok(Compared::Agrees)
+}
