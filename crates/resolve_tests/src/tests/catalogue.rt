@@ -1,8 +1,7 @@
-//! What no clause says: that each public call succeeds where there is memory, and rows of the language.
+//! Catalogues and requests: the questions about them, and readers that fail.
 
 ghost use Rattle.std.specs.Prelude.{◌<◌};
 
-use crate::damages::{Damage, OF_ASKED, OF_MARKET};
 use resolvo_catalogue::{
     Catalogue, MemorySource, ReadFault, Request, Rule, Span, Spec, VersionNo,
     catalogue_has_no_fault, request_has_no_fault, text_is_one_catalogue, text_is_one_request,
@@ -17,95 +16,6 @@ const MARKET: &str =
 
 /// A request over it with a line of each kind.
 const ASKED: &str = "needs a if b\n#\nwish b 2\nlimits a 2\nneeds c 0..7 | b\nwish a 1\n";
-
-/// Texts of catalogues, and their least faulty lines.
-const CATALOGUES: [(&str, Option<u32>); 53] = [
-    ("version a 1\nversion a 2\nversion a 2", Some(3)),
-    ("version a 1\nversion a 2\nversion a 1", Some(3)),
-    (
-        "version a 2\nversion a 1\nversion a 3\nversion a 1",
-        Some(4),
-    ),
-    (
-        "version a 2\nversion a 1\nversion b 1\nversion a 3\nversion b 2",
-        None,
-    ),
-    ("", None),
-    ("\n", None),
-    ("#\x00\r", None),
-    ("version a 1\nversion b 7", None),
-    (MARKET, None),
-    (
-        "version 1..2 7\nneeds 1..2\nneeds 0 0\nlimits not 1..2",
-        None,
-    ),
-    ("version a 1\nneeds a\nneeds a\nlimits b\nlimits b", None),
-    ("version a 1\nexclude a 1 x\nunknown x", None),
-    ("version a 1\nunknown x\nversion a 2\nunknown x", None),
-    (
-        "version a 1\nversion a 2\nlock a 2\nfavour a 1\nneeds a",
-        None,
-    ),
-    ("needs a", Some(1)),
-    ("#\nlimits a\nversion a 1", Some(2)),
-    ("unknown a", Some(1)),
-    ("version a 1\nlock a 2", Some(2)),
-    ("lock a 1\nversion a 1", Some(1)),
-    ("favour a 1\nversion a 1", Some(1)),
-    ("exclude a 1 x\nversion a 1", Some(1)),
-    ("version a 1\nversion a 1", Some(2)),
-    ("version a 1\nversion b 1\nversion a 1\nversion", Some(3)),
-    ("version a 1\nversion a 2\nfavour a 1\nfavour a 2", Some(4)),
-    ("version a 1\nfavour a 1\nfavour a 1", Some(3)),
-    ("version a 1\nversion a 2\nlock a 1\nlock a 2", Some(4)),
-    ("version a 1\nlock a 1\nlock a 1", Some(3)),
-    ("version a 1\nexclude a 1 x\nexclude a 1 y", Some(3)),
-    ("version a 1\nunknown w\nunknown w", Some(3)),
-    ("version a 1\nunknown w\nlock a 1\nunknown v", Some(4)),
-    ("version a 01", Some(1)),
-    ("version if 1", Some(1)),
-    ("version a 4294967296", Some(1)),
-    ("version a 1\nneeds b 3..3", Some(2)),
-    ("#\n\nversion a 1\nlimits", Some(4)),
-    ("version a 1\nneeds  b", Some(2)),
-    ("version a 1\nneeds b ", Some(2)),
-    ("version a 1\nneeds b\r", Some(2)),
-    ("version a 1\n ", Some(2)),
-    ("version a 1\n #", Some(2)),
-    ("version a 1\nneeds b |", Some(2)),
-    ("version a 1\nneeds b if", Some(2)),
-    ("version a 1\nneeds b if c and", Some(2)),
-    ("version a 1\nneeds b if ( c", Some(2)),
-    ("version a 1\nneeds b if c )", Some(2)),
-    ("version a 1\nneeds b if c if d", Some(2)),
-    ("version a 1\nlimits b | c", Some(2)),
-    ("version a 1\nlimits b if c", Some(2)),
-    ("version a 1\nexclude a 1 if", Some(2)),
-    ("version a 1\nexclude a 1", Some(2)),
-    ("version a 1\nwish a 1", Some(2)),
-    ("version a 1\n---\n", Some(2)),
-    ("versions a 1", Some(1)),
-];
-
-/// Texts of requests over the market, and their least faulty lines.
-const REQUESTS: [(&str, Option<u32>); 16] = [
-    ("", None),
-    (ASKED, None),
-    ("needs x | y 1\nlimits z", None),
-    ("wish a 1\nwish a 2", None),
-    ("wish a 1\nwish a 1", Some(2)),
-    ("wish a 1\n#\nwish b 1\nwish a 1", Some(4)),
-    ("wish a 3", Some(1)),
-    ("wish d 1", Some(1)),
-    ("#\nwish a", Some(2)),
-    ("needs  a", Some(1)),
-    ("needs a\nversion d 1", Some(2)),
-    ("unknown a", Some(1)),
-    ("lock a 1", Some(1)),
-    ("favour a 1", Some(1)),
-    ("exclude a 1 x", Some(1)),
-    ("limits a b", Some(1)),
-];
 
 fn catalogue_of(alloc: Global, text: &str, per_call: usize) -> Result<Catalogue, ReadFault>
     requires { 0 < per_call }
@@ -125,117 +35,12 @@ fn request_of(
     Request::read(alloc, &mut source, catalogue)
 }
 
-/// The fault with which a catalogue is refused.
-fn catalogue_fault(alloc: Global, text: &[u8], per_call: usize) -> Option<ReadFault>
-    requires { 0 < per_call }
-{
-    Catalogue::read(alloc, &mut MemorySource::new(text, per_call)).err()
-}
-
-/// The fault with which a request is refused.
-fn request_fault(
-    alloc: Global,
-    text: &[u8],
-    per_call: usize,
-    catalogue: &Catalogue,
-) -> Option<ReadFault>
-    requires { 0 < per_call }
-{
-    Request::read(alloc, &mut MemorySource::new(text, per_call), catalogue).err()
-}
-
 #[test]
-fn catalogues(rt: HostRuntime) {
-    for per_call in &[1usize, 2, 3, 4096] {
-        assert!(rt; *per_call > 0);
-        for (text, line) in &CATALOGUES {
-            let fault = catalogue_fault(rt.alloc(), text.as_bytes(), *per_call);
-            assert_eq!(rt; fault, line.map(ReadFault::Fault), "{text}");
-        }
-    }
+fn laws() {
     catalogue_has_no_fault();
     text_is_one_catalogue();
-}
-
-/// Each request has its least faulty line.
-fn are_told(rt: &impl Abort, alloc: Global, market: &Catalogue) {
-    for per_call in &[1usize, 2, 3, 4096] {
-        assert!(rt; *per_call > 0);
-        for (text, line) in &REQUESTS {
-            let fault = request_fault(alloc, text.as_bytes(), *per_call, market);
-            assert_eq!(rt; fault, line.map(ReadFault::Fault), "{text}");
-        }
-    }
-}
-
-#[test]
-fn requests(rt: HostRuntime) -> Result<(), Fail> {
-    are_told(&rt, rt.alloc(), &catalogue_of(rt.alloc(), MARKET, 4096)?);
     request_has_no_fault();
     text_is_one_request();
-    Ok(())
-}
-
-/// The text with so many bytes taken out at a place, and others put in.
-fn damaged(
-    alloc: Global,
-    text: &[u8],
-    at: usize,
-    out: usize,
-    put: &str,
-) -> Result<Vec<u8>, AllocError> {
-    let mut bytes = Vec::new(alloc);
-    let (front, rest) = text.split_at_checked(at).unwrap_or((text, &[]));
-    let (_, behind) = rest.split_at_checked(out).unwrap_or((rest, &[]));
-    bytes.extend_from_slice(front)?;
-    bytes.extend_from_slice(put.as_bytes())?;
-    bytes.extend_from_slice(behind)?;
-    Ok(bytes)
-}
-
-/// The fault of the market when it is damaged so.
-fn damaged_market_fault(
-    alloc: Global,
-    (at, out, put, _line): &Damage,
-) -> Result<Option<ReadFault>, AllocError> {
-    let text = damaged(alloc, MARKET.as_bytes(), *at, *out, put)?;
-    Ok(catalogue_fault(alloc, &text, 4096))
-}
-
-#[test]
-fn damaged_catalogues(rt: HostRuntime) -> Result<(), Fail> {
-    for damage in &OF_MARKET {
-        let (at, out, put, line) = damage;
-        let fault = damaged_market_fault(rt.alloc(), damage)?;
-        assert_eq!(rt; fault, line.map(ReadFault::Fault), "{at} {out} {put}");
-    }
-    Ok(())
-}
-
-/// The fault of the request when it is damaged so.
-fn damaged_asked_fault(
-    alloc: Global,
-    market: &Catalogue,
-    (at, out, put, _line): &Damage,
-) -> Result<Option<ReadFault>, AllocError> {
-    let text = damaged(alloc, ASKED.as_bytes(), *at, *out, put)?;
-    Ok(request_fault(alloc, &text, 4096, market))
-}
-
-/// Each damage of the request has its least faulty line.
-fn damages_are_told(rt: &impl Abort, alloc: Global, market: &Catalogue) -> Result<(), AllocError> {
-    for damage in &OF_ASKED {
-        let (at, out, put, line) = damage;
-        let fault = damaged_asked_fault(alloc, market, damage)?;
-        assert_eq!(rt; fault, line.map(ReadFault::Fault), "{at} {out} {put}");
-    }
-    Ok(())
-}
-
-#[test]
-fn damaged_requests(rt: HostRuntime) -> Result<(), Fail> {
-    damages_are_told(&rt, rt.alloc(), &catalogue_of(rt.alloc(), MARKET, 4096)?)?;
-    Ok(())
 }
 
 /// The fault of a catalogue whose reader fails after so many calls.

@@ -1,12 +1,9 @@
-//! Texts in, bytes and status out.
+//! The program's answers: readers and writers that fail, and generated requests beside a plain slow program.
 
 ghost use Rattle.std.specs.Prelude.{◌<◌};
 
 mod devices;
-mod faults;
-mod installs;
 mod plain;
-mod refusals;
 
 use resolvo_catalogue::{MemorySink, MemorySource};
 use resolvo_commands::run::run;
@@ -43,17 +40,6 @@ fn printed(
     let ended = run_over(alloc, catalogue, request, per_call, &mut writer);
     let (status, line) = run_ending(&ended);
     Ok((whole_text(alloc, writer.bytes(), line)?, status))
-}
-
-/// Whether the program prints this text for the two texts, with this status.
-fn prints(
-    alloc: Global,
-    (catalogue, request): (&str, &str),
-    per_call: usize,
-    (text, status): (&str, u8),
-) -> Result<bool, AllocError> {
-    let (printed, ended) = printed(alloc, catalogue, request, per_call.max(1))?;
-    Ok(printed.as_str() == text && ended == status)
 }
 
 /// Whether the program prints `yes` for a report that is judged, with status 0.

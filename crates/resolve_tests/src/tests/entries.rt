@@ -1,4 +1,4 @@
-//! What no clause says: that there is a report where there is memory, and its text for some rows.
+//! The report of turns that are chosen here: their order, and that of their steps, differs from the solver's.
 
 use resolvo_catalogue::{Catalogue, MemorySource, ReadFault, Request, Version, VersionNo};
 use resolvo_entries::{install_report, numbers_of};
@@ -33,98 +33,30 @@ struct Row {
     report: &'static str,
 }
 
-/// Nothing; versions that were chosen in another order; a line that waits for its condition; alternatives; then wishes:
-/// one that is left out alone, one that the needs chose, one with needs of its own, one that is left out below an entry,
-/// and some of each.
-static ROWS: [Row; 9] = [
-    Row {
-        catalogue: "version a 1\n",
-        request: "limits a 1\n",
-        turns: &[RowTurn::Chose(None, &[])],
-        steps: &[],
-        report: "install\n",
-    },
-    Row {
-        catalogue: "version a 1\nneeds b\nversion b 1\nversion b 2\nneeds c 1\nversion c 1\n",
-        request: "#\nneeds a\n",
-        turns: &[RowTurn::Chose(None, &[2, 3, 0])],
-        steps: &[],
-        report: "install\na=1 for request line 2\nb=2 for a=1 line 2\nc=1 for b=2 line 5\n",
-    },
-    Row {
-        catalogue: "version a 1\nneeds b\nversion b 1\nversion c 1\n",
-        request: "needs c if b\nneeds a\n",
-        turns: &[RowTurn::Chose(None, &[2, 1, 0])],
-        steps: &[],
-        report: "install\na=1 for request line 2\nb=1 for a=1 line 2\nc=1 for request line 1\n",
-    },
-    Row {
-        catalogue: "version a 1\nneeds d | c 1..3 | b\nlimits c 2\nversion b 1\nversion c 2\nneeds a if c and a\nversion d 1\nunknown why\n",
-        request: "needs a | d\n",
-        turns: &[RowTurn::Chose(None, &[0, 2])],
-        steps: &[],
-        report: "install\na=1 for request line 1\nc=2 for a=1 line 2\n",
-    },
-    Row {
-        catalogue: "version a 1\nversion a 2\nlock a 1\n",
-        request: "wish a 2\n",
-        turns: &[RowTurn::Chose(None, &[]), RowTurn::LeftOut(0, 1)],
-        steps: &[Lock {
+/// Wishes that were chosen and wishes that are left out, whose steps come in another order.
+static WISHES: Row = Row {
+    catalogue: "version a 1\nversion a 2\nlock a 1\nversion b 1\nversion b 2\nlock b 2\nversion c 1\nneeds b\n",
+    request: "wish a 2\nneeds a\nwish c 1\nwish b 1\n",
+    turns: &[
+        RowTurn::Chose(None, &[0]),
+        RowTurn::LeftOut(0, 2),
+        RowTurn::Chose(Some(1), &[4, 3]),
+        RowTurn::LeftOut(2, 1),
+    ],
+    steps: &[
+        Lock {
+            line: 6,
+            name: "b",
+            number: 1,
+        },
+        Lock {
             line: 3,
             name: "a",
             number: 2,
-        }],
-        report: "install\nleft out a=2 line 1 by 1\nstep 1 lock line 3 bars a=2\n",
-    },
-    Row {
-        catalogue: "version a 1\n",
-        request: "needs a\nwish a 1\n",
-        turns: &[RowTurn::Chose(None, &[0]), RowTurn::Chose(Some(0), &[])],
-        steps: &[],
-        report: "install\na=1 for request line 1\n",
-    },
-    Row {
-        catalogue: "version a 1\nversion a 2\nversion w 1\nneeds x\nversion x 1\nversion x 2\nneeds a 1\n",
-        request: "needs a\nwish w 1\n",
-        turns: &[RowTurn::Chose(None, &[1]), RowTurn::Chose(Some(0), &[3, 2])],
-        steps: &[],
-        report: "install\na=2 for request line 1\nw=1 wished line 2\nx=1 for w=1 line 4\n",
-    },
-    Row {
-        catalogue: "version a 1\nversion a 2\nlock a 1\n",
-        request: "needs a\nwish a 2\n",
-        turns: &[RowTurn::Chose(None, &[0]), RowTurn::LeftOut(0, 1)],
-        steps: &[Lock {
-            line: 3,
-            name: "a",
-            number: 2,
-        }],
-        report: "install\na=1 for request line 1\nleft out a=2 line 2 by 1\nstep 1 lock line 3 bars a=2\n",
-    },
-    Row {
-        catalogue: "version a 1\nversion a 2\nlock a 1\nversion b 1\nversion b 2\nlock b 2\nversion c 1\nneeds b\n",
-        request: "wish a 2\nneeds a\nwish c 1\nwish b 1\n",
-        turns: &[
-            RowTurn::Chose(None, &[0]),
-            RowTurn::LeftOut(0, 2),
-            RowTurn::Chose(Some(1), &[4, 3]),
-            RowTurn::LeftOut(2, 1),
-        ],
-        steps: &[
-            Lock {
-                line: 6,
-                name: "b",
-                number: 1,
-            },
-            Lock {
-                line: 3,
-                name: "a",
-                number: 2,
-            },
-        ],
-        report: "install\na=1 for request line 2\nleft out a=2 line 1 by 2\nc=1 wished line 3\nb=2 for c=1 line 8\nleft out b=1 line 4 by 1\nstep 1 lock line 6 bars b=1\nstep 2 lock line 3 bars a=2\n",
-    },
-];
+        },
+    ],
+    report: "install\na=1 for request line 2\nleft out a=2 line 1 by 2\nc=1 wished line 3\nb=2 for c=1 line 8\nleft out b=1 line 4 by 1\nstep 1 lock line 6 bars b=1\nstep 2 lock line 3 bars a=2\n",
+};
 
 fn solvables(alloc: Global, numbers: &[u32]) -> Result<Vec<SolvableId>, AllocError> {
     let mut solvables = Vec::new(alloc);
@@ -272,14 +204,7 @@ fn told(alloc: Global, row: &Row) -> Result<(bool, Verdict), Fail> {
 }
 
 #[test]
-fn reports(rt: HostRuntime) -> Result<(), Fail> {
-    for row in &ROWS {
-        assert_eq!(rt;
-            told(rt.alloc(), row)?,
-            (true, Verdict::Yes),
-            "{}",
-            row.report
-        );
-    }
+fn steps_in_any_order(rt: HostRuntime) -> Result<(), Fail> {
+    assert_eq!(rt; told(rt.alloc(), &WISHES)?, (true, Verdict::Yes));
     Ok(())
 }

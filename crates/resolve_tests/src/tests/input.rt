@@ -10,7 +10,7 @@ const REQUEST: &str = "needs a\n";
 
 #[test]
 fn input_is_parted(rt: HostRuntime) -> Result<(), Fail> {
-    for (input, catalogue, request) in [
+    for (input, catalogue, request) in &[
         ("a\n---\nb\n", "a\n", "b\n"),
         ("---\n---\n", "", "---\n"),
         ("a\n---", "a\n", ""),

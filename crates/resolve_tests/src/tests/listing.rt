@@ -1,4 +1,4 @@
-//! What no clause says: that there is an answer where there is memory, and rows of the order.
+//! The order of what is listed for turns that are chosen here, and not by the solver.
 
 use resolvo_catalogue::{Catalogue, MemorySource, Request, VersionNo};
 use resolvo_listing::{Answer, Entry, Reason, Turn, list};
@@ -282,24 +282,6 @@ fn conditions_in_time(rt: HostRuntime) -> Result<(), Fail> {
         ),
         &[Told::Chose(None, &[("a", 1), ("b", 1), ("c", 1), ("d", 1), ("e", 1)])],
         "a=1 for request line 3\nb=1 for a=1 line 2\nc=1 for request line 1\nd=1 for request line 1\ne=1 for request line 2\n",
-    )
-}
-
-#[test]
-fn wishes_in_turn(rt: HostRuntime) -> Result<(), Fail> {
-    are_listed(
-        &rt,
-        rt.alloc(),
-        (
-            "version a 1\nneeds b | c\nversion b 1\nversion c 1\nneeds d\nversion d 1\nversion z 1\n",
-            "wish b 1\nneeds a\nwish c 1\nneeds z if c\n",
-        ),
-        &[
-            Told::Chose(None, &[("b", 1), ("a", 1)]),
-            Told::Chose(Some(1), &[]),
-            Told::Chose(Some(3), &[("d", 1), ("z", 1), ("c", 1)]),
-        ],
-        "a=1 for request line 2\nb=1 for a=1 line 2\nc=1 wished line 3\nz=1 for request line 4\nd=1 for c=1 line 5\n",
     )
 }
 

@@ -1,4 +1,4 @@
-//! What no clause says: that each public call succeeds where there is memory, and rows from the language's description.
+//! Lines of texts, devices over memory, conditions and what they mean.
 
 ghost use Rattle.std.specs.Prelude.{◌<◌};
 
@@ -11,134 +11,6 @@ use std::alloc::{AllocError, Global};
 use std::io::{ErrorKind, Read, Write};
 use std::test::Fail;
 
-/// Texts of one line, and whether they say something.
-const LINES: [(&str, bool); 98] = [
-    ("", true),
-    ("#", true),
-    ("#\x00\r|", true),
-    ("# a comment", true),
-    ("version a 0", true),
-    ("version a_-.9 4294967295", true),
-    ("version 1..2 7", true),
-    ("version _ 1", true),
-    ("version request 1", true),
-    ("needs a", true),
-    ("needs a 0", true),
-    ("needs 0 0", true),
-    ("needs 1..2", true),
-    ("needs a 1..2", true),
-    ("needs a 0..4294967295", true),
-    ("needs a | b 3 | c 1..2", true),
-    ("needs a if b", true),
-    ("needs a if b 1 and c 2..3 or ( d or ( e and f ) )", true),
-    ("needs a | b if not", true),
-    ("needs if1 if IF", true),
-    ("limits a", true),
-    ("limits a 1..2", true),
-    ("unknown gone", true),
-    ("lock a 1", true),
-    ("favour a 1", true),
-    ("exclude a 1 broken", true),
-    ("wish a 1", true),
-    (
-        "needs a if b and b and b and b and b and b and b and b and b and b and b and b and b and b and b and b",
-        true,
-    ),
-    (
-        "needs a if ( ( ( ( ( ( ( ( ( ( ( ( ( ( ( ( b ) ) ) ) ) ) ) ) ) ) ) ) ) ) ) )",
-        true,
-    ),
-    (" ", false),
-    ("version", false),
-    ("version a", false),
-    ("version a 1 ", false),
-    (" version a 1", false),
-    ("version  a 1", false),
-    ("version a  1", false),
-    ("version a 1 2", false),
-    ("version a 01", false),
-    ("version a +1", false),
-    ("version a -1", false),
-    ("version a 4294967296", false),
-    ("version a 1\r", false),
-    ("version if 1", false),
-    ("version and 1", false),
-    ("version or 1", false),
-    ("version -a 1", false),
-    ("version .a 1", false),
-    ("version a/b 1", false),
-    ("Version a 1", false),
-    ("versions a 1", false),
-    ("a", false),
-    (" #", false),
-    ("needs", false),
-    ("needs a |", false),
-    ("needs | a", false),
-    ("needs a || b", false),
-    ("needs a|b", false),
-    ("needs a b", false),
-    ("needs a 1..1", false),
-    ("needs a 2..1", false),
-    ("needs a 1..", false),
-    ("needs a ..1", false),
-    ("needs a 1...2", false),
-    ("needs a 1..2..3", false),
-    ("needs a 1.2", false),
-    ("needs a 01..2", false),
-    ("needs a 1..02", false),
-    ("needs a 0..4294967296", false),
-    ("needs a if", false),
-    ("needs a if b if c", false),
-    ("needs a if b and", false),
-    ("needs a if and b", false),
-    ("needs a if b and or c", false),
-    ("needs a if b c", false),
-    ("needs a if ( b", false),
-    ("needs a if b )", false),
-    ("needs a if ( )", false),
-    ("needs a if (b)", false),
-    ("needs a if ( b ) c", false),
-    ("needs a if b | c", false),
-    ("if b", false),
-    ("needs if b", false),
-    ("limits a | b", false),
-    ("limits a if b", false),
-    ("limits", false),
-    ("unknown", false),
-    ("unknown if", false),
-    ("unknown a b", false),
-    ("lock a", false),
-    ("lock a 1..2", false),
-    ("favour a", false),
-    ("exclude a 1", false),
-    ("exclude a 1 if", false),
-    ("exclude a 1 b c", false),
-    ("wish a", false),
-    ("wish a 1 2", false),
-    (
-        "needs a if b and b and b and b and b and b and b and b and b and b and b and b and b and b and b and b and b",
-        false,
-    ),
-    (
-        "needs a if ( ( ( ( ( ( ( ( ( ( ( ( ( ( ( ( ( b ) ) ) ) ) ) ) ) ) ) ) ) ) ) ) ) )",
-        false,
-    ),
-];
-
-#[test]
-fn lines(rt: HostRuntime) -> Result<(), Fail> {
-    let alloc = rt.alloc();
-    for (text, says) in LINES {
-        let said = match line_in(alloc, text.as_bytes()) {
-            Ok(_) => true,
-            Err(LineFault::Fault) => false,
-            Err(LineFault::Memory) => return Err(LineFault::Memory)?,
-        };
-        assert_eq!(rt; said, says, "{text}");
-    }
-    Ok(())
-}
-
 /// The lines of a text of at most `limit` bytes, each followed by `$`.
 fn lines_of(alloc: Global, mut source: MemorySource, limit: u32) -> Result<Vec<u8>, ReadFault> {
     let mut reader = LineReader::new(alloc, limit)?;
@@ -150,74 +22,61 @@ fn lines_of(alloc: Global, mut source: MemorySource, limit: u32) -> Result<Vec<u
     Ok(all)
 }
 
+/// Whether a text has these lines, from a device that gives so many bytes a call after interruptions.
+fn has_lines(alloc: Global, text: &str, per_call: usize, lines: &str) -> Result<bool, ReadFault> {
+    let source = MemorySource::new(text.as_bytes(), per_call.max(1)).interrupted(1000);
+    Ok(lines_of(alloc, source, 100)?.as_slice() == lines.as_bytes())
+}
+
 #[test]
 fn pieces(rt: HostRuntime) -> Result<(), Fail> {
-    let texts = [
-        ("", ""),
-        ("a", "a$"),
-        ("a\n", "a$"),
-        ("\n", "$"),
-        ("a\n\nbc", "a$$bc$"),
-        ("a\nbc\n\n", "a$bc$$"),
-    ];
-    for per_call in [1usize, 2, 3, 4096] {
-        assert!(rt; per_call > 0);
-        for (text, lines) in texts {
-            let source = MemorySource::new(text.as_bytes(), per_call).interrupted(1000);
-            let all = lines_of(rt.alloc(), source, 100)?;
-            assert_eq!(rt; all.as_slice(), lines.as_bytes(), "{text}");
+    for per_call in &[1usize, 2, 3, 4096] {
+        for (text, lines) in &[
+            ("", ""),
+            ("a", "a$"),
+            ("a\n", "a$"),
+            ("\n", "$"),
+            ("a\n\nbc", "a$$bc$"),
+            ("a\nbc\n\n", "a$bc$$"),
+        ] {
+            assert!(rt; has_lines(rt.alloc(), text, *per_call, lines)?, "{text}");
         }
     }
     Ok(())
 }
 
-#[test]
-fn device_faults(rt: HostRuntime) -> Result<(), Fail> {
-    let text = b"ab\ncd".as_slice();
-    for calls in 0..5u64 {
-        let source = MemorySource::new(text, 2).failing_after(calls);
-        let fault = lines_of(rt.alloc(), source, 100).err();
-        assert_eq!(rt; fault, Some(ReadFault::Reader), "{calls}");
-    }
-    let source = MemorySource::new(text, 2).failing_after(5);
-    assert_eq!(rt; lines_of(rt.alloc(), source, 100).err(), None);
-    let source = MemorySource::new(text, 2).interrupted(1001);
-    let fault = lines_of(rt.alloc(), source, 100).err();
-    assert_eq!(rt; fault, Some(ReadFault::Reader));
-    Ok(())
+/// The fault of a text of two lines whose device fails after so many calls, or is interrupted so often before.
+fn device_fault(alloc: Global, calls: u64, interruptions: u32) -> Option<ReadFault> {
+    let source = MemorySource::new(b"ab\ncd", 2)
+        .failing_after(calls)
+        .interrupted(interruptions);
+    lines_of(alloc, source, 100).err()
 }
 
 #[test]
-fn bounds(rt: HostRuntime) -> Result<(), Fail> {
-    let text = b"#234\n#7".as_slice();
-    for (limit, fault) in [
+fn device_faults(rt: HostRuntime) {
+    for calls in 0..5u64 {
+        let fault = device_fault(rt.alloc(), calls, 0);
+        assert_eq!(rt; fault, Some(ReadFault::Reader), "{calls}");
+    }
+    assert_eq!(rt; device_fault(rt.alloc(), 5, 0), None);
+    assert_eq!(rt; device_fault(rt.alloc(), 5, 1001), Some(ReadFault::Reader));
+}
+
+/// The fault of a text of 7 bytes under this limit.
+fn fault_under(alloc: Global, limit: u32) -> Option<ReadFault> {
+    lines_of(alloc, MemorySource::new(b"#234\n#7", 3), limit).err()
+}
+
+#[test]
+fn bounds(rt: HostRuntime) {
+    for (limit, fault) in &[
         (7u32, None),
         (6, Some(ReadFault::TooLong)),
         (0, Some(ReadFault::TooLong)),
     ] {
-        let source = MemorySource::new(text, 3);
-        assert_eq!(rt; lines_of(rt.alloc(), source, limit).err(), fault, "{limit}");
+        assert_eq!(rt; fault_under(rt.alloc(), *limit), *fault, "{limit}");
     }
-    Ok(())
-}
-
-/// A comment of so many bytes.
-fn comment(alloc: Global, bytes: usize) -> Result<Vec<u8>, AllocError> {
-    vec![in alloc; b'#'; bytes]
-}
-
-#[test]
-fn longest_text(rt: HostRuntime) -> Result<(), Fail> {
-    for (bytes, fault) in [
-        (16_777_216usize, None),
-        (16_777_217, Some(ReadFault::TooLong)),
-    ] {
-        let text = comment(rt.alloc(), bytes)?;
-        let source = MemorySource::new(&text, 4096);
-        let read = lines_of(rt.alloc(), source, 16_777_216);
-        assert_eq!(rt; read.err(), fault, "{bytes}");
-    }
-    Ok(())
 }
 
 #[test]
@@ -234,15 +93,23 @@ fn sinks(rt: HostRuntime) -> Result<(), Fail> {
     Ok(())
 }
 
-/// What came of writing `abcde` so, and what the sink took.
-fn written(alloc: Global, mut sink: MemorySink) -> Result<(bool, Vec<u8>), AllocError> {
-    let whole = write_all(&mut sink, b"abcde").is_ok();
-    Ok((whole, Vec::from_slice(alloc, sink.bytes())?))
+/// Whether `abcde` is written whole, or not, to a sink of so much room that takes 2 bytes a call, fails after so many
+/// calls and is interrupted so often before; and whether it took these bytes.
+fn writes_so(
+    alloc: Global,
+    (room, calls, interruptions): (usize, u64, u32),
+    (whole, taken): (bool, &str),
+) -> Result<bool, AllocError> {
+    let mut sink = MemorySink::new(alloc, room, 2)?
+        .interrupted(interruptions)
+        .failing_after(calls);
+    let all = write_all(&mut sink, b"abcde").is_ok();
+    Ok(all == whole && sink.bytes() == taken.as_bytes())
 }
 
 #[test]
 fn writes(rt: HostRuntime) -> Result<(), Fail> {
-    for (room, calls, interruptions, whole, taken) in [
+    for (room, calls, interruptions, whole, taken) in &[
         (5usize, 9u64, 1000u32, true, "abcde"),
         (5, 9, 1001, false, ""),
         (5, 0, 0, false, ""),
@@ -251,15 +118,9 @@ fn writes(rt: HostRuntime) -> Result<(), Fail> {
         (5, 3, 0, true, "abcde"),
         (3, 9, 0, false, "ab"),
     ] {
-        let sink = MemorySink::new(rt.alloc(), room, 2)?;
-        let sink = sink.interrupted(interruptions).failing_after(calls);
-        let (all, bytes) = written(rt.alloc(), sink)?;
-        assert_eq!(rt; all, whole, "{room} {calls} {interruptions}");
-        assert_eq!(rt;
-            bytes.as_slice(),
-            taken.as_bytes(),
-            "{room} {calls} {interruptions}"
-        );
+        let devices = (*room, *calls, *interruptions);
+        let holds = writes_so(rt.alloc(), devices, (*whole, taken))?;
+        assert!(rt; holds, "{room} {calls} {interruptions}");
     }
     assert!(rt; write_all(&mut Counted::new(Full), b"a").is_err());
     Ok(())
@@ -337,22 +198,34 @@ fn shown_cases(alloc: Global, text: &str) -> Result<String, LineFault> {
 
 #[test]
 fn cases(rt: HostRuntime) -> Result<(), Fail> {
-    for (text, shown) in [
+    for (text, shown) in &[
         ("a or b and c", "a ;b c ;"),
         ("( a or b ) and ( c or d )", "a c ;a d ;b c ;b d ;"),
         ("a and b or c and d", "a b ;c d ;"),
         ("a and ( b or c ) and d", "a b d ;a c d ;"),
     ] {
         let all = shown_cases(rt.alloc(), text)?;
-        assert_eq!(rt; all.as_str(), shown, "{text}");
+        assert_eq!(rt; all.as_str(), *shown, "{text}");
     }
-    let three = "( a or b or c ) and ( a or b or c ) and ( a or b or c ) and ( a or b or c )";
-    let text = format!(in rt.alloc(); "{three} and ( a or b or c or d )")?;
-    if let Some(condition) = condition_of(rt.alloc(), &text)? {
-        assert_eq!(rt; cases_in(rt.alloc(), &condition)?.len(), 324);
-        let copy = condition.copy(rt.alloc())?;
-        assert_eq!(rt; cases_in(rt.alloc(), &copy)?.len(), 324);
-    }
+    Ok(())
+}
+
+/// How many cases a condition and its copy have.
+fn case_counts(alloc: Global, condition: &Cond) -> Result<(usize, usize), AllocError> {
+    let copy = condition.copy(alloc)?;
+    Ok((
+        cases_in(alloc, condition)?.len(),
+        cases_in(alloc, &copy)?.len(),
+    ))
+}
+
+/// The largest number of cases of 16 SPECs.
+#[test]
+fn most_cases(rt: HostRuntime) -> Result<(), Fail> {
+    let text =
+        "( a or b or c ) and ( a or b or c ) and ( a or b or c ) and ( a or b or c ) and ( a or b or c or d )";
+    let condition = condition_of(rt.alloc(), text)?.ok_or("no condition")?;
+    assert_eq!(rt; case_counts(rt.alloc(), &condition)?, (324, 324));
     Ok(())
 }
 
@@ -366,9 +239,15 @@ fn versions(alloc: Global, names: &str) -> Result<Vec<Version>, Fail> {
     Ok(all)
 }
 
+/// Whether the condition that a text spells holds in a set of these packages.
+fn holds_in(alloc: Global, text: &str, names: &str) -> Result<bool, Fail> {
+    let condition = condition_of(alloc, text)?.ok_or("no condition")?;
+    Ok(holds(&condition, &versions(alloc, names)?))
+}
+
 #[test]
 fn meaning(rt: HostRuntime) -> Result<(), Fail> {
-    for (text, names, holding) in [
+    for (text, names, holding) in &[
         ("a or b and c", "a", true),
         ("a or b and c", "b", false),
         ("a or b and c", "bc", true),
@@ -378,23 +257,37 @@ fn meaning(rt: HostRuntime) -> Result<(), Fail> {
         ("a 0..2", "a", true),
         ("a 0..1", "a", false),
     ] {
-        let set = versions(rt.alloc(), names)?;
-        let condition = condition_of(rt.alloc(), text)?.ok_or("no condition")?;
-        assert_eq!(rt; holds(&condition, &set), holding, "{text} in {names}");
+        let found = holds_in(rt.alloc(), text, names)?;
+        assert_eq!(rt; found, *holding, "{text} in {names}");
     }
-    let set = versions(rt.alloc(), "ab")?;
+    Ok(())
+}
+
+/// The SPEC `a 1..2` and the version `a 1`.
+fn spec_and_version(alloc: Global) -> Result<(Spec, Version), AllocError> {
     let spec = Spec {
-        name: String::from_str(rt.alloc(), "a")?,
+        name: String::from_str(alloc, "a")?,
         span: Span::Range(1, 2),
     };
     let version = Version {
         name: spec.name.clone()?,
         number: 1,
     };
-    assert!(rt; is_in_span(spec.span, 1) && !is_in_span(spec.span, 2));
-    assert!(rt; matches(&spec, &version) && is_member(&version, &set) && is_met(&spec, &set));
+    Ok((spec, version))
+}
+
+/// Whether a SPEC matches a version, which is a member of a set, and so does their copy.
+fn are_met((spec, version): &(Spec, Version), set: &[Version]) -> Result<bool, AllocError> {
     let alternatives = [spec.copy()?];
-    assert!(rt; is_met_by_one(&alternatives, &set) && !is_met_by_one(&[], &set));
-    assert!(rt; !is_member(&version.copy()?, &[]));
+    let met = is_met(spec, set) && is_met_by_one(&alternatives, set);
+    let matched = matches(spec, version) && is_member(version, set);
+    Ok(met && matched && !is_met_by_one(&[], set) && !is_member(&version.copy()?, &[]))
+}
+
+#[test]
+fn matches_and_members(rt: HostRuntime) -> Result<(), Fail> {
+    let asked = spec_and_version(rt.alloc())?;
+    assert!(rt; is_in_span(asked.0.span, 1) && !is_in_span(asked.0.span, 2));
+    assert!(rt; are_met(&asked, &versions(rt.alloc(), "ab")?)?);
     Ok(())
 }

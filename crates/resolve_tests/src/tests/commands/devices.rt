@@ -102,18 +102,35 @@ fn each_read_failing(rt: HostRuntime) -> Result<(), Fail> {
     Ok(())
 }
 
-/// A whole line that came is judged before the read that fails; an unfinished one isn't.
+/// How a run ends whose catalogue's device fails after so many calls, and whether this is all that it writes.
+fn told_where_failing(
+    alloc: Global,
+    text: &str,
+    calls: u64,
+    told: &str,
+) -> Result<(Result<Outcome, RunFault>, bool), AllocError> {
+    let catalogue = MemorySource::new(text.as_bytes(), 1).failing_after(calls);
+    let request = MemorySource::new(REQUEST.as_bytes(), 1);
+    let mut writer = MemorySink::new(alloc, 100, 1)?;
+    let ended = ended(alloc, catalogue, request, &mut writer);
+    Ok((ended, writer.bytes() == told.as_bytes()))
+}
+
+/// A whole line that came is judged before the read that fails, and told; an unfinished one isn't.
 #[test]
 fn faults_before_failures(rt: HostRuntime) -> Result<(), Fail> {
-    for (text, calls, wanted) in &[
-        ("version a 1\nvers", 16u64, Err(RunFault::Reader)),
-        ("vers\nversion", 5, Ok(Outcome::Faulty)),
-        ("vers", 4, Err(RunFault::Reader)),
+    for (text, calls, wanted, told) in &[
+        ("version a 1\nvers", 16u64, Err(RunFault::Reader), ""),
+        (
+            "vers\nversion",
+            5,
+            Ok(Outcome::Faulty),
+            "fault at catalogue line 1\n",
+        ),
+        ("vers", 4, Err(RunFault::Reader), ""),
     ] {
-        let catalogue = MemorySource::new(text.as_bytes(), 1).failing_after(*calls);
-        let request = MemorySource::new(REQUEST.as_bytes(), 1);
-        let (ended, _bytes) = read(rt.alloc(), catalogue, request)?;
-        assert_eq!(rt; ended, *wanted, "{text}");
+        let found = told_where_failing(rt.alloc(), text, *calls, told)?;
+        assert_eq!(rt; found, (*wanted, true), "{text}");
     }
     Ok(())
 }
