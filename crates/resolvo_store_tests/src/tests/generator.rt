@@ -39,6 +39,65 @@ fn fill(alloc: Global, draws: &mut Draws, is_standard: bool, list: &mut CallList
     fill_by(alloc, draws, is_standard, list, &mut SlowStore::new(alloc))
 }
 
+/// The first two values.
+fn put_values(
+    alloc: Global,
+    draws: &mut Draws,
+    list: &mut CallList,
+    slow: &mut SlowStore,
+) -> R<()> {
+    let root = VariableId::root();
+    list.put(alloc, slow, first_level(root, !draws.one_in(8)))?;
+    list.put(alloc, slow, first_level(small_variable(draws), true))
+}
+
+/// Candidates and clauses, which give the store something to work on.
+fn put_clauses(
+    alloc: Global,
+    draws: &mut Draws,
+    is_standard: bool,
+    list: &mut CallList,
+    slow: &mut SlowStore,
+) -> R<()> {
+    for _ in 0..3 {
+        let call = fix_candidates(alloc, draws, slow)?;
+        list.put(alloc, slow, call)?;
+    }
+    for _ in 0..6 {
+        let call = setting_up(alloc, draws, slow, is_standard)?;
+        list.put(alloc, slow, call)?;
+    }
+    Ok(())
+}
+
+/// Calls of any kind.
+fn put_calls(
+    alloc: Global,
+    draws: &mut Draws,
+    is_standard: bool,
+    list: &mut CallList,
+    slow: &mut SlowStore,
+) -> R<()> {
+    for _ in 0..draws.below(27) {
+        let call = any_call(alloc, draws, slow, is_standard)?;
+        list.put(alloc, slow, call)?;
+    }
+    Ok(())
+}
+
+/// Three questions.
+fn put_questions(
+    alloc: Global,
+    draws: &mut Draws,
+    list: &mut CallList,
+    slow: &mut SlowStore,
+) -> R<()> {
+    list.put(alloc, slow, StoreCall::Falsified)?;
+    list.put(alloc, slow, StoreCall::NextDecision)?;
+    let call = walk(alloc, draws, slow)?;
+    list.put(alloc, slow, call)
+}
+
 /// Draws the calls: first those that give the store something to work on, at last three questions.
 fn fill_by(
     alloc: Global,
@@ -48,25 +107,10 @@ fn fill_by(
     slow: &mut SlowStore,
 ) -> R<()> {
     slow.begin(alloc)?;
-    let root = VariableId::root();
-    list.put(alloc, slow, first_level(root, !draws.one_in(8)))?;
-    list.put(alloc, slow, first_level(small_variable(draws), true))?;
-    for _ in 0..3 {
-        let call = fix_candidates(alloc, draws, slow)?;
-        list.put(alloc, slow, call)?;
-    }
-    for _ in 0..6 {
-        let call = setting_up(alloc, draws, slow, is_standard)?;
-        list.put(alloc, slow, call)?;
-    }
-    for _ in 0..draws.below(27) {
-        let call = any_call(alloc, draws, slow, is_standard)?;
-        list.put(alloc, slow, call)?;
-    }
-    list.put(alloc, slow, StoreCall::Falsified)?;
-    list.put(alloc, slow, StoreCall::NextDecision)?;
-    let call = walk(alloc, draws, slow)?;
-    list.put(alloc, slow, call)
+    put_values(alloc, draws, list, slow)?;
+    put_clauses(alloc, draws, is_standard, list, slow)?;
+    put_calls(alloc, draws, is_standard, list, slow)?;
+    put_questions(alloc, draws, list, slow)
 }
 
 impl CallList {

@@ -298,29 +298,57 @@ fn catalogue_gives(alloc: Global, request_text: &str) -> Result<Option<Vec<u32>>
     Ok(placed(alloc, versions)?)
 }
 
-/// Whether a shelf gives the same versions as the catalogue.
-fn same_from_both(
+/// Whether the shelf and the catalogue each give these versions, or none.
+fn both_give(
     alloc: Global,
-    request_text: &str,
-    sets: &[u32],
-    wishes: &[u32],
+    (request_text, sets, wishes): (&str, &[u32], &[u32]),
+    want: Option<&[u32]>,
 ) -> Result<bool, Fail> {
-    Ok(shelf_gives(alloc, sets, wishes)? == catalogue_gives(alloc, request_text)?)
+    let shelved = shelf_gives(alloc, sets, wishes)?;
+    let listed = catalogue_gives(alloc, request_text)?;
+    Ok(shelved.as_deref() == want && listed.as_deref() == want)
 }
 
 #[test]
 fn sparse_ids(rt: HostRuntime) -> Result<(), Fail> {
-    assert!(rt; same_from_both(rt.alloc(), "needs a\n", &[0], &[])?);
-    assert!(rt; same_from_both(rt.alloc(), "needs a\nneeds b 2\n", &[0, 2], &[])?);
-    assert!(rt; same_from_both(rt.alloc(), "needs a 2\nneeds b 2\n", &[3, 2], &[])?);
-    assert!(rt; same_from_both(rt.alloc(), "needs b 2\n", &[2], &[])?);
+    for (request, sets, want) in &[
+        (
+            "needs a\n",
+            [0u32].as_slice(),
+            Some([102u32, 201].as_slice()),
+        ),
+        (
+            "needs a\nneeds b 2\n",
+            [0, 2].as_slice(),
+            Some([202, 101].as_slice()),
+        ),
+        ("needs a 2\nneeds b 2\n", [3, 2].as_slice(), None),
+        ("needs b 2\n", [2].as_slice(), Some([202, 101].as_slice())),
+    ] {
+        let holds = both_give(rt.alloc(), (request, sets, &[]), *want)?;
+        assert!(rt; holds, "{request}");
+    }
     Ok(())
 }
 
 #[test]
 fn sparse_ids_that_are_wished(rt: HostRuntime) -> Result<(), Fail> {
-    let wished = "needs b 1\nwish b 2\nwish a 1\n";
-    assert!(rt; same_from_both(rt.alloc(), wished, &[1], &[202, 101])?);
-    assert!(rt; same_from_both(rt.alloc(), "wish a 2\nwish b 2\n", &[], &[102, 202])?);
+    for (request, sets, wishes, want) in &[
+        (
+            "needs b 1\nwish b 2\nwish a 1\n",
+            [1u32].as_slice(),
+            [202u32, 101].as_slice(),
+            [201u32, 101].as_slice(),
+        ),
+        (
+            "wish a 2\nwish b 2\n",
+            [].as_slice(),
+            [102, 202].as_slice(),
+            [102, 201].as_slice(),
+        ),
+    ] {
+        let holds = both_give(rt.alloc(), (request, sets, wishes), Some(*want))?;
+        assert!(rt; holds, "{request}");
+    }
     Ok(())
 }

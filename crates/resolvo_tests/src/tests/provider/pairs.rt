@@ -100,7 +100,7 @@ fn members(alloc: Global, number: u32) -> R<Vec<VersionNo>> {
 /// Adds the lines of a generated catalogue.
 fn draw_catalogue(lines: &mut String, seed: u32) -> Result<(), AllocError> {
     let mut seed = seed;
-    for version in VERSIONS {
+    for version in &VERSIONS {
         lines.push_str(version)?;
         seed = draw(lines, &OWNED, seed, 6)?;
     }
