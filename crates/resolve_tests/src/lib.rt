@@ -1,4 +1,4 @@
-//! Tests of the crates that read, judge and answer texts, apart from them so that a gate proves their functions once.
+//! Tests of the program's library, apart from it so that the gate proves its functions once.
 //! What can be said as texts in and an answer out is a row of `resolve_rows`.
 #![tactic(auto)]
 

@@ -1,12 +1,5 @@
-//! What no clause says and no row can show: devices that fail, stop or are interrupted, and each call that the program
-//! doesn't make by itself, with ample memory.
+//! What no clause says and no row can show: devices that fail, stop or are interrupted, and how input is parted.
 
-mod catalogue;
 mod check;
 mod commands;
-mod entries;
 mod input;
-mod judge;
-mod listing;
-mod report;
-mod text;
