@@ -1,4 +1,4 @@
-//! What the program `resolve` answers to texts from devices that move so many bytes a call.
+//! The answers of the program `resolve` to texts from devices that move so many bytes a call.
 
 use resolvo_catalogue::{MemorySink, MemorySource};
 use resolvo_commands::run::run;
@@ -28,7 +28,7 @@ fn whole(alloc: Global, written: &[u8], (status, line): (u8, &str)) -> Result<An
     Ok(Answer { text, status })
 }
 
-/// What `resolve solve` answers.
+/// The answer of `resolve solve`.
 pub fn solved(
     alloc: Global,
     catalogue: &[u8],
@@ -46,7 +46,7 @@ pub fn solved(
     whole(alloc, writer.bytes(), run_ending(&ended))
 }
 
-/// What `resolve judge` answers.
+/// The answer of `resolve judge`.
 pub fn judged(
     alloc: Global,
     catalogue: &[u8],

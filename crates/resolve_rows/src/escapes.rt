@@ -2,7 +2,7 @@
 
 use std::alloc::{AllocError, Global};
 
-/// What stands before the next byte.
+/// What was read before the next byte.
 #[derive(Clone, Copy, PartialEq, Eq)]
 enum State {
     Plain,

@@ -1,4 +1,4 @@
-//! Whether what came for a row is what its sections expect.
+//! Compares the answer to a row with what its sections expect.
 
 use crate::answer::{Answer, judged, read_back, solved};
 use crate::row::{Row, Section};
@@ -10,7 +10,7 @@ const SIZES: [usize; 4] = [1, 2, 3, 4096];
 /// A longer catalogue is read by the last of these sizes alone.
 const SHORT: usize = 1_000_000;
 
-/// What came of a row: what its file expects, or what is told of the first difference.
+/// Whether a row has the answer that its file expects; else a line about the first difference.
 #[derive(Drop)]
 pub enum Compared {
     Agrees,
@@ -51,7 +51,7 @@ fn is_input(name: &str) -> bool {
     matches!(name, "catalogue" | "request" | "report")
 }
 
-/// What comes of a row: of reading its report, of judging it, or of solving its texts.
+/// The answer to a row: its report is read, or it is judged, or its texts are solved.
 fn answer_to(
     alloc: Global,
     row: &Row<'_>,
@@ -88,10 +88,10 @@ fn front(alloc: Global, text: &str, wanted: &str) -> Result<String, AllocError> 
     String::from_str(alloc, text)
 }
 
-/// The faulty line that is told, or `none`.
+/// The faulty line that is printed, or `none`.
 fn fault(alloc: Global, text: &str, status: u8) -> Result<String, AllocError> {
-    let told = text.strip_prefix("fault at ").unwrap_or(text);
-    String::from_str(alloc, if status == 2 { told } else { "none\n" })
+    let line = text.strip_prefix("fault at ").unwrap_or(text);
+    String::from_str(alloc, if status == 2 { line } else { "none\n" })
 }
 
 /// The wanted bound, where there are no more steps, or else how many there are.
@@ -106,7 +106,7 @@ fn steps_within(alloc: Global, text: &str, wanted: &str) -> Result<String, Alloc
     }
 }
 
-/// What came where a section of this name expects something; none where there is no such section.
+/// The part of an answer that a section of this name expects; none where there is no such section.
 fn came(
     alloc: Global,
     name: &str,
@@ -126,7 +126,7 @@ fn came(
     }))
 }
 
-/// What is told where the answer isn't what a section expects.
+/// A line about an answer that isn't what the section expects.
 fn difference(
     alloc: Global,
     section: &Section<'_>,
@@ -153,7 +153,7 @@ fn difference(
     Ok(Some(format!(in alloc; "{name}: {wanted:?} was expected, {came:?} came")?))
 }
 
-/// What is told of the first section that expects something else.
+/// A line about the first section that expects another answer.
 fn first_difference(
     alloc: Global,
     row: &Row<'_>,
@@ -161,8 +161,8 @@ fn first_difference(
 ) -> Result<Option<String>, AllocError> {
     for section in &row.sections {
         if !is_input(section.name) {
-            if let Some(told) = difference(alloc, section, answer)? {
-                return Ok(Some(told));
+            if let Some(line) = difference(alloc, section, answer)? {
+                return Ok(Some(line));
             }
         }
     }
@@ -184,16 +184,16 @@ fn is_upheld(
     Ok(verdict.status == 0 && verdict.text.as_slice() == b"yes\n".as_slice())
 }
 
-/// What is told of a run of the row, where that differs.
-fn told_of(
+/// A line about a run of the row that differs.
+fn differs_in(
     alloc: Global,
     row: &Row<'_>,
     inputs: &Inputs,
     per_call: usize,
 ) -> Result<Option<String>, AllocError> {
     let answer = answer_to(alloc, row, inputs, per_call)?;
-    if let Some(told) = first_difference(alloc, row, &answer)? {
-        return Ok(Some(told));
+    if let Some(line) = first_difference(alloc, row, &answer)? {
+        return Ok(Some(line));
     }
     if !is_upheld(alloc, row, inputs, (&answer, per_call))? {
         return Ok(Some(String::from_str(alloc, "the judge refuses its report")?));
@@ -213,8 +213,8 @@ pub fn compare(alloc: Global, row: &Row<'_>) -> Result<Compared, AllocError> {
         if inputs.catalogue.len() > SHORT && *per_call < 4096 {
             continue;
         }
-        if let Some(told) = told_of(alloc, row, &inputs, *per_call)? {
-            return Ok(Compared::Differs(told));
+        if let Some(line) = differs_in(alloc, row, &inputs, *per_call)? {
+            return Ok(Compared::Differs(line));
         }
     }
     Ok(Compared::Agrees)

@@ -46,9 +46,9 @@ fn run_row(rt: &HostRuntime, file: &str, row: &Row<'_>, tally: &mut Tally) -> io
     tally.count(!matches!(compared, Compared::Agrees));
     match &compared {
         Compared::Agrees => Ok(()),
-        Compared::Differs(told) => {
+        Compared::Differs(line) => {
             let number = row.number;
-            println!(rt; "{file}, row {number}: {told}")
+            println!(rt; "{file}, row {number}: {line}")
         }
     }
 }
