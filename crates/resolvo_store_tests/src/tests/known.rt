@@ -93,7 +93,7 @@ fn next_after(known: &mut Known, step: &Move) -> R<Option<u32>>
     known.needs.follow(known.trail.stack());
     let next = known
         .needs
-        .next_decision::<NameId>(&known.queue, &known.lists, &known.trail, &known.scores)?;
+        .next_decision(&known.queue, &known.lists, &known.trail, &known.scores)?;
     Ok(next.map(|decision| decision.candidate.0))
 }
 
