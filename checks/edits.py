@@ -7,13 +7,15 @@ Each edit has the form of a must-fail edit: a file, then pairs of lines `old:` a
 of the repository in a temporary folder, puts the edits of each crate there into must-fail/, beside those of the gate,
 and runs `rt must-fail CRATE` in the copy: the prover must refuse each. What earlier checks kept in crates/*/out is
 used where it is there (by hard links), so run `rt all check` first, or it proves the libraries below each crate anew.
-With no name it tries every crate that has edits. With --apply it only looks whether each edit still applies.
+With no name it tries every crate that has edits. With --apply it only looks whether each edit still applies, those of the
+gate too, and whether docs/EDITS.md names these and no others.
 
 An edit that is refused only since a proof file names what the edit took away is counted apart: it says little of
 the contract. The status is 0 if all were refused, 1 if one was not, 2 where the program was called wrongly.
 """
 import os
 import pathlib
+import re
 import shutil
 import subprocess
 import sys
@@ -74,7 +76,17 @@ def apply_all(crates: list[str]) -> int:
                 faults += 1
                 print(f"{edit.relative_to(TOP)}: {fault}")
     print(f"{tried - faults} apply, {faults} don't")
-    return 1 if faults else 0
+    return 1 if faults or not is_listed() else 0
+
+
+def is_listed() -> bool:
+    """Whether docs/EDITS.md names the gate's edits and no others; says which differ."""
+    rows = [line for line in (TOP / "docs" / "EDITS.md").read_text(encoding="utf-8").splitlines() if line.startswith("|")]
+    named = {word for row in rows for word in re.findall(r"`(\w+/\w+)`", row.split("|")[2])}
+    there = {f"{it.parts[-3]}/{it.stem}" for it in TOP.glob("crates/*/must-fail/*.edit")}
+    for name in sorted(named ^ there):
+        print(f"docs/EDITS.md: {name} is {'no edit of the gate' if name in named else 'not named'}")
+    return named == there
 
 
 def copy_to(room: pathlib.Path, crates: list[str]) -> None:
