@@ -13,7 +13,9 @@ import subprocess
 import sys
 import tempfile
 
-from plain_judge import cases, holds, judge, matches, obeys, parse
+from plain_judge import barred_by, holds, judge, obeys
+from tools import texts
+from tools.texts import cases
 
 HERE = os.path.dirname(os.path.abspath(__file__))
 PACKAGES = ["a", "b", "c"]
@@ -75,68 +77,63 @@ def some_texts(rng, most=3):
 # ---- a plain slow prover
 
 
-def text_of(v):
-    return f"{v[0]}={v[1]}"
-
-
-def spec_text(s):
-    if s[1] is None:
-        return s[0]
-    return f"{s[0]} {'..'.join(map(str, s[1]))}"
-
-
 class Prover:
     """All rule steps of two texts with their clauses; sets by trying all; proofs by case distinction."""
 
     def __init__(self, catalogue, request):
-        self.catalogue, self.request = parse(catalogue), parse(request)
-        self.listed = [line["version"] for line in self.catalogue if line["kind"] == "version"]
+        self.catalogue = texts.read_catalogue(catalogue)
+        self.request = texts.read_request(request, self.catalogue)
+        self.listed = list(self.catalogue.listed)
         self.rules = []
-        for where, lines in (("catalogue", self.catalogue), ("request", self.request)):
-            for n, line in enumerate(lines, 1):
-                self.add_line(where, n, line)
+        for where, text in (("catalogue", self.catalogue), ("request", self.request)):
+            for placed in text.placed:
+                self.add_line(where, placed)
         for v in self.listed:
-            place = 1 + [w for w in self.listed if w[0] == v[0]].index(v)
+            place = 1 + [w for w in self.listed if w.package == v.package].index(v)
             for bit in range(2):
-                self.rules.append((f"digit {text_of(v)} place {place} bit {bit}", None,
-                                   [(("v", v), False), (("bit", v[0], bit), bool(place >> bit & 1))]))
-            self.rules.append((f"any {text_of(v)}", None, [(("v", v), False), (("any", v[0]), True)]))
+                self.rules.append((f"digit {v} place {place} bit {bit}", None,
+                                   [(("v", v), False), (("bit", v.package, bit), bool(place >> bit & 1))]))
+            self.rules.append((f"any {v}", None, [(("v", v), False), (("any", v.package), True)]))
 
-    def add_line(self, where, n, line):
-        owner, kind = line["owner"], line["kind"]
-        at = text_of(owner) if owner and where == "catalogue" else "request"
-        own = [(("v", owner), False)] if at != "request" else []
-        if kind == "needs":
-            given = [(("v", v), True) for v in self.listed if any(matches(s, v) for s in line["alternatives"])]
-            for k, case in enumerate(cases(line["condition"]), 1):
-                clause = own + given
-                for s in case:
-                    clause = clause + [(("any", s[0]), False)]
-                    clause += [(("v", v), True) for v in self.listed if v[0] == s[0] and not matches(s, v)]
-                self.rules.append((f"need {at} line {n} case {k}", (where, n), clause))
-            if at != "request" and line["condition"] is None:
-                specs = " | ".join(map(spec_text, line["alternatives"]))
-                self.rules.append((f"gate {at} line {n}", (where, n), own + [(("shared", specs), True)]))
-                self.rules.append((f"shared {specs}", None, [(("shared", specs), False)] + given))
-        if kind == "limits":
-            text = spec_text(line["spec"])
-            self.rules.append((f"limit {at} line {n}", (where, n), own + [(("outside", text), False)]))
+    def add_line(self, where, placed):
+        line, n = placed.line, placed.number
+        at = str(placed.owner) if placed.owner else "request"
+        own = [(("v", placed.owner), False)] if placed.owner else []
+        if isinstance(line, texts.NeedsLine):
+            self.add_need(where, n, line, at, own)
+        if isinstance(line, texts.LimitsLine):
+            self.rules.append((f"limit {at} line {n}", (where, n), own + [(("outside", str(line.spec)), False)]))
             for v in self.listed:
-                if v[0] == line["spec"][0] and not matches(line["spec"], v):
-                    self.rules.append((f"limit {at} line {n} bars {text_of(v)}", (where, n), own + [(("v", v), False)]))
-                    self.rules.append((f"outside {text} holds {text_of(v)}", None, [(("v", v), False), (("outside", text), True)]))
-        if kind == "lock":
+                if v.package == line.spec.package and not line.spec.matches(v):
+                    self.rules.append((f"limit {at} line {n} bars {v}", (where, n), own + [(("v", v), False)]))
+                    self.rules.append((f"outside {line.spec} holds {v}", None,
+                                       [(("v", v), False), (("outside", str(line.spec)), True)]))
+        if isinstance(line, texts.LockLine):
             for v in self.listed:
-                if v[0] == line["version"][0] and v != line["version"]:
-                    self.rules.append((f"lock line {n} bars {text_of(v)}", (where, n), [(("v", v), False)]))
-        if kind in ("exclude", "unknown"):
-            self.rules.append((f"{kind} line {n}", (where, n), [(("v", line["version"]), False)]))
+                if v.package == line.version.package and v != line.version:
+                    self.rules.append((f"lock line {n} bars {v}", (where, n), [(("v", v), False)]))
+        if isinstance(line, (texts.ExcludeLine, texts.UnknownLine)):
+            kind = "exclude" if isinstance(line, texts.ExcludeLine) else "unknown"
+            self.rules.append((f"{kind} line {n}", (where, n), [(("v", barred_by(placed)), False)]))
+
+    def add_need(self, where, n, line, at, own):
+        given = [(("v", v), True) for v in self.listed if any(s.matches(v) for s in line.alternatives)]
+        for k, case in enumerate(cases(line.condition), 1):
+            clause = own + given
+            for s in case:
+                clause = clause + [(("any", s.package), False)]
+                clause += [(("v", v), True) for v in self.listed if v.package == s.package and not s.matches(v)]
+            self.rules.append((f"need {at} line {n} case {k}", (where, n), clause))
+        if at != "request" and line.condition is None:
+            specs = " | ".join(map(str, line.alternatives))
+            self.rules.append((f"gate {at} line {n}", (where, n), own + [(("shared", specs), True)]))
+            self.rules.append((f"shared {specs}", None, [(("shared", specs), False)] + given))
 
     def sets(self):
-        choices = [[None] + [v for v in self.listed if v[0] == p] for p in PACKAGES]
+        choices = [[None] + [v for v in self.listed if v.package == p] for p in PACKAGES]
         for picked in itertools.product(*choices):
             chosen = [v for v in picked if v]
-            if all(obeys(line, chosen) for line in self.catalogue + self.request):
+            if all(obeys(placed, chosen) for placed in self.catalogue.placed + self.request.placed):
                 yield chosen
 
     # -- install reports
@@ -146,34 +143,33 @@ class Prover:
         found = True
         while found:
             found = False
-            places = [("request", None)] + [(text_of(w), w) for w in entries]
-            for at, w in places:
-                lines = self.request if w is None else self.catalogue
-                for n, line in enumerate(lines, 1):
-                    if line["kind"] != "needs" or (w and line["owner"] != w) or not holds(line["condition"], entries):
+            for w in [None] + entries:
+                for placed in (self.request if w is None else self.catalogue).placed:
+                    line = placed.line
+                    if not isinstance(line, texts.NeedsLine) or placed.owner != w or not holds(line.condition, entries):
                         continue
                     for v in chosen:
-                        if v not in entries and any(matches(s, v) for s in line["alternatives"]):
+                        if v not in entries and any(s.matches(v) for s in line.alternatives):
                             entries.append(v)
-                            out.append(f"{text_of(v)} for {at} line {n}")
+                            out.append(f"{v} for {w or 'request'} line {placed.number}")
                             found = True
 
     def install(self, rng, sets):
         chosen = rng.choice(sets)
         entries, out, proof = [], ["install"], Proof(self.rules)
         self.list_needs(chosen, entries, out)
-        for n, line in enumerate(self.request, 1):
-            if line["kind"] != "wish" or line["version"] in entries:
+        for n, line in enumerate(self.request.lines, 1):
+            if not isinstance(line, texts.WishLine) or line.version in entries:
                 continue
-            v = line["version"]
+            v = line.version
             fitting = [s for s in sets if v in s and all(w in s for w in entries)]
             if fitting:
                 entries.append(v)
-                out.append(f"{text_of(v)} wished line {n}")
+                out.append(f"{v} wished line {n}")
                 self.list_needs(rng.choice(fitting), entries, out)
             else:
                 step = proof.derive([(("v", w), False) for w in [v] + entries])
-                out.append(f"left out {text_of(v)} line {n} by {step}")
+                out.append(f"left out {v} line {n} by {step}")
         return "\n".join(out + proof.lines) + "\n"
 
     # -- refused reports
@@ -195,7 +191,7 @@ class Prover:
 def atom_text(atom):
     kind = atom[0]
     if kind == "v":
-        return text_of(atom[1])
+        return str(atom[1])
     if kind == "bit":
         return f"bit {atom[2]} of {atom[1]}"
     return f"{kind} {atom[1]}"

@@ -14,7 +14,8 @@ import sys
 import tempfile
 
 from judging import Prover, some_texts
-from plain_judge import cases, holds, judge, matches, obeys
+from plain_judge import holds, judge, obeys
+from tools.texts import FavourLine, NeedsLine, Version, VersionLine, WishLine, cases
 
 HERE = os.path.dirname(os.path.abspath(__file__))
 
@@ -37,8 +38,8 @@ def generated_texts(rng):
 
 def first_match(catalogue, listed, spec):
     """The favoured match, or the newest."""
-    found = [v for v in listed if matches(spec, v)]
-    favoured = [line["version"] for line in catalogue if line["kind"] == "favour"]
+    found = [v for v in listed if spec.matches(v)]
+    favoured = [placed.line.version for placed in catalogue if isinstance(placed.line, FavourLine)]
     return next((v for v in found if v in favoured), max(found, key=lambda v: v[1], default=None))
 
 
@@ -47,12 +48,13 @@ def first_choices(catalogue, request, listed):
     alternatives."""
     chosen = []
     while True:
-        for line in [line for line in request if line["kind"] == "needs"] + [line for line in catalogue if line["kind"] == "needs" and line["owner"] in chosen]:
-            if not holds(line["condition"], chosen):
+        for placed in request + catalogue:
+            line = placed.line
+            if not isinstance(line, NeedsLine) or placed.owner not in [None] + chosen or not holds(line.condition, chosen):
                 continue
-            if len(line["alternatives"]) > 1:
+            if len(line.alternatives) > 1:
                 return None
-            v = first_match(catalogue, listed, line["alternatives"][0])
+            v = first_match(catalogue, listed, line.alternatives[0])
             if v and v not in chosen:
                 chosen.append(v)
                 break
@@ -62,13 +64,15 @@ def first_choices(catalogue, request, listed):
 
 def newest(catalogue, request, listed):
     """Of flat texts the newest version of each needed package that fits each need of it; None of other texts."""
-    if any(line["kind"] != "version" for line in catalogue) or any(
-        line["kind"] != "needs" or len(line["alternatives"]) > 1 or cases(line["condition"]) != [[]] for line in request
+    lines = [placed.line for placed in request]
+    if any(not isinstance(placed.line, VersionLine) for placed in catalogue) or any(
+        not isinstance(line, NeedsLine) or len(line.alternatives) > 1 or cases(line.condition) != [[]] for line in lines
     ):
         return None
-    needs = [line["alternatives"][0] for line in request]
-    fits = lambda v: all(matches(s, v) for s in needs if s[0] == v[0])
-    return [max((v for v in listed if v[0] == package and fits(v)), key=lambda v: v[1], default=None) for package in {s[0] for s in needs}]
+    needs = [line.alternatives[0] for line in lines]
+    fits = lambda v: all(s.matches(v) for s in needs if s.package == v.package)
+    of = lambda package: [v for v in listed if v.package == package and fits(v)]
+    return [max(of(package), key=lambda v: v.number, default=None) for package in {s.package for s in needs}]
 
 
 def told(report):
@@ -79,7 +83,7 @@ def told(report):
             break
         left = line.startswith("left out ")
         name, number = line.removeprefix("left out ").split()[0].split("=")
-        lines.append(((name, int(number)), not left, left or " wished line " in line))
+        lines.append((Version(name, int(number)), not left, left or " wished line " in line))
     return lines
 
 
@@ -105,7 +109,7 @@ def check_wishes(lines, sets):
 
 def check(catalogue_text, request_text, status, report):
     prover = Prover(catalogue_text.encode(), request_text.encode())
-    catalogue, request, listed = prover.catalogue, prover.request, prover.listed
+    catalogue, request, listed = prover.catalogue.placed, prover.request.placed, prover.listed
     sets = list(prover.sets())
     assert status == (0 if sets else 1), f"status {status}, and {len(sets)} sets"
     refused = judge(catalogue_text.encode(), request_text.encode(), report.encode())
@@ -115,10 +119,10 @@ def check(catalogue_text, request_text, status, report):
         check_wishes(lines, sets)
         chosen = first_turn(lines)
         first = first_choices(catalogue, request, listed)
-        single = first is not None and len({v[0] for v in first}) == len(first)
-        if single and all(obeys(line, first) for line in catalogue + request):
+        single = first is not None and len({v.package for v in first}) == len(first)
+        if single and all(obeys(placed, first) for placed in catalogue + request):
             assert sorted(first) == sorted(chosen), f"first choices are {first}"
-        flat = newest(catalogue, [line for line in request if line["kind"] != "wish"], listed)
+        flat = newest(catalogue, [placed for placed in request if not isinstance(placed.line, WishLine)], listed)
         if flat is not None:
             assert sorted(flat) == sorted(chosen), f"the newest are {flat}"
 
