@@ -1,0 +1,308 @@
+#!/usr/bin/env python3
+"""Exports refusals as CNF with proofs, and has them verified by checkers that know nothing of packages.
+
+Usage: checks/second.py [REFUSALS] [PATH OF THE PROGRAM]
+Defaults: 200 generated refusals, crates/resolve/out/resolve (which `rt run` leaves); `-` for the plain prover's reports alone.
+Each export must be verified by checks/lrat_checker.py; by drat-trim where the variable DRAT_TRIM names one; and minisat, where it
+is installed, must find no model of the CNF. Faults are planted in the exporter, and the checkers must see them.
+"""
+from __future__ import annotations
+
+import os
+import random
+import shutil
+import subprocess
+import sys
+import tempfile
+import time
+from collections import Counter
+from dataclasses import dataclass, field
+from functools import partial
+from pathlib import Path
+from typing import Callable, Iterable, Iterator, Optional
+
+HERE = Path(__file__).resolve().parent
+sys.path.insert(0, str(HERE.parent))
+
+from bench.solving import Problem, any_of, pairs, pigeons
+from judging import Prover, some_texts
+from lrat_checker import Refused, check
+from tools.cnf import Cnf, clean
+from tools.lrat import Export, export
+from tools.texts import Atom, BitAtom, Catalogue, Install, LeftOut, Report, Request, read_catalogue, read_report, read_request
+
+EXAMPLES = [("app", "app"), ("app", "conflict"), ("locked", "locked"), ("wishes", "wishes")]
+FAULTS = ("a lost clause", "a turned sign", "another bit")
+
+
+@dataclass(frozen=True)
+class Texts:
+    """A report over its two texts, with a name for messages."""
+
+    name: str
+    catalogue: Catalogue
+    request: Request
+    report: Report
+
+    def claims(self) -> list[Optional[int]]:
+        """The lines of left-out wishes, or None for a refusal as a whole."""
+        if isinstance(self.report, Install):
+            return [answer.line for answer in self.report.answers if isinstance(answer, LeftOut)]
+        return [None]
+
+
+def read_texts(name: str, catalogue: bytes, request: bytes, report: bytes) -> Texts:
+    """The three texts as values."""
+    first = read_catalogue(catalogue)
+    return Texts(name, first, read_request(request, first), read_report(report))
+
+
+# ---- checkers
+
+
+class Checkers:
+    """The strict checker, and those that are installed; each export goes to them as files."""
+
+    def __init__(self, folder: Path) -> None:
+        self.paths = [folder / f"refusal.{suffix}" for suffix in ("cnf", "drat", "lrat")]
+        self.drat_trim, self.minisat = os.environ.get("DRAT_TRIM"), shutil.which("minisat")
+
+    def names(self) -> str:
+        """Which checkers are there."""
+        return ", ".join(["the strict checker"] + ["drat-trim"] * bool(self.drat_trim) + ["minisat"] * bool(self.minisat))
+
+    def write(self, made: Export) -> None:
+        """The exporter's files."""
+        for path, text in zip(self.paths, (made.cnf.text(), made.proof.drat(), made.proof.lrat())):
+            path.write_text(text)
+
+    def strict(self) -> str:
+        """What the strict checker has against the proof; nothing where it is verified."""
+        try:
+            with open(self.paths[0], newline="\n") as formula, open(self.paths[2], newline="\n") as proof:
+                check(formula, proof)
+        except Refused as fault:
+            return str(fault)
+        return ""
+
+    def trimmed(self) -> str:
+        """What drat-trim has against the proof."""
+        if not self.drat_trim:
+            return ""
+        run = subprocess.run([self.drat_trim, *self.paths[:2]], capture_output=True, text=True)
+        return "" if "s VERIFIED" in run.stdout.splitlines() else f"drat-trim: {run.stdout[-300:]}"
+
+    def model(self) -> str:
+        """That minisat finds a model, if it does."""
+        if not self.minisat:
+            return ""
+        run = subprocess.run([self.minisat, "-verb=0", self.paths[0]], capture_output=True, text=True)
+        return "" if run.returncode == 20 else f"minisat ends with {run.returncode}, a model being 10"
+
+
+@dataclass
+class Seen:
+    """What was exported and verified."""
+
+    refusals: int = 0
+    wishes: int = 0
+    lines: int = 0
+    kinds: Counter[str] = field(default_factory=Counter)
+
+    def verify(self, texts: Texts, checkers: Checkers) -> None:
+        """Each claim of a report, by each checker."""
+        for wish in texts.claims():
+            made = export(texts.catalogue, texts.request, texts.report, wish)
+            checkers.write(made)
+            wrong = checkers.strict() or checkers.trimmed() or checkers.model()
+            if wrong:
+                sys.exit(f"{texts.name}, wish {wish}: {wrong}")
+            self.refusals += wish is None
+            self.wishes += wish is not None
+            self.lines += len(made.proof.lines)
+            self.kinds.update(type(texts.report.steps[number - 1]).__name__.removesuffix("Step").lower() for number in made.numbers)
+
+
+# ---- sources of reports
+
+
+def examples() -> Iterator[Texts]:
+    """Those of examples/."""
+    folder = HERE.parent / "examples"
+    for catalogue, name in EXAMPLES:
+        paths = (folder / f"{catalogue}.catalogue", folder / f"{name}.request", folder / f"{name}.report")
+        yield read_texts(f"examples/{name}", *(path.read_bytes() for path in paths))
+
+
+def solved(program: str, folder: Path, texts: tuple[bytes, bytes]) -> bytes:
+    """The program's report."""
+    paths = [folder / "catalogue", folder / "request"]
+    for path, text in zip(paths, texts):
+        path.write_bytes(text)
+    return subprocess.run([program, "solve", *paths], capture_output=True).stdout
+
+
+def generated(count: int, prover: Callable[[tuple[bytes, bytes]], bytes]) -> Iterator[Texts]:
+    """Reports over generated texts until as many are refused."""
+    rng, pair = random.Random(17), 0
+    while count:
+        texts = tuple(text.encode() for text in some_texts(rng))
+        pair += 1
+        made = read_texts(f"generated pair {pair}", *texts, prover(texts))
+        count -= not isinstance(made.report, Install)
+        yield made
+
+
+def plain_report(rng: random.Random, texts: tuple[bytes, bytes]) -> bytes:
+    """The plain prover's report."""
+    prover = Prover(*texts)
+    sets = list(prover.sets())
+    return (prover.install(rng, sets) if sets else prover.refuse(rng)).encode()
+
+
+def broken_chain(length: int) -> Problem:
+    """Packages that need one another in turn, and the last of them one that isn't listed."""
+    problem = Problem()
+    for k in range(length):
+        problem.version(f"p{k}", 1, [[any_of(f"p{k + 1}")]])
+    problem.ask(any_of("p0"))
+    return problem
+
+
+def halves(versions: int) -> Problem:
+    """A package that two others need, the one its older half, the other its newer."""
+    problem, half = Problem(), versions // 2
+    for number in range(versions):
+        problem.version("x", number)
+    problem.version("old", 1, [[("x", 0, half)]])
+    problem.version("new", 1, [[("x", half, versions)]])
+    problem.ask(any_of("old"))
+    problem.ask(any_of("new"))
+    return problem
+
+
+def families() -> list[tuple[str, Problem]]:
+    """Refused problems of some size."""
+    found = [(f"a chain of {count} packages", broken_chain(count)) for count in (10, 1000)]
+    found += [(f"{count} pairs", pairs(count, True)) for count in (10, 500)]
+    found += [(f"{holes} pigeon holes", pigeons(holes)) for holes in (2, 4, 6)]
+    return found + [(f"halves of {count} versions", halves(count)) for count in (10, 64, 66, 300)]
+
+
+# ---- planted faults
+
+
+class FaultyCnf(Cnf):
+    """A CNF that loses a clause, or turns the sign of its first literal."""
+
+    def __init__(self, catalogue: Catalogue, fault: str, at: int) -> None:
+        super().__init__(catalogue)
+        self.fault, self.at, self.count = fault, at, 0
+
+    def add(self, literals: Iterable[int], label: str) -> Optional[int]:
+        clause = clean(literals)
+        self.count += clause is not None
+        if clause is None or self.count != self.at:
+            return super().add(literals, label)
+        if self.fault == "a lost clause":
+            return None
+        return super().add((-clause[0], *clause[1:]), label)
+
+
+class FaultyExport(Export):
+    """An exporter with a fault, which goes on where a step isn't refuted."""
+
+    def __init__(self, catalogue: Catalogue, request: Request, report: Report, fault: str = "", at: int = 0) -> None:
+        self.fault, self.at = fault, at
+        super().__init__(catalogue, request, report)
+
+    def new_cnf(self) -> Cnf:
+        return FaultyCnf(self.catalogue, self.fault, 0 if self.fault == "another bit" else self.at)
+
+    def judge_replay(self, refuted: bool, number: int) -> None:
+        pass
+
+    def members(self, atom: Atom) -> list[int]:
+        if self.fault == "another bit" and isinstance(atom, BitAtom):
+            return super().members(BitAtom(atom.bit + 1, atom.package))
+        return super().members(atom)
+
+
+def fault_places(made: Export, fault: str) -> list[int]:
+    """The clauses of the CNF that the proof reads and that the fault can strike; for a bit, 1 where there are bits."""
+    if fault == "another bit":
+        return [1] * any(isinstance(atom, BitAtom) for atom in made.helpers)
+    clauses = made.cnf.clauses
+    read = {hint for line in made.proof.lines for hint in line.hints if 0 < hint <= len(clauses)}
+    return sorted(number for number in read if clauses[number - 1] or fault == "a lost clause")
+
+
+def planted(texts: Texts, checkers: Checkers, rng: random.Random, counts: Counter[tuple[str, str]]) -> None:
+    """Each fault once in the export of a refusal, at a clause that its proof reads."""
+    made = export(texts.catalogue, texts.request, texts.report)
+    for fault in FAULTS:
+        at = rng.choice(fault_places(made, fault) or [0])
+        if not at:
+            continue
+        faulty = export(texts.catalogue, texts.request, texts.report, kind=partial(FaultyExport, fault=fault, at=at))
+        checkers.write(faulty)
+        strict, trimmed, model = checkers.strict(), checkers.trimmed(), checkers.model()
+        if model and not (strict and (trimmed or not checkers.drat_trim)):
+            sys.exit(f"{texts.name}: {fault} at clause {at} gives the CNF a model, and a checker verifies the proof")
+        counts[fault, "planted"] += 1
+        counts[fault, "refused by the strict checker"] += strict != ""
+        counts[fault, "refused by drat-trim"] += trimmed != ""
+        counts[fault, "with a model"] += model != ""
+
+
+# ---- the runs
+
+
+def run(name: str, source: Iterable[Texts], checkers: Checkers) -> None:
+    """Verifies all reports of a source."""
+    seen, start = Seen(), time.monotonic()
+    for texts in source:
+        seen.verify(texts, checkers)
+    kinds = ", ".join(f"{count} {kind}" for kind, count in seen.kinds.most_common())
+    print(f"{name}: {seen.refusals} refusals and {seen.wishes} left-out wishes verified, {seen.lines} proof lines,"
+          f" {time.monotonic() - start:.1f} s; steps: {kinds}", flush=True)
+
+
+def run_faults(source: Iterable[Texts], checkers: Checkers) -> None:
+    """Plants faults, each of which must be seen by the strict checker."""
+    rng, counts = random.Random(3), Counter()
+    for texts in source:
+        if not isinstance(texts.report, Install):
+            planted(texts, checkers, rng, counts)
+    for fault in FAULTS:
+        told = ", ".join(f"{counts[fault, what]} {what}" for what in sorted(what for of, what in counts if of == fault))
+        print(f"{fault}: {told}")
+        if not counts[fault, "refused by the strict checker"]:
+            sys.exit(f"{fault} is never seen")
+
+
+def run_program(count: int, program: str, folder: Path, checkers: Checkers) -> None:
+    """Reports of the program: generated refusals, and families of some size."""
+    run("the program's reports", generated(count, partial(solved, program, folder)), checkers)
+    for name, problem in families():
+        texts = tuple(text.encode() for text in problem.texts())
+        report = solved(program, folder, texts)
+        run(name, [read_texts(name, *texts, report)], checkers)
+
+
+def main() -> None:
+    count = int(sys.argv[1]) if len(sys.argv) > 1 else 200
+    program = sys.argv[2] if len(sys.argv) > 2 else str(HERE.parent / "crates/resolve/out/resolve")
+    with tempfile.TemporaryDirectory() as name:
+        folder = Path(name)
+        checkers = Checkers(folder)
+        print(f"checked by {checkers.names()}")
+        run("examples", examples(), checkers)
+        run("the plain prover's reports", generated(count, partial(plain_report, random.Random(5))), checkers)
+        run_faults(generated(max(count // 10, 10), partial(plain_report, random.Random(6))), checkers)
+        if program != "-":
+            run_program(count, program, folder, checkers)
+
+
+if __name__ == "__main__":
+    main()
