@@ -148,6 +148,11 @@ def read_dictionary(catalogue: Catalogue) -> Optional[Dictionary]:
     return reader.found
 
 
+def is_clear(text: str) -> bool:
+    """Whether the text of a version can stand in a SPEC."""
+    return ".." not in text and text[0] != "." and text[-1] != "." and text not in ("holds", "*")
+
+
 class RealSpelling(Spelling):
     """Real names and version texts in place of NAMEs and NUMs; each value has one text still.
 
@@ -155,14 +160,15 @@ class RealSpelling(Spelling):
     a package that has texts, or one whose text would be unclear in a SPEC.
     """
 
-    def __init__(self, dictionary: Dictionary) -> None:
+    def __init__(self, dictionary: Dictionary, any_text: bool = False) -> None:
+        """With `any_text` each text is used, which is clear in `NAME=TEXT` but not in a SPEC."""
         self.names = dictionary.names
         self.reals = {real: name for name, real in dictionary.names.items()}
         self.texts: dict[str, dict[int, str]] = {}
         self.numbers: dict[str, dict[str, int]] = {}
         for version, text in dictionary.versions.items():
             self.texts.setdefault(version.package, {})
-            if ".." not in text and text[0] != "." and text[-1] != "." and text != "holds":
+            if any_text or is_clear(text):
                 self.texts[version.package][version.number] = text
                 self.numbers.setdefault(version.package, {})[text] = version.number
 

@@ -127,6 +127,13 @@ class Spelling:
         """The number of this package's version that the word spells."""
         return number_of(word)
 
+    def spec_text(self, spec: Spec) -> str:
+        """The text of a SPEC."""
+        name = self.name_text(spec.package)
+        if spec.span is None:
+            return name
+        return f"{name} {'..'.join(self.number_text(spec.package, n) for n in spec.span)}"
+
     def parts(self, word: str) -> list[tuple[str, str]]:
         """The ways to part `LO..HI`."""
         low, dots, high = word.partition("..")
@@ -156,10 +163,7 @@ def version_text(version: Version, spelling: Spelling, sign: str = "=") -> str:
 
 def spec_text(spec: Spec, spelling: Spelling) -> str:
     """`NAME`, `NAME NUM` or `NAME LO..HI`."""
-    name = spelling.name_text(spec.package)
-    if spec.span is None:
-        return name
-    return f"{name} {'..'.join(spelling.number_text(spec.package, n) for n in spec.span)}"
+    return spelling.spec_text(spec)
 
 
 def specs_text(specs: tuple[Spec, ...], spelling: Spelling) -> str:

@@ -1,0 +1,111 @@
+"""Files in and out, errors that name them, progress, and the program `resolve`.
+
+A file is written whole or not at all: beside its place first, and then moved there.
+"""
+from __future__ import annotations
+
+import os
+import subprocess
+import sys
+import tempfile
+import threading
+from contextlib import contextmanager
+from typing import Iterator, Optional
+
+from tools.words import Fault
+
+TOP = os.path.dirname(os.path.dirname(os.path.abspath(__file__)))
+
+
+class Failure(Exception):
+    """An error that people are told: `FILE: line N: reason`; status 2 is a fault, 1 a no."""
+
+    def __init__(self, path: str, line: Optional[int], reason: str, status: int = 2) -> None:
+        where = f"{path}: line {line}" if line else path
+        super().__init__(f"{where}: {reason}")
+        self.status = status
+
+
+def shown_path(path: str) -> str:
+    """The path for a message."""
+    return "standard input" if path == "-" else path
+
+
+def read_bytes(path: str) -> bytes:
+    """The bytes of a file; `-` is standard input."""
+    try:
+        if path == "-":
+            return sys.stdin.buffer.read()
+        with open(path, "rb") as source:
+            return source.read()
+    except OSError as error:
+        raise Failure(shown_path(path), None, f"can't be read: {error.strerror}") from None
+
+
+def write_bytes(path: Optional[str], data: bytes) -> None:
+    """Writes standard output, or a file as a whole: nothing is changed where that fails."""
+    if path is None:
+        sys.stdout.buffer.write(data)
+        sys.stdout.buffer.flush()
+        return
+    try:
+        replace_file(path, data)
+    except OSError as error:
+        raise Failure(path, None, f"can't be written: {error.strerror}") from None
+
+
+def replace_file(path: str, data: bytes) -> None:
+    """Writes a new file beside the old one and moves it over that."""
+    folder = os.path.dirname(os.path.abspath(path))
+    handle, beside = tempfile.mkstemp(prefix=".resolve-tools-", dir=folder)
+    try:
+        with os.fdopen(handle, "wb") as out:
+            out.write(data)
+        mask = os.umask(0)
+        os.umask(mask)
+        os.chmod(beside, 0o666 & ~mask)
+        os.replace(beside, path)
+    except BaseException:
+        os.unlink(beside)
+        raise
+
+
+@contextmanager
+def of_file(path: str) -> Iterator[None]:
+    """Gives faults of a text the file that holds it."""
+    try:
+        yield
+    except Fault as fault:
+        raise Failure(shown_path(path), fault.line, fault.reason) from None
+
+
+@contextmanager
+def progress(what: str) -> Iterator[None]:
+    """Says on standard error what is going on, if it takes longer than a second."""
+    timer = threading.Timer(1.0, lambda: print(f"tools: {what} ..", file=sys.stderr, flush=True))
+    timer.daemon = True
+    timer.start()
+    try:
+        yield
+    finally:
+        timer.cancel()
+
+
+def find_program(given: Optional[str]) -> str:
+    """The program: as given, or by the variable RESOLVE, or as `rt run` leaves it below the top."""
+    path = given or os.environ.get("RESOLVE") or os.path.join(TOP, "crates", "resolve", "out", "resolve")
+    if not os.access(path, os.X_OK) or os.path.isdir(path):
+        how = "`--resolve PATH` or the variable RESOLVE names it, else crates/resolve/out/resolve is taken"
+        raise Failure(path, None, f"isn't a program that can be run ({how})")
+    return os.path.abspath(path)
+
+
+def run_program(given: Optional[str], *arguments: str) -> tuple[int, bytes]:
+    """Runs `resolve` and gives its status and output; a fault that it prints is an error."""
+    program = find_program(given)
+    with progress(f"{os.path.basename(program)} {arguments[0]}"):
+        done = subprocess.run([program, *arguments], capture_output=True, stdin=subprocess.DEVNULL)
+    if done.returncode not in (0, 1):
+        said = done.stdout.decode("utf-8", "replace").strip() or f"status {done.returncode}"
+        raise Failure(program, None, f"{arguments[0]}: {said}")
+    return done.returncode, done.stdout
