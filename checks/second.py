@@ -27,9 +27,11 @@ sys.path.insert(0, str(HERE.parent))
 from bench.solving import Problem, any_of, pairs, pigeons
 from judging import Prover, some_texts
 from lrat_checker import Refused, check
-from tools.cnf import Cnf, clean
+from plain_judge import obeys
+from tools.cnf import Cnf, Ladder, clean
 from tools.lrat import Export, export
-from tools.texts import Atom, BitAtom, Catalogue, Install, LeftOut, Report, Request, read_catalogue, read_report, read_request
+from tools.texts import Atom, BitAtom, Catalogue, Install, LeftOut, Report, Request, Version
+from tools.texts import read_catalogue, read_report, read_request
 
 EXAMPLES = [("app", "app"), ("app", "conflict"), ("locked", "locked"), ("wishes", "wishes")]
 FAULTS = ("a lost clause", "a turned sign", "another bit")
@@ -109,10 +111,10 @@ class Seen:
     lines: int = 0
     kinds: Counter[str] = field(default_factory=Counter)
 
-    def verify(self, texts: Texts, checkers: Checkers) -> None:
+    def verify(self, texts: Texts, checkers: Checkers, kind: type[Export]) -> None:
         """Each claim of a report, by each checker."""
         for wish in texts.claims():
-            made = export(texts.catalogue, texts.request, texts.report, wish)
+            made = export(texts.catalogue, texts.request, texts.report, wish, kind)
             checkers.write(made)
             wrong = checkers.strict() or checkers.trimmed() or checkers.model()
             if wrong:
@@ -189,6 +191,48 @@ def families() -> list[tuple[str, Problem]]:
     return found + [(f"halves of {count} versions", halves(count)) for count in (10, 64, 66, 300)]
 
 
+# ---- what the clauses mean
+
+
+class LadderExport(Export):
+    """An exporter that states at most one of any versions by a ladder."""
+
+    def new_cnf(self) -> Cnf:
+        cnf = super().new_cnf()
+        cnf.most_paired = 1
+        return cnf
+
+
+def is_model(cnf: Cnf, chosen: list[Version]) -> bool:
+    """Whether the set is a model, with `holds SPEC` true where a member matches, and a rung where one up to it is a member."""
+    true = {cnf.variable[version] for version in chosen}
+    true |= {holds.variable for spec, holds in cnf.holds.items() if any(spec.matches(version) for version in chosen)}
+    for ladder in cnf.exclusive.values():
+        if isinstance(ladder, Ladder):
+            true |= {rung for k, rung in enumerate(ladder.rungs, 1) if true.intersection(ladder.order[:k])}
+    return all(any((abs(literal) in true) == (literal > 0) for literal in clause) for clause in cnf.clauses)
+
+
+def check_meaning(texts: Texts, rng: random.Random) -> int:
+    """Some lines, some exclusive versions: a set is a model exactly if it obeys the lines and has one of those a package at most."""
+    cnf = Cnf(texts.catalogue)
+    cnf.most_paired = rng.choice([1, 64])
+    named = [(text, placed) for text, whole in (("catalogue", texts.catalogue), ("request", texts.request)) for placed in whole.placed]
+    lines = [placed for text, placed in named if rng.random() < 0.3 and cnf.add_line(text, placed)]
+    exclusive = [version for version in texts.catalogue.listed if rng.random() < 0.7]
+    for package in texts.catalogue.by_package:
+        cnf.add_at_most_one(package, [version for version in exclusive if version.package == package])
+    models = 0
+    for _ in range(50):
+        chosen = [version for version in texts.catalogue.listed if rng.random() < rng.choice([0.1, 0.3, 0.5])]
+        packages = [version.package for version in chosen if version in exclusive]
+        wanted = len(set(packages)) == len(packages) and all(obeys(placed, chosen) for placed in lines)
+        if is_model(cnf, chosen) != wanted:
+            sys.exit(f"{texts.name}: {', '.join(map(str, chosen))} is a model, or not, unlike what the lines ask:\n{cnf.text()}")
+        models += wanted
+    return models
+
+
 # ---- planted faults
 
 
@@ -219,7 +263,7 @@ class FaultyExport(Export):
     def new_cnf(self) -> Cnf:
         return FaultyCnf(self.catalogue, self.fault, 0 if self.fault == "another bit" else self.at)
 
-    def judge_replay(self, refuted: bool, number: int) -> None:
+    def judge(self, refuted: bool, number: int) -> None:
         pass
 
     def members(self, atom: Atom) -> list[int]:
@@ -258,14 +302,23 @@ def planted(texts: Texts, checkers: Checkers, rng: random.Random, counts: Counte
 # ---- the runs
 
 
-def run(name: str, source: Iterable[Texts], checkers: Checkers) -> None:
+def run(name: str, source: Iterable[Texts], checkers: Checkers, kind: type[Export] = Export) -> None:
     """Verifies all reports of a source."""
     seen, start = Seen(), time.monotonic()
     for texts in source:
-        seen.verify(texts, checkers)
+        seen.verify(texts, checkers, kind)
     kinds = ", ".join(f"{count} {kind}" for kind, count in seen.kinds.most_common())
     print(f"{name}: {seen.refusals} refusals and {seen.wishes} left-out wishes verified, {seen.lines} proof lines,"
           f" {time.monotonic() - start:.1f} s; steps: {kinds}", flush=True)
+
+
+def run_meaning(source: Iterable[Texts]) -> None:
+    """Compares the clauses of lines with what the plain judge says that the lines ask."""
+    rng, pairs_read, models = random.Random(4), 0, 0
+    for texts in source:
+        models += check_meaning(texts, rng)
+        pairs_read += 1
+    print(f"what clauses mean: {pairs_read} pairs of texts with 50 sets each, {models} of them models, as the plain judge says", flush=True)
 
 
 def run_faults(source: Iterable[Texts], checkers: Checkers) -> None:
@@ -299,7 +352,9 @@ def main() -> None:
         print(f"checked by {checkers.names()}")
         run("examples", examples(), checkers)
         run("the plain prover's reports", generated(count, partial(plain_report, random.Random(5))), checkers)
-        run_faults(generated(max(count // 10, 10), partial(plain_report, random.Random(6))), checkers)
+        run("the same with ladders", generated(count // 4, partial(plain_report, random.Random(7))), checkers, LadderExport)
+        run_meaning(generated(count // 4, partial(plain_report, random.Random(8))))
+        run_faults(generated(max(count // 4, 10), partial(plain_report, random.Random(6))), checkers)
         if program != "-":
             run_program(count, program, folder, checkers)
 

@@ -14,7 +14,7 @@ from tools.texts import cases, line_text
 
 Clause = tuple[int, ...]  # of DIMACS literals: a variable, or its negative
 MOST_PAIRED = 64  # at most one of more versions than these is a ladder, not pairs
-MOST_COMMENT = 120  # what is shown of a line in a comment
+MOST_COMMENT = 200  # characters of a comment; lrat-check reads no more than 1024
 
 
 class Origin(NamedTuple):
@@ -29,8 +29,8 @@ class Origin(NamedTuple):
 
 def clean(literals: Iterable[int]) -> Optional[Clause]:
     """The clause with each literal once; None where it is always true."""
-    clause = tuple(dict.fromkeys(literals))
-    return None if any(-literal in clause for literal in set(clause)) else clause
+    clause = dict.fromkeys(literals)
+    return None if any(-literal in clause for literal in clause) else tuple(clause)
 
 
 @dataclass
@@ -54,31 +54,20 @@ class Pairs:
 
 @dataclass
 class Ladder:
-    """At most one of `order`: rung k is true where a version up to the k-th is. A clause that isn't there is 0."""
+    """At most one of some versions: rung k is true where a version up to the k-th is. A clause that isn't there is 0."""
 
-    order: list[int]
+    order: list[int]  # the versions
+    rungs: list[int] = field(default_factory=list)  # for all versions but the last
     climb: list[int] = field(default_factory=list)  # not version k, or rung k
     go_on: list[int] = field(default_factory=list)  # not rung k - 1, or rung k
     bar: list[int] = field(default_factory=list)  # not version k, or not rung k - 1
-
-    def exclude(self, version: int, others: list[int]) -> list[int]:
-        """Clauses that, read in order, make the others false where the version is true."""
-        place, wanted = self.order.index(version), set(others)
-        places = [k for k, other in enumerate(self.order) if other in wanted]
-        found = [self.climb[place]]
-        for k in range(place + 1, max(places, default=0) + 1):
-            found += [self.bar[k]] * (self.order[k] in wanted) + [self.go_on[k]]
-        found.append(self.bar[place])
-        for k in range(place - 1, min(places, default=place) - 1, -1):
-            found += [self.climb[k]] * (self.order[k] in wanted) + [self.go_on[k]]
-        return [number for number in found if number]
 
 
 class Cnf:
     """Clauses with their numbers from 1, and where to find those of a line. Variable k is the k-th listed version."""
 
     def __init__(self, catalogue: Catalogue) -> None:
-        self.catalogue = catalogue
+        self.catalogue, self.most_paired = catalogue, MOST_PAIRED
         self.variable = {version: k for k, version in enumerate(catalogue.listed, 1)}
         self.names = [f"var {k} {version}" for version, k in self.variable.items()]
         self.clauses: list[Clause] = []
@@ -86,7 +75,7 @@ class Cnf:
         self.holds: dict[Spec, Holds] = {}
         self.named: set[Origin] = set()
         self.needs: dict[Origin, list[Optional[int]]] = {}  # the clause of each case
-        self.bars: dict[tuple[Origin, Version], int] = {}  # the clause by which a line bars a version
+        self.bars: dict[Origin, dict[Version, Optional[int]]] = {}  # the clause by which a line bars a version
         self.exclusive: dict[str, Union[Pairs, Ladder]] = {}
         self.units: list[int] = []  # the clauses of the wish and the entries above it
 
@@ -119,8 +108,7 @@ class Cnf:
         """The clauses of a line; False where it asks nothing of a set."""
         line, origin = placed.line, Origin(text, placed.number)
         self.named.add(origin)
-        shown = line_text(line)
-        label = f"{origin}: {shown[:MOST_COMMENT]}{' ..' * (len(shown) > MOST_COMMENT)}"
+        label = f"{origin}: {line_text(line)}"
         owner = [] if placed.owner is None else [-self.variable[placed.owner]]
         if isinstance(line, NeedsLine):
             self.add_needs(origin, line, owner, label)
@@ -155,15 +143,15 @@ class Cnf:
 
     def add_bars(self, origin: Origin, versions: list[Version], owner: list[int], label: str) -> None:
         """Not the owner, or not the version, for each version."""
-        for version in versions:
-            self.bars[origin, version] = self.add([*owner, -self.variable[version]], label)
+        variable = self.variable
+        self.bars[origin] = {version: self.add([*owner, -variable[version]], label) for version in versions}
 
     # ---- at most one, units
 
     def add_at_most_one(self, package: str, versions: list[Version]) -> None:
         """At most one of these versions of a package."""
         order, label = [self.variable[version] for version in versions], f"at most one of {package}"
-        if len(order) > MOST_PAIRED:
+        if len(order) > self.most_paired:
             self.exclusive[package] = self.add_ladder(versions, order, label)
             return
         pairs = self.exclusive[package] = Pairs()
@@ -172,14 +160,13 @@ class Cnf:
                 pairs.numbers[first, second] = self.add([-first, -second], label)
 
     def add_ladder(self, versions: list[Version], order: list[int], label: str) -> Ladder:
-        """Rungs for all versions but the last, each true where a version up to it is."""
-        ladder, below = Ladder(order), 0
-        for k, version in enumerate(order):
-            rung = self.new_variable("rung", f"a version of the ladder up to {versions[k]}") if k + 1 < len(order) else 0
+        """A ladder with its clauses."""
+        rungs = [self.new_variable("rung", f"some version up to {version}") for version in versions[:-1]]
+        ladder = Ladder(order, rungs)
+        for version, below, rung in zip(order, [0, *rungs], [*rungs, 0]):
             ladder.climb.append(self.add([-version, rung], label) if rung else 0)
             ladder.go_on.append(self.add([-below, rung], label) if below and rung else 0)
             ladder.bar.append(self.add([-version, -below], label) if below else 0)
-            below = rung
         return ladder
 
     def add_unit(self, version: Version, label: str) -> None:
@@ -190,12 +177,12 @@ class Cnf:
 
     def text(self) -> str:
         """The CNF in DIMACS form, with what its variables and clauses are in comments above."""
-        lines = [f"c {name}" for name in self.names]
-        place = 1
+        comments, first = list(self.names), 1
         for label, group in groupby(self.labels):
-            count = len(list(group))
-            lines.append(f"c clauses {place}..{place + count - 1} {label}")
-            place += count
+            behind = first + len(list(group))
+            comments.append(f"clauses {first}..{behind - 1} {label}")
+            first = behind
+        lines = [f"c {text[:MOST_COMMENT]}{' ..' if len(text) > MOST_COMMENT else ''}" for text in comments]
         lines.append(f"p cnf {len(self.names)} {len(self.clauses)}")
         lines += [" ".join(map(str, (*clause, 0))) for clause in self.clauses]
         return "\n".join(lines) + "\n"

@@ -268,10 +268,12 @@ def halves(count: int) -> tuple[str, str, str]:
 class Faults(unittest.TestCase):
     """Reports that aren't a proof: the fault is at a line."""
 
-    def assert_fault(self, texts: tuple[str, str, str], line: Optional[int], reason: str, wish: Optional[int] = None) -> None:
+    def assert_fault(
+        self, texts: tuple[str, str, str], line: Optional[int], reason: str, wish: Optional[int] = None, text: str = "report"
+    ) -> None:
         with self.assertRaises(Fault) as raised:
             exported(*texts, wish)
-        self.assertEqual((raised.exception.text, raised.exception.line), ("report", line))
+        self.assertEqual((raised.exception.text, raised.exception.line), (text, line))
         self.assertIn(reason, raised.exception.reason)
 
     def test_steps(self) -> None:
@@ -279,19 +281,19 @@ class Faults(unittest.TestCase):
             ("by 1 2 3 4", "by 1 2 4", 8, "doesn't refute it"),
             ("by 1 2 3 4", "by 1 2 3 4 5", 8, "step 5 isn't above it"),
             ("by 1 2 3 4", "by 0", 8, "step 0 isn't above it"),
-            ("derive [] by", "derive [a=1] by", 8, "the last step isn't `derive []`"),
+            ("derive [] by", "derive [a=1] by", 8, "the last one isn't `derive []`"),
             ("request line 2\n", "", 4, "request line 2 isn't named"),
             ("request line 1\n", "catalogue line 1\nrequest line 1\n", 2, "catalogue line 1 doesn't state a rule"),
             ("request line 1\n", "catalogue line 9\nrequest line 1\n", 2, "catalogue line 9 doesn't state a rule"),
-            ("line 2 case 1", "line 2 case 2", 5, "has no `needs` with case 2"),
+            ("line 2 case 1", "line 2 case 2", 5, "has no case 2"),
             ("digit a=2", "digit a=3", 7, "a=3 isn't listed"),
             ("digit a=2", "digit a=1", 7, "a second place"),
-            ("digit a=2 place 3 bit 2", "limit request line 1 bars a=2", 7, "doesn't bar a=2"),
-            ("digit a=2 place 3 bit 2", "limit request line 1", 7, "isn't `limits`"),
-            ("digit a=2 place 3 bit 2", "gate a=2 line 1", 7, "isn't a line of a=2"),
+            ("digit a=2 place 3 bit 2", "limit request line 1 bars a=2", 7, "isn't a line for this step"),
+            ("digit a=2 place 3 bit 2", "limit request line 1", 7, "isn't a line for this step"),
+            ("digit a=2 place 3 bit 2", "gate a=2 line 1", 7, "catalogue line 1 isn't named"),
             ("digit a=2 place 3 bit 2", "outside a 2 holds a=2", 7, "a=2 isn't outside a 2"),
-            ("digit a=2 place 3 bit 2", "exclude line 1", 7, "doesn't bar a=1"),
-            ("digit a=2 place 3 bit 2", "exclude line 7", 7, "no line 7"),
+            ("digit a=2 place 3 bit 2", "exclude line 1", 7, "catalogue line 1 isn't named"),
+            ("digit a=2 place 3 bit 2", "exclude line 7", 7, "catalogue line 7 isn't named"),
         ]:
             with self.subTest(new):
                 catalogue, request, report = APART
@@ -301,7 +303,8 @@ class Faults(unittest.TestCase):
     def test_wishes(self) -> None:
         catalogue, request, report = WISHES
         self.assert_fault(WISHES, 1, "--wish")
-        self.assert_fault(WISHES, None, "leaves out no wish of request line 2", 2)
+        self.assert_fault(WISHES, None, "the wish of request line 2 isn't left out", 2)
+        self.assert_fault(APART, 1, "not a wish", 1, "request")
         self.assert_fault((catalogue, request, report.replace("by 1", "by 2")), 4, "no step 2", 3)
         without = report.replace("a=2 for request line 1\n", "")
         self.assert_fault((catalogue, request, without), 4, "doesn't refute it", 3)
