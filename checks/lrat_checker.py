@@ -52,7 +52,7 @@ class Checker:
             self.numbers_with[literal].append(number)
 
     def falsifies(self, true: set[int], hints: list[int]) -> bool:
-        """Whether the last hint is a clause with all literals false. Each hint before it must be a unit clause when it is read."""
+        """Whether the last hint is a clause with all literals false; each before it must be unit when it is read."""
         for place, hint in enumerate(hints, 1):
             need(hint in self.clauses, f"there is no clause {hint}")
             open_literals = [literal for literal in self.clauses[hint] if -literal not in true]
@@ -69,7 +69,7 @@ class Checker:
         need(number > self.last, "its number doesn't rise")
         need(hints[-1:] == [0] and hints.count(0) == 1, "no 0 at the end, or one before it")
         true = {-literal for literal in clause}
-        need(len(true) == len(clause) and not any(literal in true for literal in clause), "a variable twice in its clause")
+        need(len({abs(literal) for literal in clause}) == len(clause), "a variable twice in its clause")
         groups = [place for place, hint in enumerate(hints) if hint <= 0]
         if not self.falsifies(true, hints[:groups[0]]):
             need(clause != (), "no clause is false at the end of the hints")
@@ -79,14 +79,17 @@ class Checker:
         self.add(number, clause)
 
     def resolve(self, pivot: int, true: set[int], groups: list[list[int]]) -> None:
-        """RAT: a group of hints for each clause with the pivot's opposite, none for another; each refutes the resolvent."""
-        need(sorted(-group[0] for group in groups) == self.numbers_with[-pivot], "neither RUP nor RAT: other clauses have the pivot's opposite")
+        """RAT: a group of hints for each clause with the pivot's opposite, and no other; each refutes the resolvent."""
+        named = sorted(-group[0] for group in groups)
+        need(named == self.numbers_with[-pivot], "neither RUP nor RAT: other clauses have the pivot's opposite")
         for group in groups:
-            others = [literal for literal in self.clauses[-group[0]] if literal != -pivot]
+            number, hints = -group[0], group[1:]
+            others = [literal for literal in self.clauses[number] if literal != -pivot]
             if any(literal in true for literal in others):
-                need(len(group) == 1, "hints for a resolvent that is always true")
+                need(hints == [], "hints for a resolvent that is always true")
             else:
-                need(self.falsifies(true | {-literal for literal in others}, group[1:]), f"the resolvent with clause {-group[0]} isn't refuted")
+                refuted = self.falsifies(true | {-literal for literal in others}, hints)
+                need(refuted, f"the resolvent with clause {number} isn't refuted")
 
 
 def read_formula(lines: Iterable[str], checker: Checker) -> None:

@@ -2,9 +2,10 @@
 """Exports refusals as CNF with proofs, and has them verified by checkers that know nothing of packages.
 
 Usage: checks/second.py [REFUSALS] [PATH OF THE PROGRAM]
-Defaults: 200 generated refusals, crates/resolve/out/resolve (which `rt run` leaves); `-` for the plain prover's reports alone.
-Each export must be verified by checks/lrat_checker.py; by drat-trim where the variable DRAT_TRIM names one; and minisat, where it
-is installed, must find no model of the CNF. Faults are planted in the exporter, and the checkers must see them.
+Defaults: 200 generated refusals, crates/resolve/out/resolve (which `rt run` leaves); `-` for no program.
+Each export must be verified by checks/lrat_checker.py, and by drat-trim where the variable DRAT_TRIM names one. minisat,
+where it is installed, must find no model of the CNF. The clauses are compared with what the plain judge says of lines.
+Faults are planted in the exporter, and the checkers must see them.
 """
 from __future__ import annotations
 
@@ -30,7 +31,7 @@ from lrat_checker import Refused, check
 from plain_judge import obeys
 from tools.cnf import Cnf, Ladder, clean
 from tools.lrat import Export, export
-from tools.texts import Atom, BitAtom, Catalogue, Install, LeftOut, Report, Request, Version
+from tools.texts import Atom, BitAtom, Catalogue, Install, LeftOut, Report, Request, Step, Version
 from tools.texts import read_catalogue, read_report, read_request
 
 EXAMPLES = [("app", "app"), ("app", "conflict"), ("locked", "locked"), ("wishes", "wishes")]
@@ -71,7 +72,8 @@ class Checkers:
 
     def names(self) -> str:
         """Which checkers are there."""
-        return ", ".join(["the strict checker"] + ["drat-trim"] * bool(self.drat_trim) + ["minisat"] * bool(self.minisat))
+        others = [name for name, there in (("drat-trim", self.drat_trim), ("minisat", self.minisat)) if there]
+        return ", ".join(["the strict checker", *others])
 
     def write(self, made: Export) -> None:
         """The exporter's files."""
@@ -122,7 +124,12 @@ class Seen:
             self.refusals += wish is None
             self.wishes += wish is not None
             self.lines += len(made.proof.lines)
-            self.kinds.update(type(texts.report.steps[number - 1]).__name__.removesuffix("Step").lower() for number in made.numbers)
+            self.kinds.update(kind_of(texts.report.steps[number - 1]) for number in made.numbers)
+
+
+def kind_of(step: Step) -> str:
+    """The kind of a step in a word; `bar` is a limit that bars a version."""
+    return type(step).__name__.removesuffix("Step").lower()
 
 
 # ---- sources of reports
@@ -204,7 +211,7 @@ class LadderExport(Export):
 
 
 def is_model(cnf: Cnf, chosen: list[Version]) -> bool:
-    """Whether the set is a model, with `holds SPEC` true where a member matches, and a rung where one up to it is a member."""
+    """Whether the set is a model, with each `holds SPEC` and each rung true where some version of its own is a member."""
     true = {cnf.variable[version] for version in chosen}
     true |= {holds.variable for spec, holds in cnf.holds.items() if any(spec.matches(version) for version in chosen)}
     for ladder in cnf.exclusive.values():
@@ -214,10 +221,14 @@ def is_model(cnf: Cnf, chosen: list[Version]) -> bool:
 
 
 def check_meaning(texts: Texts, rng: random.Random) -> int:
-    """Some lines, some exclusive versions: a set is a model exactly if it obeys the lines and has one of those a package at most."""
+    """Over some lines and some exclusive versions: how many of 50 sets are models.
+
+    A set must be one exactly if it obeys the lines and has one of these versions a package at most.
+    """
     cnf = Cnf(texts.catalogue)
     cnf.most_paired = rng.choice([1, 64])
-    named = [(text, placed) for text, whole in (("catalogue", texts.catalogue), ("request", texts.request)) for placed in whole.placed]
+    named = [("catalogue", placed) for placed in texts.catalogue.placed]
+    named += [("request", placed) for placed in texts.request.placed]
     lines = [placed for text, placed in named if rng.random() < 0.3 and cnf.add_line(text, placed)]
     exclusive = [version for version in texts.catalogue.listed if rng.random() < 0.7]
     for package in texts.catalogue.by_package:
@@ -228,7 +239,8 @@ def check_meaning(texts: Texts, rng: random.Random) -> int:
         packages = [version.package for version in chosen if version in exclusive]
         wanted = len(set(packages)) == len(packages) and all(obeys(placed, chosen) for placed in lines)
         if is_model(cnf, chosen) != wanted:
-            sys.exit(f"{texts.name}: {', '.join(map(str, chosen))} is a model, or not, unlike what the lines ask:\n{cnf.text()}")
+            told = ", ".join(map(str, chosen))
+            sys.exit(f"{texts.name}: whether {told} is a model isn't what the lines ask:\n{cnf.text()}")
         models += wanted
     return models
 
@@ -295,8 +307,10 @@ def planted(texts: Texts, checkers: Checkers, rng: random.Random, counts: Counte
             sys.exit(f"{texts.name}: {fault} at clause {at} gives the CNF a model, and a checker verifies the proof")
         counts[fault, "planted"] += 1
         counts[fault, "refused by the strict checker"] += strict != ""
-        counts[fault, "refused by drat-trim"] += trimmed != ""
-        counts[fault, "with a model"] += model != ""
+        if checkers.drat_trim:
+            counts[fault, "refused by drat-trim"] += trimmed != ""
+        if checkers.minisat:
+            counts[fault, "with a model"] += model != ""
 
 
 # ---- the runs
@@ -314,11 +328,9 @@ def run(name: str, source: Iterable[Texts], checkers: Checkers, kind: type[Expor
 
 def run_meaning(source: Iterable[Texts]) -> None:
     """Compares the clauses of lines with what the plain judge says that the lines ask."""
-    rng, pairs_read, models = random.Random(4), 0, 0
-    for texts in source:
-        models += check_meaning(texts, rng)
-        pairs_read += 1
-    print(f"what clauses mean: {pairs_read} pairs of texts with 50 sets each, {models} of them models, as the plain judge says", flush=True)
+    rng = random.Random(4)
+    models = [check_meaning(texts, rng) for texts in source]
+    print(f"what clauses mean: {len(models)} pairs of texts by 50 sets; {sum(models)} models, as the plain judge says")
 
 
 def run_faults(source: Iterable[Texts], checkers: Checkers) -> None:
@@ -352,9 +364,11 @@ def main() -> None:
         print(f"checked by {checkers.names()}")
         run("examples", examples(), checkers)
         run("the plain prover's reports", generated(count, partial(plain_report, random.Random(5))), checkers)
-        run("the same with ladders", generated(count // 4, partial(plain_report, random.Random(7))), checkers, LadderExport)
-        run_meaning(generated(count // 4, partial(plain_report, random.Random(8))))
-        run_faults(generated(max(count // 4, 10), partial(plain_report, random.Random(6))), checkers)
+        some = max(count // 4, 10)
+        ladders = generated(some, partial(plain_report, random.Random(7)))
+        run("the same with ladders", ladders, checkers, LadderExport)
+        run_meaning(generated(some, partial(plain_report, random.Random(8))))
+        run_faults(generated(some, partial(plain_report, random.Random(6))), checkers)
         if program != "-":
             run_program(count, program, folder, checkers)
 

@@ -1,7 +1,8 @@
 """The CNF of some lines of a catalogue and a request: all that one has to believe of an exported refusal.
 
-Each set of versions, at most one a package, that obeys the lines is a model of these clauses; so where they have no model, no such
-set obeys the lines. docs/SECOND.md has the clauses as a table. Steps of a report say only of which versions at most one is stated.
+Each set of versions, at most one a package, that obeys the lines is a model of these clauses. So where they have no
+model, no such set obeys the lines. docs/SECOND.md has the clauses as a table. The steps of a report have one part in
+them: at most one is stated of the versions that `digit` steps name.
 """
 from __future__ import annotations
 
@@ -54,7 +55,7 @@ class Pairs:
 
 @dataclass
 class Ladder:
-    """At most one of some versions: rung k is true where a version up to the k-th is. A clause that isn't there is 0."""
+    """At most one of some versions: rung k is true where one up to the k-th is. A clause that isn't there is 0."""
 
     order: list[int]  # the versions
     rungs: list[int] = field(default_factory=list)  # for all versions but the last
@@ -100,7 +101,8 @@ class Cnf:
 
     def matches(self, alternatives: Iterable[Spec]) -> list[int]:
         """The variables of all listed matches."""
-        return list(dict.fromkeys(self.variable[version] for spec in alternatives for version in self.catalogue.matches(spec)))
+        found = (version for spec in alternatives for version in self.catalogue.matches(spec))
+        return list(dict.fromkeys(self.variable[version] for version in found))
 
     # ---- lines
 

@@ -1,7 +1,7 @@
-"""A bit of a package whose versions a ladder keeps apart, so that its clauses take lines in their number, not in its square.
+"""A bit of a package whose versions a ladder keeps apart: its clauses take lines in their number, not in its square.
 
-Link k is true where a version up to the k-th that has the bit is in the set; the last link is the bit. Beside the rungs of
-the ladder one version with the bit, or without it, then says all of the links in a few steps.
+Link k is true where a version up to the k-th that has the bit is in the set; the last link is the bit. Lemmas join the
+links to the rungs of the ladder. Then a few hints show of one version that the bit is true, or false, beside it.
 """
 from __future__ import annotations
 
@@ -29,8 +29,10 @@ class LadderBit:
                 helper = proof.define([version, below] if below else [version])
                 join, go_on, meaning = helper.if_member[version], helper.if_member.get(below, 0), helper.some_member
                 below = helper.variable
-            for found, value in ((self.links, below), (self.meanings, meaning), (self.joins, join), (self.passes, go_on)):
-                found.append(value)
+            self.links.append(below)
+            self.meanings.append(meaning)
+            self.joins.append(join)
+            self.passes.append(go_on)
         self.variable = below
         self.places = {version: k for k, version in enumerate(ladder.order)}
         self.under, self.over, self.reach = self.lemmas_under(), self.lemmas_over(), self.lemmas_reach()

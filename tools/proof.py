@@ -48,7 +48,10 @@ class Proof:
         return Helper(helper, if_member, self.add((-helper, *members), [-number for number in if_member.values()]))
 
     def replay(self, clause: Clause, causes: Iterable[int]) -> tuple[list[int], bool]:
-        """One pass over the causes with the clause denied: those that are unit or false when read, up to the first false one."""
+        """One pass over the causes with the clause denied: those that are unit when read, up to the first false one.
+
+        The second value says whether there is a false one.
+        """
         true, hints = {-literal for literal in clause}, []
         for cause in causes:
             unit = None

@@ -1,7 +1,7 @@
 """Replays the steps of a report over a CNF: each step's clause becomes a clause of the CNF or a line of the proof.
 
-`run` takes a step and all that it rests on, in their order. A helper is defined when it is first used; every other line has for
-its hints what one pass over its causes reads. A step that doesn't follow is a fault at its line of the report.
+`run` takes a step and all that it rests on, in their order. A helper is defined when it is first used. Every other line
+has for its hints what one pass over its causes reads. A step that doesn't follow is a fault at its line of the report.
 """
 from __future__ import annotations
 
@@ -12,9 +12,9 @@ from tools.cnf import Cnf, Ladder, Origin, clean
 from tools.ladder import LadderBit
 from tools.proof import Helper, Proof
 from tools.texts import AnyAtom, AnyStep, Atom, BarStep, BitAtom, Catalogue, DeriveStep, DigitStep, ExcludeLine
-from tools.texts import ExcludeStep, Fault, GateStep, Install, LimitsLine, LimitStep, Line, LockLine, LockStep, NeedsLine
-from tools.texts import NeedStep, OutsideAtom, OutsideStep, Report, Request, SharedAtom, SharedStep, Spec, Step
-from tools.texts import UnknownLine, UnknownStep, Version, cases
+from tools.texts import ExcludeStep, Fault, GateStep, Install, LimitsLine, LimitStep, Line, LockLine, LockStep
+from tools.texts import NeedsLine, NeedStep, OutsideAtom, OutsideStep, Report, Request, SharedAtom, SharedStep, Spec
+from tools.texts import Step, UnknownLine, UnknownStep, Version, cases
 
 Number = Optional[int]  # of a clause; None where it is always true, and so isn't there
 

@@ -29,6 +29,11 @@ def verify(made: Export) -> int:
     return check(made.cnf.text().splitlines(True), made.proof.lrat().splitlines(True))
 
 
+def refused(named: list[str], steps: list[str]) -> str:
+    """A refused report."""
+    return "\n".join(["refused", *named, *(f"step {number} {step}" for number, step in enumerate(steps, 1))]) + "\n"
+
+
 def clauses(made: Export) -> str:
     """The CNF without its comments."""
     return "".join(line for line in made.cnf.text().splitlines(True) if not line.startswith("c "))
@@ -186,7 +191,9 @@ class Exports(unittest.TestCase):
 
     def test_by_hand(self) -> None:
         for texts, formula, proof in [
-            (LIMITED, LIMITED_CNF, LIMITED_LRAT), (CONDITIONAL, CONDITIONAL_CNF, CONDITIONAL_LRAT), (APART, APART_CNF, APART_LRAT)
+            (LIMITED, LIMITED_CNF, LIMITED_LRAT),
+            (CONDITIONAL, CONDITIONAL_CNF, CONDITIONAL_LRAT),
+            (APART, APART_CNF, APART_LRAT),
         ]:
             made = exported(*texts)
             self.assertEqual(made.cnf.text(), formula)
@@ -216,25 +223,32 @@ class Exports(unittest.TestCase):
 
     def test_a_need_of_itself_asks_nothing(self) -> None:
         catalogue = "version a 1\nneeds a | b\nneeds b\n"
-        report = "refused\ncatalogue line 2\ncatalogue line 3\nrequest line 1\nstep 1 need a=1 line 2 case 1\n"
-        report += "step 2 need a=1 line 3 case 1\nstep 3 gate a=1 line 2\nstep 4 need request line 1 case 1\nstep 5 derive [] by 4 1 3 2\n"
+        named = ["catalogue line 2", "catalogue line 3", "request line 1"]
+        steps = ["need a=1 line 2 case 1", "need a=1 line 3 case 1", "gate a=1 line 2", "need request line 1 case 1"]
+        report = refused(named, [*steps, "derive [] by 4 1 3 2"])
         made = exported(catalogue, "needs a\n", report)
         self.assertEqual(clauses(made), "p cnf 1 2\n-1 0\n1 0\n")
         verify(made)
 
     def test_other_lines(self) -> None:
         catalogue = "version a 1\nversion a 2\nversion a 3\nunknown nometa\nlock a 1\nexclude a 1 old\n"
-        report = "refused\ncatalogue line 4\ncatalogue line 5\ncatalogue line 6\nrequest line 1\nrequest line 2\nstep 1 unknown line 4\n"
-        report += "step 2 lock line 5 bars a=2\nstep 3 exclude line 6\nstep 4 need request line 1 case 1\nstep 5 derive [] by 1 2 3 4\n"
+        named = ["catalogue line 4", "catalogue line 5", "catalogue line 6", "request line 1", "request line 2"]
+        steps = ["unknown line 4", "lock line 5 bars a=2", "exclude line 6", "need request line 1 case 1"]
+        report = refused(named, [*steps, "derive [] by 1 2 3 4"])
         made = exported(catalogue, "needs a\nlimits a 0..3\n", report)
         self.assertEqual(clauses(made), "p cnf 3 6\n-3 0\n-2 0\n-3 0\n-1 0\n1 2 3 0\n-3 0\n")
         verify(made)
 
     def test_at_most_one_of_many(self) -> None:
-        for count in (2, 63, 64, 65, 66, 200):
-            made = exported(*halves(count))
-            self.assertEqual(len(made.cnf.names) > count, count > 64)
-            verify(made)
+        for texts in (halves, two_of_many):
+            for count in (2, 3, 63, 64, 65, 66, 200):
+                made = exported(*texts(count))
+                self.assertEqual(len(made.cnf.names) > count, count > 64)
+                verify(made)
+
+    def test_a_ladder_takes_lines_in_proportion(self) -> None:
+        sizes = [len(exported(*halves(count)).proof.lrat()) for count in (500, 1000)]
+        self.assertLess(sizes[1], 3 * sizes[0])
 
     def test_the_command(self) -> None:
         with tempfile.TemporaryDirectory() as name:
@@ -244,8 +258,10 @@ class Exports(unittest.TestCase):
                 path.write_text(text)
             command = [sys.executable, TOP / "tools/lrat.py", *paths, "-o", folder / "out"]
             run = subprocess.run(command, capture_output=True, text=True)
-            self.assertEqual((run.stdout, run.stderr, run.returncode), ("2 variables and 3 clauses; a proof of 4 lines\n", "", 0))
-            self.assertEqual([(folder / f"out.{part}").read_text() for part in ("cnf", "lrat")], [APART_CNF, APART_LRAT])
+            wanted = "2 variables and 3 clauses; a proof of 4 lines\n"
+            self.assertEqual((run.stdout, run.stderr, run.returncode), (wanted, "", 0))
+            written = [(folder / f"out.{part}").read_text() for part in ("cnf", "lrat")]
+            self.assertEqual(written, [APART_CNF, APART_LRAT])
             paths[2].write_text(APART[2].replace("by 1 2 3 4", "by 1 3 4"))
             run = subprocess.run(command, capture_output=True, text=True)
             wanted = f"{paths[2]}:8: step 5: one pass over its clauses doesn't refute it\n"
@@ -260,21 +276,32 @@ def halves(count: int) -> tuple[str, str, str]:
     older, newer = (" ".join(str(3 + k) for k in part) for part in (range(middle), range(middle, count)))
     steps.append(f"derive [not bit {bit} of x] by {older} 1")
     steps.append(f"derive [] by {len(steps)} {newer} 2")
-    report = ["refused", "request line 1", "request line 2", *(f"step {number} {step}" for number, step in enumerate(steps, 1))]
     catalogue = "".join(f"version x {k}\n" for k in range(count))
-    return catalogue, f"needs x 0..{middle}\nneeds x {middle}..{count}\n", "\n".join(report) + "\n"
+    request = f"needs x 0..{middle}\nneeds x {middle}..{count}\n"
+    return catalogue, request, refused(["request line 1", "request line 2"], steps)
+
+
+def two_of_many(count: int) -> tuple[str, str, str]:
+    """Two versions are needed; each bit of the places of all versions is stated, and one pass reads them all."""
+    places = [37 * k % 1021 for k in range(count)]
+    steps = ["need request line 1 case 1", "need request line 2 case 1"]
+    steps += [f"digit x={k} place {place} bit {bit}" for k, place in enumerate(places) for bit in range(11)]
+    steps.append(f"derive [] by {' '.join(str(number) for number in range(1, len(steps) + 1))}")
+    catalogue = "".join(f"version x {k}\n" for k in range(count))
+    request = f"needs x {count // 3}\nneeds x {count - 1}\n"
+    return catalogue, request, refused(["request line 1", "request line 2"], steps)
 
 
 class Faults(unittest.TestCase):
     """Reports that aren't a proof: the fault is at a line."""
 
     def assert_fault(
-        self, texts: tuple[str, str, str], line: Optional[int], reason: str, wish: Optional[int] = None, text: str = "report"
+        self, texts: tuple[str, str, str], line: Optional[int], why: str, wish: Optional[int] = None, of: str = "report"
     ) -> None:
         with self.assertRaises(Fault) as raised:
             exported(*texts, wish)
-        self.assertEqual((raised.exception.text, raised.exception.line), (text, line))
-        self.assertIn(reason, raised.exception.reason)
+        self.assertEqual((raised.exception.text, raised.exception.line), (of, line))
+        self.assertIn(why, raised.exception.reason)
 
     def test_steps(self) -> None:
         for old, new, line, reason in [
