@@ -10,7 +10,7 @@ from functools import cached_property
 from typing import Iterable, Optional, Union
 
 from tools import texts
-from tools.catalogue import Catalogue, Placed, Request, line_text
+from tools.catalogue import Catalogue, Line, Placed, Request, line_text
 from tools.dictionary import Dictionary, RealSpelling, read_dictionary
 from tools.files import of_file, progress, read_bytes
 from tools.reports import Install, Refused, Report, Step
@@ -118,21 +118,23 @@ class Fit:
             raise Bad(f"line {number} of the {text} says something else: `{line_text(placed[number - 1].line)[:60]}`")
         return placed[number - 1]
 
-    def place(self, place: Optional[Version], number: int, kind: type) -> None:
-        """The line belongs to the place."""
+    def place(self, place: Optional[Version], number: int, kind: type) -> Line:
+        """The line, which belongs to the place."""
         if place is None:
-            self.line("request", number, kind)
-            return
+            return self.line("request", number, kind).line
         self.version(place)
-        owner = self.line("catalogue", number, kind).owner
-        if owner != place:
-            raise Bad(f"line {number} of the catalogue belongs to {owner}, not to {place}")
+        placed = self.line("catalogue", number, kind)
+        if placed.owner != place:
+            raise Bad(f"line {number} of the catalogue belongs to {placed.owner}, not to {place}")
+        return placed.line
 
     def answer(self, answer: texts.Answer) -> None:
         """A line below `install`."""
         self.version(answer.version)
         if isinstance(answer, texts.Entry):
-            self.place(answer.place, answer.line, texts.NeedsLine)
+            line = self.place(answer.place, answer.line, texts.NeedsLine)
+            if not any(spec.matches(answer.version) for spec in line.alternatives):
+                raise Bad(f"its line asks for something else than {answer.version}: `{line_text(line)[:60]}`")
         elif self.line("request", answer.line, texts.WishLine).line.version != answer.version:
             raise Bad(f"line {answer.line} of the request wishes for another version")
 

@@ -12,7 +12,7 @@ from typing import Union
 from tools import texts
 from tools.bundle import Bundle
 from tools.catalogue import line_text
-from tools.words import Spec, Version
+from tools.words import Spec, Version, visible
 
 MOST_NODES = 60
 LABELLED_EDGES = 24
@@ -163,6 +163,7 @@ def node_label(node: Node, bundle: Bundle) -> str:
 
 def shortened(text: str) -> str:
     """At most 48 signs."""
+    text = visible(text)
     return text if len(text) <= 48 else text[:46] + ".."
 
 
@@ -219,27 +220,68 @@ def mean(numbers: list[float]) -> float:
     return sum(numbers) / len(numbers) if numbers else 0.0
 
 
-def edge_path(edge: Edge, first: Node, second: Node) -> tuple[str, float, float]:
-    """The path of an edge, and where its label stands."""
+def is_long(first: Node, second: Node) -> bool:
+    """Whether rows stand between the two."""
+    return abs(first.y - second.y) > 1.5 * ROW
+
+
+def edge_path(edge: Edge, first: Node, second: Node, aside: float) -> tuple[str, float, float]:
+    """The path of an edge, and where its label stands; a long edge goes round the rows between, at `aside`."""
     if first.y == second.y:
         side = 1 if first.x < second.x else -1
         start, end = first.x + side * first.width / 2, second.x - side * second.width / 2
-        low = first.y + (0 if abs(end - start) < 2 * GAP else BOX * 1.1)
+        low = first.y + (0 if abs(end - start) < 2 * GAP else BOX * 1.4)
         path = f"M{start:.1f} {first.y:.1f} Q{(start + end) / 2:.1f} {low:.1f} {end:.1f} {second.y:.1f}"
         return path, (start + end) / 2, first.y + BOX * 0.9
-    down = 1 if first.y < second.y else -1
+    down, shift = (1 if first.y < second.y else -1), bend(edge)
     top, bottom = first.y + down * BOX / 2, second.y - down * BOX / 2
-    middle = (top + bottom) / 2
-    path = f"M{first.x:.1f} {top:.1f} C{first.x:.1f} {middle:.1f} {second.x:.1f} {middle:.1f} {second.x:.1f} {bottom:.1f}"
-    return path, (first.x + second.x) / 2, middle
+    middle, start, end = (top + bottom) / 2, first.x + shift, second.x + shift
+    if is_long(first, second):
+        turn = down * ROW * 0.6
+        path = f"M{start:.1f} {top:.1f} C{start:.1f} {top + turn:.1f} {aside:.1f} {top + turn / 2:.1f} {aside:.1f} {middle:.1f}"
+        path += f" C{aside:.1f} {bottom - turn / 2:.1f} {end:.1f} {bottom - turn:.1f} {end:.1f} {bottom:.1f}"
+        return path, aside, middle
+    path = f"M{start:.1f} {top:.1f} C{start:.1f} {middle:.1f} {end:.1f} {middle:.1f} {end:.1f} {bottom:.1f}"
+    return path, (start + end) / 2, middle + shift / 2
 
 
-def edge_svg(edge: Edge, first: Node, second: Node, with_label: bool) -> str:
+def bend(edge: Edge) -> float:
+    """How far beside the middle of its nodes an edge begins and ends."""
+    return 14 if edge.kind == "bars" else 0
+
+
+def edge_svg(drawn: Drawn, with_label: bool) -> str:
     """An edge, with its label where there is room for it."""
-    path, x, y = edge_path(edge, first, second)
-    title = f"<title>{escape(first.label)} {escape(edge.label)}: {escape(second.label)}</title>"
+    edge, first, second = drawn.edge, drawn.first, drawn.second
+    path, x, y = edge_path(edge, first, second, drawn.aside)
+    title = f"<title>{escape(visible(f'{first.label} {edge.label}: {second.label}'))}</title>"
     label = f'<text class="edge" x="{x:.1f}" y="{y + 4:.1f}">{escape(shortened(edge.label))}</text>' if with_label else ""
     return f'<path class="{edge.kind}" d="{path}">{title}</path>{label}'
+
+
+@dataclass
+class Drawn:
+    """An edge with its nodes, and how far aside it goes where it is long."""
+
+    edge: Edge
+    first: Node
+    second: Node
+    aside: float = 0
+
+
+def place_edges(graph: Graph) -> list[Drawn]:
+    """The edges with their nodes; long ones at the right of the rows between, one beside the other."""
+    by_key = {node.key: node for node in graph.nodes}
+    drawn = [Drawn(edge, by_key[edge.first], by_key[edge.second]) for edge in graph.edges]
+    count = 0
+    for each in drawn:
+        if is_long(each.first, each.second):
+            low, high = sorted((each.first.y, each.second.y))
+            rights = [node.x + node.width / 2 for node in graph.nodes if low < node.y < high]
+            label = LETTER * len(shortened(each.edge.label)) / 2 if len(graph.edges) <= LABELLED_EDGES else 0
+            each.aside = max(rights, default=0) + GAP + label + 12 * count
+            count += 1
+    return drawn
 
 
 def node_svg(node: Node) -> str:
@@ -259,7 +301,7 @@ def arrowhead(edge: Edge, first: Node, second: Node) -> str:
         points = f"{x:.1f},{y:.1f} {x - side * 8:.1f},{y - 4:.1f} {x - side * 8:.1f},{y + 4:.1f}"
     else:
         down = 1 if first.y < second.y else -1
-        x, y = second.x, second.y - down * BOX / 2
+        x, y = second.x + bend(edge), second.y - down * BOX / 2
         points = f"{x:.1f},{y:.1f} {x - 4:.1f},{y - down * 8:.1f} {x + 4:.1f},{y - down * 8:.1f}"
     return f'<polygon class="{edge.kind}" points="{points}"/>'
 
@@ -267,10 +309,11 @@ def arrowhead(edge: Edge, first: Node, second: Node) -> str:
 def graph_svg(graph: Graph) -> str:
     """The drawing, which needs nothing from outside."""
     width, height = place_nodes(graph)
-    by_key = {node.key: node for node in graph.nodes}
-    pairs = [(edge, by_key[edge.first], by_key[edge.second]) for edge in graph.edges]
-    with_labels = len(pairs) <= LABELLED_EDGES
-    parts = [edge_svg(*pair, with_labels) for pair in pairs]
-    parts += [arrowhead(*pair) for pair in pairs] + [node_svg(node) for node in graph.nodes]
+    drawn = place_edges(graph)
+    with_labels = len(drawn) <= LABELLED_EDGES
+    room = max((LETTER * len(shortened(each.edge.label)) / 2 for each in drawn), default=0) if with_labels else 0
+    width = max([width, *(each.aside + room + MARGIN for each in drawn if each.aside)])
+    parts = [edge_svg(each, with_labels) for each in drawn]
+    parts += [arrowhead(each.edge, each.first, each.second) for each in drawn] + [node_svg(node) for node in graph.nodes]
     size = f'viewBox="0 0 {width:.0f} {height:.0f}" width="{width:.0f}" height="{height:.0f}"'
     return f'<svg {size} role="img" aria-label="the conflict graph">{"".join(parts)}</svg>'

@@ -11,7 +11,7 @@ from tools.explain import named_lines, tree_of
 from tools.graph import conflict_graph, graph_svg
 from tools.message import message_line, read_sentence
 from tools.reports import Refused
-from tools.words import Bad
+from tools.words import Bad, visible
 
 POLICY = "default-src 'none'; style-src 'unsafe-inline'"
 STYLE = """
@@ -33,7 +33,7 @@ svg polygon { fill: var(--soft) } svg polygon.bars { fill: var(--bad) }
 
 def shown(text: str) -> str:
     """A text for the page: escaped, control characters and stray bytes by their numbers."""
-    return escape("".join(c if c.isprintable() else c.encode("unicode_escape", "replace").decode() for c in text))
+    return escape(visible(text))
 
 
 def fold(title: str, body: str, is_open: bool = False) -> str:
@@ -136,4 +136,4 @@ def page(bundle: Bundle) -> bytes:
     title = "Refused" if is_refused else "Install"
     head = f'<meta charset="utf-8"><meta http-equiv="Content-Security-Policy" content="{POLICY}"><title>{title}</title>'
     text = f'<!DOCTYPE html>\n<html lang="en"><head>{head}<style>{STYLE}</style></head>\n<body>\n{body}</body></html>\n'
-    return text.encode("utf-8", "backslashreplace")
+    return text.encode()

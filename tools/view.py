@@ -23,7 +23,7 @@ from tools.forms import read_json, report_json
 from tools.message import message_line, plain_text, read_sentence, real_text
 from tools.page import page
 from tools.reports import Install, Refused, report_text
-from tools.words import PLAIN, Bad
+from tools.words import PLAIN, Bad, visible
 
 RED, GREEN, BOLD, PLAIN_INK = "\x1b[31m", "\x1b[32m", "\x1b[1m", "\x1b[0m"
 
@@ -39,14 +39,9 @@ def use_colour(choice: str) -> bool:
     return sys.stdout.isatty() and not os.environ.get("NO_COLOR") and os.environ.get("TERM") != "dumb"
 
 
-def visible(text: str) -> str:
-    """The text without signs that a terminal would act on: those are shown by their numbers."""
-    return "".join(c if c.isprintable() else c.encode("unicode_escape", "replace").decode() for c in text)
-
-
 def lines_bytes(lines: list[str]) -> bytes:
     """Lines for people."""
-    return "".join(visible(line) + "\n" for line in lines).encode("utf-8", "backslashreplace")
+    return "".join(visible(line) + "\n" for line in lines).encode()
 
 
 # ---- views
@@ -87,7 +82,7 @@ def message(bundle: Bundle, colour: bool) -> bytes:
         return lines_bytes(lines)
     lines = [(visible(message_line(line, bundle.people)), line) for line in report.message]
     shown = [coloured(*pair) if colour else pair[0] for pair in lines]
-    return "".join(line + "\n" for line in shown).encode("utf-8", "backslashreplace")
+    return "".join(line + "\n" for line in shown).encode()
 
 
 def explain(bundle: Bundle, with_steps: bool) -> bytes:

@@ -143,10 +143,16 @@ class Spelling:
 PLAIN = Spelling()
 
 
+def visible(text: str) -> str:
+    """The text without signs that a terminal would act on: those, and stray bytes, are shown by their numbers."""
+    if text.isprintable():
+        return text
+    return "".join(c if c.isprintable() else c.encode("unicode_escape", "replace").decode() for c in text)
+
+
 def quoted(word: str) -> str:
-    """A word of a text for a message: in quotes, control characters and stray bytes escaped, cut where it is long."""
-    shown = "".join(c if c.isprintable() else c.encode("unicode_escape").decode() for c in word[:60])
-    return f"`{shown}`" + (" .." if len(word) > 60 else "")
+    """A word of a text for a message: in quotes, cut where it is long."""
+    return f"`{visible(word[:60])}`" + (" .." if len(word) > 60 else "")
 
 
 def number_of(word: str) -> int:
