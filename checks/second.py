@@ -3,9 +3,9 @@
 
 Usage: checks/second.py [REFUSALS] [PATH OF THE PROGRAM]
 Defaults: 200 generated refusals, crates/resolve/out/resolve (which `rt run` leaves); `-` for no program.
-Each export must be verified by checks/lrat_checker.py, and by drat-trim where the variable DRAT_TRIM names one. minisat,
-where it is installed, must find no model of the CNF. The clauses are compared with what the plain judge says of lines.
-Faults are planted in the exporter, and the checkers must see them.
+Each export must be verified by checks/lrat_checker.py, and by drat-trim and lrat-check where the variables DRAT_TRIM
+and LRAT_CHECK name them. minisat, where it is installed, must find no model of the CNF. The clauses are compared with
+what the plain judge says of lines. Faults are planted in the exporter, and the checkers must see them.
 """
 from __future__ import annotations
 
@@ -15,7 +15,6 @@ import shutil
 import subprocess
 import sys
 import tempfile
-import time
 from collections import Counter
 from dataclasses import dataclass, field
 from functools import partial
@@ -68,12 +67,13 @@ class Checkers:
 
     def __init__(self, folder: Path) -> None:
         self.paths = [folder / f"refusal.{suffix}" for suffix in ("cnf", "drat", "lrat")]
-        self.drat_trim, self.minisat = os.environ.get("DRAT_TRIM"), shutil.which("minisat")
+        self.drat_trim, self.lrat_check = os.environ.get("DRAT_TRIM"), os.environ.get("LRAT_CHECK")
+        self.minisat = shutil.which("minisat")
 
     def names(self) -> str:
         """Which checkers are there."""
-        others = [name for name, there in (("drat-trim", self.drat_trim), ("minisat", self.minisat)) if there]
-        return ", ".join(["the strict checker", *others])
+        others = {"drat-trim": self.drat_trim, "lrat-check": self.lrat_check, "minisat": self.minisat}
+        return ", ".join(["the strict checker", *(name for name, there in others.items() if there)])
 
     def write(self, made: Export) -> None:
         """The exporter's files."""
@@ -90,11 +90,19 @@ class Checkers:
         return ""
 
     def trimmed(self) -> str:
-        """What drat-trim has against the proof."""
-        if not self.drat_trim:
+        """What drat-trim has against the DRAT proof."""
+        return self.peer(self.drat_trim, self.paths[1], "s VERIFIED")
+
+    def assured(self) -> str:
+        """What lrat-check has against the LRAT proof."""
+        return self.peer(self.lrat_check, self.paths[2], "c VERIFIED")
+
+    def peer(self, program: Optional[str], proof: Path, verified: str) -> str:
+        """What a program says of a proof, unless it verifies it or isn't there."""
+        if not program:
             return ""
-        run = subprocess.run([self.drat_trim, *self.paths[:2]], capture_output=True, text=True)
-        return "" if "s VERIFIED" in run.stdout.splitlines() else f"drat-trim: {run.stdout[-300:]}"
+        run = subprocess.run([program, self.paths[0], proof], capture_output=True, text=True)
+        return "" if verified in run.stdout.splitlines() else f"{program}: {run.stdout[-300:]}"
 
     def model(self) -> str:
         """That minisat finds a model, if it does."""
@@ -118,7 +126,7 @@ class Seen:
         for wish in texts.claims():
             made = export(texts.catalogue, texts.request, texts.report, wish, kind)
             checkers.write(made)
-            wrong = checkers.strict() or checkers.trimmed() or checkers.model()
+            wrong = checkers.strict() or checkers.trimmed() or checkers.assured() or checkers.model()
             if wrong:
                 sys.exit(f"{texts.name}, wish {wish}: {wrong}")
             self.refusals += wish is None
@@ -169,6 +177,11 @@ def plain_report(rng: random.Random, texts: tuple[bytes, bytes]) -> bytes:
     return (prover.install(rng, sets) if sets else prover.refuse(rng)).encode()
 
 
+def plain_refusal(rng: random.Random, texts: tuple[bytes, bytes]) -> bytes:
+    """The plain prover's report of texts that are known to be refused."""
+    return Prover(*texts).refuse(rng).encode()
+
+
 def broken_chain(length: int) -> Problem:
     """Packages that need one another in turn, and the last of them one that isn't listed."""
     problem = Problem()
@@ -190,12 +203,19 @@ def halves(versions: int) -> Problem:
     return problem
 
 
-def families() -> list[tuple[str, Problem]]:
-    """Refused problems of some size."""
-    found = [(f"a chain of {count} packages", broken_chain(count)) for count in (10, 1000)]
-    found += [(f"{count} pairs", pairs(count, True)) for count in (10, 500)]
-    found += [(f"{holes} pigeon holes", pigeons(holes)) for holes in (2, 4, 6)]
-    return found + [(f"halves of {count} versions", halves(count)) for count in (10, 64, 66, 300)]
+SMALL = {"chain": (30,), "pairs": (15,), "pigeons": (2, 3), "halves": (4,)}  # for the plain prover: it writes two bits
+LARGE = {"chain": (10, 1000), "pairs": (10, 500), "pigeons": (2, 4, 6), "halves": (10, 64, 66, 300)}
+FAMILIES: dict[str, Callable[[int], Problem]] = {
+    "chain": broken_chain, "pairs": partial(pairs, first_needs_too=True), "pigeons": pigeons, "halves": halves
+}
+
+
+def families(sizes: dict[str, tuple[int, ...]], prover: Callable[[tuple[bytes, bytes]], bytes]) -> Iterator[Texts]:
+    """Refused problems of these sizes."""
+    for family, of_family in sizes.items():
+        for size in of_family:
+            texts = tuple(text.encode() for text in FAMILIES[family](size).texts())
+            yield read_texts(f"{family} of {size}", *texts, prover(texts))
 
 
 # ---- what the clauses mean
@@ -211,7 +231,7 @@ class LadderExport(Export):
 
 
 def is_model(cnf: Cnf, chosen: list[Version]) -> bool:
-    """Whether the set is a model, with each `holds SPEC` and each rung true where some version of its own is a member."""
+    """Whether the set is a model, with each `holds SPEC` and each rung true where one of its versions is a member."""
     true = {cnf.variable[version] for version in chosen}
     true |= {holds.variable for spec, holds in cnf.holds.items() if any(spec.matches(version) for version in chosen)}
     for ladder in cnf.exclusive.values():
@@ -316,14 +336,19 @@ def planted(texts: Texts, checkers: Checkers, rng: random.Random, counts: Counte
 # ---- the runs
 
 
+def processor_seconds() -> float:
+    """What this process and the checkers that it ran have used."""
+    return sum(os.times()[:4])
+
+
 def run(name: str, source: Iterable[Texts], checkers: Checkers, kind: type[Export] = Export) -> None:
     """Verifies all reports of a source."""
-    seen, start = Seen(), time.monotonic()
+    seen, start = Seen(), processor_seconds()
     for texts in source:
         seen.verify(texts, checkers, kind)
     kinds = ", ".join(f"{count} {kind}" for kind, count in seen.kinds.most_common())
     print(f"{name}: {seen.refusals} refusals and {seen.wishes} left-out wishes verified, {seen.lines} proof lines,"
-          f" {time.monotonic() - start:.1f} s; steps: {kinds}", flush=True)
+          f" {processor_seconds() - start:.1f} s; steps: {kinds}", flush=True)
 
 
 def run_meaning(source: Iterable[Texts]) -> None:
@@ -348,11 +373,10 @@ def run_faults(source: Iterable[Texts], checkers: Checkers) -> None:
 
 def run_program(count: int, program: str, folder: Path, checkers: Checkers) -> None:
     """Reports of the program: generated refusals, and families of some size."""
-    run("the program's reports", generated(count, partial(solved, program, folder)), checkers)
-    for name, problem in families():
-        texts = tuple(text.encode() for text in problem.texts())
-        report = solved(program, folder, texts)
-        run(name, [read_texts(name, *texts, report)], checkers)
+    prover = partial(solved, program, folder)
+    run("the program's reports", generated(count, prover), checkers)
+    for texts in families(LARGE, prover):
+        run(texts.name, [texts], checkers)
 
 
 def main() -> None:
@@ -363,6 +387,7 @@ def main() -> None:
         checkers = Checkers(folder)
         print(f"checked by {checkers.names()}")
         run("examples", examples(), checkers)
+        run("families, by the plain prover", families(SMALL, partial(plain_refusal, random.Random(2))), checkers)
         run("the plain prover's reports", generated(count, partial(plain_report, random.Random(5))), checkers)
         some = max(count // 4, 10)
         ladders = generated(some, partial(plain_report, random.Random(7)))
