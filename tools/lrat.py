@@ -10,12 +10,12 @@ from __future__ import annotations
 import argparse
 import os
 import sys
-from pathlib import Path
 from typing import Optional
 
 sys.path.insert(0, os.path.join(os.path.dirname(os.path.abspath(__file__)), ".."))
 
 from tools.cnf import Origin
+from tools.files import Failure, of_file, progress, read_bytes, write_bytes
 from tools.replay import Replay, rested_on
 from tools.texts import Catalogue, DeriveStep, Fault, LeftOut, Refused, Report, Request, Version, WishLine
 from tools.texts import read_catalogue, read_report, read_request
@@ -38,7 +38,9 @@ class Export(Replay):
     def leave_out(self, place: int) -> None:
         """No rule-keeping set holds a left-out wish and all entries above it, by the lines that its step rests on."""
         wish = self.report.answers[place]
-        if not 1 <= wish.step <= len(self.steps):
+        if wish.line > len(self.request.lines) or self.request.lines[wish.line - 1] != WishLine(wish.version):
+            raise Fault("report", place + 2, f"request line {wish.line} isn't a wish for {wish.version}")
+        if wish.step > len(self.steps):
             raise Fault("report", place + 2, f"there is no step {wish.step}")
         users = {rested_on(self.steps[number - 1]): number for number in reversed(self.cone(wish.step))}
         for origin in sorted(origin for origin in users if origin):
@@ -63,15 +65,12 @@ class Export(Replay):
         self.cnf.add_unit(version, f"{kind} {version}")
 
 
-def left_out(request: Request, report: Report, line: int) -> int:
-    """The place among the answers of the wish of a line of the request."""
-    asked = request.lines[line - 1] if 1 <= line <= len(request.lines) else None
-    if not isinstance(asked, WishLine):
-        raise Fault("request", line, "not a wish")
+def left_out(report: Report, line: int) -> int:
+    """The place among the answers of the wish that is left out for a line of the request."""
     for place, answer in enumerate(() if isinstance(report, Refused) else report.answers):
-        if isinstance(answer, LeftOut) and (answer.line, answer.version) == (line, asked.version):
+        if isinstance(answer, LeftOut) and answer.line == line:
             return place
-    raise Fault("report", None, f"the wish of request line {line} isn't left out")
+    raise Fault("report", None, f"it leaves out no wish of request line {line}")
 
 
 def export(
@@ -80,7 +79,7 @@ def export(
     """The CNF and the proof of a refused report, or of the left-out wish of a line of the request."""
     made = kind(catalogue, request, report)
     if wish is not None:
-        made.leave_out(left_out(request, report, wish))
+        made.leave_out(left_out(report, wish))
     elif isinstance(report, Refused):
         made.refuse()
     else:
@@ -92,28 +91,34 @@ def arguments() -> argparse.Namespace:
     """The command line."""
     options = argparse.ArgumentParser(description="Exports a refusal as a CNF with a DRAT and an LRAT proof.")
     for name in ("catalogue", "request", "report"):
-        options.add_argument(name, type=Path)
+        options.add_argument(name, metavar=name.upper())
     options.add_argument("-o", dest="prefix", required=True, help="writes PREFIX.cnf, PREFIX.drat and PREFIX.lrat")
     options.add_argument("--wish", type=int, metavar="LINE", help="the line of the request with a left-out wish")
     return options.parse_args()
 
 
-def main() -> None:
-    given = arguments()
-    try:
-        catalogue = read_catalogue(given.catalogue.read_bytes())
-        request = read_request(given.request.read_bytes(), catalogue)
-        made = export(catalogue, request, read_report(given.report.read_bytes()), given.wish)
-        for suffix, text in (("cnf", made.cnf.text()), ("drat", made.proof.drat()), ("lrat", made.proof.lrat())):
-            Path(f"{given.prefix}.{suffix}").write_text(text)
-    except OSError as fault:
-        sys.exit(f"{fault.filename}: {fault.strerror}")
-    except Fault as fault:
-        line = f":{fault.line}" if fault.line else ""
-        sys.exit(f"{getattr(given, fault.text)}{line}: {fault.reason}")
+def write_export(given: argparse.Namespace) -> None:
+    """Reads the three texts and writes the three files."""
+    with of_file(given.catalogue):
+        catalogue = read_catalogue(read_bytes(given.catalogue))
+    with of_file(given.request):
+        request = read_request(read_bytes(given.request), catalogue)
+    with of_file(given.report), progress("export"):
+        made = export(catalogue, request, read_report(read_bytes(given.report)), given.wish)
+    for suffix, text in (("cnf", made.cnf.text()), ("drat", made.proof.drat()), ("lrat", made.proof.lrat())):
+        write_bytes(f"{given.prefix}.{suffix}", text.encode())
     clauses, lines = len(made.cnf.clauses), len(made.proof.lines)
     print(f"{len(made.cnf.names)} variables and {clauses} clauses; a proof of {lines} lines")
 
 
+def main() -> int:
+    try:
+        write_export(arguments())
+    except Failure as failure:
+        print(f"tools: {failure}", file=sys.stderr)
+        return failure.status
+    return 0
+
+
 if __name__ == "__main__":
-    main()
+    sys.exit(main())

@@ -264,8 +264,8 @@ class Exports(unittest.TestCase):
             self.assertEqual(written, [APART_CNF, APART_LRAT])
             paths[2].write_text(APART[2].replace("by 1 2 3 4", "by 1 3 4"))
             run = subprocess.run(command, capture_output=True, text=True)
-            wanted = f"{paths[2]}:8: step 5: one pass over its clauses doesn't refute it\n"
-            self.assertEqual((run.stdout, run.stderr, run.returncode), ("", wanted, 1))
+            wanted = f"tools: {paths[2]}: line 8: step 5: one pass over its clauses doesn't refute it\n"
+            self.assertEqual((run.stdout, run.stderr, run.returncode), ("", wanted, 2))
 
 
 def halves(count: int) -> tuple[str, str, str]:
@@ -296,11 +296,11 @@ class Faults(unittest.TestCase):
     """Reports that aren't a proof: the fault is at a line."""
 
     def assert_fault(
-        self, texts: tuple[str, str, str], line: Optional[int], why: str, wish: Optional[int] = None, of: str = "report"
+        self, texts: tuple[str, str, str], line: Optional[int], why: str, wish: Optional[int] = None
     ) -> None:
         with self.assertRaises(Fault) as raised:
             exported(*texts, wish)
-        self.assertEqual((raised.exception.text, raised.exception.line), (of, line))
+        self.assertEqual((raised.exception.text, raised.exception.line), ("report", line))
         self.assertIn(why, raised.exception.reason)
 
     def test_steps(self) -> None:
@@ -330,8 +330,9 @@ class Faults(unittest.TestCase):
     def test_wishes(self) -> None:
         catalogue, request, report = WISHES
         self.assert_fault(WISHES, 1, "--wish")
-        self.assert_fault(WISHES, None, "the wish of request line 2 isn't left out", 2)
-        self.assert_fault(APART, 1, "not a wish", 1, "request")
+        self.assert_fault(WISHES, None, "it leaves out no wish of request line 2", 2)
+        self.assert_fault(APART, None, "it leaves out no wish of request line 1", 1)
+        self.assert_fault((catalogue, request, report.replace("out b=1", "out a=1")), 4, "isn't a wish for a=1", 3)
         self.assert_fault((catalogue, request, report.replace("by 1", "by 2")), 4, "no step 2", 3)
         without = report.replace("a=2 for request line 1\n", "")
         self.assert_fault((catalogue, request, without), 4, "doesn't refute it", 3)
