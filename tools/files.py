@@ -14,6 +14,7 @@ from typing import Iterator, Optional
 
 from tools.words import Fault
 
+SLOW = 1.0  # seconds after which a step is told
 TOP = os.path.dirname(os.path.dirname(os.path.abspath(__file__)))
 
 
@@ -81,8 +82,8 @@ def of_file(path: str) -> Iterator[None]:
 
 @contextmanager
 def progress(what: str) -> Iterator[None]:
-    """Says on standard error what is going on, if it takes longer than a second."""
-    timer = threading.Timer(1.0, lambda: print(f"tools: {what} ..", file=sys.stderr, flush=True))
+    """Says on standard error what is going on, if it takes longer than SLOW seconds."""
+    timer = threading.Timer(SLOW, lambda: print(f"tools: {what} ..", file=sys.stderr, flush=True))
     timer.daemon = True
     timer.start()
     try:

@@ -1,16 +1,23 @@
 """Views: what each prints for reports kept as data, and that names and JSON lead back to the same bytes."""
+import contextlib
+import io
 import json
 import os
 import re
+import subprocess
+import time
 from html.parser import HTMLParser
+from unittest import mock
 
 from tools import texts
 from tools.explain import tree_of
+from tools.files import progress
 from tools.forms import read_json, report_json
 from tools.graph import MOST_NODES, conflict_graph, graph_svg
 from tools.message import read_sentence, sentence_text
 from tools.page import page
 from tools.tests.base import FolderCase, bundle_of, data_bytes, data_path, run
+from tools.view import use_colour
 
 PAIRS = [
     ("app", "app", "app"), ("app", "conflict", "conflict"), ("locked", "locked", "locked"), ("wishes", "wishes", "wishes"),
@@ -319,6 +326,31 @@ class Front(FolderCase):
         with open(out, "rb") as source:
             self.assertEqual(source.read(), run("view", "tree", *files)[1])
         self.assertEqual(os.listdir(self.folder), ["out"])
+
+    def test_a_slow_step_is_told(self):
+        error = io.StringIO()
+        with mock.patch("tools.files.SLOW", 0.01), contextlib.redirect_stderr(error):
+            with progress("reading x"):
+                time.sleep(0.2)
+            with mock.patch("tools.files.SLOW", 60), progress("reading y"):
+                pass
+        self.assertEqual(error.getvalue(), "tools: reading x ..\n")
+
+    def test_colours_on_a_terminal_alone(self):
+        for is_terminal, environment, choice, wanted in [
+            (True, {"TERM": "xterm"}, "auto", True), (False, {"TERM": "xterm"}, "auto", False), (True, {"TERM": "xterm", "NO_COLOR": "1"}, "auto", False),
+            (True, {"TERM": "dumb"}, "auto", False), (False, {}, "always", True), (True, {"TERM": "xterm"}, "never", False),
+        ]:
+            with mock.patch.dict(os.environ, environment, clear=True), mock.patch("sys.stdout") as out:
+                out.isatty.return_value = is_terminal
+                self.assertEqual(use_colour(choice), wanted)
+
+    def test_the_front_runs_from_anywhere(self):
+        top = os.path.join(os.path.dirname(data_path("pairs.json")), "..", "..", "..")
+        link = self.path("tool")
+        os.symlink(os.path.abspath(os.path.join(top, "tools", "resolve-tools")), link)
+        done = subprocess.run([link, "view", "tree", *map(os.path.abspath, map(data_path, DEBIAN))], cwd=self.folder, capture_output=True)
+        self.assertEqual((done.returncode, done.stdout.decode(), done.stderr), (0, TREE, b""))
 
     def test_command_lines(self):
         self.assertEqual(run("--help")[0], 0)
