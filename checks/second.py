@@ -382,18 +382,21 @@ def run_program(count: int, program: str, folder: Path, checkers: Checkers) -> N
 def main() -> None:
     count = int(sys.argv[1]) if len(sys.argv) > 1 else 200
     program = sys.argv[2] if len(sys.argv) > 2 else str(HERE.parent / "crates/resolve/out/resolve")
+    if program != "-" and not os.access(program, os.X_OK):
+        sys.exit(f"{program} isn't a program that can be run; `-` asks the plain prover alone")
     with tempfile.TemporaryDirectory() as name:
         folder = Path(name)
         checkers = Checkers(folder)
         print(f"checked by {checkers.names()}")
         run("examples", examples(), checkers)
-        run("families, by the plain prover", families(SMALL, partial(plain_refusal, random.Random(2))), checkers)
+        small = list(families(SMALL, partial(plain_refusal, random.Random(2))))
+        run("families, by the plain prover", small, checkers)
         run("the plain prover's reports", generated(count, partial(plain_report, random.Random(5))), checkers)
         some = max(count // 4, 10)
         ladders = generated(some, partial(plain_report, random.Random(7)))
         run("the same with ladders", ladders, checkers, LadderExport)
         run_meaning(generated(some, partial(plain_report, random.Random(8))))
-        run_faults(generated(some, partial(plain_report, random.Random(6))), checkers)
+        run_faults([*small, *generated(some, partial(plain_report, random.Random(6)))], checkers)
         if program != "-":
             run_program(count, program, folder, checkers)
 
