@@ -19,7 +19,7 @@ import tempfile
 from collections import Counter
 
 HERE = os.path.dirname(os.path.abspath(__file__))
-sys.path[:0] = [HERE, os.path.join(HERE, "..")]
+sys.path[:0] = [os.path.join(HERE, ".."), HERE]
 
 from judging import Prover, some_texts
 from plain_judge import judge

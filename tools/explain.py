@@ -96,7 +96,8 @@ class Sentences:
         line = self.bundle.line(step.place, step.line).line
         all_cases = texts.cases(line.condition)
         case = all_cases[step.case - 1] if 1 <= step.case <= len(all_cases) else []
-        beside = f" where {' and '.join(map(self.people.spec_text, case))} is there" if case else ""
+        there = " and ".join(map(self.people.spec_text, case))
+        beside = f" where {there} {'is' if len(case) == 1 else 'are'} there" if case else ""
         return f"By {self.line(step.place, step.line)}: {self.premise(step.place)}{self.needed(line.alternatives)}{beside}."
 
     def GateStep(self, step: texts.GateStep) -> str:
@@ -151,7 +152,7 @@ class Sentences:
             return "no set of versions obeys all the named lines."
         if all(not each.positive and isinstance(each.atom, Version) for each in literals):
             versions = [self.people.version(each.atom) for each in literals]
-            return f"{versions[0]} can't be installed." if len(versions) == 1 else f"not all of {joined(versions)} can be installed."
+            return barred_words(versions)
         return f"{' or '.join(self.literal(each) for each in literals)}."
 
     def literal(self, literal: texts.Literal) -> str:
@@ -166,6 +167,13 @@ class Sentences:
         if isinstance(atom, texts.OutsideAtom):
             return f"{'a' if literal.positive else 'no'} version outside {self.people.spec_text(atom.spec)}"
         return f"bit {atom.bit} of {self.people.name_text(atom.package)} is {int(literal.positive)}"
+
+
+def barred_words(versions: list[str]) -> str:
+    """That these versions can't be installed together."""
+    if len(versions) < 3:
+        return f"{joined(versions)} can't {'both ' if len(versions) == 2 else ''}be installed."
+    return f"not all of {joined(versions)} can be installed."
 
 
 def joined(words: list[str]) -> str:
@@ -197,9 +205,14 @@ def answer_words(bundle: Bundle, answer: texts.Answer) -> str:
     version = bundle.people.version(answer.version)
     if isinstance(answer, LeftOut):
         return f"{version} is left out, though request line {answer.line} wishes for it (step {answer.step})"
-    if isinstance(answer, texts.WishedEntry):
-        return f"{version}, wished for by request line {answer.line}"
-    return f"{version}, for {place_line(bundle, answer.place, answer.line)}"
+    return f"{version}, {reason_words(bundle, answer)}"
+
+
+def reason_words(bundle: Bundle, entry: Union[texts.Entry, texts.WishedEntry]) -> str:
+    """Why an entry is there."""
+    if isinstance(entry, texts.WishedEntry):
+        return f"wished for by request line {entry.line}"
+    return f"for {place_line(bundle, entry.place, entry.line)}"
 
 
 # ---- the tree

@@ -6,8 +6,8 @@ from typing import Iterable
 
 from tools import texts
 from tools.bundle import Bundle
-from tools.explain import INSTALLED, REFUSED, Branch, Named, Sentences, answer_words, branch_label, left_lines, left_out
-from tools.explain import named_lines, tree_of
+from tools.explain import INSTALLED, REFUSED, Branch, Named, Sentences, branch_label, left_lines, left_out
+from tools.explain import named_lines, reason_words, tree_of
 from tools.graph import conflict_graph, graph_svg
 from tools.message import message_line, read_sentence
 from tools.reports import Refused
@@ -98,7 +98,7 @@ def tree_html(top: Branch, bundle: Bundle) -> str:
 def install_parts(bundle: Bundle) -> str:
     """The body of an install report."""
     report = bundle.report
-    rows = "".join(f"<tr><td>{shown(bundle.people.version(e.version))}</td><td class=soft>{shown(answer_words(bundle, e))}</td></tr>" for e in report.entries)
+    rows = "".join(f"<tr><td>{shown(bundle.people.version(e.version))}</td><td class=soft>{shown(reason_words(bundle, e))}</td></tr>" for e in report.entries)
     parts = [f"<h1 class=good>Install</h1><p>{shown(INSTALLED)}</p>"]
     parts.append(fold(f"What is installed: {len(report.entries)}", f"<table>{rows}</table>", True))
     parts.append(fold("Why, as a tree", tree_html(tree_of(report), bundle), True))

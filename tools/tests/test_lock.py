@@ -4,6 +4,7 @@ import stat
 
 from tools.lock import Lock, LockEntry, lock_text, read_lock
 from tools.tests.base import FolderCase, data_bytes, data_path, run
+from tools.words import Fault
 
 NEWER = b"version app 3\n#v 1.2-1\nversion libc6 3\n#v 2.37-1\n"
 
@@ -61,10 +62,11 @@ class Locks(FolderCase):
 
     def test_a_cut_file_is_a_fault(self):
         for end in range(len(self.text)):
-            path = self.write("cut.lock", self.text[:end])
-            status, out, error = run("lock", "lines", "--frozen", self.catalogue, path)
-            self.assertEqual((status, out), (2, b""), self.text[:end])
-            self.assertIn(f"tools: {path}: line {self.text[:end].count(10) + 1}: ", error)
+            with self.assertRaises(Fault) as raised:
+                read_lock(self.text[:end])
+            self.assertEqual(raised.exception.line, self.text[:end].count(10) + 1)
+        path = self.write("cut.lock", self.text[:self.text.index(b"libc6")])
+        self.assert_fault(f"{path}: line 7: it ends after 2 entries of 3", "lock", "lines", "--frozen", self.catalogue, path)
 
     def test_faults(self):
         for old, new, line, reason in [
