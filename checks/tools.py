@@ -27,7 +27,7 @@ from solving import generated_texts
 from tools import texts
 from tools.dictionary import Dictionary
 from tools.tests.base import data_bytes, run
-from tools.tests.test_views import loads
+from tools.tests.test_views import PAIRS, loads
 
 AWKWARD_NAMES = ["<script>alert('1')</script>", "a&b\"c", "é|ü", "b", "c", "src:x", "@import", "url(x)", "d", "any", "not", "x;y]"]
 AWKWARD_TEXTS = ["1..2", "1.", ".1", "holds", "*", "<b>", "1;", "2]", "=3", "3", "2", "1:1.0-1+b2~rc1", "line"]
@@ -115,7 +115,14 @@ class Locks:
             for answer in texts.read_report(moved).answers:
                 if isinstance(answer, texts.LeftOut):
                     self.counts["wishes left out with a proof"] += 1
-                    must(f"{answer.version.package} {answer.version.number}, wished for by" in left, "view left says nothing of it", answer, left)
+                    self.said_in(left, answer, later)
+
+    def said_in(self, left, answer, catalogue):
+        """`view left` says why this wish was left out."""
+        listed = texts.read_catalogue(catalogue)
+        dictionary = texts.read_dictionary(listed) or Dictionary()
+        words = f"{dictionary.name(answer.version.package)} {dictionary.version(answer.version)}, wished for by"
+        must(words in left, "view left says nothing of it", answer, left)
 
     def gone(self, catalogue, report):
         """A locked version that the catalogue no longer lists."""
@@ -127,7 +134,8 @@ class Locks:
         for how in ("--frozen", "--keep", "--wish"):
             status, printed, error = run("lock", "lines", how, later, self.path("x.lock"), "--out", out)
             must((status, printed) == (1, b"") and not os.path.exists(out), "a version is gone, and lines were written", error)
-            must(f"is no longer listed by {later}\n" in error and error.startswith(f"tools: {self.path('x.lock')}: line "), "not the named error", error)
+            named = error.startswith(f"tools: {self.path('x.lock')}: line ") and error.endswith(f" is no longer listed by {later}\n")
+            must(named, "not the named error", error)
         self.counts["gone"] += 1
 
 
@@ -168,7 +176,7 @@ def without(catalogue, version):
 
 def worked_pairs():
     """The pairs of examples/ and of the tests' data."""
-    for catalogue, request in (("app", "app"), ("app", "conflict"), ("locked", "locked"), ("wishes", "wishes"), ("debian", "debian"), ("debian", "held")):
+    for catalogue, request, _ in PAIRS:
         yield data_bytes(f"{catalogue}.catalogue"), data_bytes(f"{request}.request")
     for pair in json.loads(data_bytes("pairs.json")):
         yield pair["catalogue"].encode(), pair["request"].encode()

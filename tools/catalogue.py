@@ -207,7 +207,7 @@ def request_text(request: Request, spelling: Spelling = PLAIN) -> bytes:
 
 
 def read_needs(words: Words) -> NeedsLine:
-    """What stands behind `needs`."""
+    """The rest of a line with `needs`."""
     alternatives, condition = words.alternatives(), None
     if words.peek() == "if":
         words.at += 1

@@ -98,11 +98,13 @@ class Sentences:
         case = all_cases[step.case - 1] if 1 <= step.case <= len(all_cases) else []
         there = " and ".join(map(self.people.spec_text, case))
         beside = f" where {there} {'is' if len(case) == 1 else 'are'} there" if case else ""
-        return f"By {self.line(step.place, step.line)}: {self.premise(step.place)}{self.needed(line.alternatives)}{beside}."
+        needed = self.premise(step.place) + self.needed(line.alternatives)
+        return f"By {self.line(step.place, step.line)}: {needed}{beside}."
 
     def GateStep(self, step: texts.GateStep) -> str:
         specs = self.bundle.line(step.version, step.line).line.alternatives
-        return f"By {self.line(step.version, step.line)}: {self.premise(step.version)}a match of {self.people.specs(specs)} is needed."
+        needed = f"{self.premise(step.version)}a match of {self.people.specs(specs)} is needed"
+        return f"By {self.line(step.version, step.line)}: {needed}."
 
     def SharedStep(self, step: texts.SharedStep) -> str:
         matches = self.people.versions(self.matches(step.alternatives)) or "nothing that is listed"
@@ -126,8 +128,8 @@ class Sentences:
 
     def barred(self, number: int, why: str) -> str:
         placed = self.bundle.catalogue.placed[number - 1]
-        version = placed.owner or placed.line.version
-        return f"By catalogue line {number}: {self.people.version(version)} can't be installed, since {why} ({placed.line.reason})."
+        version = self.people.version(placed.owner or placed.line.version)
+        return f"By catalogue line {number}: {version} can't be installed, since {why} ({placed.line.reason})."
 
     def ExcludeStep(self, step: texts.ExcludeStep) -> str:
         return self.barred(step.line, "it is excluded")
@@ -140,7 +142,8 @@ class Sentences:
 
     def DigitStep(self, step: texts.DigitStep) -> str:
         name, bit = self.people.name_text(step.version.package), step.place >> step.bit & 1
-        return f"At most one version of {name}: {self.people.version(step.version)} has place {step.place}, so bit {step.bit} is {bit}."
+        version = self.people.version(step.version)
+        return f"At most one version of {name}: {version} has place {step.place}, so bit {step.bit} is {bit}."
 
     def DeriveStep(self, step: texts.DeriveStep) -> str:
         causes = joined([str(cause) for cause in dict.fromkeys(step.causes)])
@@ -264,11 +267,15 @@ def marked(branches: list[Branch]) -> Iterator[tuple[Branch, bool]]:
 
 
 def why_lines(bundle: Bundle, name: str) -> Optional[list[str]]:
-    """Why a package is installed, from it up to the request; why it isn't, where a wish for it was left out; or None."""
+    """Why a package is installed, from it up to the request, or why a wish for it was left out; None of any other."""
+
+    def is_named(version: Version) -> bool:
+        return name in (version.package, bundle.people.name_text(version.package))
+
     entries = {entry.version: entry for entry in bundle.report.entries}
-    found = next((e for e in entries.values() if name in (e.version.package, bundle.people.name_text(e.version.package))), None)
+    found = next((entry for version, entry in entries.items() if is_named(version)), None)
     if found is None:
-        out = [o for o in left_out(bundle.report) if name in (o.version.package, bundle.people.name_text(o.version.package))]
+        out = [each for each in left_out(bundle.report) if is_named(each.version)]
         return [line for each in out for line in left_lines(bundle, each)] or None
     lines: list[str] = []
     while found is not None:

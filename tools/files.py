@@ -14,12 +14,12 @@ from typing import Iterator, Optional
 
 from tools.words import Fault
 
-SLOW = 1.0  # seconds after which a step is told
+SLOW = 1.0  # seconds after which people hear of a step
 TOP = os.path.dirname(os.path.dirname(os.path.abspath(__file__)))
 
 
 class Failure(Exception):
-    """An error that people are told: `FILE: line N: reason`; status 2 is a fault, 1 a no."""
+    """An error for people: `FILE: line N: reason`; status 2 is a fault, 1 a no."""
 
     def __init__(self, path: str, line: Optional[int], reason: str, status: int = 2) -> None:
         where = f"{path}: line {line}" if line else path

@@ -105,20 +105,24 @@ def add_lock(commands: argparse._SubParsersAction) -> None:
     """The commands of lock files."""
     actions = group(commands, "lock", "write, use, compare and check lock files (docs/LOCKS.md)")
     write = action(actions, "write", lock_write, "the lock of an install report", "catalogue", "report")
-    lines = action(actions, "lines", lock_lines, "a lock as lines for the end of a later catalogue or request", "catalogue", "lock")
+    about = "a lock as lines for the end of a later catalogue or request"
+    lines = action(actions, "lines", lock_lines, about, "catalogue", "lock")
     how = lines.add_mutually_exclusive_group(required=True)
     how.add_argument("--frozen", action="store_true", help="`lock` lines: nothing else of these packages may be chosen")
     how.add_argument("--keep", action="store_true", help="`favour` lines: stay, unless something forces a change")
-    how.add_argument("--wish", action="store_true", help="`wish` lines for the end of the request: what can't stay is told with its proof")
+    wish = "`wish` lines for the end of the request: what can't stay gets a proof"
+    how.add_argument("--wish", action="store_true", help=wish)
     lines.add_argument("--except", dest="but", nargs="+", metavar="NAME", help="with --keep: packages that may change")
-    lines.add_argument("--whole", action="store_true", help="the catalogue (with --wish the request) with the lines at its end")
+    whole = "the catalogue (with --wish the request) with the lines at its end"
+    lines.add_argument("--whole", action="store_true", help=whole)
     lines.add_argument("--request", help="with --wish: what it wishes for already is passed over")
     plan = action(actions, "plan", lock_plan, "what changes from one lock to another", "old", "new")
     plan.add_argument("catalogue", nargs="?", help="tells upgrades from downgrades by its order of versions")
-    check = action(actions, "check", lock_check, "whether a lock is that of a report, and the report is right", "lock", "catalogue", "request", "report")
+    about = "whether a lock is that of a report, and the report is right"
+    check = action(actions, "check", lock_check, about, "lock", "catalogue", "request", "report")
     check.add_argument("--resolve", metavar="PATH", help="the program `resolve`")
     for each in (write, lines, plan):
-        each.add_argument("--out", metavar="FILE", help="write this file, whole or not at all, in place of standard output")
+        add_out(each)
 
 
 # ---- views
@@ -164,6 +168,13 @@ def names_back(args: argparse.Namespace) -> bytes:
     return view.names_back(args.catalogue, args.back)
 
 
+def json_back(args: argparse.Namespace) -> bytes:
+    """`view json --back FILE`."""
+    if args.catalogue:
+        raise Failure("view json", None, "with --back no other file is due")
+    return view.json_back(args.back)
+
+
 VIEWS: list[tuple[str, Handler, str]] = [
     ("message", view_message, "why a request is refused, in colour on a terminal"),
     ("explain", view_of(view.explain, "steps"), "the report in words: each line that it names, with its source"),
@@ -174,7 +185,7 @@ VIEWS: list[tuple[str, Handler, str]] = [
 ]
 BACK_VIEWS: list[tuple[str, Handler, str]] = [
     ("names", with_back(view_of(view.names), names_back), "the report with real names and versions"),
-    ("json", with_back(view_of(view.json_view), lambda args: view.json_back(args.back)), "the report for other programs"),
+    ("json", with_back(view_of(view.json_view), json_back), "the report for other programs"),
 ]
 
 
@@ -182,10 +193,12 @@ def add_views(commands: argparse._SubParsersAction) -> None:
     """The views."""
     actions = group(commands, "view", "look at a report")
     for name, handler, about in VIEWS:
-        each = action(actions, name, handler, about, "catalogue", "request", "report", *(("name",) if name == "why" else ()))
-        each.add_argument("--out", metavar="FILE", help="write this file, whole or not at all")
+        files = ["catalogue", "request", "report"]
+        each = action(actions, name, handler, about, *files, *(["name"] if name == "why" else []))
+        add_out(each)
         if name == "message":
-            each.add_argument("--color", choices=("auto", "always", "never"), default="auto", help="auto: on a terminal where NO_COLOR isn't set")
+            colour = "auto: on a terminal where NO_COLOR isn't set"
+            each.add_argument("--color", choices=("auto", "always", "never"), default="auto", help=colour)
         if name == "explain":
             each.add_argument("--steps", action="store_true", help="the proof too, a sentence a step")
     for name, handler, about in BACK_VIEWS:
@@ -194,7 +207,7 @@ def add_views(commands: argparse._SubParsersAction) -> None:
         for file in ("catalogue", "request", "report"):
             each.add_argument(file, nargs="?", metavar=file.upper())
         each.add_argument("--back", metavar="FILE", help="the report of such a view: the bytes that it was made of")
-        each.add_argument("--out", metavar="FILE", help="write this file, whole or not at all")
+        add_out(each)
 
 
 # ---- the front
@@ -206,7 +219,14 @@ def group(commands: argparse._SubParsersAction, name: str, about: str) -> argpar
     return parser.add_subparsers(dest="action", metavar="ACTION", required=True)
 
 
-def action(actions: argparse._SubParsersAction, name: str, handler: Handler, about: str, *files: str) -> argparse.ArgumentParser:
+def add_out(parser: argparse.ArgumentParser) -> None:
+    """`--out FILE`."""
+    parser.add_argument("--out", metavar="FILE", help="write this file, whole or not at all, not standard output")
+
+
+def action(
+    actions: argparse._SubParsersAction, name: str, handler: Handler, about: str, *files: str
+) -> argparse.ArgumentParser:
     """An action over files."""
     parser = actions.add_parser(name, help=about, description=about)
     parser.set_defaults(handle=handler)

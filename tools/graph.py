@@ -199,7 +199,7 @@ def place_nodes(graph: Graph) -> tuple[float, float]:
     widest = 0.0
     for row in range(max(depth.values()) + 1):
         nodes = [node for node in graph.nodes if depth[node.key] == row]
-        nodes.sort(key=lambda node: mean([by_key[e.first].x for e in graph.edges if e.second == node.key and e.kind == "needs"]))
+        nodes.sort(key=lambda node: mean([by_key[e.first].x for e in graph.edges if is_need_of(e, node)]))
         at = float(MARGIN)
         for node in nodes:
             node.x, node.y = at + node.width / 2, MARGIN + row * ROW + BOX / 2
@@ -213,6 +213,11 @@ def place_nodes(graph: Graph) -> tuple[float, float]:
             for node in nodes:
                 node.x += spare
     return widest, 2 * MARGIN + max(depth.values()) * ROW + BOX
+
+
+def is_need_of(edge: Edge, node: Node) -> bool:
+    """Whether something needs the node by this edge."""
+    return edge.kind == "needs" and edge.second == node.key
 
 
 def mean(numbers: list[float]) -> float:
@@ -238,7 +243,8 @@ def edge_path(edge: Edge, first: Node, second: Node, aside: float) -> tuple[str,
     middle, start, end = (top + bottom) / 2, first.x + shift, second.x + shift
     if is_long(first, second):
         turn = down * ROW * 0.6
-        path = f"M{start:.1f} {top:.1f} C{start:.1f} {top + turn:.1f} {aside:.1f} {top + turn / 2:.1f} {aside:.1f} {middle:.1f}"
+        path = f"M{start:.1f} {top:.1f}"
+        path += f" C{start:.1f} {top + turn:.1f} {aside:.1f} {top + turn / 2:.1f} {aside:.1f} {middle:.1f}"
         path += f" C{aside:.1f} {bottom - turn / 2:.1f} {end:.1f} {bottom - turn:.1f} {end:.1f} {bottom:.1f}"
         return path, aside, middle
     path = f"M{start:.1f} {top:.1f} C{start:.1f} {middle:.1f} {end:.1f} {middle:.1f} {end:.1f} {bottom:.1f}"
@@ -255,7 +261,8 @@ def edge_svg(drawn: Drawn, with_label: bool) -> str:
     edge, first, second = drawn.edge, drawn.first, drawn.second
     path, x, y = edge_path(edge, first, second, drawn.aside)
     title = f"<title>{escape(visible(f'{first.label} {edge.label}: {second.label}'))}</title>"
-    label = f'<text class="edge" x="{x:.1f}" y="{y + 4:.1f}">{escape(shortened(edge.label))}</text>' if with_label else ""
+    words = escape(shortened(edge.label))
+    label = f'<text class="edge" x="{x:.1f}" y="{y + 4:.1f}">{words}</text>' if with_label else ""
     return f'<path class="{edge.kind}" d="{path}">{title}</path>{label}'
 
 

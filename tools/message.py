@@ -9,7 +9,6 @@ from dataclasses import dataclass
 from typing import Union
 
 from tools.catalogue import decoded, encoded
-from tools.dictionary import RealSpelling
 from tools.reports import Refused, Report, read_report, report_lines
 from tools.words import NAME, PLAIN, RESERVED, Bad, Spec, Spelling, Words
 
@@ -51,7 +50,7 @@ class Requirement:
 
 @dataclass(frozen=True)
 class Versions:
-    """Versions of one package that are told as one: `NAME NUM | NUM`."""
+    """Versions of one package in one line: `NAME NUM | NUM`."""
 
     package: str
     numbers: tuple[int, ...]
@@ -194,6 +193,3 @@ def split_message(text: str) -> tuple[str, bool, list[str]]:
     if not message or lines[-1] or not all(line.startswith(("| ", KEPT)) for line in message):
         return text, False, []
     return "".join(line + "\n" for line in lines[:first]), True, message
-
-
-__all__ = ["RealSpelling", "Requirement", "Sentence", "Versions", "message_line", "plain_text", "read_sentence", "real_text"]

@@ -15,18 +15,29 @@ from tools.words import Bad, visible
 
 POLICY = "default-src 'none'; style-src 'unsafe-inline'"
 STYLE = """
-:root { color-scheme: light dark; --ink: #1d2430; --paper: #fff; --soft: #667; --line: #ccd; --good: #17703a; --bad: #b3261e; --box: #f4f6fb }
-@media (prefers-color-scheme: dark) { :root { --ink: #e4e7ee; --paper: #14171d; --soft: #9aa; --line: #3a4152; --good: #6fd08f; --bad: #ff8a80; --box: #1f2531 } }
-body { font: 15px/1.5 system-ui, sans-serif; color: var(--ink); background: var(--paper); max-width: 70em; margin: 2em auto; padding: 0 1.2em }
-h1 { font-size: 1.5em } h2 { font-size: 1.1em; margin-top: 2em } summary { cursor: pointer; font-weight: 600; margin: 1.2em 0 .4em }
+:root { color-scheme: light dark; --ink: #1d2430; --paper: #fff; --soft: #667; --line: #ccd }
+:root { --good: #17703a; --bad: #b3261e; --box: #f4f6fb }
+@media (prefers-color-scheme: dark) {
+  :root { --ink: #e4e7ee; --paper: #14171d; --soft: #9aa; --line: #3a4152 }
+  :root { --good: #6fd08f; --bad: #ff8a80; --box: #1f2531 }
+}
+body { font: 15px/1.5 system-ui, sans-serif; color: var(--ink); background: var(--paper) }
+body { max-width: 70em; margin: 2em auto; padding: 0 1.2em }
+h1 { font-size: 1.5em }
+summary { cursor: pointer; font-weight: 600; margin: 1.2em 0 .4em }
 .good { color: var(--good) } .bad { color: var(--bad) } .soft { color: var(--soft) }
-pre, code, table { font: 13px/1.5 ui-monospace, monospace } pre { white-space: pre-wrap; overflow-wrap: anywhere; background: var(--box); padding: .8em; border-radius: 6px }
-table { border-collapse: collapse } td { border-top: 1px solid var(--line); padding: .25em .9em .25em 0; vertical-align: top; overflow-wrap: anywhere }
-ol { font: 13px/1.6 ui-monospace, monospace; overflow-wrap: anywhere } ul { list-style: none; padding-left: 1.3em; border-left: 1px solid var(--line) }
+pre, table, ol { font: 13px/1.5 ui-monospace, monospace; overflow-wrap: anywhere }
+pre { white-space: pre-wrap; background: var(--box); padding: .8em; border-radius: 6px }
+table { border-collapse: collapse }
+td { border-top: 1px solid var(--line); padding: .25em .9em .25em 0; vertical-align: top }
+ul { list-style: none; padding-left: 1.3em; border-left: 1px solid var(--line) }
 .drawing { overflow: auto; background: var(--box); border-radius: 6px }
-svg text { font: 12px ui-monospace, monospace; text-anchor: middle; fill: var(--ink) } svg text.edge { font-size: 10.5px; fill: var(--soft); paint-order: stroke; stroke: var(--box); stroke-width: 4px }
-svg rect { fill: var(--paper); stroke: var(--soft) } svg rect.request { stroke-width: 2 } svg rect.mark, svg rect.none { stroke: var(--bad); stroke-dasharray: 4 3 }
-svg path { fill: none; stroke: var(--soft) } svg path.bars, svg path.one { stroke: var(--bad); stroke-dasharray: 5 4 }
+svg text { font: 12px ui-monospace, monospace; text-anchor: middle; fill: var(--ink) }
+svg text.edge { font-size: 10.5px; fill: var(--soft); paint-order: stroke; stroke: var(--box); stroke-width: 4px }
+svg rect { fill: var(--paper); stroke: var(--soft) } svg rect.request { stroke-width: 2 }
+svg rect.mark, svg rect.none { stroke: var(--bad); stroke-dasharray: 4 3 }
+svg path { fill: none; stroke: var(--soft) }
+svg path.bars, svg path.one { stroke: var(--bad); stroke-dasharray: 5 4 }
 svg polygon { fill: var(--soft) } svg polygon.bars { fill: var(--bad) }
 """
 
@@ -43,8 +54,17 @@ def fold(title: str, body: str, is_open: bool = False) -> str:
 
 def lines_table(lines: Iterable[Named]) -> str:
     """Named lines with their sources."""
-    rows = (f"<tr><td class=soft>{shown(n.label)}</td><td>{shown(n.words)}</td><td class=soft>{shown(n.source or '')}</td></tr>" for n in lines)
-    return f"<table>{''.join(rows)}</table>"
+    return table([cell(line.label, True), cell(line.words), cell(line.source or "", True)] for line in lines)
+
+
+def cell(text: str, is_soft: bool = False) -> str:
+    """A cell of a table."""
+    return f"<td{' class=soft' if is_soft else ''}>{shown(text)}</td>"
+
+
+def table(rows: Iterable[list[str]]) -> str:
+    """Rows of cells."""
+    return f"<table>{''.join('<tr>' + ''.join(cells) + '</tr>' for cells in rows)}</table>"
 
 
 def message_html(bundle: Bundle) -> str:
@@ -98,9 +118,9 @@ def tree_html(top: Branch, bundle: Bundle) -> str:
 def install_parts(bundle: Bundle) -> str:
     """The body of an install report."""
     report = bundle.report
-    rows = "".join(f"<tr><td>{shown(bundle.people.version(e.version))}</td><td class=soft>{shown(reason_words(bundle, e))}</td></tr>" for e in report.entries)
+    rows = table([cell(bundle.people.version(e.version)), cell(reason_words(bundle, e), True)] for e in report.entries)
     parts = [f"<h1 class=good>Install</h1><p>{shown(INSTALLED)}</p>"]
-    parts.append(fold(f"What is installed: {len(report.entries)}", f"<table>{rows}</table>", True))
+    parts.append(fold(f"What is installed: {len(report.entries)}", rows, True))
     parts.append(fold("Why, as a tree", tree_html(tree_of(report), bundle), True))
     out = left_out(report)
     if out:
@@ -122,8 +142,9 @@ def refused_parts(bundle: Bundle) -> str:
     parts.append(fold("The lines that can't all be obeyed", lines_table(named_lines(bundle)), True))
     graph = conflict_graph(bundle)
     note = f"<p class=soft>{graph.left} more nodes aren't drawn.</p>" if graph.left else ""
-    legend = "<p class=soft>An arrow leads to what is needed, a dashed red one to what can't be installed beside it.</p>"
-    parts.append(fold("The conflict, drawn", f"<div class=drawing>{graph_svg(graph)}</div>{legend}{note}", True))
+    legend = "An arrow leads to what is needed, a dashed red one to what can't be installed beside it."
+    drawing = f"<div class=drawing>{graph_svg(graph)}</div><p class=soft>{shown(legend)}</p>{note}"
+    parts.append(fold("The conflict, drawn", drawing, True))
     return "".join(parts)
 
 

@@ -333,7 +333,7 @@ def read_literal(text: str, spelling: Spelling) -> Literal:
 
 
 def read_derive(text: str, spelling: Spelling) -> DeriveStep:
-    """What stands behind `derive `."""
+    """The rest of a line with `derive`."""
     inside, close, behind = text[1:].partition("] by ")
     if not text.startswith("[") or not close:
         raise Bad("`derive` is followed by `[..] by` and numbers of steps")
@@ -347,7 +347,7 @@ def read_derive(text: str, spelling: Spelling) -> DeriveStep:
 
 
 def read_limit(words: Words) -> Step:
-    """What stands behind `limit`."""
+    """The rest of a line with `limit`."""
     place = words.place()
     words.expect("line")
     line = words.line()
@@ -358,7 +358,7 @@ def read_limit(words: Words) -> Step:
 
 
 def read_need(words: Words) -> Step:
-    """What stands behind `need`."""
+    """The rest of a line with `need`."""
     place = words.place()
     words.expect("line")
     line = words.line()
@@ -367,21 +367,21 @@ def read_need(words: Words) -> Step:
 
 
 def read_gate(words: Words) -> Step:
-    """What stands behind `gate`."""
+    """The rest of a line with `gate`."""
     version = words.version()
     words.expect("line")
     return GateStep(version, words.line())
 
 
 def read_outside(words: Words) -> Step:
-    """What stands behind `outside`."""
+    """The rest of a line with `outside`."""
     spec = words.spec()
     words.expect("holds")
     return OutsideStep(spec, words.version())
 
 
 def read_lock(words: Words) -> Step:
-    """What stands behind `lock`."""
+    """The rest of a line with `lock`."""
     words.expect("line")
     line = words.line()
     words.expect("bars")
@@ -389,13 +389,13 @@ def read_lock(words: Words) -> Step:
 
 
 def read_barred(words: Words, kind: Callable[[int], Step]) -> Step:
-    """What stands behind `exclude` or `unknown`."""
+    """The rest of a line with `exclude` or `unknown`."""
     words.expect("line")
     return kind(words.line())
 
 
 def read_digit(words: Words) -> Step:
-    """What stands behind `digit`."""
+    """The rest of a line with `digit`."""
     version = words.version()
     words.expect("place")
     place = words.number()

@@ -287,7 +287,7 @@ class Words:
         return Spec(package, self.span(package, word))
 
     def span(self, package: str, word: str) -> Span:
-        """What stands behind the name of a SPEC."""
+        """The rest of a SPEC."""
         parts = self.spelling.parts(word)
         if not parts:
             return (self.spelling.number(package, word),)
