@@ -144,7 +144,7 @@ def view_of(show: Callable[..., bytes], *options: str) -> Handler:
 
 def view_message(args: argparse.Namespace) -> bytes:
     """`view message`."""
-    args.use_colour = view.use_colour(args.color) and not args.out
+    args.use_colour = args.color == "always" or (not args.out and view.use_colour(args.color))
     return view_of(view.message, "use_colour")(args)
 
 
