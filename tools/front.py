@@ -112,7 +112,7 @@ def add_lock(commands: argparse._SubParsersAction) -> None:
     how.add_argument("--keep", action="store_true", help="`favour` lines: stay, unless something forces a change")
     wish = "`wish` lines for the end of the request: what can't stay gets a proof"
     how.add_argument("--wish", action="store_true", help=wish)
-    lines.add_argument("--except", dest="but", nargs="+", metavar="NAME", help="with --keep: packages that may change")
+    lines.add_argument("--except", dest="but", nargs="+", metavar="NAME", help="last, with --keep: packages that may change")
     whole = "the catalogue (with --wish the request) with the lines at its end"
     lines.add_argument("--whole", action="store_true", help=whole)
     lines.add_argument("--request", help="with --wish: what it wishes for already is passed over")
