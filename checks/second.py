@@ -203,10 +203,22 @@ def halves(versions: int) -> Problem:
     return problem
 
 
+def limits(versions: int) -> Problem:
+    """A package that another one limits to its older half, where the newer one is needed."""
+    problem, half = Problem(), versions // 2
+    for number in range(versions):
+        problem.version("c", number)
+    problem.version("p", 1, limits=[("c", 0, half)])
+    problem.ask(any_of("p"))
+    problem.ask(("c", half, versions))
+    return problem
+
+
 SMALL = {"chain": (30,), "pairs": (15,), "pigeons": (2, 3), "halves": (4,)}  # for the plain prover: it writes two bits
-LARGE = {"chain": (10, 1000), "pairs": (10, 500), "pigeons": (2, 4, 6), "halves": (10, 64, 66, 300)}
+LARGE = {"chain": (10, 1000), "pairs": (10, 500), "pigeons": (2, 4, 6, 8), "halves": (10, 64, 66, 300)} | {"limits": (20, 300)}
 FAMILIES: dict[str, Callable[[int], Problem]] = {
-    "chain": broken_chain, "pairs": partial(pairs, first_needs_too=True), "pigeons": pigeons, "halves": halves
+    "chain": broken_chain, "pairs": partial(pairs, first_needs_too=True), "pigeons": pigeons, "halves": halves,
+    "limits": limits,
 }
 
 
