@@ -215,7 +215,9 @@ def limits(versions: int) -> Problem:
 
 
 SMALL = {"chain": (30,), "pairs": (15,), "pigeons": (2, 3), "halves": (4,)}  # for the plain prover: it writes two bits
-LARGE = {"chain": (10, 1000), "pairs": (10, 500), "pigeons": (2, 4, 6, 8), "halves": (10, 64, 66, 300)} | {"limits": (20, 300)}
+LARGE = {
+    "chain": (10, 1000), "pairs": (10, 500), "pigeons": (2, 4, 6, 8), "halves": (10, 64, 66, 300), "limits": (20, 300)
+}
 FAMILIES: dict[str, Callable[[int], Problem]] = {
     "chain": broken_chain, "pairs": partial(pairs, first_needs_too=True), "pigeons": pigeons, "halves": halves,
     "limits": limits,
