@@ -6,7 +6,8 @@ Defaults: 500 pairs, 500 reports, crates/resolve/out/resolve (which `rt run` lea
 are checked.
 Pairs are those of examples/ and tools/tests/data/, and generated ones. Over each that installs: the lock is read back; the
 report is judged right over the frozen catalogue; solving again with `--frozen` or `--keep`, also with newer versions on top,
-gives the same entries; with `--wish` each entry stays; a locked version that is gone gets its named error.
+gives the same entries, but where a line names several packages (how often it didn't is printed); with `--wish` each entry
+stays; a locked version that is gone gets its named error.
 Reports are of a plain prover, over catalogues with dictionaries of awkward names, with messages of all sentences: real names
 put back and JSON read back give the same bytes; every view prints; the page escapes each word and loads nothing from outside.
 """
