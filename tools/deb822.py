@@ -1,0 +1,209 @@
+"""Stanzas of Debian's control files, versions in Debian's order, and relations between packages.
+
+`split_records` cuts a text at its empty lines and looks no further; `Record.fields` reads one stanza. Errors are
+Failures with the file and the line.
+"""
+from __future__ import annotations
+
+import re
+from dataclasses import dataclass
+from functools import lru_cache
+from typing import Iterable, Iterator, NamedTuple, NoReturn, Optional
+
+from tools.files import Failure, shown_path
+from tools.words import Bad, quoted
+
+FIELD = re.compile(r"[!-9;-~]+\Z")
+NAME = re.compile(r"[A-Za-z0-9][A-Za-z0-9+.-]*\Z")
+WITH_EPOCH = re.compile(r"([0-9]{1,10}):([A-Za-z0-9.+~:-]+?)(?:-([A-Za-z0-9.+~]+))?\Z")
+WITHOUT_EPOCH = re.compile(r"([A-Za-z0-9.+~-]+?)(?:-([A-Za-z0-9.+~]+))?\Z")
+RELATION = re.compile(r"([^\s:()]+)(?::([a-z0-9-]+))?\s*(?:\(\s*(<<|<=|=|>=|>>|<|>)\s*([^\s()]+)\s*\))?\Z")
+PIECE = re.compile("([^0-9]*)([0-9]*)")
+# `<` and `>` are old spellings of `<=` and `>=`.
+OLD_SIGNS = {"<": "<=", ">": ">="}
+LARGEST_EPOCH = 2**31 - 1
+
+Key = tuple  # sorts as Debian sorts
+
+
+# ---- versions
+
+
+def sign_order(sign: str) -> int:
+    """Where a sign sorts: `~` before the end of the text (0), letters before all others."""
+    if sign == "~":
+        return -1
+    return ord(sign) if sign.isalpha() else ord(sign) + 256
+
+
+def part_key(text: str) -> Key:
+    """The key of an upstream version or a revision: signs and numbers in turn."""
+    found: list = []
+    for match in PIECE.finditer(text or "0"):
+        signs, digits = match.groups()
+        if signs or digits:
+            found += [(*map(sign_order, signs), 0), int(digits or 0)]
+    return (*found, (0,))
+
+
+@lru_cache(maxsize=None)
+def version_key(text: str) -> Key:
+    """A key that sorts as `dpkg --compare-versions` does; raises Bad."""
+    match = (WITH_EPOCH if ":" in text else WITHOUT_EPOCH).match(text)
+    if not match:
+        raise Bad(f"{quoted(text)} isn't a version")
+    epoch, upstream, revision = match.groups() if ":" in text else ("0", *match.groups())
+    if upstream.startswith("-") or upstream.endswith("-"):
+        raise Bad(f"{quoted(text)} isn't a version: a part of it is empty")
+    if int(epoch) > LARGEST_EPOCH:
+        raise Bad(f"{quoted(text)} isn't a version: its epoch is too large")
+    return int(epoch), part_key(upstream), part_key(revision or "")
+
+
+# ---- relations
+
+
+class Relation(NamedTuple):
+    """`NAME:QUALIFIER (SIGN VERSION)`; an empty sign is any version."""
+
+    name: str
+    qualifier: str = ""
+    sign: str = ""
+    version: str = ""
+
+    def holds(self, version: str) -> bool:
+        """Whether a version is one of these."""
+        if not self.sign:
+            return True
+        mine, theirs = version_key(self.version), version_key(version)
+        if self.sign in ("=", "<=", ">=") and mine == theirs:
+            return True
+        return theirs < mine if self.sign in ("<<", "<=") else theirs > mine if self.sign in (">>", ">=") else False
+
+
+Group = tuple[Relation, ...]  # alternatives
+
+
+@lru_cache(maxsize=None)
+def read_relation(text: str) -> Relation:
+    """One relation; raises Bad."""
+    match = RELATION.match(text)
+    if not match or not NAME.match(match[1]):
+        raise Bad(f"{quoted(text)} isn't a relation")
+    name, qualifier, sign, version = (part or "" for part in match.groups())
+    if sign:
+        version_key(version)
+    return Relation(name, qualifier, OLD_SIGNS.get(sign, sign), version)
+
+
+def read_groups(text: str) -> Iterator[tuple[str, Group]]:
+    """The parts of a field parted by commas, each with its alternatives; raises Bad."""
+    pieces = text.replace("\n", " ").split(",")
+    if not pieces[-1].strip():
+        pieces.pop()
+    for piece in pieces:
+        yield " ".join(piece.split()), tuple(read_relation(part.strip()) for part in piece.split("|"))
+
+
+def read_list(text: str, what: str) -> Iterator[tuple[str, Relation]]:
+    """The parts of a field that has no alternatives; raises Bad."""
+    for words, group in read_groups(text):
+        if len(group) != 1:
+            raise Bad(f"{what} has no alternatives, and {quoted(words)} stands there")
+        yield words, group[0]
+
+
+# ---- stanzas
+
+
+@dataclass(slots=True)
+class Record:
+    """One stanza as bytes, and where it begins."""
+
+    raw: bytes
+    path: str
+    line: int
+
+    def fail(self, reason: str, offset: int = 0) -> NoReturn:
+        """Raises the Failure of a line of the stanza."""
+        raise Failure(shown_path(self.path), self.line + offset, reason)
+
+    def quick(self, name: bytes) -> Optional[bytes]:
+        """The first line of a field, as it is spelled, without reading the stanza; None where it isn't there."""
+        if self.raw.startswith(name + b": "):
+            start = len(name) + 2
+        else:
+            at = self.raw.find(b"\n" + name + b": ")
+            if at < 0:
+                return None
+            start = at + len(name) + 3
+        end = self.raw.find(b"\n", start)
+        return self.raw[start:] if end < 0 else self.raw[start:end]
+
+    def fields(self) -> Fields:
+        """All fields; their names in small letters."""
+        found = Fields(self)
+        name = ""
+        for offset, raw in enumerate(self.raw.split(b"\n")):
+            try:
+                text = raw.decode("utf-8")
+            except UnicodeDecodeError:
+                self.fail("isn't UTF-8", offset)
+            if text[:1] in (" ", "\t"):
+                if not name:
+                    self.fail("a field is due, not more of one", offset)
+                found[name] += "\n" + text[1:]
+            else:
+                name = found.add(text, offset)
+        return found
+
+
+class Fields(dict[str, str]):
+    """The fields of a stanza, and the line of each."""
+
+    def __init__(self, record: Record) -> None:
+        super().__init__()
+        self.record, self.offsets = record, dict[str, int]()
+
+    def add(self, text: str, offset: int) -> str:
+        """A line with a field; gives its name."""
+        word, colon, value = text.partition(":")
+        name = word.lower()
+        if not colon or not FIELD.match(word):
+            self.record.fail(f"{quoted(text[:60])} isn't a field", offset)
+        if name in self:
+            self.record.fail(f"the stanza has {quoted(word)} already", offset)
+        if "\r" in value:
+            self.record.fail("a carriage return; lines end with a newline alone", offset)
+        self[name], self.offsets[name] = value.strip(), offset
+        return name
+
+    def fail(self, name: str, reason: str) -> NoReturn:
+        """Raises the Failure of a field."""
+        self.record.fail(reason, self.offsets.get(name, 0))
+
+    def flag(self, name: str) -> bool:
+        """Whether a field says `yes`."""
+        return self.get(name, "") == "yes"
+
+
+def split_records(chunks: Iterable[bytes], path: str) -> Iterator[Record]:
+    """The stanzas of a text that comes in chunks."""
+    rest, line = b"", 1
+    for chunk in chunks:
+        pieces = (rest + chunk).split(b"\n\n")
+        rest = pieces.pop()
+        for piece in pieces:
+            yield from one_record(piece, path, line)
+            line += piece.count(b"\n") + 2
+    if rest.strip(b"\n") and not rest.endswith(b"\n"):
+        last = line + rest.count(b"\n")
+        raise Failure(shown_path(path), last, "its last line has no newline: was the file cut off?")
+    yield from one_record(rest, path, line)
+
+
+def one_record(piece: bytes, path: str, line: int) -> Iterator[Record]:
+    """The stanza of a piece between empty lines, if it has one."""
+    raw = piece.strip(b"\n")
+    if raw:
+        yield Record(raw, path, line + len(piece) - len(piece.lstrip(b"\n")))
