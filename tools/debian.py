@@ -283,10 +283,14 @@ class Draft:
         if line.missing:
             self.name(line.missing)
 
+    @property
+    def dictionary(self) -> Dictionary:
+        """Its names and texts; the numbers of sources are those of `lines`."""
+        return Dictionary("debian", self.settings, self.source, self.names, self.versions, self.sources)
+
     def catalogue(self) -> Catalogue:
         """What was made."""
-        dictionary = Dictionary("debian", self.settings, self.source, self.names, self.versions, self.sources)
-        return Catalogue(dictionary.lines(tuple(self.lines)))
+        return Catalogue(self.dictionary.lines(tuple(self.lines)))
 
 
 def draft_of(universe: Universe, names: Iterable[str], with_source: bool) -> Draft:

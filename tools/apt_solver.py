@@ -1,0 +1,401 @@
+#!/usr/bin/env python3
+"""A solver for apt's EDSP 0.5: apt writes packages and a request to standard input, and takes what is to change.
+
+A link with the name of the solver in a folder is enough, and nothing is installed (docs/USING.md):
+
+    ln -s PATH/tools/apt_solver.py DIR/resolve
+    apt-get -s -o Dir::Bin::solvers::=DIR --solver resolve install gimp
+
+The program `resolve` is named by the variable RESOLVE, or lies where `rt run` leaves it.
+"""
+from __future__ import annotations
+
+import os
+import sys
+
+if __name__ == "__main__":
+    sys.path[0] = os.path.dirname(os.path.dirname(os.path.realpath(__file__)))
+
+import shutil
+import tempfile
+from dataclasses import dataclass, field
+from email.utils import formatdate
+from typing import Iterator, Optional
+
+from tools.catalogue import FavourLine, LimitsLine, LockLine, NeedsLine, Request, RequestLine, WishLine
+from tools.catalogue import Catalogue, CatalogueLine, catalogue_text, request_text
+from tools.deb822 import Fields, Record, split_records
+from tools.debian import PRIORITIES, Draft, Listed, Universe, is_essential, relation_groups
+from tools.dictionary import RealSpelling, escape
+from tools.files import Failure, run_program
+from tools.message import message_line
+from tools.reports import Install, Refused, Report, read_report
+from tools.words import Spec, Version
+
+CHUNK = 2**20
+MOST_ROUNDS = 20
+MOST_SOURCES = 12
+PATH = "scenario"
+
+
+# ---- the scenario
+
+
+@dataclass
+class Scenario:
+    """What apt asks, and the packages over which it asks."""
+
+    asked: Fields
+    universe: Universe
+    installed: dict[str, Listed] = field(default_factory=dict)
+    candidates: dict[str, Listed] = field(default_factory=dict)
+
+    def flag(self, name: str) -> bool:
+        """Whether the request says `yes`."""
+        return self.asked.flag(name)
+
+    def names(self, name: str) -> list[str]:
+        """The packages of a field of the request, without the architecture; those of other architectures are faults."""
+        found = []
+        for word in self.asked.get(name, "").split():
+            package, _, architecture = word.partition(":")
+            if architecture not in ("", "all", self.universe.native):
+                self.asked.fail(name, f"{word} is of another architecture than {self.universe.native}")
+            found.append(package)
+        return found
+
+    @property
+    def upgrades(self) -> bool:
+        """Whether all installed packages are to be upgraded."""
+        return self.flag("upgrade-all") or self.flag("upgrade") or self.flag("dist-upgrade")
+
+
+def read_scenario(chunks: Iterator[bytes]) -> Scenario:
+    """The scenario, read as it comes; of the packages the names alone, but for the installed ones."""
+    records = split_records(chunks, PATH)
+    first = next(records, None)
+    asked = first.fields() if first else None
+    if asked is None or not asked.get("request", "").startswith("EDSP 0."):
+        raise Failure(PATH, 1, "the first stanza isn't a request of EDSP 0.5")
+    if not asked.get("architecture"):
+        asked.fail("request", "the request has no Architecture")
+    scenario = Scenario(asked, Universe(asked["architecture"]))
+    is_strict = asked.get("strict-pinning", "yes") == "yes"
+    keeps_to_installed = scenario.flag("forbid-new-install") or scenario.flag("upgrade")
+    installed, others = dict[str, None](), []
+    for record in records:
+        if record.quick(b"Installed") == b"yes":
+            scenario.universe.add(record)
+            installed[(record.quick(b"Package") or b"").decode("utf-8", "replace")] = None
+        elif not is_strict or record.quick(b"APT-Candidate") == b"yes":
+            others.append(record)
+    add_others(scenario.universe, others, installed if keeps_to_installed else None)
+    for name in installed:
+        scenario.installed |= {name: v for v in scenario.universe.package(name) if v.fields.flag("installed")}
+    return scenario
+
+
+def add_others(universe: Universe, records: list[Record], only: Optional[dict[str, None]]) -> None:
+    """Packages that aren't installed; with `only` just the versions of these."""
+    for record in records:
+        if only is None or (record.quick(b"Package") or b"").decode("utf-8", "replace") in only:
+            universe.add(record)
+
+
+def candidate(scenario: Scenario, name: str) -> Optional[Listed]:
+    """The version that apt would take, else the newest one that is listed."""
+    if name not in scenario.candidates:
+        listed = scenario.universe.package(name)
+        if not listed:
+            return None
+        scenario.candidates[name] = next((v for v in listed if v.fields.flag("apt-candidate")), listed[-1])
+    return scenario.candidates[name]
+
+
+# ---- the request
+
+
+@dataclass
+class Plan:
+    """What is asked of `resolve`: lines of the request, and marks for the end of the catalogue."""
+
+    scenario: Scenario
+    lines: list[RequestLine] = field(default_factory=list)
+    marks: list[CatalogueLine] = field(default_factory=list)
+    wished: dict[Version, None] = field(default_factory=dict)
+
+    def wish(self, listed: Optional[Listed]) -> None:
+        """A version that is to be there if it can be."""
+        if listed:
+            self.wished[version_of(listed)] = None
+
+    @property
+    def request(self) -> Request:
+        """The whole request."""
+        return Request((*self.lines, *map(WishLine, self.wished)))
+
+
+def version_of(listed: Listed) -> Version:
+    """The version as `resolve` has it."""
+    return Version(escape(listed.name), listed.number)
+
+
+def importance(listed: Listed) -> tuple[bool, int, bool, str]:
+    """Where an installed package stands: what is held first, then by priority, what was asked for before the rest."""
+    fields = listed.fields
+    rank = PRIORITIES.get(fields.get("priority", ""), 5)
+    return not fields.flag("hold"), rank, fields.flag("apt-automatic"), listed.name
+
+
+def plan_of(scenario: Scenario) -> Plan:
+    """The plan of a request."""
+    plan, universe = Plan(scenario), scenario.universe
+    adds, drops = scenario.names("install"), scenario.names("remove")
+    for name in adds:
+        found = candidate(scenario, name)
+        plan.lines.append(NeedsLine((Spec(escape(name), (found.number,) if found else (0,)),)))
+    plan.lines += [LimitsLine(Spec(escape(name), (0,))) for name in drops]
+    changed = {*adds, *drops}
+    keeps_all = scenario.flag("forbid-remove") or scenario.flag("upgrade")
+    installed = sorted(scenario.installed.values(), key=importance)
+    for listed in installed:
+        if listed.name not in changed and (keeps_all or is_essential(listed.fields)):
+            plan.lines.append(NeedsLine((Spec(escape(listed.name), None),)))
+        add_marks(plan, listed, listed.name in adds)
+    for listed in installed:
+        if listed.name not in changed:
+            add_wishes(plan, listed)
+    universe.preferred = {(v.name, v.number) for v in installed if v.name not in changed}
+    universe.preferred |= {(name, found.number) for name in adds if (found := candidate(scenario, name))}
+    for name in adds:
+        if name not in scenario.installed and (found := candidate(scenario, name)):
+            plan.marks.append(FavourLine(version_of(found)))
+    return plan
+
+
+def add_marks(plan: Plan, listed: Listed, is_asked: bool) -> None:
+    """The lock or the favour of an installed package."""
+    takes_newer = is_asked or plan.scenario.upgrades
+    if listed.fields.flag("hold") and not is_asked:
+        plan.marks.append(LockLine(version_of(listed)))
+        takes_newer = False
+    first = candidate(plan.scenario, listed.name) if takes_newer else listed
+    plan.marks.append(FavourLine(version_of(first or listed)))
+
+
+def add_wishes(plan: Plan, listed: Listed) -> None:
+    """The wishes for an installed package: to stay, else to be the candidate; the other way round where all upgrade."""
+    found = candidate(plan.scenario, listed.name)
+    first, second = (found, listed) if plan.scenario.upgrades and not listed.fields.flag("hold") else (listed, found)
+    plan.wish(first)
+    plan.wish(second)
+
+
+# ---- solving
+
+
+@dataclass
+class Solved:
+    """A report with the texts of which it is."""
+
+    folder: str
+    catalogue: Catalogue
+    draft: Draft
+    report: Report
+
+    def keep(self) -> str:
+        """Where the three texts are."""
+        return os.path.join(self.folder, "report")
+
+
+class Solving:
+    """Runs `resolve` in a folder; recommended packages come in by rounds."""
+
+    def __init__(self, plan: Plan, folder: str) -> None:
+        self.plan, self.folder = plan, folder
+        self.scenario, self.universe = plan.scenario, plan.scenario.universe
+        self.wants_recommended = "no-recommends" not in plan.scenario.asked.get("preferences", "")
+        self.reached: dict[str, None] = {}
+        self.cached: dict[str, list] = {}
+        self.tried: set[Version] = set()
+
+    def path(self, name: str, data: bytes) -> str:
+        """Writes a file of the folder."""
+        path = os.path.join(self.folder, name)
+        with open(path, "wb") as out:
+            out.write(data)
+        return path
+
+    def extend(self, names: list[str]) -> None:
+        """Reaches these packages too."""
+        self.reached |= dict.fromkeys(self.universe.reach([name for name in names if name not in self.reached]))
+
+    def draft(self) -> Draft:
+        """The catalogue of what is reached."""
+        draft = Draft(self.universe.native)
+        for name in self.reached:
+            draft.name(name)
+            if name not in self.cached:
+                self.cached[name] = [line for listed in self.universe.package(name) for line in self.universe.lines(listed)]
+            for listed in self.universe.package(name):
+                draft.versions[version_of(listed)] = listed.text
+            for line in self.cached[name]:
+                if not line.limited or line.limited in self.reached:
+                    draft.add(line, True)
+        draft.lines += [mark for mark in self.plan.marks]
+        return draft
+
+    def solve(self) -> Solved:
+        """One run."""
+        draft = self.draft()
+        catalogue = draft.catalogue()
+        paths = [self.path("catalogue", catalogue_text(catalogue)), self.path("request", request_text(self.plan.request))]
+        _, said = run_program(None, "solve", *paths)
+        self.path("report", said)
+        return Solved(self.folder, catalogue, draft, read_report(said))
+
+    def run(self) -> Solved:
+        """Runs until no recommended package is left to try."""
+        adds = self.scenario.names("install")
+        self.extend([*adds, *self.scenario.installed])
+        solved = self.solve()
+        for _ in range(MOST_ROUNDS if self.wants_recommended else 0):
+            if not isinstance(solved.report, Install):
+                break
+            more = self.recommended(solved.report)
+            if not more:
+                break
+            self.extend([listed.name for listed in more])
+            for listed in more:
+                self.plan.wish(listed)
+            solved = self.solve()
+        return solved
+
+    def recommended(self, report: Install) -> list[Listed]:
+        """The next choice for each recommendation of a new version that isn't met."""
+        chosen, found = {entry.version for entry in report.entries}, dict[str, Listed]()
+        for listed in chosen_of(self.universe, self.reached, chosen):
+            old = self.scenario.installed.get(listed.name)
+            if listed is old or not listed.fields.get("recommends"):
+                continue
+            before = set(relation_groups(old.fields, "recommends")) if old else set()
+            for words in relation_groups(listed.fields, "recommends"):
+                if words not in before:
+                    self.choose(words[1], chosen, found)
+        return list(found.values())
+
+    def choose(self, group: tuple, chosen: set[Version], found: dict[str, Listed]) -> None:
+        """Adds the next version to try for a recommendation, unless one that matches is chosen."""
+        options = [
+            self.universe.package(name)[number - 1]
+            for name, run in self.universe.alternatives(group) for number in reversed(range(*run))
+        ]
+        if any(version_of(listed) in chosen or listed.name in found for listed in options):
+            return
+        for listed in options:
+            if version_of(listed) not in self.tried and listed.name not in self.scenario.installed:
+                self.tried.add(version_of(listed))
+                found[listed.name] = listed
+                return
+
+
+def chosen_of(universe: Universe, names: dict[str, None], chosen: set[Version]) -> Iterator[Listed]:
+    """The chosen versions, in the order in which their packages were reached."""
+    for name in names:
+        yield from (listed for listed in universe.package(name) if version_of(listed) in chosen)
+
+
+# ---- the answer
+
+
+def stanza(*fields: tuple[str, str]) -> str:
+    """A stanza; further lines of a field are moved in, and empty ones are ` .`."""
+    text = ""
+    for name, value in fields:
+        first, *others = value.split("\n")
+        text += f"{name}: {first}\n" + "".join(f" {line or '.'}\n" for line in others)
+    return text + "\n"
+
+
+def change_stanza(kind: str, listed: Listed) -> str:
+    """A version that comes or goes."""
+    more = [("Package", listed.name), ("Version", listed.text), ("Architecture", listed.fields["architecture"])]
+    return stanza((kind, listed.fields.get("apt-id", "")), *more)
+
+
+def changes(scenario: Scenario, names: dict[str, None], report: Install) -> tuple[list[Listed], list[Listed]]:
+    """What comes and what goes."""
+    chosen = {entry.version for entry in report.entries}
+    kept = list(chosen_of(scenario.universe, names, chosen))
+    there = {listed.name for listed in kept}
+    comes = [listed for listed in kept if not listed.fields.flag("installed")]
+    return comes, [listed for name, listed in scenario.installed.items() if name not in there]
+
+
+def refusal_text(solved: Solved, report: Refused) -> str:
+    """Why a request is refused, with real names, and the lines of the packages on which that rests."""
+    spelling = RealSpelling(solved.draft.dictionary)
+    lines = ["resolve: no set of packages keeps all rules"]
+    lines += [message_line(line, spelling) for line in report.message]
+    sources = list(named_sources(solved, report))
+    lines += [f"- {source}" for source in sources[:MOST_SOURCES]]
+    if len(sources) > MOST_SOURCES:
+        lines.append(f"- and {len(sources) - MOST_SOURCES} lines more")
+    return "\n".join([*lines, f"The proof is {solved.keep()}, beside its catalogue and its request"])
+
+
+def named_sources(solved: Solved, report: Refused) -> Iterator[str]:
+    """The fields of packages that a refusal names."""
+    dictionary, lines = solved.draft.dictionary, solved.catalogue.lines
+    for number in report.catalogue_lines:
+        owner, above = solved.catalogue.placed[number - 1].owner, lines[number - 2] if number > 1 else None
+        text = getattr(above, "text", "")
+        if owner and text.startswith("#s "):
+            yield f"{dictionary.name(owner.package)} {dictionary.version(owner)} has {text[3:]}"
+
+
+def progress_stanza(percentage: int, message: str) -> str:
+    """What goes on."""
+    return stanza(("Progress", formatdate(usegmt=True)), ("Percentage", str(percentage)), ("Message", message))
+
+
+def say(text: str) -> None:
+    """To apt."""
+    sys.stdout.write(text)
+    sys.stdout.flush()
+
+
+def answer(solving: Solving, solved: Solved) -> bool:
+    """Writes the answer; whether the folder is to stay."""
+    if isinstance(solved.report, Refused):
+        say(stanza(("Error", "resolve-refused"), ("Message", refusal_text(solved, solved.report))))
+        return True
+    comes, goes = changes(solving.scenario, solving.reached, solved.report)
+    asked = set(solving.scenario.names("remove"))
+    forced = [listed.name for listed in goes if listed.name not in asked]
+    say("".join(change_stanza("Install", v) for v in comes) + "".join(change_stanza("Remove", v) for v in goes))
+    if forced:
+        print(f"resolve: why {', '.join(forced)} can't stay is proved in {solved.keep()}", file=sys.stderr)
+    return bool(forced)
+
+
+def main() -> int:
+    """Answers one scenario; a refusal or a fault is an answer too, so the status is 0."""
+    folder = tempfile.mkdtemp(prefix="resolve-apt-")
+    is_kept = False
+    try:
+        say(progress_stanza(0, "resolve reads the packages"))
+        scenario = read_scenario(iter(lambda: sys.stdin.buffer.read(CHUNK), b""))
+        say(progress_stanza(50, "resolve solves"))
+        solving = Solving(plan_of(scenario), folder)
+        is_kept = answer(solving, solving.run())
+    except Failure as failure:
+        say(stanza(("Error", "resolve-fault"), ("Message", f"tools: {failure}")))
+    finally:
+        if not is_kept:
+            shutil.rmtree(folder, ignore_errors=True)
+    return 0
+
+
+if __name__ == "__main__":
+    sys.exit(main())
