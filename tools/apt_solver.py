@@ -20,12 +20,12 @@ import shutil
 import tempfile
 from dataclasses import dataclass, field
 from email.utils import formatdate
-from typing import Iterator, Optional
+from typing import Iterable, Iterator, Optional, Sequence
 
 from tools.catalogue import FavourLine, LimitsLine, LockLine, NeedsLine, Request, RequestLine, WishLine
 from tools.catalogue import Catalogue, CatalogueLine, catalogue_text, request_text
-from tools.deb822 import Fields, Record, split_records
-from tools.debian import PRIORITIES, Draft, Listed, Universe, is_essential, relation_groups
+from tools.deb822 import Fields, Group, Record, split_records
+from tools.debian import PRIORITIES, Draft, Line, Listed, Universe, is_essential, relation_groups
 from tools.dictionary import RealSpelling, escape
 from tools.files import Failure, run_program
 from tools.message import message_line
@@ -33,7 +33,6 @@ from tools.reports import Install, Refused, Report, read_report
 from tools.words import Spec, Version
 
 CHUNK = 2**20
-MOST_ROUNDS = 20
 MOST_SOURCES = 12
 PATH = "scenario"
 
@@ -123,16 +122,12 @@ class Plan:
     lines: list[RequestLine] = field(default_factory=list)
     marks: list[CatalogueLine] = field(default_factory=list)
     wished: dict[Version, None] = field(default_factory=dict)
+    missing: dict[str, str] = field(default_factory=dict)
 
     def wish(self, listed: Optional[Listed]) -> None:
         """A version that is to be there if it can be."""
         if listed:
             self.wished[version_of(listed)] = None
-
-    @property
-    def request(self) -> Request:
-        """The whole request."""
-        return Request((*self.lines, *map(WishLine, self.wished)))
 
 
 def version_of(listed: Listed) -> Version:
@@ -153,7 +148,9 @@ def plan_of(scenario: Scenario) -> Plan:
     adds, drops = scenario.names("install"), scenario.names("remove")
     for name in adds:
         found = candidate(scenario, name)
-        plan.lines.append(NeedsLine((Spec(escape(name), (found.number,) if found else (0,)),)))
+        plan.lines.append(NeedsLine((Spec(escape(name), (found.number,) if found else None),)))
+        if not found:
+            plan.missing |= {escape(name): name} if escape(name) != name else {}
     plan.lines += [LimitsLine(Spec(escape(name), (0,))) for name in drops]
     changed = {*adds, *drops}
     keeps_all = scenario.flag("forbid-remove") or scenario.flag("upgrade")
@@ -198,26 +195,22 @@ def add_wishes(plan: Plan, listed: Listed) -> None:
 class Solved:
     """A report with the texts of which it is."""
 
-    folder: str
+    path: str
     catalogue: Catalogue
     draft: Draft
     report: Report
 
-    def keep(self) -> str:
-        """Where the three texts are."""
-        return os.path.join(self.folder, "report")
-
 
 class Solving:
-    """Runs `resolve` in a folder; recommended packages come in by rounds."""
+    """Runs `resolve` in a folder: first without recommendations, which then come in by rounds."""
 
     def __init__(self, plan: Plan, folder: str) -> None:
         self.plan, self.folder = plan, folder
         self.scenario, self.universe = plan.scenario, plan.scenario.universe
         self.wants_recommended = "no-recommends" not in plan.scenario.asked.get("preferences", "")
         self.reached: dict[str, None] = {}
-        self.cached: dict[str, list] = {}
-        self.tried: set[Version] = set()
+        self.cached: dict[str, list[Line]] = {}
+        self.tried: set[Group] = set()
 
     def path(self, name: str, data: bytes) -> str:
         """Writes a file of the folder."""
@@ -226,7 +219,7 @@ class Solving:
             out.write(data)
         return path
 
-    def extend(self, names: list[str]) -> None:
+    def extend(self, names: Iterable[str]) -> None:
         """Reaches these packages too."""
         self.reached |= dict.fromkeys(self.universe.reach([name for name in names if name not in self.reached]))
 
@@ -242,61 +235,70 @@ class Solving:
             for line in self.cached[name]:
                 if not line.limited or line.limited in self.reached:
                     draft.add(line, True)
-        draft.lines += [mark for mark in self.plan.marks]
+        draft.names |= self.plan.missing
+        draft.lines += self.plan.marks
         return draft
 
-    def solve(self) -> Solved:
-        """One run."""
+    def solve(self, prefix: str, more: Sequence[NeedsLine] = ()) -> Solved:
+        """One run; the files' names begin with the prefix."""
         draft = self.draft()
         catalogue = draft.catalogue()
-        paths = [self.path("catalogue", catalogue_text(catalogue)), self.path("request", request_text(self.plan.request))]
+        request = Request((*self.plan.lines, *more, *map(WishLine, self.plan.wished)))
+        paths = self.path(f"{prefix}catalogue", catalogue_text(catalogue)), self.path(f"{prefix}request", request_text(request))
         _, said = run_program(None, "solve", *paths)
-        self.path("report", said)
-        return Solved(self.folder, catalogue, draft, read_report(said))
+        return Solved(self.path(f"{prefix}report", said), catalogue, draft, read_report(said))
 
-    def run(self) -> Solved:
-        """Runs until no recommended package is left to try."""
-        adds = self.scenario.names("install")
-        self.extend([*adds, *self.scenario.installed])
-        solved = self.solve()
-        for _ in range(MOST_ROUNDS if self.wants_recommended else 0):
-            if not isinstance(solved.report, Install):
-                break
-            more = self.recommended(solved.report)
-            if not more:
-                break
-            self.extend([listed.name for listed in more])
-            for listed in more:
-                self.plan.wish(listed)
-            solved = self.solve()
-        return solved
+    def run(self) -> tuple[Solved, Solved]:
+        """The first answer, which tells what must go, and the one with what is recommended."""
+        self.extend([*self.scenario.names("install"), *self.scenario.installed])
+        first = last = self.solve("")
+        if not isinstance(first.report, Install) or not self.wants_recommended:
+            return first, first
+        chosen = {entry.version.package for entry in first.report.entries}
+        stays = [NeedsLine((Spec(escape(name), None),)) for name in self.scenario.installed if escape(name) in chosen]
+        taken: list[NeedsLine] = []
+        while more := self.recommended(last.report):
+            last, taken = self.with_more(last, taken, more, stays)
+        return first, last
 
-    def recommended(self, report: Install) -> list[Listed]:
-        """The next choice for each recommendation of a new version that isn't met."""
-        chosen, found = {entry.version for entry in report.entries}, dict[str, Listed]()
-        for listed in chosen_of(self.universe, self.reached, chosen):
+    def with_more(
+        self, last: Solved, taken: list[NeedsLine], more: list[NeedsLine], stays: list[NeedsLine]
+    ) -> tuple[Solved, list[NeedsLine]]:
+        """The answer with as many of these as can be had; a refusal names one that can't."""
+        while more:
+            solved = self.solve("recommended.", [*taken, *more, *stays])
+            if isinstance(solved.report, Install):
+                return solved, taken + more
+            start = len(self.plan.lines) + len(taken)
+            named = [line - start - 1 for line in solved.report.request_lines if start < line <= start + len(more)]
+            more = [line for at, line in enumerate(more) if at != (named[-1] if named else len(more) - 1)]
+        return last, taken
+
+    def recommended(self, report: Report) -> list[NeedsLine]:
+        """What new versions recommend and no chosen version meets, each once."""
+        if not isinstance(report, Install):
+            return []
+        chosen, found = {entry.version for entry in report.entries}, list[NeedsLine]()
+        for listed in list(chosen_of(self.universe, self.reached, chosen)):
             old = self.scenario.installed.get(listed.name)
-            if listed is old or not listed.fields.get("recommends"):
+            if listed is old or "recommends" not in listed.fields:
                 continue
             before = set(relation_groups(old.fields, "recommends")) if old else set()
-            for words in relation_groups(listed.fields, "recommends"):
-                if words not in before:
-                    self.choose(words[1], chosen, found)
-        return list(found.values())
+            for words, group in relation_groups(listed.fields, "recommends"):
+                if (words, group) not in before and group not in self.tried and not self.is_met(group, chosen):
+                    self.tried.add(group)
+                    line = self.universe.need_line(words, group)
+                    if not line.missing:
+                        found.append(line.value)
+                        self.extend(name for name, _ in self.universe.alternatives(group))
+        return found
 
-    def choose(self, group: tuple, chosen: set[Version], found: dict[str, Listed]) -> None:
-        """Adds the next version to try for a recommendation, unless one that matches is chosen."""
-        options = [
-            self.universe.package(name)[number - 1]
-            for name, run in self.universe.alternatives(group) for number in reversed(range(*run))
-        ]
-        if any(version_of(listed) in chosen or listed.name in found for listed in options):
-            return
-        for listed in options:
-            if version_of(listed) not in self.tried and listed.name not in self.scenario.installed:
-                self.tried.add(version_of(listed))
-                found[listed.name] = listed
-                return
+    def is_met(self, group: Group, chosen: set[Version]) -> bool:
+        """Whether a chosen version matches."""
+        return any(
+            Version(escape(name), number) in chosen
+            for relation in group for name, numbers in self.universe.matches(relation).items() for number in numbers
+        )
 
 
 def chosen_of(universe: Universe, names: dict[str, None], chosen: set[Version]) -> Iterator[Listed]:
@@ -341,7 +343,7 @@ def refusal_text(solved: Solved, report: Refused) -> str:
     lines += [f"- {source}" for source in sources[:MOST_SOURCES]]
     if len(sources) > MOST_SOURCES:
         lines.append(f"- and {len(sources) - MOST_SOURCES} lines more")
-    return "\n".join([*lines, f"The proof is {solved.keep()}, beside its catalogue and its request"])
+    return "\n".join([*lines, f"The proof is {solved.path}, beside its catalogue and its request"])
 
 
 def named_sources(solved: Solved, report: Refused) -> Iterator[str]:
@@ -365,17 +367,17 @@ def say(text: str) -> None:
     sys.stdout.flush()
 
 
-def answer(solving: Solving, solved: Solved) -> bool:
+def answer(solving: Solving, first: Solved, last: Solved) -> bool:
     """Writes the answer; whether the folder is to stay."""
-    if isinstance(solved.report, Refused):
-        say(stanza(("Error", "resolve-refused"), ("Message", refusal_text(solved, solved.report))))
+    if isinstance(first.report, Refused):
+        say(stanza(("Error", "resolve-refused"), ("Message", refusal_text(first, first.report))))
         return True
-    comes, goes = changes(solving.scenario, solving.reached, solved.report)
+    comes, goes = changes(solving.scenario, solving.reached, last.report)
     asked = set(solving.scenario.names("remove"))
     forced = [listed.name for listed in goes if listed.name not in asked]
     say("".join(change_stanza("Install", v) for v in comes) + "".join(change_stanza("Remove", v) for v in goes))
     if forced:
-        print(f"resolve: why {', '.join(forced)} can't stay is proved in {solved.keep()}", file=sys.stderr)
+        print(f"resolve: why {', '.join(forced)} can't stay is proved in {first.path}", file=sys.stderr)
     return bool(forced)
 
 
@@ -388,7 +390,7 @@ def main() -> int:
         scenario = read_scenario(iter(lambda: sys.stdin.buffer.read(CHUNK), b""))
         say(progress_stanza(50, "resolve solves"))
         solving = Solving(plan_of(scenario), folder)
-        is_kept = answer(solving, solving.run())
+        is_kept = answer(solving, *solving.run())
     except Failure as failure:
         say(stanza(("Error", "resolve-fault"), ("Message", f"tools: {failure}")))
     finally:
