@@ -48,6 +48,7 @@ class Scenario:
     universe: Universe
     installed: dict[str, Listed] = field(default_factory=dict)
     candidates: dict[str, Listed] = field(default_factory=dict)
+    raised: set[str] = field(default_factory=set)
 
     def flag(self, name: str) -> bool:
         """Whether the request says `yes`."""
@@ -63,10 +64,11 @@ class Scenario:
             found.append(package)
         return found
 
-    @property
-    def upgrades(self) -> bool:
-        """Whether all installed packages are to be upgraded."""
-        return self.flag("upgrade-all") or self.flag("upgrade") or self.flag("dist-upgrade")
+    def takes_newer(self, listed: Listed) -> bool:
+        """Whether the candidate of an installed package is preferred to it."""
+        if listed.fields.flag("hold"):
+            return False
+        return listed.name in self.raised or any(map(self.flag, ("upgrade-all", "upgrade", "dist-upgrade")))
 
 
 def read_scenario(chunks: Iterator[bytes]) -> Scenario:
@@ -172,18 +174,17 @@ def plan_of(scenario: Scenario) -> Plan:
 
 def add_marks(plan: Plan, listed: Listed, is_asked: bool) -> None:
     """The lock or the favour of an installed package."""
-    takes_newer = is_asked or plan.scenario.upgrades
     if listed.fields.flag("hold") and not is_asked:
         plan.marks.append(LockLine(version_of(listed)))
-        takes_newer = False
-    first = candidate(plan.scenario, listed.name) if takes_newer else listed
+    is_newer = is_asked or plan.scenario.takes_newer(listed)
+    first = candidate(plan.scenario, listed.name) if is_newer else listed
     plan.marks.append(FavourLine(version_of(first or listed)))
 
 
 def add_wishes(plan: Plan, listed: Listed) -> None:
-    """The wishes for an installed package: to stay, else to be the candidate; the other way round where all upgrade."""
+    """The wishes for an installed package: to stay, else to be the candidate; or the other way round."""
     found = candidate(plan.scenario, listed.name)
-    first, second = (found, listed) if plan.scenario.upgrades and not listed.fields.flag("hold") else (listed, found)
+    first, second = (found, listed) if plan.scenario.takes_newer(listed) else (listed, found)
     plan.wish(first)
     plan.wish(second)
 
@@ -252,31 +253,34 @@ class Solving:
         """The first answer, which tells what must go, and the one with what is recommended."""
         self.extend([*self.scenario.names("install"), *self.scenario.installed])
         first = last = self.solve("")
-        if not isinstance(first.report, Install) or not self.wants_recommended:
+        if not isinstance(first.report, Install):
             return first, first
         chosen = {entry.version.package for entry in first.report.entries}
         stays = [NeedsLine((Spec(escape(name), None),)) for name in self.scenario.installed if escape(name) in chosen]
         taken: list[NeedsLine] = []
-        while more := self.recommended(last.report):
+        while True:
+            more, is_raised = self.recommended(last.report), self.raise_siblings(last.report)
+            if not more and not is_raised:
+                return first, last
             last, taken = self.with_more(last, taken, more, stays)
-        return first, last
 
     def with_more(
         self, last: Solved, taken: list[NeedsLine], more: list[NeedsLine], stays: list[NeedsLine]
     ) -> tuple[Solved, list[NeedsLine]]:
         """The answer with as many of these as can be had; a refusal names one that can't."""
-        while more:
+        while True:
             solved = self.solve("recommended.", [*taken, *more, *stays])
             if isinstance(solved.report, Install):
                 return solved, taken + more
+            if not more:
+                return last, taken
             start = len(self.plan.lines) + len(taken)
             named = [line - start - 1 for line in solved.report.request_lines if start < line <= start + len(more)]
             more = [line for at, line in enumerate(more) if at != (named[-1] if named else len(more) - 1)]
-        return last, taken
 
     def recommended(self, report: Report) -> list[NeedsLine]:
         """What new versions recommend and no chosen version meets, each once."""
-        if not isinstance(report, Install):
+        if not isinstance(report, Install) or not self.wants_recommended:
             return []
         chosen, found = {entry.version for entry in report.entries}, list[NeedsLine]()
         for listed in list(chosen_of(self.universe, self.reached, chosen)):
@@ -293,12 +297,36 @@ class Solving:
                         self.extend(name for name, _ in self.universe.alternatives(group))
         return found
 
+    def raise_siblings(self, report: Report) -> bool:
+        """Prefers the candidates of installed packages that are built of the source of a new version; whether any is."""
+        if not isinstance(report, Install):
+            return False
+        chosen = {entry.version for entry in report.entries}
+        new = [v for v in chosen_of(self.universe, self.reached, chosen) if not v.fields.flag("installed")]
+        sources = {source_of(listed) for listed in new}
+        raised = {
+            name for name, listed in self.scenario.installed.items()
+            if (found := candidate(self.scenario, name)) and found is not listed and source_of(found) in sources
+            and not listed.fields.flag("hold")
+        }
+        if raised <= self.scenario.raised:
+            return False
+        self.scenario.raised |= raised
+        self.plan = plan_of(self.scenario)
+        return True
+
     def is_met(self, group: Group, chosen: set[Version]) -> bool:
         """Whether a chosen version matches."""
         return any(
             Version(escape(name), number) in chosen
             for relation in group for name, numbers in self.universe.matches(relation).items() for number in numbers
         )
+
+
+def source_of(listed: Listed) -> tuple[str, str]:
+    """The source package of which a version is built, and its version."""
+    fields = listed.fields
+    return fields.get("source", listed.name), fields.get("source-version", listed.text)
 
 
 def chosen_of(universe: Universe, names: dict[str, None], chosen: set[Version]) -> Iterator[Listed]:
