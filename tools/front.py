@@ -7,7 +7,9 @@ import sys
 from typing import Callable, Optional, Sequence
 
 from tools import texts, view
+from tools.apt_solver import main as solve_for_apt
 from tools.bundle import CatalogueFile, load, load_catalogue
+from tools.debian import apt_lists, import_debian, native_architecture
 from tools.files import Failure, of_file, progress, read_bytes, run_program, write_bytes
 from tools.lock import Lock, check_lock, lock_of, lock_text, locked_versions, mark_lines, plan_lines, read_lock
 from tools.lock import wish_lines, with_lines, without_favours
@@ -210,6 +212,44 @@ def add_views(commands: argparse._SubParsersAction) -> None:
         add_out(each)
 
 
+# ---- importers
+
+
+def debian(args: argparse.Namespace) -> bytes:
+    """`debian`."""
+    if bool(args.files) == args.lists:
+        raise Failure("debian", None, "the files are due, or --lists alone")
+    if args.request and not args.closure:
+        raise Failure("debian", None, "--request goes with --closure, whose roots are asked for")
+    paths, native = args.files or apt_lists(), args.arch or native_architecture()
+    catalogue, request = import_debian(paths, native, args.closure or [], args.source)
+    if args.request:
+        write_bytes(args.request, request)
+    return catalogue
+
+
+def apt_solver(_: argparse.Namespace) -> None:
+    """`apt-solver`."""
+    solve_for_apt()
+
+
+def add_importers(commands: argparse._SubParsersAction) -> None:
+    """Catalogues of Debian, and the solver for apt."""
+    about = "Debian's Packages files, plain or packed, as a catalogue (docs/MAPPING.md)"
+    each = commands.add_parser("debian", help=about, description=about, epilog=STATUSES)
+    each.set_defaults(handle=debian)
+    each.add_argument("files", nargs="*", metavar="FILE", help="Packages files")
+    each.add_argument("--lists", action="store_true", help="in place of files: the lists that apt has")
+    each.add_argument("--arch", help="the architecture, beside `all`; that of dpkg where none is given")
+    roots = "NAME or NAME=VERSION: only what these reach over needs, and what they recommend"
+    each.add_argument("--closure", nargs="+", metavar="ROOT", help=roots)
+    each.add_argument("--source", action="store_true", help="`#s` lines: the text of which each line came")
+    each.add_argument("--request", metavar="OUT", help="writes the request too: the roots, and wishes for what they recommend")
+    add_out(each)
+    about = "answers a scenario of apt's EDSP on standard input (docs/USING.md)"
+    commands.add_parser("apt-solver", help=about, description=about).set_defaults(handle=apt_solver)
+
+
 # ---- the front
 
 
@@ -242,6 +282,7 @@ def make_parser() -> argparse.ArgumentParser:
     commands = parser.add_subparsers(dest="command", metavar="COMMAND", required=True)
     add_lock(commands)
     add_views(commands)
+    add_importers(commands)
     return parser
 
 
