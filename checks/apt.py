@@ -3,9 +3,11 @@
 
 Usage: checks/apt.py [COUNT] [SEED] [PATH OF THE PROGRAM]
 Defaults: 20 packages, seed 1, crates/resolve/out/resolve (which `rt run` leaves).
-Packages are drawn by seed from the machine's own index. Over each, `apt-get -s install` runs twice. Where apt's own solver
-installs, ours does, and apt, which checks each answer itself, takes it. `Inst` lines are compared, and where they differ
-the first package that differs is printed. Seconds are of wall clock and of processor, of `apt-get` with all that it runs.
+Versions drawn from the index are compared by pairs, which `dpkg --compare-versions` decides too.
+Packages are drawn by seed from the machine's own index. Over each, `apt-get -s install` runs twice. Where apt's own
+solver installs, ours does, and apt, which checks each answer itself, takes it. `Inst` lines are compared, and where they
+differ the first package that differs is printed. Seconds are of wall clock and of processor, of `apt-get` with all that
+it runs. The options that lead apt to a solver, and to a cache of its own, are the only ones.
 """
 import os
 import random
@@ -20,6 +22,10 @@ from dataclasses import dataclass
 
 HERE = os.path.dirname(os.path.abspath(__file__))
 TOP = os.path.dirname(HERE)
+PAIRS = 200
+sys.path.insert(0, TOP)
+
+from tools.deb822 import version_key
 
 
 @dataclass
@@ -53,12 +59,28 @@ def line_version(words: list[str]) -> str:
     return next((word[1:] for word in words[2:] if word.startswith("(")), "-")
 
 
-def drawn_packages(count: int, seed: int) -> list[str]:
-    """Packages of the index, each of which has a candidate."""
+def index_fields() -> dict[str, list[str]]:
+    """The names and the versions of the machine's index."""
     done = subprocess.run(["apt-cache", "dumpavail"], capture_output=True, check=True)
-    lines = done.stdout.decode("utf-8", "replace").splitlines()
-    names = sorted({line[9:] for line in lines if line.startswith("Package: ")})
-    return random.Random(seed).sample(names, count)
+    found: dict[str, set[str]] = {"Package": set(), "Version": set()}
+    for line in done.stdout.decode("utf-8", "replace").splitlines():
+        name, _, value = line.partition(": ")
+        if name in found:
+            found[name].add(value)
+    return {name: sorted(values) for name, values in found.items()}
+
+
+def check_order(versions: list[str], count: int, seed: int) -> None:
+    """Pairs of versions, half of them neighbours: the keys decide as dpkg does."""
+    rng, by_key = random.Random(seed), sorted(versions, key=version_key)
+    for turn in range(count):
+        at = rng.randrange(len(by_key) - 1)
+        first, second = (by_key[at], by_key[at + 1]) if turn % 2 else rng.sample(versions, 2)
+        keys = version_key(first), version_key(second)
+        sign = "lt" if keys[0] < keys[1] else "gt" if keys[0] > keys[1] else "eq"
+        if subprocess.run(["dpkg", "--compare-versions", first, sign, second]).returncode:
+            sys.exit(f"dpkg doesn't say {first} {sign} {second}")
+    print(f"{count} pairs of versions are in dpkg's order", flush=True)
 
 
 def first_difference(own: Run, ours: Run) -> str:
@@ -98,16 +120,21 @@ def main() -> None:
     count, seed = (int(sys.argv[at]) if len(sys.argv) > at else default for at, default in ((1, 20), (2, 1)))
     program = sys.argv[3] if len(sys.argv) > 3 else os.path.join(TOP, "crates/resolve/out/resolve")
     environment = {**os.environ, "LC_ALL": "C", "RESOLVE": os.path.abspath(program)}
-    counts, owns, ours = Counter(), [], []
+    counts, owns, ours, index = Counter(), [], [], index_fields()
+    check_order(index["Version"], PAIRS, seed)
     with tempfile.TemporaryDirectory() as folder:
         os.chmod(folder, 0o755)
         os.symlink(os.path.join(TOP, "tools", "apt_solver.py"), os.path.join(folder, "resolve"))
-        options = ["-o", f"Dir::Bin::solvers::={folder}", "--solver", "resolve"]
-        for name in drawn_packages(count, seed):
-            owns.append(run_apt(name, [], environment))
+        cache = [f"-oDir::Cache::{name}={folder}/{name}.bin" for name in ("pkgcache", "srcpkgcache")]
+        options = [*cache, f"-oDir::Bin::solvers::={folder}", "--solver", "resolve"]
+        for name in random.Random(seed).sample(index["Package"], count):
+            owns.append(run_apt(name, cache, environment))
             ours.append(run_apt(name, options, environment))
-            counts[verdict(name, owns[-1], ours[-1])] += 1
-    print(f"{count} packages of seed {seed}: " + ", ".join(f"{number} {what}" for what, number in sorted(counts.items())))
+            kind = verdict(name, owns[-1], ours[-1])
+            counts[kind] += 1
+            print(f"{name}: {kind}, {len(ours[-1].installs)} come", file=sys.stderr, flush=True)
+    told = ", ".join(f"{number} {what}" for what, number in sorted(counts.items()))
+    print(f"{count} packages of seed {seed}: {told}")
     print(median_text("apt's own solver", owns))
     print(median_text("with resolve", ours))
 

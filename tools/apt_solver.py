@@ -230,7 +230,8 @@ class Solving:
         for name in self.reached:
             draft.name(name)
             if name not in self.cached:
-                self.cached[name] = [line for listed in self.universe.package(name) for line in self.universe.lines(listed)]
+                listed_here = self.universe.package(name)
+                self.cached[name] = [line for listed in listed_here for line in self.universe.lines(listed)]
             for listed in self.universe.package(name):
                 draft.versions[version_of(listed)] = listed.text
             for line in self.cached[name]:
@@ -245,8 +246,9 @@ class Solving:
         draft = self.draft()
         catalogue = draft.catalogue()
         request = Request((*self.plan.lines, *more, *map(WishLine, self.plan.wished)))
-        paths = self.path(f"{prefix}catalogue", catalogue_text(catalogue)), self.path(f"{prefix}request", request_text(request))
-        _, said = run_program(None, "solve", *paths)
+        first = self.path(f"{prefix}catalogue", catalogue_text(catalogue))
+        second = self.path(f"{prefix}request", request_text(request))
+        _, said = run_program(None, "solve", first, second)
         return Solved(self.path(f"{prefix}report", said), catalogue, draft, read_report(said))
 
     def run(self) -> tuple[Solved, Solved]:
@@ -298,7 +300,7 @@ class Solving:
         return found
 
     def raise_siblings(self, report: Report) -> bool:
-        """Prefers the candidates of installed packages that are built of the source of a new version; whether any is."""
+        """Prefers the candidates of installed packages that are of the source of a new version; whether any is."""
         if not isinstance(report, Install):
             return False
         chosen = {entry.version for entry in report.entries}

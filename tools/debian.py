@@ -16,7 +16,8 @@ from typing import Callable, Iterable, Iterator, NamedTuple
 
 from tools.catalogue import MOST_BYTES, Catalogue, CatalogueLine, LimitsLine, NeedsLine, Request, RequestLine
 from tools.catalogue import VersionLine, WishLine, catalogue_text, request_text
-from tools.deb822 import Fields, Group, Record, Relation, read_groups, read_list, read_relation, split_records, version_key
+from tools.deb822 import Fields, Group, Record, Relation, read_groups, read_list, read_relation, split_records
+from tools.deb822 import version_key
 from tools.dictionary import Dictionary, escape
 from tools.files import Failure, progress, read_bytes, shown_path, write_bytes
 from tools.words import Bad, Spec, Version
@@ -131,7 +132,8 @@ class Universe:
                 found.setdefault(self.version(name, fields), fields)
             texts = sorted(found, key=version_key)
             self.read[name] = tuple(
-                Listed(name, number, text, found[text], self.provided(found[text])) for number, text in enumerate(texts, 1)
+                Listed(name, number, text, found[text], self.provided(found[text]))
+                for number, text in enumerate(texts, 1)
             )
         return self.read[name]
 
@@ -398,9 +400,7 @@ def read_roots(universe: Universe, words: list[str]) -> list[tuple[str, str]]:
     return found
 
 
-def import_debian(
-    paths: list[str], native: str, words: list[str], with_source: bool
-) -> tuple[bytes, bytes]:
+def import_debian(paths: list[str], native: str, words: list[str], with_source: bool) -> tuple[bytes, bytes]:
     """The catalogue and the request of some files; without roots all packages and an empty request."""
     with progress("reading the packages"):
         universe, total = load_universe(paths, native)

@@ -244,7 +244,8 @@ def add_importers(commands: argparse._SubParsersAction) -> None:
     roots = "NAME or NAME=VERSION: only what these reach over needs, and what they recommend"
     each.add_argument("--closure", nargs="+", metavar="ROOT", help=roots)
     each.add_argument("--source", action="store_true", help="`#s` lines: the text of which each line came")
-    each.add_argument("--request", metavar="OUT", help="writes the request too: the roots, and wishes for what they recommend")
+    request = "writes the request too: the roots, and wishes for what they recommend"
+    each.add_argument("--request", metavar="OUT", help=request)
     add_out(each)
     about = "answers a scenario of apt's EDSP on standard input (docs/USING.md)"
     commands.add_parser("apt-solver", help=about, description=about).set_defaults(handle=apt_solver)
