@@ -128,17 +128,30 @@ class Record:
         """Raises the Failure of a line of the stanza."""
         raise Failure(shown_path(self.path), self.line + offset, reason)
 
-    def quick(self, name: bytes) -> Optional[bytes]:
-        """The first line of a field, as it is spelled, without reading the stanza; None where it isn't there."""
-        if self.raw.startswith(name + b": "):
-            start = len(name) + 2
+    def place(self, title: bytes) -> Optional[tuple[int, int]]:
+        """From where to below where the first line of a field stands; None where it isn't there, spelled so."""
+        raw, mark = self.raw, title + b": "
+        if raw.startswith(mark):
+            start = len(mark)
         else:
-            at = self.raw.find(b"\n" + name + b": ")
+            at = raw.find(b"\n" + mark)
             if at < 0:
                 return None
-            start = at + len(name) + 3
-        end = self.raw.find(b"\n", start)
-        return self.raw[start:] if end < 0 else self.raw[start:end]
+            start = at + len(mark) + 1
+        end = raw.find(b"\n", start)
+        return start, len(raw) if end < 0 else end
+
+    def quick(self, title: bytes) -> Optional[bytes]:
+        """The first line of a field, without reading the stanza."""
+        place = self.place(title)
+        return self.raw[place[0]:place[1]] if place else None
+
+    def value(self, title: str) -> str:
+        """A field; the stanza is read only where the field has a second line."""
+        place = self.place(title.encode())
+        if place is None or self.raw[place[1] + 1:place[1] + 2] in (b" ", b"\t"):
+            return self.fields().get(title.lower(), "")
+        return self.raw[place[0]:place[1]].decode("utf-8", "replace")
 
     def fields(self) -> Fields:
         """All fields; their names in small letters."""
@@ -194,7 +207,10 @@ def split_records(chunks: Iterable[bytes], path: str) -> Iterator[Record]:
         pieces = (rest + chunk).split(b"\n\n")
         rest = pieces.pop()
         for piece in pieces:
-            yield from one_record(piece, path, line)
+            if piece[:1] in (b"", b"\n"):
+                yield from one_record(piece, path, line)
+            else:
+                yield Record(piece, path, line)
             line += piece.count(b"\n") + 2
     if rest.strip(b"\n") and not rest.endswith(b"\n"):
         last = line + rest.count(b"\n")

@@ -97,7 +97,7 @@ class Universe:
     """Packages by name, and who provides what, of one architecture (and `all`)."""
 
     def __init__(self, native: str) -> None:
-        self.native = native
+        self.native, self.architectures = native, (native.encode(), b"all")
         self.records: dict[str, list[Record]] = {}
         self.providers: dict[str, dict[str, None]] = {}
         self.read: dict[str, tuple[Listed, ...]] = {}
@@ -111,15 +111,15 @@ class Universe:
         name = record.quick(b"Package")
         if name is None:
             record.fail("the stanza has no Package")
-        if record.quick(b"Architecture") not in (self.native.encode(), b"all"):
-            if record.quick(b"Architecture") is None:
+        architecture = record.quick(b"Architecture")
+        if architecture not in self.architectures:
+            if architecture is None:
                 record.fail(f"the stanza of {name.decode('utf-8', 'replace')} has no Architecture")
             return
         real = name.decode("utf-8", "replace").strip()
         self.records.setdefault(real, []).append(record)
         if record.raw.find(b"\nProvides:") >= 0:
-            text = record.fields()["provides"]
-            for part in text.split(","):
+            for part in record.value("Provides").split(","):
                 provided = part.partition("(")[0].partition(":")[0].strip()
                 self.providers.setdefault(provided, {})[real] = None
 
