@@ -16,6 +16,7 @@ import sys
 if __name__ == "__main__":
     sys.path[0] = os.path.dirname(os.path.dirname(os.path.realpath(__file__)))
 
+import re
 import shutil
 import tempfile
 from dataclasses import dataclass, field
@@ -27,7 +28,7 @@ from tools.catalogue import Catalogue, CatalogueLine, catalogue_text, request_te
 from tools.deb822 import Fields, Group, Record, split_records
 from tools.debian import PRIORITIES, Draft, Line, Listed, Universe, is_essential, relation_groups
 from tools.dictionary import RealSpelling, escape
-from tools.files import Failure, run_program
+from tools.files import Failure, of_file, run_program
 from tools.message import message_line
 from tools.reports import Install, Refused, Report, read_report
 from tools.words import Spec, Version
@@ -35,6 +36,7 @@ from tools.words import Spec, Version
 CHUNK = 2**20
 MOST_SOURCES = 12
 PATH = "scenario"
+NONE = re.compile(r"(\S+) #?0(?=$|[ ,.])")  # the number 0, which is never listed
 
 
 # ---- the scenario
@@ -249,7 +251,9 @@ class Solving:
         first = self.path(f"{prefix}catalogue", catalogue_text(catalogue))
         second = self.path(f"{prefix}request", request_text(request))
         _, said = run_program(None, "solve", first, second)
-        return Solved(self.path(f"{prefix}report", said), catalogue, draft, read_report(said))
+        path = self.path(f"{prefix}report", said)
+        with of_file(path):
+            return Solved(path, catalogue, draft, read_report(said))
 
     def run(self) -> tuple[Solved, Solved]:
         """The first answer, which tells what must go, and the one with what is recommended."""
@@ -368,7 +372,7 @@ def refusal_text(solved: Solved, report: Refused) -> str:
     """Why a request is refused, with real names, and the lines of the packages on which that rests."""
     spelling = RealSpelling(solved.draft.dictionary)
     lines = ["resolve: no set of packages keeps all rules"]
-    lines += [message_line(line, spelling) for line in report.message]
+    lines += [NONE.sub(r"\1 (no version)", message_line(line, spelling)) for line in report.message]
     sources = list(named_sources(solved, report))
     lines += [f"- {source}" for source in sources[:MOST_SOURCES]]
     if len(sources) > MOST_SOURCES:
@@ -407,7 +411,7 @@ def answer(solving: Solving, first: Solved, last: Solved) -> bool:
     forced = [listed.name for listed in goes if listed.name not in asked]
     say("".join(change_stanza("Install", v) for v in comes) + "".join(change_stanza("Remove", v) for v in goes))
     if forced:
-        print(f"resolve: why {', '.join(forced)} can't stay is proved in {first.path}", file=sys.stderr)
+        print(f"\nresolve: why {', '.join(forced)} can't stay is proved in {first.path}", file=sys.stderr)
     return bool(forced)
 
 
