@@ -51,6 +51,7 @@ class Scenario:
     installed: dict[str, Listed] = field(default_factory=dict)
     candidates: dict[str, Listed] = field(default_factory=dict)
     raised: set[str] = field(default_factory=set)
+    gone: set[str] = field(default_factory=set)
 
     def flag(self, name: str) -> bool:
         """Whether the request says `yes`."""
@@ -184,11 +185,12 @@ def add_marks(plan: Plan, listed: Listed, is_asked: bool) -> None:
 
 
 def add_wishes(plan: Plan, listed: Listed) -> None:
-    """The wishes for an installed package: to stay, else to be the candidate; or the other way round."""
+    """The wishes for an installed package: to stay; where that failed, to be the candidate; or the other way round."""
     found = candidate(plan.scenario, listed.name)
     first, second = (found, listed) if plan.scenario.takes_newer(listed) else (listed, found)
     plan.wish(first)
-    plan.wish(second)
+    if listed.name in plan.scenario.gone:
+        plan.wish(second)
 
 
 # ---- solving
@@ -258,17 +260,29 @@ class Solving:
     def run(self) -> tuple[Solved, Solved]:
         """The first answer, which tells what must go, and the one with what is recommended."""
         self.extend([*self.scenario.names("install"), *self.scenario.installed])
-        first = last = self.solve("")
+        first = self.solve("")
+        removed = set(self.scenario.names("remove"))
+        while gone := self.gone(first.report) - removed - self.scenario.gone:
+            self.scenario.gone |= gone
+            self.plan = plan_of(self.scenario)
+            first = self.solve("")
         if not isinstance(first.report, Install):
             return first, first
-        chosen = {entry.version.package for entry in first.report.entries}
-        stays = [NeedsLine((Spec(escape(name), None),)) for name in self.scenario.installed if escape(name) in chosen]
-        taken: list[NeedsLine] = []
+        gone = self.gone(first.report)
+        stays = [NeedsLine((Spec(escape(name), None),)) for name in self.scenario.installed if name not in gone]
+        last, taken = first, list[NeedsLine]()
         while True:
             more, is_raised = self.recommended(last.report), self.raise_siblings(last.report)
             if not more and not is_raised:
                 return first, last
             last, taken = self.with_more(last, taken, more, stays)
+
+    def gone(self, report: Report) -> set[str]:
+        """The installed packages of which no version is chosen."""
+        if not isinstance(report, Install):
+            return set()
+        chosen = {entry.version.package for entry in report.entries}
+        return {name for name in self.scenario.installed if escape(name) not in chosen}
 
     def with_more(
         self, last: Solved, taken: list[NeedsLine], more: list[NeedsLine], stays: list[NeedsLine]
@@ -312,8 +326,8 @@ class Solving:
         sources = {source_of(listed) for listed in new}
         raised = {
             name for name, listed in self.scenario.installed.items()
-            if (found := candidate(self.scenario, name)) and found is not listed and source_of(found) in sources
-            and not listed.fields.flag("hold")
+            if (found := candidate(self.scenario, name)) and source_of(found) in sources
+            and found is not listed and version_of(found) not in chosen and not listed.fields.flag("hold")
         }
         if raised <= self.scenario.raised:
             return False

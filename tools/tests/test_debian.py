@@ -194,11 +194,14 @@ def listed(number, name, version, *fields):
 class Solver(FolderCase):
     """apt's solver over a program that prints a report which is given here."""
 
-    def answer(self, scenario, report):
-        """What the solver prints, without what goes on, and the texts that the program got."""
-        self.write("said", report)
-        copy = f'cat "$2" >> {self.path("got")}; echo --- >> {self.path("got")}; cat "$3" >> {self.path("got")}'
-        path = self.write("resolve", f'#!/bin/sh\n{copy}\ncat {self.path("said")}\n')
+    def answer(self, scenario, *reports):
+        """What the solver prints, without what goes on; each run of the program gives the next report."""
+        for number, report in enumerate(reports, 1):
+            self.write(f"said{number}", report)
+        self.write("got", "")
+        got = self.path("got")
+        copy = f'cat "$2" >> {got}; echo --- >> {got}; cat "$3" >> {got}; echo === >> {got}'
+        path = self.write("resolve", f'#!/bin/sh\n{copy}\ncat {self.path("said")}$(grep -c === {got})\n')
         os.chmod(path, os.stat(path).st_mode | stat.S_IXUSR)
         out, error = Output(), Output()
         source = io.TextIOWrapper(io.BytesIO(scenario.encode()))
@@ -223,7 +226,7 @@ class Solver(FolderCase):
         self.assertEqual((stanzas, error), (["Install: 7\nPackage: app\nVersion: 1.0\nArchitecture: amd64"], ""))
         self.assertEqual(self.got(), [
             "version app 1", "needs old | lib", "version old 1", "version init 1", "version lib 1", "favour init 1", "favour old 1", "favour app 1",
-            "---", "needs app 1", "needs init", "wish init 1", "wish old 1",
+            "---", "needs app 1", "needs init", "wish init 1", "wish old 1", "===",
         ])
         self.assertEqual(self.folders(), [])
 
@@ -231,11 +234,44 @@ class Solver(FolderCase):
         scenario = REQUEST + listed(7, "app", "1", "Conflicts: old") + listed(9, "old", "1", "Installed: yes", "Hold: yes")
         report = "install\napp=1 for request line 1\nleft out old=1 line 2 by 3\nstep 1 need request line 1 case 1\n"
         report += "step 2 limit app=1 line 3 bars old=1\nstep 3 derive [not old=1] by 1 2\n"
-        stanzas, error = self.answer(scenario, report)
+        stanzas, error = self.answer(scenario, report, report)
         self.assertEqual([each.split("\n")[0] for each in stanzas], ["Install: 7", "Remove: 9"])
         self.assertIn("resolve: why old can't stay is proved in ", error)
         self.assertIn("lock old 1", self.got())
         self.assertEqual(sorted(os.listdir(self.path(self.folders()[0]))), ["catalogue", "report", "request"])
+
+    def test_recommendations_come_by_rounds(self):
+        scenario = REQUEST + listed(7, "app", "1", "Recommends: r1 | r2, rx, nowhere, old")
+        scenario += "".join(listed(number, name, "1") for number, name in enumerate(["r1", "r2", "rx"], 10))
+        scenario += listed(9, "old", "1", "Installed: yes")
+        first = "install\napp=1 for request line 1\nold=1 wished line 2\n"
+        refused = "refused\nrequest line 1\nrequest line 3\nstep 1 need request line 3 case 1\n"
+        last = "install\napp=1 for request line 1\nr1=1 for request line 2\nold=1 for request line 3\n"
+        stanzas, _ = self.answer(scenario, first, refused, last)
+        self.assertEqual([each.split("\n")[0] for each in stanzas], ["Install: 7", "Install: 10"])
+        asked = [line for line in self.got() if line.startswith(("needs", "wish", "==="))]
+        self.assertEqual(asked, [
+            "needs app 1", "wish old 1", "===", "needs app 1", "needs r1 | r2", "needs rx", "needs old", "wish old 1", "===",
+            "needs app 1", "needs r1 | r2", "needs old", "wish old 1", "===",
+        ])
+
+    def test_an_upgrade_where_the_installed_version_cant_stay(self):
+        scenario = REQUEST + listed(7, "app", "1", "Breaks: old (<< 2)") + listed(8, "old", "2")
+        scenario += stanza("old", "1", "APT-ID: 9", "Installed: yes")
+        left = "install\napp=1 for request line 1\nleft out old=1 line 2 by 3\nstep 1 need request line 1 case 1\n"
+        left += "step 2 limit app=1 line 3 bars old=1\nstep 3 derive [not old=1] by 1 2\n"
+        stanzas, error = self.answer(scenario, left, left.replace("left out", "old=2 wished line 3\nleft out"))
+        self.assertEqual([each.split("\n")[0] for each in stanzas], ["Install: 7", "Install: 8"])
+        self.assertEqual(error, "")
+        self.assertEqual(self.got()[-4:], ["needs app 1", "wish old 1", "wish old 2", "==="])
+
+    def test_a_removal_and_an_upgrade_of_all(self):
+        asked = "Request: EDSP 0.5\nArchitecture: amd64\nRemove: a:amd64\nUpgrade-All: yes\n\n"
+        scenario = asked + stanza("a", "1", "APT-ID: 1", "Installed: yes") + stanza("b", "1", "APT-ID: 2", "Installed: yes")
+        stanzas, error = self.answer(scenario + listed(3, "b", "2"), "install\nb=2 wished line 2\n")
+        self.assertEqual([each.split("\n")[0] for each in stanzas], ["Install: 3", "Remove: 1"])
+        self.assertEqual(error, "")
+        self.assertEqual(self.got()[-6:], ["favour a 1", "favour b 2", "---", "limits a 0", "wish b 2", "==="])
 
     def test_a_refusal_says_why(self):
         scenario = REQUEST + listed(7, "app", "1.5", "Depends: lib+x (>= 2)")
