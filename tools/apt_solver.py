@@ -36,7 +36,7 @@ from tools.words import Spec, Version
 CHUNK = 2**20
 MOST_SOURCES = 12
 PATH = "scenario"
-NONE = re.compile(r"(\S+) #?0(?=$|[ ,.])")  # the number 0, which is never listed
+NONE = re.compile(r"(\S+) #0(?=$|[ ,.])")  # the number 0, which is never listed
 
 
 # ---- the scenario

@@ -207,11 +207,12 @@ class Universe:
                 yield from ((f"{title}: {words}", group) for words, group in relation_groups(fields, name))
 
     def need_line(self, words: str, group: Group) -> Line:
-        """The line of a group; where nothing matches, the version 0 of its first package, which is never listed."""
+        """The line of a group; where nothing matches, its first package, by the number 0 if it has other versions."""
         specs = tuple(self.spec(*each) for each in self.alternatives(group))
         if specs:
             return Line(NeedsLine(specs), words)
-        return Line(NeedsLine((Spec(escape(group[0].name), (0,)),)), words, missing=group[0].name)
+        name = group[0].name
+        return Line(NeedsLine((Spec(escape(name), (0,) if self.package(name) else None),)), words, missing=name)
 
     def limits(self, fields: Fields) -> Iterator[tuple[str, Relation]]:
         """What a version doesn't bear, with the text of which it came."""
