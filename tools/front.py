@@ -11,6 +11,7 @@ from tools.apt_solver import main as solve_for_apt
 from tools.bundle import CatalogueFile, load, load_catalogue
 from tools.debian import apt_lists, import_debian, native_architecture
 from tools.files import Failure, of_file, progress, read_bytes, run_program, write_bytes
+from tools.imports import add_imports
 from tools.lock import Lock, check_lock, lock_of, lock_text, locked_versions, mark_lines, plan_lines, read_lock
 from tools.lock import wish_lines, with_lines, without_favours
 
@@ -233,7 +234,7 @@ def apt_solver(_: argparse.Namespace) -> None:
     solve_for_apt()
 
 
-def add_importers(commands: argparse._SubParsersAction) -> None:
+def add_debian(commands: argparse._SubParsersAction) -> None:
     """Catalogues of Debian, and the solver for apt."""
     about = "Debian's Packages files, plain or packed, as a catalogue (docs/MAPPING.md)"
     each = commands.add_parser("debian", help=about, description=about, epilog=STATUSES)
@@ -283,7 +284,8 @@ def make_parser() -> argparse.ArgumentParser:
     commands = parser.add_subparsers(dest="command", metavar="COMMAND", required=True)
     add_lock(commands)
     add_views(commands)
-    add_importers(commands)
+    add_debian(commands)
+    add_imports(commands)
     return parser
 
 

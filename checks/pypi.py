@@ -1,0 +1,211 @@
+#!/usr/bin/env python3
+"""Checks `resolve-tools pypi` against pip, over generated indexes of tiny wheels. No network.
+
+Usage: checks/pypi.py [COUNT] [SEED] [PATH OF THE PROGRAM]      defaults: 300, 1, crates/resolve/out/resolve
+Each index has pre-releases, extras, markers, Requires-Python and yanked versions. `pip install --dry-run --no-index` gives its verdict;
+where we install, pip takes our set as `==` pins and adds nothing. Where pip alone installs, its set has a pre-release that one
+requirement names and another doesn't; with `--pre` for these packages our verdict is pip's, else the check fails.
+"""
+import hashlib
+import html
+import json
+import os
+import random
+import subprocess
+import sys
+import tempfile
+import zipfile
+from collections import Counter
+
+HERE = os.path.dirname(os.path.abspath(__file__))
+sys.path[:0] = [os.path.join(HERE, "..")]
+
+from pip._internal.cli.main import main as pip_main
+from pip._internal.commands import create_command
+
+from tools import texts
+from tools.pypi import canonical, versions
+from tools.tests.base import run
+
+POOL = ["0.9", "1.0", "1.0.post1", "1.1", "1.1+local.2", "1.2.dev3", "1.2", "1.10", "2.0a1", "2.0rc1", "2.0", "2.1", "1!0.5"]
+NAMES = ["Pkg.A", "pkg_b", "pkg-c", "PKG-d", "pkge", "pkg__f"]
+EXTRAS = ["x", "y-z", "Q"]
+MARKERS = ['python_version >= "3.8"', 'python_version < "3"', 'sys_platform == "win32"', 'sys_platform != "win32" or os_name == "nt"']
+PIP = ["install", "--isolated", "--disable-pip-version-check", "--no-cache-dir", "--dry-run", "--ignore-installed", "--no-index", "--quiet"]
+REFUSALS = ("ResolutionImpossible", "No matching distribution found", "Could not find a version")
+
+
+def fail(what, *details):
+    sys.exit("\n".join([what, *map(str, details)]))
+
+
+def some_specifier(rng):
+    """Specifiers of one requirement."""
+    kinds = ["", "", "", "", ">={}", ">={}", ">={}", "<{}", "<={}", ">{}", "!={}", "~={}", "=={}", "=={}.*", "!={}.*", ">={},<{}"]
+    kind = rng.choice(kinds)
+    pool = [v for v in POOL if "+" not in v and (".*" not in kind or v in ("1.0", "1.1", "2.0")) and ("~" not in kind or "." in v)]
+    return kind.format(rng.choice(pool), rng.choice(pool))
+
+
+def some_requirement(rng, extras=True):
+    """A requirement by PEP 508."""
+    name = rng.choice(NAMES)
+    asked = rng.sample(EXTRAS, rng.choice([1, 1, 2])) if extras and rng.random() < 0.2 else []
+    return name + (f"[{','.join(asked)}]" if asked else "") + some_specifier(rng)
+
+
+def some_entries(rng):
+    """An index as the JSON form has it."""
+    found = []
+    for name in NAMES:
+        for version in rng.sample(POOL, rng.randint(1, 5)):
+            provided = rng.sample(["x", "y-z", "q"], rng.randint(0, 3))
+            requires = []
+            for _ in range(rng.choice([0, 0, 0, 1, 1, 2])):
+                markers = [f'extra == "{rng.choice(provided)}"'] if provided and rng.random() < 0.5 else []
+                markers += [rng.choice(MARKERS)] if rng.random() < 0.3 else []
+                requires.append(some_requirement(rng) + ("; " + " and ".join(f"({m})" for m in markers) if markers else ""))
+            python = rng.choice([None] * 6 + [">=3.8", "<3", ">=3.6,!=3.9.*"])
+            entry = {"name": name, "version": version, "requires_dist": requires, "requires_python": python, "provides_extra": provided}
+            found.append(entry | {"yanked": rng.choice([False] * 9 + [True, "broken"])})
+    return found
+
+
+def metadata(entry):
+    """The METADATA of a wheel."""
+    lines = ["Metadata-Version: 2.1", f"Name: {entry['name']}", f"Version: {entry['version']}"]
+    lines += [f"Requires-Python: {entry['requires_python']}"] if entry["requires_python"] else []
+    lines += [f"Provides-Extra: {extra}" for extra in entry["provides_extra"]]
+    return "\n".join(lines + [f"Requires-Dist: {text}" for text in entry["requires_dist"]] + ["", "A test.", ""])
+
+
+def write_wheel(folder, entry):
+    """A wheel with nothing in it, and its file name."""
+    base = f"{canonical(entry['name']).replace('-', '_')}-{entry['version']}"
+    info, path = f"{base}.dist-info", os.path.join(folder, f"{base}-py3-none-any.whl")
+    with zipfile.ZipFile(path, "w") as wheel:
+        wheel.writestr(f"{info}/METADATA", metadata(entry))
+        wheel.writestr(f"{info}/WHEEL", "Wheel-Version: 1.0\nGenerator: check\nRoot-Is-Purelib: true\nTag: py3-none-any\n")
+        wheel.writestr(f"{info}/RECORD", f"{info}/METADATA,,\n{info}/WHEEL,,\n{info}/RECORD,,\n")
+    return path
+
+
+def write_index(folder, entries):
+    """Wheels, a page of links to them as an index of PyPI has it, and the JSON form."""
+    os.mkdir(os.path.join(folder, "wheels"))
+    links = []
+    for entry in entries:
+        path = write_wheel(os.path.join(folder, "wheels"), entry)
+        python = f' data-requires-python="{html.escape(entry["requires_python"])}"' if entry["requires_python"] else ""
+        reason = entry["yanked"] if isinstance(entry["yanked"], str) else ""
+        yanked = f' data-yanked="{reason}"' if entry["yanked"] else ""
+        links.append(f'<a href="file://{path}"{python}{yanked}>{os.path.basename(path)}</a>')
+    with open(os.path.join(folder, "links.html"), "w") as out:
+        out.write("<!DOCTYPE html><html><body>\n" + "<br>\n".join(links) + "\n</body></html>\n")
+    with open(os.path.join(folder, "index.json"), "w") as out:
+        out.write("\n".join(map(json.dumps, entries)) if len(entries) % 2 else json.dumps(entries, indent=1))
+
+
+def pip(folder, requirements):
+    """The set that pip would install, None where it refuses; a process of its own, with pip loaded before."""
+    report, said = os.path.join(folder, "report"), os.path.join(folder, "said")
+    command = [*PIP, "--find-links", os.path.join(folder, "links.html"), "--report", report, *requirements]
+    child = os.fork()
+    if child == 0:
+        os.dup2(os.open(said, os.O_WRONLY | os.O_CREAT | os.O_TRUNC), 2)
+        os._exit(pip_main(command))
+    status = os.waitstatus_to_exitcode(os.waitpid(child, 0)[1])
+    with open(said) as file:
+        error = file.read()
+    if status != 0:
+        if not any(word in error for word in REFUSALS):
+            fail("pip failed", error)
+        return None
+    with open(report) as file:
+        found = [each["metadata"] for each in json.load(file)["install"]]
+    return {canonical(each["name"]): str(versions.Version(each["version"])) for each in found}
+
+
+def ours(folder, requirements, program, source, options=()):
+    """The set that `resolve` installs, None where it refuses."""
+    paths = [os.path.join(folder, name) for name in ("catalogue", "request")]
+    roots = [r for r in {requirement.split(";")[0] for requirement in requirements}]
+    names = sorted({root_name(root) for root in roots})
+    whole = run("pypi", "catalogue", source, *options, "--source", "--out", paths[0])
+    if hashlib.sha256(source.encode()).digest()[0] % 2:
+        whole = run("pypi", "catalogue", source, *options, "--out", paths[0], "--closure", *names)
+    asked = run("pypi", "request", source, *options, "--out", paths[1], "--", *requirements)
+    if whole[:2] != (0, b"") or asked[:2] != (0, b""):
+        fail("the import failed", whole, asked)
+    done = subprocess.run([program, "solve", *paths], capture_output=True)
+    if done.returncode not in (0, 1):
+        fail("solve failed", done.stdout)
+    if done.returncode == 1:
+        return None
+    with open(paths[0], "rb") as file:
+        dictionary = texts.read_dictionary(texts.read_catalogue(file.read()))
+    entries = [entry.version for entry in texts.read_report(done.stdout).entries]
+    named = {dictionary.name(version.package): dictionary.version(version) for version in entries}
+    return {name: text for name, text in named.items() if "[" not in name}
+
+
+def root_name(root):
+    """The closure's root for a requirement: with its extra, if it has one."""
+    name = root.split("[")[0]
+    return next((name[:at] for at, c in enumerate(name) if c in "<>=!~"), name)
+
+
+def pinned_yanked(entries, requirements):
+    """Whether a requirement pins a version that is yanked, which pip takes then."""
+    yanked = {versions.Version(entry["version"]) for entry in entries if entry["yanked"]}
+    asked = [text.split(";")[0] for entry in entries for text in entry["requires_dist"]] + requirements
+    pins = [text.rpartition("==")[2].split(",")[0] for text in asked if "==" in text]
+    return any("*" not in pin and versions.Version(pin) in {versions.Version(v.public) for v in yanked} for pin in pins)
+
+
+def check_index(rng, program, counts):
+    """One index and three requests."""
+    entries = some_entries(rng)
+    if rng.random() < 0.3:
+        entries = [entry | {"yanked": False} for entry in entries]
+    requests = [[some_requirement(rng) for _ in range(rng.choice([1, 2, 2, 3]))] for _ in range(2)]
+    entries = [e | {"yanked": False} for e in entries] if any(pinned_yanked(entries, r) for r in requests) else entries
+    with tempfile.TemporaryDirectory() as folder:
+        write_index(folder, entries)
+        source = os.path.join(folder, "wheels" if not any(e["yanked"] for e in entries) else "index.json")
+        for requirements in requests:
+            check_request(folder, requirements, program, source, counts)
+
+
+def check_request(folder, requirements, program, source, counts):
+    """The verdicts agree, and pip takes our set."""
+    theirs, mine = pip(folder, requirements), ours(folder, requirements, program, source)
+    shown = [open(os.path.join(folder, "index.json")).read(), requirements, f"pip: {theirs}", f"resolve: {mine}"]
+    if mine is None and theirs is not None:
+        pre = [name for name, text in theirs.items() if versions.Version(text).is_prerelease]
+        mine = ours(folder, requirements, program, source, ["--pre", *pre]) if pre else None
+        counts["pre-releases named by one requirement alone"] += 1
+    if (mine is None) != (theirs is None):
+        fail("the verdicts differ", *shown)
+    counts["refused" if mine is None else "installed"] += 1
+    if mine is None:
+        return
+    again = pip(folder, [*requirements, *(f"{name}=={text}" for name, text in mine.items())])
+    if again != mine:
+        fail("pip doesn't take our set", *shown, f"pip over pins: {again}")
+    counts["the same set as pip's"] += mine == theirs
+
+
+def main():
+    count = int(sys.argv[1]) if len(sys.argv) > 1 else 300
+    rng = random.Random(int(sys.argv[2]) if len(sys.argv) > 2 else 1)
+    program = sys.argv[3] if len(sys.argv) > 3 else os.path.join(HERE, "../crates/resolve/out/resolve")
+    counts = Counter()
+    create_command("install")
+    for _ in range(count):
+        check_index(rng, os.path.abspath(program), counts)
+    print(f"{count} indexes, two requests each: " + ", ".join(f"{n} {what}" for what, n in sorted(counts.items())))
+
+
+if __name__ == "__main__":
+    main()

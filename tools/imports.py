@@ -1,0 +1,61 @@
+"""The commands of the importers: `pypi`, `cargo` and `conda`, each with `catalogue` and `request`."""
+from __future__ import annotations
+
+import argparse
+from typing import Callable
+
+from tools import pypi
+from tools.files import progress
+from tools.index import Index, index_catalogue, index_request
+
+Opener = Callable[[argparse.Namespace], Index]
+
+
+def add_actions(commands: argparse._SubParsersAction, name: str, about: str, asked: str) -> list:
+    """A command with its two actions."""
+    parser = commands.add_parser(name, help=about, description=about)
+    actions = parser.add_subparsers(dest="action", metavar="ACTION", required=True)
+    catalogue = actions.add_parser("catalogue", help="the index as a catalogue")
+    request = actions.add_parser("request", help="requirements as a request over that catalogue")
+    for each in (catalogue, request):
+        each.add_argument("index", metavar="INDEX")
+        each.add_argument("--out", metavar="FILE", help="write this file, whole or not at all, not standard output")
+    closure = "just what these packages reach over needs"
+    catalogue.add_argument("--closure", nargs="+", metavar="ROOT", help=closure)
+    catalogue.add_argument("--source", action="store_true", help="above each line the text of which it came")
+    request.add_argument("requirements", nargs="+", metavar=asked)
+    return [catalogue, request]
+
+
+def open_pypi(args: argparse.Namespace) -> pypi.PypiIndex:
+    """The index of wheels."""
+    return pypi.PypiIndex(args.index, pypi.read_environment(args.environment), args.pre)
+
+
+def pypi_catalogue(args: argparse.Namespace) -> bytes:
+    """`pypi catalogue`."""
+    with progress("pypi catalogue"):
+        roots = None if args.closure is None else [pypi.root_package(root) for root in args.closure]
+        return index_catalogue(open_pypi(args), roots, args.source)
+
+
+def pypi_request(args: argparse.Namespace) -> bytes:
+    """`pypi request`."""
+    index = open_pypi(args)
+    return index_request(index, pypi.request_rules(index, args.requirements, args.constraint or ()))
+
+
+def add_pypi(commands: argparse._SubParsersAction) -> None:
+    """The commands of PyPI."""
+    catalogue, request = add_actions(commands, "pypi", "wheels of PyPI (docs/MAPPING.md)", "REQUIREMENT")
+    catalogue.set_defaults(handle=pypi_catalogue)
+    request.set_defaults(handle=pypi_request)
+    request.add_argument("--constraint", action="append", metavar="REQUIREMENT", help="a limit on a package")
+    for each in (catalogue, request):
+        each.add_argument("--environment", metavar="FILE", help="JSON: markers' variables other than this Python's")
+        each.add_argument("--pre", nargs="*", metavar="NAME", help="pre-releases may be taken, of these or of all")
+
+
+def add_imports(commands: argparse._SubParsersAction) -> None:
+    """The commands of all importers."""
+    add_pypi(commands)
