@@ -24,7 +24,7 @@ from pip._internal.cli.main import main as pip_main
 from pip._internal.commands import create_command
 
 from tools import texts
-from tools.pypi import canonical, versions
+from tools.pypi import canonical, requirements as requirement_texts, versions
 from tools.tests.base import run
 
 POOL = ["0.9", "1.0", "1.0.post1", "1.1", "1.1+local.2", "1.2.dev3", "1.2", "1.10", "2.0a1", "2.0rc1", "2.0", "2.1", "1!0.5"]
@@ -129,8 +129,7 @@ def pip(folder, requirements):
 def ours(folder, requirements, program, source, options=()):
     """The set that `resolve` installs, None where it refuses."""
     paths = [os.path.join(folder, name) for name in ("catalogue", "request")]
-    roots = [r for r in {requirement.split(";")[0] for requirement in requirements}]
-    names = sorted({root_name(root) for root in roots})
+    names = sorted({name for requirement in requirements for name in root_names(requirement)})
     whole = run("pypi", "catalogue", source, *options, "--source", "--out", paths[0])
     if hashlib.sha256(source.encode()).digest()[0] % 2:
         whole = run("pypi", "catalogue", source, *options, "--out", paths[0], "--closure", *names)
@@ -149,10 +148,10 @@ def ours(folder, requirements, program, source, options=()):
     return {name: text for name, text in named.items() if "[" not in name}
 
 
-def root_name(root):
-    """The closure's root for a requirement: with its extra, if it has one."""
-    name = root.split("[")[0]
-    return next((name[:at] for at, c in enumerate(name) if c in "<>=!~"), name)
+def root_names(requirement):
+    """The closure's roots for a requirement: its name, or one for each extra."""
+    found = requirement_texts.Requirement(requirement)
+    return [f"{found.name}[{extra}]" for extra in found.extras] or [found.name]
 
 
 def pinned_yanked(entries, requirements):

@@ -4,7 +4,7 @@ from __future__ import annotations
 import argparse
 from typing import Callable
 
-from tools import pypi
+from tools import cargo, pypi
 from tools.files import progress
 from tools.index import Index, index_catalogue, index_request
 
@@ -56,6 +56,31 @@ def add_pypi(commands: argparse._SubParsersAction) -> None:
         each.add_argument("--pre", nargs="*", metavar="NAME", help="pre-releases may be taken, of these or of all")
 
 
+def cargo_catalogue(args: argparse.Namespace) -> bytes:
+    """`cargo catalogue`."""
+    with progress("cargo catalogue"):
+        index = cargo.CargoIndex(args.index, args.manifest)
+        roots = [index.root] if index.root else []
+        return index_catalogue(index, roots + (args.closure or []) or None, args.source)
+
+
+def cargo_request(args: argparse.Namespace) -> bytes:
+    """`cargo request`."""
+    index = cargo.CargoIndex(args.index, args.manifest)
+    return index_request(index, cargo.request_rules(index, args.requirements))
+
+
+def add_cargo(commands: argparse._SubParsersAction) -> None:
+    """The commands of Cargo."""
+    about = "crates of a registry's index (docs/MAPPING.md)"
+    catalogue, request = add_actions(commands, "cargo", about, "NAME@REQ[/FEATURE,..]")
+    catalogue.set_defaults(handle=cargo_catalogue)
+    request.set_defaults(handle=cargo_request)
+    for each in (catalogue, request):
+        each.add_argument("--manifest", metavar="FILE", help="a Cargo.toml, whose crate and closure are added")
+
+
 def add_imports(commands: argparse._SubParsersAction) -> None:
     """The commands of all importers."""
     add_pypi(commands)
+    add_cargo(commands)

@@ -1,0 +1,197 @@
+#!/usr/bin/env python3
+"""Checks `resolve-tools cargo` against cargo, over generated local registries. No network.
+
+Usage: checks/cargo.py [COUNT] [SEED] [PATH OF THE PROGRAM]      defaults: 300, 1, crates/resolve/out/resolve
+Each registry has crates of several lines with pre-releases, features of all forms, optional and renamed dependencies, `links`,
+yanked versions. The verdict is that of `cargo generate-lockfile --offline`; where we install, cargo locks our set, given as `=` pins.
+Also each of some thousand pairs of a requirement and a version is matched by cargo itself (with the word `match` for COUNT).
+"""
+import json
+import os
+import random
+import subprocess
+import sys
+import tempfile
+import tomllib
+from collections import Counter
+
+HERE = os.path.dirname(os.path.abspath(__file__))
+sys.path[:0] = [os.path.join(HERE, "..")]
+
+from tools import texts
+from tools.cargo import index_place
+from tools.semver import read_req, read_semver
+from tools.tests.base import run
+
+CRATES = ["aa", "b-b", "ccc", "d_dd", "eeeee", "ffffff"]
+POOL = ["0.0.3", "0.1.0", "0.1.4", "0.2.0", "1.0.0-a.1", "1.0.0", "1.0.5", "1.2.0", "1.10.0", "2.0.0-rc.1", "2.0.0", "2.1.0"]
+REQS = ["*", "*", "1", "1", "1", "^1.2", "~1.0", "0.1", "0.1", "0.2", "2", "2", ">=0.1, <2", ">=0.2", ">=1, <=2.0", "<1", "=1.0.5", "1.*", "1.0.0-a", ">=2.0.0-rc", ">1"]
+FEATURES = ["default", "x", "y"]
+
+
+def fail(what, *details):
+    sys.exit("\n".join([what, *map(str, details)]))
+
+
+def some_dependency(rng, at):
+    """A dependency on one of the crates behind, which leaves no cycle."""
+    package = rng.choice(CRATES[at + 1:])
+    name = rng.choice([package, package, f"re_{package}"])
+    kind = rng.choice(["normal", "normal", "build", "dev"])
+    return {
+        "name": name, "req": rng.choice(REQS), "features": rng.sample(["x", "y"], rng.choice([0, 0, 0, 1, 2])),
+        "optional": kind != "dev" and rng.random() < 0.3, "default_features": rng.random() < 0.8, "target": rng.choice([None, None, "cfg(windows)"]),
+        "kind": kind, **({} if name == package else {"package": package}),
+    }
+
+
+def some_features(rng, deps):
+    """A table of features over these dependencies."""
+    normal = [each for each in deps if each["kind"] != "dev"]
+    optional = [each["name"] for each in normal if each["optional"]]
+    features = {}
+    for feature in rng.sample(FEATURES, rng.choice([1, 2, 3])):
+        values = [other for other in features if rng.random() < 0.3]
+        for each in normal:
+            name = each["name"]
+            forms = [f"{name}/x", f"{name}/y"] + ([f"dep:{name}", name, f"{name}?/x", f"{name}?/x"] if name in optional else [])
+            values += [rng.choice(forms)] if rng.random() < 0.4 else []
+        features[feature] = values
+    named = {value[4:] for values in features.values() for value in values if value.startswith("dep:")}
+    return {f: [v for v in values if v not in named] for f, values in features.items()}
+
+
+def some_entry(rng, at, version):
+    """A line of the index."""
+    deps = {each["name"]: each for each in (some_dependency(rng, at) for _ in range(rng.choice([0, 1, 1, 2])))} if at + 1 < len(CRATES) else {}
+    deps = list(deps.values())
+    entry = {"name": CRATES[at], "vers": version, "deps": deps, "cksum": "0" * 64, "features": {}, "yanked": rng.random() < 0.1}
+    links = f"l-{CRATES[at]}" if at % 3 == 2 and rng.random() < 0.4 else None
+    return entry | {"links": links, "v": 2, "features2": some_features(rng, deps)}
+
+
+def some_registry(rng):
+    """The entries of all crates."""
+    return {name: [some_entry(rng, at, version) for version in rng.sample(POOL, rng.randint(3, 9))] for at, name in enumerate(CRATES)}
+
+
+def some_manifest(rng):
+    """The dependencies of a manifest, as lines of TOML."""
+    lines = []
+    for name in rng.sample(CRATES[:4], rng.choice([1, 1, 2, 3])):
+        features = json.dumps(rng.sample(["x", "y"], rng.choice([0, 0, 1, 1, 2])))
+        default = "" if rng.random() < 0.7 else ", default-features = false"
+        renamed = f'package = "{name}", ' if rng.random() < 0.2 else ""
+        lines.append(f'{"other_" if renamed else ""}{name} = {{ {renamed}version = "{rng.choice(REQS)}", features = {features}{default} }}')
+    return lines
+
+
+class Trial:
+    """One registry in a folder."""
+
+    def __init__(self, folder, registry, program):
+        self.folder, self.program, self.index = folder, program, os.path.join(folder, "registry", "index")
+        for name, entries in registry.items():
+            self.write(os.path.join("registry", "index", index_place(name)), "".join(json.dumps(entry) + "\n" for entry in entries))
+        self.write("home/config.toml", f'[source.crates-io]\nreplace-with = "local"\n[source.local]\nlocal-registry = "{folder}/registry"\n')
+        self.write("app/src/lib.rs", "")
+
+    def write(self, name, text):
+        path = os.path.join(self.folder, name)
+        os.makedirs(os.path.dirname(path), exist_ok=True)
+        with open(path, "w") as out:
+            out.write(text)
+        return path
+
+    def manifest(self, lines):
+        """Writes the Cargo.toml."""
+        head = '[package]\nname = "app"\nversion = "0.1.0"\nedition = "2021"\n[dependencies]\n'
+        return self.write("app/Cargo.toml", head + "".join(line + "\n" for line in lines))
+
+    def cargo(self, lines):
+        """The set that cargo locks, None where it refuses."""
+        self.manifest(lines)
+        lock = os.path.join(self.folder, "app", "Cargo.lock")
+        if os.path.exists(lock):
+            os.unlink(lock)
+        environment = os.environ | {"CARGO_HOME": os.path.join(self.folder, "home"), "CARGO_TERM_COLOR": "never"}
+        command = ["cargo", "generate-lockfile", "--offline", "--quiet"]
+        done = subprocess.run(command, cwd=os.path.join(self.folder, "app"), env=environment, capture_output=True, text=True)
+        self.said = done.stderr
+        if done.returncode != 0:
+            if "failed to select a version" not in done.stderr and "no matching package" not in done.stderr:
+                fail("cargo failed", done.stderr)
+            return None
+        with open(lock, "rb") as file:
+            return {(each["name"], each["version"]) for each in tomllib.load(file)["package"]} - {("app", "0.1.0")}
+
+    def ours(self, lines):
+        """The set that `resolve` installs, None where it refuses."""
+        manifest, paths = self.manifest(lines), [os.path.join(self.folder, name) for name in ("catalogue", "request")]
+        for action, path in zip((["catalogue"], ["request", "app"]), paths):
+            status, out, error = run("cargo", action[0], self.index, "--manifest", manifest, "--out", path, *action[1:])
+            if (status, out) != (0, b""):
+                fail("the import failed", error)
+        done = subprocess.run([self.program, "solve", *paths], capture_output=True)
+        if done.returncode not in (0, 1):
+            fail("solve failed", done.stdout)
+        if done.returncode == 1:
+            return None
+        with open(paths[0], "rb") as file:
+            dictionary = texts.read_dictionary(texts.read_catalogue(file.read()))
+        named = [(dictionary.name(e.version.package), dictionary.version(e.version)) for e in texts.read_report(done.stdout).entries]
+        return {(name.partition(".")[0], text) for name, text in named if "/" not in name and ">" not in name} - {("app", "0.1.0")}
+
+
+def check_registry(rng, program, counts):
+    """One registry with three manifests: the verdicts agree, and cargo locks our set."""
+    registry = some_registry(rng)
+    with tempfile.TemporaryDirectory() as folder:
+        trial = Trial(folder, registry, program)
+        for _ in range(3):
+            lines = some_manifest(rng)
+            theirs, mine = trial.cargo(lines), trial.ours(lines)
+            shown = [json.dumps(registry, indent=1), *lines, f"cargo: {theirs}", f"resolve: {mine}", trial.said]
+            if (mine is None) != (theirs is None):
+                fail("the verdicts differ", *shown)
+            counts["refused" if mine is None else "locked"] += 1
+            if mine is None:
+                continue
+            pins = [f'pin{at} = {{ package = "{n}", version = "={v}", default-features = false }}' for at, (n, v) in enumerate(sorted(mine))]
+            again = trial.cargo(lines + pins)
+            if again != mine:
+                fail("cargo doesn't lock our set", *shown, f"cargo over pins: {again}", trial.said)
+            counts["the same set as cargo's"] += mine == theirs
+
+
+def check_matcher(rng, program, counts):
+    """Requirements over one crate: cargo finds a version just where ours matches."""
+    number = lambda: str(rng.choice([0, 0, 1, 1, 2, 10]))
+    pre = lambda: rng.choice(["", "", "", "-a", "-a.1", "-a.b", "-1", "-rc.10", "-rc.9"])
+    for _ in range(20):
+        version = f"{number()}.{number()}.{number()}{pre()}"
+        with tempfile.TemporaryDirectory() as folder:
+            entry = {"name": "aa", "vers": version, "deps": [], "cksum": "0" * 64, "features": {}, "yanked": False}
+            trial = Trial(folder, {"aa": [entry]}, program)
+            for _ in range(20):
+                part = lambda: rng.choice(["", "=", ">", ">=", "<", "<=", "~", "^"]) + rng.choice([
+                    number(), f"{number()}.{number()}", f"{number()}.{number()}.{number()}{pre()}", version, version.partition("-")[0], f"{number()}.*"])
+                req = ", ".join(part() for _ in range(rng.choice([1, 1, 1, 2])))
+                theirs = trial.cargo([f'aa = "{req}"']) is not None
+                if theirs != read_req(req).matches(read_semver(version)):
+                    fail("the matchers differ", req, version, f"cargo: {theirs}")
+                counts["pairs matched" if theirs else "pairs not matched"] += 1
+
+
+def main():
+    word = sys.argv[1] if len(sys.argv) > 1 else "300"
+    rng = random.Random(int(sys.argv[2]) if len(sys.argv) > 2 else 1)
+    program = sys.argv[3] if len(sys.argv) > 3 else os.path.join(HERE, "../crates/resolve/out/resolve")
+    counts = Counter()
+    for _ in range(5 if word == "match" else int(word)):
+        (check_matcher if word == "match" else check_registry)(rng, os.path.abspath(program), counts)
+    print(f"{word}: " + ", ".join(f"{n} {what}" for what, n in sorted(counts.items())))
+
+
+if __name__ == "__main__":
+    main()
