@@ -2,16 +2,12 @@
 from __future__ import annotations
 
 import argparse
-from typing import Callable
-
-from tools import cargo, pypi
+from tools import cargo, conda, pypi
 from tools.files import progress
-from tools.index import Index, index_catalogue, index_request
-
-Opener = Callable[[argparse.Namespace], Index]
+from tools.index import index_catalogue, index_request
 
 
-def add_actions(commands: argparse._SubParsersAction, name: str, about: str, asked: str) -> list:
+def add_actions(commands: argparse._SubParsersAction, name: str, about: str, asked: str) -> list[argparse.ArgumentParser]:
     """A command with its two actions."""
     parser = commands.add_parser(name, help=about, description=about)
     actions = parser.add_subparsers(dest="action", metavar="ACTION", required=True)
@@ -80,7 +76,36 @@ def add_cargo(commands: argparse._SubParsersAction) -> None:
         each.add_argument("--manifest", metavar="FILE", help="a Cargo.toml, whose crate and closure are added")
 
 
+def open_conda(args: argparse.Namespace) -> conda.CondaIndex:
+    """The records of all files."""
+    return conda.CondaIndex(args.index, args.more or (), args.virtual or ())
+
+
+def conda_catalogue(args: argparse.Namespace) -> bytes:
+    """`conda catalogue`."""
+    with progress("conda catalogue"):
+        return index_catalogue(open_conda(args), args.closure, args.source)
+
+
+def conda_request(args: argparse.Namespace) -> bytes:
+    """`conda request`."""
+    index = open_conda(args)
+    return index_request(index, conda.request_rules(index, args.requirements, args.constraint or ()))
+
+
+def add_conda(commands: argparse._SubParsersAction) -> None:
+    """The commands of conda."""
+    catalogue, request = add_actions(commands, "conda", "builds of a repodata.json (docs/MAPPING.md)", "SPEC")
+    catalogue.set_defaults(handle=conda_catalogue)
+    request.set_defaults(handle=conda_request)
+    request.add_argument("--constraint", action="append", metavar="SPEC", help="a limit on a package")
+    for each in (catalogue, request):
+        each.add_argument("--with", dest="more", action="append", metavar="FILE", help="one more repodata.json")
+        each.add_argument("--virtual", action="append", metavar="NAME=VERSION", help="what the machine has")
+
+
 def add_imports(commands: argparse._SubParsersAction) -> None:
     """The commands of all importers."""
     add_pypi(commands)
     add_cargo(commands)
+    add_conda(commands)
