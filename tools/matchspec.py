@@ -267,7 +267,7 @@ def version_and_build(text: str) -> tuple[str, str]:
     if found is None:
         raise Bad("isn't a spec")
     version, build = found[1].replace(" ", ""), found[2]
-    if version.startswith("=") and not version.startswith("==") and not set(version[1:]) & set("=,|"):
+    if version.startswith("=") and version[1:2] not in set("=<>!~") and not set(version[1:]) & set("=,|"):
         version = version[1:]
         if build is None and not version.endswith("*"):
             version += "*"
