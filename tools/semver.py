@@ -95,7 +95,7 @@ class Comparator:
             return False
         if self.patch is not None and version.patch != self.patch:
             return version.patch > self.patch
-        return self.patch is None or version.pre >= self.pre
+        return version.pre >= self.pre
 
     def is_caret(self, version: Semver) -> bool:
         """`^1.2.3`: at least that, and compatible."""
