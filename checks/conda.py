@@ -25,7 +25,7 @@ from tools.tests.base import run
 NAMES = ["aa", "b-b", "c_c", "dd", "ee.e", "ff"]
 POOL = ["0.9", "1.0", "1.0.1", "1.0a1", "1.0rc2", "1.0.post1", "1.0.dev3", "1.1", "1.1.0", "1.2", "1.10", "1.2_3", "2.0", "2.0b1", "2.1", "1!0.5"]
 BUILDS = ["0", "py27_0", "py38_0", "py38_1", "h1234_1"]
-SPECS = ["", "", "", " >={}", " >={}", " <{}", " <={}", " >{}", " !={}", " =={}", " {}", " {}.*", " {}*", " >={},<{}", " {}|{}", " *", " <{}|>{}", " >={} py38*", " * py38_0", " {} py27_0", " {}.* *_1"]
+SPECS = [*[""] * 6, *[" >={}"] * 5, " <{}", " <={}", " >{}", " !={}", " =={}", " {}", " {}.*", " {}*", " >={},<{}", " {}|{}", " *", " <{}|>{}", " >={} py38*", " * py38_0", " {} py27_0", " {}.* *_1"]
 
 
 def fail(what, *details):
@@ -72,13 +72,13 @@ def libsolv(folder, records, depends):
     with open(path, "rb") as source, open(os.path.join(folder, "repo.solv"), "wb") as out:
         subprocess.run([os.environ.get("CONDA2SOLV", "conda2solv")], stdin=source, stdout=out, check=True)
     with open(os.path.join(folder, "case.t"), "w") as out:
-        out.write("repo system 0 empty\nrepo main 0 solv repo.solv\nsystem noarch conda system\njob install name root\nresult transaction,problems <inline>\n")
+        out.write("repo system 0 empty\nrepo main 0 solv repo.solv\nsystem unset conda system\njob install name root\nresult transaction,problems <inline>\n")
     command = [os.environ.get("TESTSOLV", "testsolv"), "-r", "case.t"]
     done = subprocess.run(command, cwd=folder, capture_output=True, text=True)
     lines = done.stdout.split("\n")
     if any(line.startswith("problem ") for line in lines):
         return None
-    found = {line[8:].partition("@")[0].rpartition(".")[0] for line in lines if line.startswith("install ")}
+    found = {line[8:].partition("@")[0] for line in lines if line.startswith("install ")}
     if done.returncode != 0 or "root-1-0" not in found:
         fail("testsolv failed", done.stdout, done.stderr)
     return found - {"root-1-0"}
@@ -141,7 +141,7 @@ def main():
     rng = random.Random(int(sys.argv[2]) if len(sys.argv) > 2 else 1)
     program = sys.argv[3] if len(sys.argv) > 3 else os.path.join(HERE, "../crates/resolve/out/resolve")
     counts = Counter()
-    for _ in range(10 if word == "match" else int(word)):
+    for _ in range(4 if word == "match" else int(word)):
         (check_matcher if word == "match" else check_repodata)(rng, os.path.abspath(program), counts)
     print(f"{word}: " + ", ".join(f"{n} {what}" for what, n in sorted(counts.items())))
 

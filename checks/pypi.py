@@ -41,7 +41,7 @@ def fail(what, *details):
 
 def some_specifier(rng):
     """Specifiers of one requirement."""
-    kinds = ["", "", "", "", ">={}", ">={}", ">={}", "<{}", "<={}", ">{}", "!={}", "~={}", "=={}", "=={}.*", "!={}.*", ">={},<{}"]
+    kinds = [*[""] * 6, *[">={}"] * 6, "<{}", "<{}", "<={}", ">{}", "!={}", "~={}", "=={}", "=={}.*", "!={}.*", ">={},<{}"]
     kind = rng.choice(kinds)
     pool = [v for v in POOL if "+" not in v and (".*" not in kind or v in ("1.0", "1.1", "2.0")) and ("~" not in kind or "." in v)]
     return kind.format(rng.choice(pool), rng.choice(pool))
@@ -58,16 +58,16 @@ def some_entries(rng):
     """An index as the JSON form has it."""
     found = []
     for name in NAMES:
-        for version in rng.sample(POOL, rng.randint(1, 5)):
+        for version in rng.sample(POOL, rng.randint(2, 6)):
             provided = rng.sample(["x", "y-z", "q"], rng.randint(0, 3))
             requires = []
-            for _ in range(rng.choice([0, 0, 0, 1, 1, 2])):
+            for _ in range(rng.choice([0, 0, 0, 1, 1, 1, 2])):
                 markers = [f'extra == "{rng.choice(provided)}"'] if provided and rng.random() < 0.5 else []
                 markers += [rng.choice(MARKERS)] if rng.random() < 0.3 else []
                 requires.append(some_requirement(rng) + ("; " + " and ".join(f"({m})" for m in markers) if markers else ""))
-            python = rng.choice([None] * 6 + [">=3.8", "<3", ">=3.6,!=3.9.*"])
+            python = rng.choice([None] * 12 + [">=3.8", "<3", ">=3.6,!=3.9.*"])
             entry = {"name": name, "version": version, "requires_dist": requires, "requires_python": python, "provides_extra": provided}
-            found.append(entry | {"yanked": rng.choice([False] * 9 + [True, "broken"])})
+            found.append(entry | {"yanked": rng.choice([False] * 14 + [True, "broken"])})
     return found
 
 
