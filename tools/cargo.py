@@ -1,4 +1,4 @@
-"""Cargo: a registry's index as a catalogue; a package for each compatible line of a crate, and one for each feature of it.
+"""Cargo: a registry's index as a catalogue; a package for each compatible line of a crate, and for each feature of it.
 
     resolve-tools cargo catalogue INDEX [--manifest Cargo.toml] [--closure ROOT..]
     resolve-tools cargo request INDEX [--manifest Cargo.toml] NAME[@REQ][/FEATURE,..] ..
@@ -15,12 +15,13 @@ from dataclasses import dataclass, field as default
 from typing import Any, Iterable, Iterator, NamedTuple, Optional
 
 from tools.files import Failure
-from tools.index import Limits, Match, Needs, Release, Rule, checked_text, files_below, sum_of_files
+from tools.index import Limits, Match, Needs, Release, Rule, checked_name, checked_text, files_below, sum_of_files
 from tools.semver import Bad, Requirement, Semver, read_req, read_semver
 from tools.stream import field, json_entries, texts_field
 
 CRATE = re.compile(r"[A-Za-z0-9_-]+\Z")
 Where = tuple[str, int]
+Features = dict[str, tuple[str, ...]]
 
 
 @dataclass(frozen=True)
@@ -94,9 +95,9 @@ def requirement(text: str, where: Where) -> Requirement:
         raise Failure(*where, f"`{text}` {bad}") from None
 
 
-def read_features(entry: dict[str, Any], where: Where) -> dict[str, tuple[str, ...]]:
+def read_features(entry: dict[str, Any], where: Where) -> Features:
     """The table of features."""
-    found: dict[str, tuple[str, ...]] = {}
+    found: Features = {}
     for key in ("features", "features2"):
         table = field(entry, key, dict, {}, where)
         for name in table:
@@ -104,7 +105,7 @@ def read_features(entry: dict[str, Any], where: Where) -> dict[str, tuple[str, .
     return found
 
 
-def with_implied(features: dict[str, tuple[str, ...]], dependencies: Iterable[Dependency]) -> dict[str, tuple[str, ...]]:
+def with_implied(features: Features, dependencies: Iterable[Dependency]) -> Features:
     """The features, and one for each optional dependency that no `dep:` names."""
     named = {value[4:] for values in features.values() for value in values if value.startswith("dep:")}
     optional = [each.name for each in dependencies if each.is_optional]
@@ -125,6 +126,7 @@ def read_entry(entry: dict[str, Any], where: Where) -> tuple[str, Entry]:
     features = with_implied(read_features(entry, where), dependencies)
     names = {each.name for each in dependencies}
     for feature, values in features.items():
+        checked_name(feature, *where)
         for value in values:
             target = value.removeprefix("dep:").partition("/")[0].removesuffix("?")
             is_dep = value.startswith("dep:") or "/" in value

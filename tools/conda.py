@@ -11,7 +11,7 @@ from dataclasses import dataclass
 from typing import Any, Iterable, Iterator, Optional
 
 from tools.files import Failure
-from tools.index import Limits, Match, Needs, Release, Rule, checked_text, sum_of_files
+from tools.index import Limits, Match, Needs, Release, Rule, checked_name, checked_text, sum_of_files
 from tools.matchspec import Bad, MatchSpec, read_matchspec, read_version
 from tools.stream import JsonStream, field, texts_field
 
@@ -48,14 +48,16 @@ def read_record(file: str, value: Any, where: Where) -> Record:
         raise Failure(*where, "an object is due")
     name = field(value, "name", str, ..., where).lower()
     version, build = field(value, "version", str, ..., where), field(value, "build", str, "", where)
-    if not name or not set(name).isdisjoint(" =<>!~[]|,;:()#"):
+    if not set(name).isdisjoint(" =<>!~[]|,;:()#"):
         raise Failure(*where, f"`{name}` isn't the name of a package")
+    checked_name(name, *where)
     checked_version(version, where)
     number = field(value, "build_number", int, 0, where)
     fields = {key: field(value, key, str, "", where) for key in ("subdir", "md5", "sha256")}
     fields |= {"build_number": str(number), "fn": file}
     depends, constrains = texts_field(value, "depends", where), texts_field(value, "constrains", where)
-    found = Record(where, name, version, build, number, field(value, "timestamp", int, 0, where), depends, constrains, fields)
+    time = field(value, "timestamp", int, 0, where)
+    found = Record(where, name, version, build, number, time, depends, constrains, fields)
     checked_text(found.text, *where)
     return found
 

@@ -6,8 +6,10 @@ from tools import cargo, conda, pypi
 from tools.files import progress
 from tools.index import index_catalogue, index_request
 
+Parsers = list[argparse.ArgumentParser]
 
-def add_actions(commands: argparse._SubParsersAction, name: str, about: str, asked: str) -> list[argparse.ArgumentParser]:
+
+def add_actions(commands: argparse._SubParsersAction, name: str, about: str, asked: str) -> Parsers:
     """A command with its two actions."""
     parser = commands.add_parser(name, help=about, description=about)
     actions = parser.add_subparsers(dest="action", metavar="ACTION", required=True)

@@ -1,7 +1,8 @@
 """What importers share: a package index of an ecosystem as a catalogue, and requirements over it as a request.
 
-An importer gives the listed versions of each package in its ecosystem's order, and for each version its rules: which listed
-versions fit, as the ecosystem's own matcher says. Here these become runs of neighbouring versions, lines, a dictionary.
+An importer gives the listed versions of each package in its ecosystem's order, and for each version its rules: which
+listed versions fit, as the ecosystem's own matcher says. Here these become runs of neighbouring versions, lines, a
+dictionary.
 """
 from __future__ import annotations
 
@@ -215,6 +216,15 @@ def checked_text(text: str, path: str, line: int) -> str:
     except Bad as bad:
         raise Failure(path, line, str(bad)) from None
     return text
+
+
+def checked_name(name: str, path: str, line: int) -> str:
+    """A real name, as the dictionary takes it; raises Failure."""
+    try:
+        check_word(name, "the name", "=")
+    except Bad as bad:
+        raise Failure(path, line, str(bad)) from None
+    return name
 
 
 def files_below(folder: str) -> list[str]:

@@ -1,7 +1,6 @@
 """conda's order of versions, and its specs: which records a text like `numpy >=1.11,<2 py3*` matches."""
 from __future__ import annotations
 
-import fnmatch
 import re
 from dataclasses import dataclass
 from functools import lru_cache, total_ordering
@@ -120,11 +119,12 @@ def pattern_test(pattern: str) -> Test:
         if not (pattern.startswith("^") and pattern.endswith("$")):
             raise Bad("isn't a regular expression from ^ to $")
         try:
-            found = re.compile(pattern)
+            regular = re.compile(pattern)
         except re.error as error:
             raise Bad(f"isn't a regular expression: {error}") from None
-        return lambda text: found.match(text) is not None
-    return lambda text: fnmatch.fnmatchcase(text, pattern.replace("[", "[[]"))
+        return lambda text: regular.match(text) is not None
+    found = re.compile(".*".join(map(re.escape, pattern.split("*"))) + r"\Z")
+    return lambda text: found.match(text) is not None
 
 
 def relation_test(operator: str, text: str) -> Test:
@@ -174,6 +174,7 @@ def version_test(text: str) -> Test:
     tokens = re.findall(r"\^[^$]*\$|[(),|]|[^(),|^]+|.", text.replace(" ", ""))
 
     def either(at: int) -> tuple[Test, int]:
+        """Parts with `|` between them."""
         tests = []
         while True:
             test, at = both(at)
@@ -183,6 +184,7 @@ def version_test(text: str) -> Test:
             at += 1
 
     def both(at: int) -> tuple[Test, int]:
+        """Parts with `,` between them."""
         tests = []
         while True:
             test, at = single(at)
@@ -192,6 +194,7 @@ def version_test(text: str) -> Test:
             at += 1
 
     def single(at: int) -> tuple[Test, int]:
+        """One part, or a group."""
         if at < len(tokens) and tokens[at] == "(":
             test, at = either(at + 1)
             if at >= len(tokens) or tokens[at] != ")":

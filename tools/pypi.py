@@ -24,9 +24,8 @@ from tools.index import Limits, Match, Needs, Release, Rule, checked_text, files
 from tools.stream import JsonStream, field, json_entries, texts_field
 
 EXTRA_NAME = re.compile(r"""\bextra\s*==\s*["']([^"']*)["']|["']([^"']*)["']\s*==\s*extra\b""")
+NAME = re.compile(r"[A-Za-z0-9](?:[A-Za-z0-9._-]*[A-Za-z0-9])?\Z")
 HEADER = re.compile(r"([!-9;-~]+):[ \t]*(.*)\Z")
-# A JSON index may give a list of texts for each of these.
-LISTS = {"Requires-Dist": "requires_dist", "Provides-Extra": "provides_extra"}
 
 
 @dataclass(frozen=True)
@@ -53,6 +52,13 @@ class Project:
 
 
 # ---- reading
+
+
+def checked_name(name: str, where: tuple[str, int]) -> str:
+    """A name of a project or an extra, normalised; raises Failure."""
+    if not NAME.match(name):
+        raise Failure(*where, f"`{name}` isn't a name by PEP 508")
+    return canonical(name)
 
 
 def canonical(name: str) -> str:
@@ -128,9 +134,11 @@ def header_wheel(found: dict[str, list[tuple[str, int]]], path: str) -> Wheel:
             raise Failure(path, None, f"has no `{key}`")
     text, line = found["Version"][0]
     python, python_line = found.get("Requires-Python", [("", 1)])[0]
+    for extra, at in found.get("Provides-Extra", []):
+        checked_name(extra, (path, at))
     extras = tuple(extra for extra, _ in found.get("Provides-Extra", []))
     return Wheel(
-        (path, line), canonical(found["Name"][0][0]), read_version(text, path, line),
+        (path, line), checked_name(found["Name"][0][0], (path, found["Name"][0][1])), read_version(text, path, line),
         tuple(found.get("Requires-Dist", [])), read_specifiers(python, (path, python_line)), extras, False,
     )
 
@@ -139,11 +147,13 @@ def entry_wheel(entry: dict[str, Any], where: tuple[str, int]) -> Wheel:
     """A wheel from an entry of a JSON index."""
     requires = tuple((text, where[1]) for text in texts_field(entry, "requires_dist", where))
     extras = texts_field(entry, "provides_extra", where) if entry.get("provides_extra") is not None else None
+    for extra in extras or ():
+        checked_name(extra, where)
     yanked = entry.get("yanked") or False
     if not isinstance(yanked, (bool, str)):
         raise Failure(*where, "`yanked` isn't true, false or a text")
     return Wheel(
-        where, canonical(field(entry, "name", str, ..., where)),
+        where, checked_name(field(entry, "name", str, ..., where), where),
         read_version(field(entry, "version", str, ..., where), *where), requires,
         read_specifiers(field(entry, "requires_python", str, "", where), where), extras, bool(yanked),
     )
@@ -304,7 +314,8 @@ def wheel_extras(wheel: Wheel) -> tuple[str, ...]:
     """The extras that a wheel provides, as it spells them."""
     if wheel.extras is not None:
         return wheel.extras
-    return tuple(sorted({a or b for text, _ in wheel.requires for a, b in EXTRA_NAME.findall(text)}))
+    named = {a or b for text, _ in wheel.requires for a, b in EXTRA_NAME.findall(text)}
+    return tuple(sorted(name for name in named if NAME.match(name)))
 
 
 # ---- requests

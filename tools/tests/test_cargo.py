@@ -111,6 +111,7 @@ class Cargo(FolderCase):
             (entry("a", "1.0.0", [("b", {"req": "1.x.2"})]), "line 1: `1.x.2` isn't a requirement"),
             (entry("a", "1.0.0", features={"x": ["y"]}), "line 1: feature `x` names `y`, which isn't there"),
             (entry("a", "1.0.0", features={"x": ["dep:y"]}), "line 1: feature `x` names `dep:y`, which isn't there"),
+            (entry("a", "1.0.0", features={"x y": []}), "line 1: the name `x y` isn't one word of printable signs"),
             (entry("a", "1.0.0", yanked="yes"), "line 1: `yanked` isn't true or false"), (b'{"name": "\xff"}', "line 1: isn't UTF-8"),
             (entry("a", "1.0.0", [("b", {"req": 1})]), "line 1: `req` isn't a text"), ("[3]", "line 1: an object is due"),
         ]

@@ -84,6 +84,7 @@ class Pypi(FolderCase):
             ('{"name": "a", "version": "1"}\n{"name": "a"}', "line 2: `version` is missing"),
             ('[{"name": "a", "version": "1"},\n', "line 2: ends where a value is due"),
             ('[{"name": "a", "version": "1"}', "line 1: ends where `,` is due"),
+            ('{"name": "a b", "version": "1"}', "line 1: `a b` isn't a name by PEP 508"),
             ('[\n{"name": "a", "ver', "line 2: isn't JSON: Unterminated string starting at"),
             ('[{"name": "a",\n"version": 1}]', "line 1: `version` isn't a text"),
             ('\n[3]', "line 2: an object is due"),
