@@ -45,10 +45,11 @@ def record(name, version, build, depends=(), constrains=()):
 
 
 def some_records(rng):
-    """The records of all packages."""
+    """The records of all packages; of two equal versions a package has one, since no spec parts them."""
     found = {}
     for name in NAMES:
-        for version in rng.sample(POOL, rng.randint(2, 6)):
+        equal = rng.choice(["1.1", "1.1.0"])
+        for version in rng.sample([each for each in POOL if each != equal], rng.randint(2, 6)):
             for build in rng.sample(BUILDS, rng.choice([1, 1, 2])):
                 depends = [some_spec(rng) for _ in range(rng.choice([0, 0, 1, 1, 2]))]
                 constrains = [some_spec(rng) for _ in range(rng.choice([0, 0, 0, 1]))]
