@@ -151,7 +151,7 @@ class CondaIndex:
         self.settings = "+".join(reader.subdirs) or "-"
         order = lambda r: (read_version(r.version), r.number, r.timestamp, r.version, r.build)
         self.records = {name: sorted(found.values(), key=order) for name, found in reader.records.items()}
-        self.found: dict[MatchSpec, tuple[int, ...]] = {}
+        self.found: dict[str, Match] = {}
         self.tables: dict[str, dict[int, str]] = {}
 
     def source(self) -> str:
@@ -177,13 +177,13 @@ class CondaIndex:
 
     def match(self, text: str, where: Where) -> Match:
         """The builds that a spec matches."""
-        spec = checked_spec(text, where)
-        if spec not in self.found:
-            self.found[spec] = tuple(
+        if text not in self.found:
+            spec = checked_spec(text, where)
+            self.found[text] = Match(spec.name, tuple(
                 at for at, record in enumerate(self.records.get(spec.name, ()), 1)
                 if spec.matches(record.version, record.build, record.fields)
-            )
-        return Match(spec.name, self.found[spec])
+            ))
+        return self.found[text]
 
 
 def request_rules(index: CondaIndex, texts: Iterable[str], constraints: Iterable[str]) -> Iterator[Rule]:

@@ -129,6 +129,7 @@ class Builder:
         self.index, self.with_sources = index, with_sources
         self.releases: dict[tuple[str, int], Release] = {}
         self.lines: list[CatalogueLine] = []
+        self.made: dict[tuple, Optional[NeedsLine | LimitsLine]] = {}
         self.dictionary = Dictionary(index.ecosystem, index.settings)
 
     def reach(self, roots: Iterable[str]) -> list[str]:
@@ -164,7 +165,10 @@ class Builder:
         """The line of a rule; a limit on a package outside is left out, since nothing brings that in."""
         if isinstance(rule, Limits) and rule.match.package not in inside:
             return
-        line = rule_line(rule, self.index)
+        key = rule.choices if isinstance(rule, Needs) else rule.match
+        if key not in self.made:
+            self.made[key] = rule_line(rule, self.index)
+        line = self.made[key]
         if line is not None:
             self.lines.append(line)
             if self.with_sources:
