@@ -4,7 +4,7 @@
 Usage: checks/cargo.py [COUNT] [SEED] [PATH OF THE PROGRAM]      defaults: 300, 1, crates/resolve/out/resolve
 Each registry has crates of several lines with pre-releases, features of all forms, optional and renamed dependencies, `links`,
 yanked versions. The verdict is that of `cargo generate-lockfile --offline`; where we install, cargo locks our set, given as `=` pins.
-Also each of some thousand pairs of a requirement and a version is matched by cargo itself (with the word `match` for COUNT).
+With the word `match` for COUNT, 400 pairs of a requirement and a version are matched by cargo and by tools/semver.py.
 """
 import json
 import os
@@ -188,7 +188,7 @@ def main():
     rng = random.Random(int(sys.argv[2]) if len(sys.argv) > 2 else 1)
     program = sys.argv[3] if len(sys.argv) > 3 else os.path.join(HERE, "../crates/resolve/out/resolve")
     counts = Counter()
-    for _ in range(5 if word == "match" else int(word)):
+    for _ in range(1 if word == "match" else int(word)):
         (check_matcher if word == "match" else check_registry)(rng, os.path.abspath(program), counts)
     print(f"{word}: " + ", ".join(f"{n} {what}" for what, n in sorted(counts.items())))
 
