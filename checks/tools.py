@@ -88,6 +88,7 @@ class Locks:
         for later, name in ((catalogue, "again"), (newer(catalogue, report), "newer")):
             self.same(self.lines(later, "--frozen"), request, report, f"frozen {name}")
             self.same(self.lines(later, "--keep"), request, report, f"keep {name}")
+            self.exact(later, request, report, f"frozen with wishes {name}")
         self.wishes(catalogue, request, report)
         self.gone(catalogue, report)
 
@@ -100,6 +101,16 @@ class Locks:
         if mine != theirs:
             self.counts[f"{what}: other entries"] += 1
             must(has_alternatives(catalogue, request), f"{what}: other entries", catalogue, request, report, again)
+
+    def exact(self, catalogue, request, report, what):
+        """Over the frozen catalogue, with each locked version wished for, solving gives the same entries."""
+        frozen = self.lines(catalogue, "--frozen")
+        paths = self.path("frozen.catalogue", frozen), self.path("x.lock"), self.path("r", request)
+        status, wished, error = run("lock", "lines", "--wish", "--whole", *paths[:2], "--request", paths[2])
+        must((status, error) == (0, ""), "lock lines --wish failed", error, request)
+        again = self.solve(frozen, wished)
+        must(again is not None and entries(again) == entries(report), f"{what}: other entries", frozen, wished, report)
+        self.counts[what] += 1
 
     def wishes(self, catalogue, request, report):
         """With wishes each entry stays over the same catalogue; over another one each is an entry or left out."""

@@ -14,6 +14,8 @@ from tools.files import Failure, of_file, progress, read_bytes, run_program, wri
 from tools.imports import add_imports
 from tools.lock import Lock, check_lock, lock_of, lock_text, locked_versions, mark_lines, plan_lines, read_lock
 from tools.lock import wish_lines, with_lines, without_favours
+from tools.lrat import ABOUT as ABOUT_LRAT
+from tools.lrat import add_arguments, write_export
 
 ABOUT = """What people need around `resolve`: lock files, and reports to look at.
 
@@ -252,6 +254,16 @@ def add_debian(commands: argparse._SubParsersAction) -> None:
     commands.add_parser("apt-solver", help=about, description=about).set_defaults(handle=apt_solver)
 
 
+# ---- the export of refusals
+
+
+def add_export(commands: argparse._SubParsersAction) -> None:
+    """A refusal for the checkers of the SAT field."""
+    export = commands.add_parser("lrat", help=ABOUT_LRAT, description=ABOUT_LRAT, epilog=STATUSES)
+    export.set_defaults(handle=write_export)
+    add_arguments(export)
+
+
 # ---- the front
 
 
@@ -284,6 +296,7 @@ def make_parser() -> argparse.ArgumentParser:
     commands = parser.add_subparsers(dest="command", metavar="COMMAND", required=True)
     add_lock(commands)
     add_views(commands)
+    add_export(commands)
     add_debian(commands)
     add_imports(commands)
     return parser

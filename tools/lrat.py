@@ -87,14 +87,15 @@ def export(
     return made
 
 
-def arguments() -> argparse.Namespace:
-    """The command line."""
-    options = argparse.ArgumentParser(description="Exports a refusal as a CNF with a DRAT and an LRAT proof.")
+ABOUT = "a refusal, or a left-out wish, as a CNF with a DRAT and an LRAT proof (docs/SECOND.md)"
+
+
+def add_arguments(options: argparse.ArgumentParser) -> None:
+    """The words of the command line."""
     for name in ("catalogue", "request", "report"):
         options.add_argument(name, metavar=name.upper())
     options.add_argument("-o", dest="prefix", required=True, help="writes PREFIX.cnf, PREFIX.drat and PREFIX.lrat")
     options.add_argument("--wish", type=int, metavar="LINE", help="the line of the request with a left-out wish")
-    return options.parse_args()
 
 
 def write_export(given: argparse.Namespace) -> None:
@@ -113,7 +114,9 @@ def write_export(given: argparse.Namespace) -> None:
 
 def main() -> int:
     try:
-        write_export(arguments())
+        options = argparse.ArgumentParser(description=ABOUT)
+        add_arguments(options)
+        write_export(options.parse_args())
     except Failure as failure:
         print(f"tools: {failure}", file=sys.stderr)
         return failure.status
