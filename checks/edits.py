@@ -5,8 +5,9 @@
 
 Each edit has the form of a must-fail edit: a file, then pairs of lines `old:` and `new:`. The program makes a copy
 of the repository in a temporary folder, puts the edits of each crate there into must-fail/, beside those of the gate,
-and runs `rt must-fail CRATE` in the copy: the prover must refuse each. What earlier checks kept in crates/*/out is
-used where it is there (by hard links), so run `rt all check` first, or it proves the libraries below each crate anew.
+and runs `rt must-fail CRATE` in the copy: the prover must refuse each. The libraries that earlier
+checks built are used (by hard links to crates/*/out/rlib, which rt replaces and never writes to), so run `rt all check`
+first, or those below each crate are proved anew.
 With no name it tries every crate that has edits. With --apply it only looks whether each edit still applies, those of the
 gate too, and whether docs/EDITS.md names these and no others.
 
@@ -90,7 +91,7 @@ def is_listed() -> bool:
 
 
 def copy_to(room: pathlib.Path, crates: list[str]) -> None:
-    """A copy of the repository's files, with what checks kept in out/, and the edits in must-fail/."""
+    """A copy of the repository's files, with the libraries that checks built, and the edits in must-fail/."""
     listed = subprocess.run(
         ["git", "ls-files", "-z", "--cached", "--others", "--exclude-standard", "crates", "crates.txt", "HANDLES"],
         cwd=TOP, check=True, capture_output=True, text=True,
@@ -99,8 +100,8 @@ def copy_to(room: pathlib.Path, crates: list[str]) -> None:
         if "/must-fail/" not in name and (TOP / name).is_file():
             (room / name).parent.mkdir(parents=True, exist_ok=True)
             shutil.copy2(TOP / name, room / name)
-    for out in TOP.glob("crates/*/out"):
-        shutil.copytree(out, room / out.relative_to(TOP), copy_function=os.link)
+    for built in TOP.glob("crates/*/out/rlib"):
+        shutil.copytree(built, room / built.relative_to(TOP), copy_function=os.link)
     for crate in crates:
         there = room / "crates" / crate / "must-fail"
         there.mkdir(exist_ok=True)
