@@ -1,7 +1,7 @@
 #!/usr/bin/env python3
 """Interns 10^6 names in a `Pool` and looks each up, beside Python's `dict`, in one run: median of five.
 
-Usage: bench/interning.py   (proves and builds the program below over a copy of crates/resolvo_pool: some minutes)
+Usage: bench/interning.py   (proves and builds the program below over a copy of crates/resolvo_pool_core: some minutes)
 """
 import resource
 import statistics
@@ -12,17 +12,17 @@ import tempfile
 import program
 
 CRATES = """\
-resolvo_pool: indexmap thiserror
-interning: resolvo_pool
+resolvo_pool_core: indexmap thiserror
+interning: resolvo_pool_core
 """
 
 PROGRAM = """\
 //! Interns a million names, and looks each up.
 #![tactic(auto)]
 
-use resolvo_pool::id::{DenseIndex, NameId};
-use resolvo_pool::pool::{Pool, VersionSet};
-use resolvo_pool::want::R;
+use resolvo_pool_core::id::{DenseIndex, NameId};
+use resolvo_pool_core::pool::{Pool, VersionSet};
+use resolvo_pool_core::want::R;
 use std::alloc::Global;
 use std::process::ExitCode;
 

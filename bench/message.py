@@ -3,7 +3,7 @@
 
 Usage: bench/message.py [PATH OF THE PROGRAM] [VERSIONS]   (default: crates/resolve/out/resolve, which `rt run` leaves, and 5,000)
 Prints a table for docs/BENCHMARKS.md: processor seconds, median of five, and shares by valgrind's callgrind in a run of its own.
-The message is all that `message_of` of resolvo_reporting calls: the conflict's rules, its graph, and its lines.
+The message is all that `message_of` of resolve_answer calls: the conflict's rules, its graph, and its lines.
 """
 import os
 import re

@@ -3,18 +3,18 @@ import program
 
 CRATES = """\
 resolvo_text: thiserror
-resolvo_pool: indexmap thiserror
-resolvo_catalogue: resolvo_text
-resolvo_provider: resolvo_text resolvo_pool resolvo_catalogue indexmap
-providing: resolvo_provider resolvo_text resolvo_pool resolvo_catalogue indexmap
+resolvo_pool_core: indexmap thiserror
+resolvo_catalogue_core: resolvo_text
+resolvo_catalogue: resolvo_text resolvo_pool_core resolvo_catalogue_core indexmap
+providing: resolvo_catalogue resolvo_text resolvo_pool_core resolvo_catalogue_core indexmap
 """
 
 PROGRAM = """\
 //! Reads a catalogue, and makes its provider where a second word is given.
 #![tactic(auto)]
 
-use resolvo_catalogue::{Catalogue, Counted};
-use resolvo_provider::provider::{CatalogueProvider, Hint};
+use resolvo_catalogue_core::{Catalogue, Counted};
+use resolvo_catalogue::provider::{CatalogueProvider, Hint};
 use std::alloc::Global;
 use std::env;
 use std::fs::File;

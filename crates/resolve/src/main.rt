@@ -2,12 +2,12 @@
 //! `resolve judge CATALOGUE REQUEST REPORT`: writes whether the report holds, or where it doesn't.
 #![tactic(auto)]
 
-use resolvo_catalogue::Counted;
-use resolvo_commands::run::run;
-use resolvo_judging::check::check;
-use resolvo_judging::endings::{check_ending, run_ending};
-use resolvo_judging::input::{INPUT_LIMIT, read_input, split_input};
-use resolvo_judging::outcome::{Checked, Outcome, RunFault};
+use resolve_check::check::check;
+use resolve_check::endings::{check_ending, run_ending};
+use resolve_check::input::{INPUT_LIMIT, read_input, split_input};
+use resolve_check::outcome::{Checked, Outcome, RunFault};
+use resolve_run::run::run;
+use resolvo_catalogue_core::Counted;
 use std::fs::File;
 use std::process::ExitCode;
 use std::{env, io};

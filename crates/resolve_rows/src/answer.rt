@@ -1,9 +1,9 @@
 //! The answers of the program `resolve` to texts from devices that move so many bytes a call.
 
-use resolvo_catalogue::{MemorySink, MemorySource};
-use resolvo_commands::run::run;
-use resolvo_judging::check::check;
-use resolvo_judging::endings::{check_ending, run_ending};
+use resolve_check::check::check;
+use resolve_check::endings::{check_ending, run_ending};
+use resolve_run::run::run;
+use resolvo_catalogue_core::{MemorySink, MemorySource};
 use resolvo_report::{Report, ReportFault};
 use resolvo_text::GrowingSink;
 use std::alloc::{AllocError, Global};

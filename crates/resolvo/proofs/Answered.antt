@@ -1,15 +1,15 @@
 -- What a solver answers and leaves, by what was found or by what stopped it.
 use Rattle.std.proofs.Common.{◌≡◌, Bool, List, [], length, Option, Result, Ok, Err, Vec, Global, sym, ◌∙◌, ap, subst}
 use Rattle.std.specs.Option.{option_map}
-use Rattle.resolvo_pool.specs.declared.id.ClauseId.{ClauseId}
-use Rattle.resolvo_pool.specs.declared.requirement.Requirement.{Requirement}
-use Rattle.resolvo_cache.specs.declared.cache.CacheFault.{CacheFault}
-use Rattle.resolvo_cache.specs.declared.cache.CacheFault.TheVariants as fault
-use Rattle.resolvo_cache.specs.Cached.{IsCancelledBy}
-use Rattle.resolvo_pool.specs.RuleKeeping.{Packages, Rules}
-use Rattle.resolvo.specs.declared.search.Found.{Found}
-use Rattle.resolvo.specs.declared.search.Found.TheVariants.{Chosen, Clash}
-use Rattle.resolvo.specs.declared.proving.Solved.{Solved}
+use Rattle.resolvo_pool_core.specs.declared.id.ClauseId.{ClauseId}
+use Rattle.resolvo_pool_core.specs.declared.requirement.Requirement.{Requirement}
+use Rattle.resolvo_pool.specs.declared.cache.CacheFault.{CacheFault}
+use Rattle.resolvo_pool.specs.declared.cache.CacheFault.TheVariants as fault
+use Rattle.resolvo_pool.specs.Cached.{IsCancelledBy}
+use Rattle.resolvo_pool_core.specs.RuleKeeping.{Packages, Rules}
+use Rattle.resolvo.specs.declared.search.SearchResult.{SearchResult}
+use Rattle.resolvo.specs.declared.search.SearchResult.TheVariants.{Chosen, Clash}
+use Rattle.resolvo.specs.declared.prove.Solved.{Solved}
 use Rattle.resolvo.specs.declared.solver.UnsolvableOrCancelled.{UnsolvableOrCancelled}
 use Rattle.resolvo.specs.declared.solver.UnsolvableOrCancelled.TheVariants.{Unsolvable, Cancelled, Memory, Ids}
 use Rattle.resolvo.specs.Solving.{Holds, HaveProofs, IsPreferred, IsSolved, EndsSo, Counts}
@@ -22,13 +22,13 @@ module _ {P N S C : Type 0} (old : Kept P N S) where
   pub kept_answers : (same : S → S → Bool) (p : Packages N S) (root : Rules) (orders : Requirement → List S → Type 0) (wishes : List S) (s : Solved N S) (left : Option (KeptConflict S)) (r : Result (Vec S Global) (UnsolvableOrCancelled C)) (new : Kept P N S) → Keeps s (option_map left_of left) old r new → IsSolved same p orders root wishes s → IsLeft same p orders s.found s.proof.items left
       → IsAnswer same p root orders wishes r new
   kept_answers same p root orders wishes s left (Ok v) new (turns, found, kept) solved is =
-      let holds : Holds same p root wishes (Chosen v turns) = subst (λ (f : Found S). Holds same p root wishes f) found solved.found in
-      let preferred : IsPreferred same p orders root (Chosen v turns) = subst (λ (f : Found S). IsPreferred same p orders root f) found solved.preferred in
-      let proofs : HaveProofs s.proof.items (Chosen v turns) = subst (λ (f : Found S). HaveProofs s.proof.items f) found solved.proofs in
+      let holds : Holds same p root wishes (Chosen v turns) = subst (λ (f : SearchResult S). Holds same p root wishes f) found solved.found in
+      let preferred : IsPreferred same p orders root (Chosen v turns) = subst (λ (f : SearchResult S). IsPreferred same p orders root f) found solved.preferred in
+      let proofs : HaveProofs s.proof.items (Chosen v turns) = subst (λ (f : SearchResult S). HaveProofs s.proof.items f) found solved.proofs in
       subst (λ (k : Kept P N S). IsAnswer same p root orders wishes {C = C} (Ok v) k) (sym kept) (holds, preferred, proofs, solved.proof)
   kept_answers same p root orders wishes s left (Err (Unsolvable conflict)) new (r, found, clauses, kept) solved is =
-      let (c, there, causes, offers) = subst (λ (f : Found S). IsLeft same p orders f s.proof.items left) found is in
-      let holds : Holds same p root wishes (Clash r) = subst (λ (f : Found S). Holds same p root wishes f) found solved.found in
+      let (c, there, causes, offers) = subst (λ (f : SearchResult S). IsLeft same p orders f s.proof.items left) found is in
+      let holds : Holds same p root wishes (Clash r) = subst (λ (f : SearchResult S). Holds same p root wishes f) found solved.found in
       subst (λ (k : Kept P N S). IsAnswer same p root orders wishes {C = C} (Err (Unsolvable conflict)) k) (sym kept) (holds, solved.proof, (left_of c, ap (option_map left_of) there, offers))
   kept_answers same p root orders wishes s left (Err (Cancelled value)) new h solved is = absurd h
   kept_answers same p root orders wishes s left (Err Memory) new h solved is = absurd h
@@ -54,11 +54,11 @@ module _ {P N S C : Type 0} (old : Kept P N S) where
   pub kept_leaves : (same : S → S → Bool) (p : Packages N S) (orders : Requirement → List S → Type 0) (s : Solved N S) (left : Option (KeptConflict S)) (r : Result (Vec S Global) (UnsolvableOrCancelled C)) (new : Kept P N S) → old.turns ≡ [] → Keeps s (option_map left_of left) old r new → IsLeft same p orders s.found s.proof.items left → EndsSo s.found s.proof.items → Counts s.found s.clause_count (length s.proof.items) → Leaves r new
   kept_leaves same p orders s left (Ok v) new none (turns, found, kept) is ends counts =
       subst (λ (k : Kept P N S). Leaves {C = C} (Ok v) k) (sym kept)
-      (subst (λ (f : Found S). Counts f s.clause_count (length s.proof.items)) found counts, ap (option_map left_of) (subst (λ (f : Found S). IsLeft same p orders f s.proof.items left) found is))
+      (subst (λ (f : SearchResult S). Counts f s.clause_count (length s.proof.items)) found counts, ap (option_map left_of) (subst (λ (f : SearchResult S). IsLeft same p orders f s.proof.items left) found is))
   kept_leaves same p orders s left (Err (Unsolvable conflict)) new none (r, found, clauses, kept) is ends counts =
-      let (c, there, causes, offers) = subst (λ (f : Found S). IsLeft same p orders f s.proof.items left) found is in
+      let (c, there, causes, offers) = subst (λ (f : SearchResult S). IsLeft same p orders f s.proof.items left) found is in
       subst (λ (k : Kept P N S). Leaves {C = C} (Err (Unsolvable conflict)) k) (sym kept)
-      (subst (λ (f : Found S). Counts f s.clause_count (length s.proof.items)) found counts, subst (λ (f : Found S). EndsSo f s.proof.items) found ends, none, (left_of c, ap (option_map left_of) there, causes ∙ ap (λ (v : Vec ClauseId Global). v.items) (sym clauses)))
+      (subst (λ (f : SearchResult S). Counts f s.clause_count (length s.proof.items)) found counts, subst (λ (f : SearchResult S). EndsSo f s.proof.items) found ends, none, (left_of c, ap (option_map left_of) there, causes ∙ ap (λ (v : Vec ClauseId Global). v.items) (sym clauses)))
   kept_leaves same p orders s left (Err (Cancelled value)) new none h is ends counts = absurd h
   kept_leaves same p orders s left (Err Memory) new none h is ends counts = absurd h
   kept_leaves same p orders s left (Err Ids) new none h is ends counts = absurd h

@@ -1,7 +1,7 @@
 -- The turns of the wishes, from the first one on.
 use Rattle.std.proofs.Common.{◌≡◌, ℕ, suc, Bool, reverse, List, [], ◌∷◌, ◌++◌, length, refl, sym, ◌∙◌, ap, subst, append_assoc, arith}
 use Rattle.std.proofs.lemmas.List.{append-nil, length-reverse, reverse-append}
-use Rattle.resolvo_pool.specs.RuleKeeping.{Packages, Rules}
+use Rattle.resolvo_pool_core.specs.RuleKeeping.{Packages, Rules}
 use Rattle.resolvo.specs.declared.turns.Turn.{Turn}
 use Rattle.resolvo.specs.Turns.{AreInTurn, AreTurns, AreWished, accepted_of, end_of}
 

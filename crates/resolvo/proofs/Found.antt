@@ -3,31 +3,31 @@ use Rattle.std.proofs.Common.{◌≡◌, ℕ, suc, Bool, true, false, take, reve
 use Rattle.std.specs.Prelude.{slice_get, is_some, Contains}
 use Rattle.std.proofs.lemmas.Bool.{both_ways}
 use Rattle.std.proofs.lemmas.List.{reverse-append, take_all}
-use Rattle.resolvo_pool.specs.declared.requirement.Requirement.{Requirement}
-use Rattle.resolvo_pool.specs.declared.solver_id.SolvableIdOrRoot.{SolvableIdOrRoot}
-use Rattle.resolvo_pool.specs.declared.solver_id.SolvableIdOrRoot.TheVariants.{Root}
-use Rattle.resolvo_pool.specs.RuleKeeping.{Packages, Rules, IsLawful}
-use Rattle.resolvo_store.specs.AtMostOne.{IsFrontOf}
-use Rattle.resolvo_store.specs.Signed.{Signed, has}
-use Rattle.resolvo_search.specs.declared.analysis.Refusal.{Refusal}
-use Rattle.resolvo_search.specs.Analysis.{IsRefusal}
-use Rattle.resolvo_search.specs.Entries.{made_true}
-use Rattle.resolvo_search.specs.State.{history}
-use Rattle.resolvo_rules.specs.Encoding.{IsExact}
-use Rattle.resolvo_rules.specs.Ending.{IsAccepted}
-use Rattle.resolvo_rules.specs.First.{ArePreferred}
-use Rattle.resolvo_rules.proofs.Lists.{contains_none}
-use Rattle.resolvo_coding.specs.Chosen.{AreChosen}
-use Rattle.resolvo_coding.specs.Coding.{IsCoding}
-use Rattle.resolvo_coding.specs.Keys.{AreOnce}
-use Rattle.resolvo_coding.specs.declared.coding.Coding.{Coding}
+use Rattle.resolvo_pool_core.specs.declared.requirement.Requirement.{Requirement}
+use Rattle.resolvo_pool_core.specs.declared.solver_id.SolvableIdOrRoot.{SolvableIdOrRoot}
+use Rattle.resolvo_pool_core.specs.declared.solver_id.SolvableIdOrRoot.TheVariants.{Root}
+use Rattle.resolvo_pool_core.specs.RuleKeeping.{Packages, Rules, IsLawful}
+use Rattle.resolvo_store_core.specs.AtMostOne.{IsFrontOf}
+use Rattle.resolvo_store_core.specs.Signed.{Signed, has}
+use Rattle.resolvo_sat.specs.declared.analyze.FinalConflict.{FinalConflict}
+use Rattle.resolvo_sat.specs.Analysis.{IsRefusal}
+use Rattle.resolvo_sat.specs.Entries.{made_true}
+use Rattle.resolvo_sat.specs.State.{history}
+use Rattle.resolvo_soundness.specs.Encoding.{IsExact}
+use Rattle.resolvo_soundness.specs.Ending.{IsAccepted}
+use Rattle.resolvo_soundness.specs.First.{ArePreferred}
+use Rattle.resolvo_soundness.proofs.Lists.{contains_none}
+use Rattle.resolvo_state.specs.Chosen.{AreChosen}
+use Rattle.resolvo_state.specs.Coding.{IsCoding}
+use Rattle.resolvo_state.specs.Keys.{AreOnce}
+use Rattle.resolvo_state.specs.declared.solver_state.SolverState.{SolverState}
 use Rattle.resolvo_proof.specs.Proof.{DenyRoot}
-use Rattle.resolvo_encoding.specs.declared.encoding.Encoding.{Encoding}
-use Rattle.resolvo_encoding.specs.Encoded.{IsEncoding}
-use Rattle.resolvo_encoding.specs.Steps.{IsBegunEncoding}
-use Rattle.resolvo_encoding.proofs.Turning.{turn_keeps, turn_preferred, refused, root_denied}
-use Rattle.resolvo.specs.declared.search.Found.{Found}
-use Rattle.resolvo.specs.declared.search.Found.TheVariants.{Chosen, Clash}
+use Rattle.resolvo_encoder.specs.declared.encoder.Encoder.{Encoder}
+use Rattle.resolvo_encoder.specs.Encoded.{IsEncoding}
+use Rattle.resolvo_encoder.specs.Steps.{IsBegunEncoding}
+use Rattle.resolvo_encoder.proofs.Turning.{turn_keeps, turn_preferred, refused, root_denied}
+use Rattle.resolvo.specs.declared.search.SearchResult.{SearchResult}
+use Rattle.resolvo.specs.declared.search.SearchResult.TheVariants.{Chosen, Clash}
 use Rattle.resolvo.specs.declared.turns.Turn.{Turn}
 use Rattle.resolvo.specs.declared.turns.Turns.{Turns}
 use Rattle.resolvo_turn.specs.Turn.{IsRooted, IsTurn}
@@ -39,11 +39,11 @@ use Rattle.resolvo.proofs.Next.{chosen_accepted}
 use Rattle.resolvo.proofs.Trailing.{trail_once}
 
 -- the root is the first parent
-pub begun_rooted : {N S : Type 0} (e : Encoding N S) → IsBegunEncoding e → IsRooted e
+pub begun_rooted : {N S : Type 0} (e : Encoder N S) → IsBegunEncoding e → IsRooted e
 begun_rooted {N} {S} e begun = subst (λ (ks : List (SolvableIdOrRoot S)). slice_get ks 0 ≡ Some Root) (sym begun.parents) refl
 
 -- nothing is kept yet that could be out of order
-pub begun_in_order : {N S : Type 0} (same : S → S → Bool) (p : Packages N S) (orders : Requirement → List S → Type 0) (root : Rules) (e : Encoding N S) → IsBegunEncoding e → IsEncoding same p root e → IsInOrder same p orders root e
+pub begun_in_order : {N S : Type 0} (same : S → S → Bool) (p : Packages N S) (orders : Requirement → List S → Type 0) (root : Rules) (e : Encoder N S) → IsBegunEncoding e → IsEncoding same p root e → IsInOrder same p orders root e
 begun_in_order same p orders root e begun holds = record { encoding = holds; ordered = λ r has. absurd (both_ways _ (ap is_some (begun.lists.candidates r)) has) }
 
 -- a turn before which others stand is the first one's
@@ -64,10 +64,10 @@ first_front [] ys h = refl
 first_front (x ∷ xs) ys (more, is) = ap (take (suc (length xs))) is ∙ ap (λ zs. x ∷ zs) (first_front xs (xs ++ more) (more, refl))
 
 -- no turn, no reason
-pub no_reasons : {N S : Type 0} (c : Coding N S) (t : Turns S) → t.turns.items ≡ [] → HaveReasons c t
+pub no_reasons : {N S : Type 0} (c : SolverState N S) (t : Turns S) → t.turns.items ≡ [] → HaveReasons c t
 no_reasons {N} {S} c t none turn h = absurd (contains_none turn (subst (λ (ts : List (Turn S)). Contains ts turn) none h))
 
-module _ {N S : Type 0} (same_name : N → N → Bool) (names : IsExact same_name) (same : S → S → Bool) (exact : IsExact same) (p : Packages N S) (orders : Requirement → List S → Type 0) (root : Rules) (lawful : IsLawful p) (e : Encoding N S) where
+module _ {N S : Type 0} (same_name : N → N → Bool) (names : IsExact same_name) (same : S → S → Bool) (exact : IsExact same) (p : Packages N S) (orders : Requirement → List S → Type 0) (root : Rules) (lawful : IsLawful p) (e : Encoder N S) where
   -- the end of the root's turn: what is chosen is right, and was preferred
   pub root_right : IsInOrder same p orders root e → e.noted.wishes.items ≡ [] → IsTurn same None e None → (t : Turns S) → t.turns.items ≡ [] → AreChosen e.coding.atoms.keys (made_true (history e.coding.search)) t.chosen.keys
       → AreRight same p root (length t.chosen.keys) [] t × ArePreferred same p orders root t.chosen.keys
@@ -88,12 +88,12 @@ module _ {N S : Type 0} (same_name : N → N → Bool) (names : IsExact same_nam
       )
 
   -- a refusal of the root's turn leaves no rule-keeping set
-  pub root_refused : IsInOrder same p orders root e → e.coding.search.floor ≡ 1 → (r : Refusal) → IsRefusal e.coding.search r.literals.items r.causes.items → IsUnsolvable same p root
+  pub root_refused : IsInOrder same p orders root e → e.coding.search.base_level ≡ 1 → (r : FinalConflict) → IsRefusal e.coding.search r.literals.items r.causes.items → IsUnsolvable same p root
   root_refused holds first r refusal = λ chosen keeping. refused same exact p root lawful e same_name names holds.encoding first r.literals.items r.causes.items refusal chosen keeping
 
-module _ {N S : Type 0} (same : S → S → Bool) (p : Packages N S) (orders : Requirement → List S → Type 0) (root : Rules) (wishes : List S) (e : Encoding N S) (old t : Turns S) (front : IsFrontOf old.chosen.keys t.chosen.keys) where
+module _ {N S : Type 0} (same : S → S → Bool) (p : Packages N S) (orders : Requirement → List S → Type 0) (root : Rules) (wishes : List S) (e : Encoder N S) (old t : Turns S) (front : IsFrontOf old.chosen.keys t.chosen.keys) where
   -- what all turns found
-  pub turns_found : ArePreferred same p orders root old.chosen.keys → (o : Option Refusal) → IsNextRight same p root (length old.chosen.keys) wishes e t o → StandSo e t o → (f : Found S) → IsFoundIn t o f → IsFound same p root wishes e f × IsPreferred same p orders root f
+  pub turns_found : ArePreferred same p orders root old.chosen.keys → (o : Option FinalConflict) → IsNextRight same p root (length old.chosen.keys) wishes e t o → StandSo e t o → (f : SearchResult S) → IsFoundIn t o f → IsFound same p root wishes e f × IsPreferred same p orders root f
   turns_found preferred None (right, reasons) at (Chosen v turns) (solvables, told) =
       let first : length old.chosen.keys ≡ first_of v.items turns.items = first_is same p root t.chosen.keys (length old.chosen.keys) wishes t.turns.items right.wished ∙ ap (λ (xs : List S). first_of xs t.turns.items) (sym solvables) ∙ ap (λ (ts : Vec (Turn S) Global). first_of v.items ts.items) (sym told) in
       let whole : take (first_of v.items turns.items) v.items ≡ old.chosen.keys = ap (λ (n : ℕ). take n v.items) (sym first) ∙ ap (take (length old.chosen.keys)) solvables ∙ first_front old.chosen.keys t.chosen.keys front in (
@@ -107,26 +107,26 @@ module _ {N S : Type 0} (same : S → S → Bool) (p : Packages N S) (orders : R
   turns_found preferred None right at (Clash q) h = absurd h
   turns_found preferred (Some r) right stands (Chosen v turns) h = absurd h
   turns_found preferred (Some r) right (refusal, none) (Clash q) is = (
-    (right, subst (λ (x : Refusal). IsRefusal e.coding.search x.literals.items x.causes.items) (sym is) refusal),
+    (right, subst (λ (x : FinalConflict). IsRefusal e.coding.search x.literals.items x.causes.items) (sym is) refusal),
     tt,
   )
 
 -- what all turns list is what the trail chooses
-pub later_listed : {N S : Type 0} (e : Encoding N S) (t : Turns S) (o : Option Refusal) → IsCoding e.coding → StandSo e t o → (f : Found S) → IsFoundIn t o f → IsListedIn e f
+pub later_listed : {N S : Type 0} (e : Encoder N S) (t : Turns S) (o : Option FinalConflict) → IsCoding e.coding → StandSo e t o → (f : SearchResult S) → IsFoundIn t o f → IsListedIn e f
 later_listed e t None coding at (Chosen v turns) (solvables, told) = let is = solvables ∙ at.chosen in record { in_order = is; once = subst AreOnce (sym is) (trail_once e coding) }
 later_listed e t None coding at (Clash q) h = absurd h
 later_listed e t (Some r) coding stands (Chosen v turns) h = absurd h
 later_listed e t (Some r) coding stands (Clash q) h = tt
 
 -- a clash in a wish's turn denies nothing but the root
-pub later_denial : {N S : Type 0} (e : Encoding N S) (t : Turns S) (o : Option Refusal) → StandSo e t o → (f : Found S) → IsFoundIn t o f → IsDenial e.coding f
+pub later_denial : {N S : Type 0} (e : Encoder N S) (t : Turns S) (o : Option FinalConflict) → StandSo e t o → (f : SearchResult S) → IsFoundIn t o f → IsDenial e.coding f
 later_denial e t None at (Chosen v turns) h = tt
 later_denial e t None at (Clash q) h = absurd h
 later_denial e t (Some r) stands (Chosen v turns) h = absurd h
 later_denial e t (Some r) (refusal, none) (Clash q) is =
-    subst (λ (x : Refusal). IsRefusal e.coding.search x.literals.items x.causes.items × DenyRoot x.literals.items) (sym is)
+    subst (λ (x : FinalConflict). IsRefusal e.coding.search x.literals.items x.causes.items × DenyRoot x.literals.items) (sym is)
     (refusal, λ l h. absurd (both_ways false refl (subst (λ (ls : List Signed). has ls l ≡ true) none h)))
 
 -- so does one of the root's turn
-pub root_denial : {N S : Type 0} (e : Encoding N S) → IsCoding e.coding → e.coding.search.floor ≡ 1 → (r : Refusal) → IsRefusal e.coding.search r.literals.items r.causes.items → IsDenial e.coding (Clash r)
+pub root_denial : {N S : Type 0} (e : Encoder N S) → IsCoding e.coding → e.coding.search.base_level ≡ 1 → (r : FinalConflict) → IsRefusal e.coding.search r.literals.items r.causes.items → IsDenial e.coding (Clash r)
 root_denial e coding first r refusal = (refusal, root_denied e coding first r.literals.items r.causes.items refusal)

@@ -2,14 +2,14 @@
 use Rattle.std.proofs.Common.{◌≡◌, ℕ, zero, suc, cond, get_or, ◌<◌, ◌≤◌, Bool, true, false, take, reverse, List, [], ◌∷◌, ◌++◌, length, refl, sym, ◌∙◌, ap, subst, arith}
 use Rattle.std.specs.Prelude.{Contains}
 use Rattle.std.proofs.lemmas.List.{take_all}
-use Rattle.resolvo_pool.specs.RuleKeeping.{Packages, Rules, is_in, IsReached, IsExemptKeeping, IsRuleKeeping}
-use Rattle.resolvo_store.specs.AtMostOne.{IsFrontOf}
-use Rattle.resolvo_search.proofs.StepLemmas.{reverse_push}
-use Rattle.resolvo_rules.specs.Encoding.{IsExact}
-use Rattle.resolvo_rules.specs.Ending.{IsAccepted}
-use Rattle.resolvo_rules.proofs.Lists.{contains_left}
-use Rattle.resolvo_rules.proofs.Members.{in_contained, contained_in}
-use Rattle.resolvo_coding.proofs.Positions.{front_long}
+use Rattle.resolvo_pool_core.specs.RuleKeeping.{Packages, Rules, is_in, IsReached, IsExemptKeeping, IsRuleKeeping}
+use Rattle.resolvo_store_core.specs.AtMostOne.{IsFrontOf}
+use Rattle.resolvo_sat.proofs.StepLemmas.{reverse_push}
+use Rattle.resolvo_soundness.specs.Encoding.{IsExact}
+use Rattle.resolvo_soundness.specs.Ending.{IsAccepted}
+use Rattle.resolvo_soundness.proofs.Lists.{contains_left}
+use Rattle.resolvo_soundness.proofs.Members.{in_contained, contained_in}
+use Rattle.resolvo_state.proofs.Positions.{front_long}
 use Rattle.resolvo.specs.Solution.{IsSolution}
 use Rattle.resolvo.specs.Turns.{AreRight, AreTurns, IsTurnOf, accepted_by, accepted_of, end_of}
 use Rattle.resolvo.specs.declared.turns.Turn.{Turn}

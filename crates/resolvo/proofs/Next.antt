@@ -4,37 +4,37 @@ use Rattle.std.specs.Prelude.{Contains}
 use Rattle.std.proofs.lemmas.Bool.{both_ways, cases_Bool}
 use Rattle.std.proofs.lemmas.List.{take_all}
 use Rattle.indexmap.specs.IndexSet.{insert_all}
-use Rattle.resolvo_pool.specs.declared.id.ClauseId.{ClauseId}
-use Rattle.resolvo_pool.specs.declared.id.VariableId.{VariableId}
-use Rattle.resolvo_pool.specs.declared.requirement.Requirement.{Requirement}
-use Rattle.resolvo_pool.specs.RuleKeeping.{Packages, Rules, IsLawful, is_in}
-use Rattle.resolvo_store.specs.AtMostOne.{IsFrontOf}
-use Rattle.resolvo_store.specs.Clauses.{yes}
-use Rattle.resolvo_store.specs.Signed.{Signed, has}
-use Rattle.resolvo_search.specs.Entries.{made_true}
-use Rattle.resolvo_search.specs.State.{history}
-use Rattle.resolvo_search.proofs.StepLemmas.{reverse_push}
-use Rattle.resolvo_rules.specs.Encoding.{IsExact}
-use Rattle.resolvo_rules.specs.Ending.{IsAccepted}
-use Rattle.resolvo_rules.proofs.Lists.{contains_one, contains_parts}
-use Rattle.resolvo_rules.proofs.Members.{in_contained, contained_in}
-use Rattle.resolvo_coding.specs.declared.atom.ProofAtom.TheVariants.{Solvable}
-use Rattle.resolvo_coding.specs.Chosen.{AreChosen}
-use Rattle.resolvo_coding.specs.Coding.{IsCoding}
-use Rattle.resolvo_coding.specs.declared.coding.Coding.{Coding}
-use Rattle.resolvo_coding.specs.declared.stated.Stated.TheVariants.{Learnt}
-use Rattle.resolvo_coding.proofs.Origins.{means_solvable, solvable_means, stands_front}
-use Rattle.resolvo_encoding.specs.declared.encoding.Encoding.{Encoding}
-use Rattle.resolvo_encoding.proofs.Turning.{turn_accepts}
+use Rattle.resolvo_pool_core.specs.declared.id.ClauseId.{ClauseId}
+use Rattle.resolvo_pool_core.specs.declared.id.VariableId.{VariableId}
+use Rattle.resolvo_pool_core.specs.declared.requirement.Requirement.{Requirement}
+use Rattle.resolvo_pool_core.specs.RuleKeeping.{Packages, Rules, IsLawful, is_in}
+use Rattle.resolvo_store_core.specs.AtMostOne.{IsFrontOf}
+use Rattle.resolvo_store_core.specs.Clauses.{yes}
+use Rattle.resolvo_store_core.specs.Signed.{Signed, has}
+use Rattle.resolvo_sat.specs.Entries.{made_true}
+use Rattle.resolvo_sat.specs.State.{history}
+use Rattle.resolvo_sat.proofs.StepLemmas.{reverse_push}
+use Rattle.resolvo_soundness.specs.Encoding.{IsExact}
+use Rattle.resolvo_soundness.specs.Ending.{IsAccepted}
+use Rattle.resolvo_soundness.proofs.Lists.{contains_one, contains_parts}
+use Rattle.resolvo_soundness.proofs.Members.{in_contained, contained_in}
+use Rattle.resolvo_state.specs.declared.atom.ProofAtom.TheVariants.{Solvable}
+use Rattle.resolvo_state.specs.Chosen.{AreChosen}
+use Rattle.resolvo_state.specs.Coding.{IsCoding}
+use Rattle.resolvo_state.specs.declared.solver_state.SolverState.{SolverState}
+use Rattle.resolvo_state.specs.declared.clause_kind.Stated.TheVariants.{Learnt}
+use Rattle.resolvo_state.proofs.Origins.{means_solvable, solvable_means, stands_front}
+use Rattle.resolvo_encoder.specs.declared.encoder.Encoder.{Encoder}
+use Rattle.resolvo_encoder.proofs.Turning.{turn_accepts}
 use Rattle.resolvo_turn.specs.Encoder.{IsInOrder}
 use Rattle.resolvo_turn.specs.Turn.{IsTurn}
 use Rattle.resolvo.specs.Turns.{AreAt, AreRight, HasReason, HaveReasons, IsDeniable, Records, accepted_of, on_trail, step_of, was_accepted}
-use Rattle.resolvo.specs.declared.wishing.Wished.{Wished}
+use Rattle.resolvo.specs.declared.soft_requirements.SoftOutcome.{SoftOutcome}
 use Rattle.resolvo.specs.Wished.{IsDenied, IsOutcome, IsReasonOf, IsTrue, KeepsTrail}
-use Rattle.resolvo.specs.declared.wishing.Wished.TheVariants as Wishes
+use Rattle.resolvo.specs.declared.soft_requirements.SoftOutcome.TheVariants as Wishes
 use Rattle.resolvo.specs.declared.turns.Turn.{Turn}
 use Rattle.resolvo.specs.declared.turns.Turns.{Turns}
-use Rattle.resolvo_coding.proofs.Positions.{front_get, front_same}
+use Rattle.resolvo_state.proofs.Positions.{front_get, front_same}
 use Rattle.resolvo.proofs.Listing.{accepted_more, accepted_next, next_right, refused_next}
 use Rattle.resolvo_turn.proofs.Ending.{contains_longer}
 use Rattle.resolvo.proofs.Trailing.{listed_are_chosen, listed_on_trail, trail_stays}
@@ -56,7 +56,7 @@ taken_longer : {X : Type 0} (n : ℕ) (xs ys : List X) (x : X) → IsFrontOf xs 
 taken_longer n xs ys x (more, is) h = subst (λ (zs : List _). Contains (take n zs) x) (sym is) (contains_longer (take n xs) (take n (xs ++ more)) x (front_taken n xs more) h)
 
 -- a reason is one for more solvables
-reason_widens : {N S : Type 0} (c : Coding N S) (some more : S → Type 0) (number : ℕ) → ((s : S) → some s → more s) → IsReasonOf c some number → IsReasonOf c more number
+reason_widens : {N S : Type 0} (c : SolverState N S) (some more : S → Type 0) (number : ℕ) → ((s : S) → some s → more s) → IsReasonOf c some number → IsReasonOf c more number
 reason_widens c some more number wider r = record {
   later = r.later;
   held = r.held;
@@ -66,7 +66,7 @@ reason_widens c some more number wider r = record {
 }
 
 -- and stays one
-reason_stays : {N S : Type 0} (c d : Coding N S) (chosen longer : List S) → IsFrontOf c.atoms.keys d.atoms.keys → IsFrontOf c.search.clauses d.search.clauses → IsFrontOf c.stated.items d.stated.items → IsFrontOf chosen longer → (t : Turn S) → HasReason c chosen t → HasReason d longer t
+reason_stays : {N S : Type 0} (c d : SolverState N S) (chosen longer : List S) → IsFrontOf c.atoms.keys d.atoms.keys → IsFrontOf c.search.clauses d.search.clauses → IsFrontOf c.stated.items d.stated.items → IsFrontOf chosen longer → (t : Turn S) → HasReason c chosen t → HasReason d longer t
 reason_stays c d chosen longer atoms clauses stated front t r = record {
   accepted = r.accepted;
   refused = λ so. (let (k, step, reason) = r.refused so in (
@@ -87,18 +87,18 @@ reason_stays c d chosen longer atoms clauses stated front t r = record {
 
 module _ {N S : Type 0} where
   -- what is chosen is true, and what is true is chosen
-  pub chosen_true : (e : Encoding N S) (members : List S) → AreChosen e.coding.atoms.keys (made_true (history e.coding.search)) members → (s : S) → Contains members s → IsTrue e s
+  pub chosen_true : (e : Encoder N S) (members : List S) → AreChosen e.coding.atoms.keys (made_true (history e.coding.search)) members → (s : S) → Contains members s → IsTrue e s
   chosen_true e members are s h =
       let (l, known, means) = are.each s h in
       let (positive, stands) = means_solvable e.coding.atoms.keys l s means in
       (l.variable, stands, subst (λ (x : Signed). has (made_true (history e.coding.search)) x ≡ true) (λ i. record { variable = l.variable; positive = positive i }) known)
 
-  pub true_chosen : (e : Encoding N S) (members : List S) → AreChosen e.coding.atoms.keys (made_true (history e.coding.search)) members → (s : S) → IsTrue e s → Contains members s
+  pub true_chosen : (e : Encoder N S) (members : List S) → AreChosen e.coding.atoms.keys (made_true (history e.coding.search)) members → (s : S) → IsTrue e s → Contains members s
   true_chosen e members are s (u, stands, known) = are.all (yes u) s known (solvable_means e.coding.atoms.keys (yes u) s refl stands)
 
   -- ---- the turn is told
 
-  pub next_at : (a b : Encoding N S) (t m u : Turns S) (s : S) (begin : ℕ) (w : Wished) → AreAt a t → m.chosen.keys ≡ on_trail b → m.turns ≡ t.turns → Records s begin w m u
+  pub next_at : (a b : Encoder N S) (t m u : Turns S) (s : S) (begin : ℕ) (w : SoftOutcome) → AreAt a t → m.chosen.keys ≡ on_trail b → m.turns ≡ t.turns → Records s begin w m u
       → b.noted.wishes.items ≡ cond (was_accepted w) (a.noted.wishes.items ++ s ∷ []) a.noted.wishes.items → AreAt b u
   next_at a b t m u s begin w at are turns told wishes =
       let all : reverse u.turns.items ≡ told.turn ∷ reverse t.turns.items = ap reverse (told.turns ∙ ap (λ (ts : Vec (Turn S) Global). ts.items ++ told.turn ∷ []) turns) ∙ reverse_push t.turns.items told.turn in
@@ -109,7 +109,7 @@ module _ {N S : Type 0} where
 
   module _ (same : S → S → Bool) (exact : IsExact same) (p : Packages N S) (root : Rules) where
     -- what was told of it is right
-    pub next_told : (a b : Encoding N S) (t m u : Turns S) (first : ℕ) (done : List S) (s : S) (w : Wished) → AreAt a t → AreRight same p root first done t → IsFrontOf t.chosen.keys m.chosen.keys → m.turns ≡ t.turns → Records s (length t.chosen.keys) w m u
+    pub next_told : (a b : Encoder N S) (t m u : Turns S) (first : ℕ) (done : List S) (s : S) (w : SoftOutcome) → AreAt a t → AreRight same p root first done t → IsFrontOf t.chosen.keys m.chosen.keys → m.turns ≡ t.turns → Records s (length t.chosen.keys) w m u
         → b.noted.wishes.items ≡ cond (was_accepted w) (a.noted.wishes.items ++ s ∷ []) a.noted.wishes.items → IsAccepted same p root b.noted.wishes.items m.chosen.keys → was_accepted w ≡ is_in same p m.chosen.keys s → (was_accepted w ≡ false → m.chosen.keys ≡ t.chosen.keys)
         → (was_accepted w ≡ false → IsDenied same p root a s) → AreRight same p root first (done ++ s ∷ []) u
     next_told a b t m u first done s w at right front turns told wishes accepted is same_keys denied =
@@ -123,24 +123,24 @@ module _ {N S : Type 0} where
         (λ so set keeping all held. denied (sym told.tells.accepted ∙ so) set keeping (λ r truth. all r (contained_in same exact p t.chosen.keys r (true_chosen a t.chosen.keys (listed_are_chosen a t.chosen.keys at.chosen) r truth))) held)
 
     -- a wish is among the listed ones exactly if the trail chooses it
-    pub told_true : (b : Encoding N S) (members : List S) (s : S) → AreChosen b.coding.atoms.keys (made_true (history b.coding.search)) members → IsTrue b s → true ≡ is_in same p members s
+    pub told_true : (b : Encoder N S) (members : List S) (s : S) → AreChosen b.coding.atoms.keys (made_true (history b.coding.search)) members → IsTrue b s → true ≡ is_in same p members s
     told_true b members s are truth = sym (contained_in same exact p members s (true_chosen b members are s truth))
 
-    pub told_false : (b : Encoding N S) (members : List S) (s : S) → AreChosen b.coding.atoms.keys (made_true (history b.coding.search)) members → (IsTrue b s → ⊥) → false ≡ is_in same p members s
+    pub told_false : (b : Encoder N S) (members : List S) (s : S) → AreChosen b.coding.atoms.keys (made_true (history b.coding.search)) members → (IsTrue b s → ⊥) → false ≡ is_in same p members s
     told_false b members s are untrue = elim (cases_Bool (is_in same p members s)) [
       | inl there ↦ absurd (untrue (chosen_true b members are s (in_contained same exact p members s there)))
       | inr none ↦ sym none
     ]
 
     -- the end of the turn of a wish that was chosen
-    pub chosen_accepted : (same_name : N → N → Bool) → IsExact same_name → IsLawful p → (orders : Requirement → List S → Type 0) (b : Encoding N S) (wish : Option VariableId) (members : List S) → IsInOrder same p orders root b → IsTurn same wish b None
+    pub chosen_accepted : (same_name : N → N → Bool) → IsExact same_name → IsLawful p → (orders : Requirement → List S → Type 0) (b : Encoder N S) (wish : Option VariableId) (members : List S) → IsInOrder same p orders root b → IsTurn same wish b None
         → AreChosen b.coding.atoms.keys (made_true (history b.coding.search)) members → IsAccepted same p root b.noted.wishes.items members
     chosen_accepted same_name names lawful orders b wish members holds (settled, whole, spent, has) are =
         turn_accepts same exact p root lawful b same_name names holds.encoding spent settled.values settled.score settled.agree settled.quiet settled.decided members are (whole members are)
 
   -- ---- each turn has its reason
 
-  next_reasons : (a b : Encoding N S) (t m u : Turns S) (s : S) (begin : ℕ) (w : Wished) → KeepsTrail a b → IsFrontOf t.chosen.keys m.chosen.keys → m.turns ≡ t.turns → (told : Records s begin w m u) → HaveReasons a.coding t → HasReason b.coding u.chosen.keys told.turn → HaveReasons b.coding u
+  next_reasons : (a b : Encoder N S) (t m u : Turns S) (s : S) (begin : ℕ) (w : SoftOutcome) → KeepsTrail a b → IsFrontOf t.chosen.keys m.chosen.keys → m.turns ≡ t.turns → (told : Records s begin w m u) → HaveReasons a.coding t → HasReason b.coding u.chosen.keys told.turn → HaveReasons b.coding u
   next_reasons a b t m u s begin w keeps front turns told old new turn h =
       let keys : m.chosen.keys ≡ u.chosen.keys = sym (ap (λ (c : HashSet S (BuildHasherDefault FoldHasher)). c.keys) told.chosen) in
       elim (contains_parts turn t.turns.items (told.turn ∷ []) (subst (λ (ts : List (Turn S)). Contains ts turn) (told.turns ∙ ap (λ (ts : Vec (Turn S) Global). ts.items ++ told.turn ∷ []) turns) h)) [
@@ -149,14 +149,14 @@ module _ {N S : Type 0} where
       ]
 
   -- an accepted wish needs none
-  accepted_reason : (b : Encoding N S) (m u : Turns S) (s : S) (begin : ℕ) (w : Wished) (told : Records s begin w m u) → was_accepted w ≡ true → step_of w ≡ None → HasReason b.coding u.chosen.keys told.turn
+  accepted_reason : (b : Encoder N S) (m u : Turns S) (s : S) (begin : ℕ) (w : SoftOutcome) (told : Records s begin w m u) → was_accepted w ≡ true → step_of w ≡ None → HasReason b.coding u.chosen.keys told.turn
   accepted_reason b m u s begin w told so none = record {
     accepted = λ h. told.tells.step ∙ none;
     refused = λ h. absurd (both_ways _ h (told.tells.accepted ∙ so));
   }
 
   -- the reason of a refused one
-  refused_reason : (a b : Encoding N S) (t u : Turns S) (s : S) (begin : ℕ) (clause : ClauseId) (told : Records s begin (Wishes.Refused clause) t u) → AreAt a t → begin ≡ length t.chosen.keys → IsReasonOf b.coding (λ r. (r ≡ s) ⊎ IsTrue a r) clause.0
+  refused_reason : (a b : Encoder N S) (t u : Turns S) (s : S) (begin : ℕ) (clause : ClauseId) (told : Records s begin (Wishes.Refused clause) t u) → AreAt a t → begin ≡ length t.chosen.keys → IsReasonOf b.coding (λ r. (r ≡ s) ⊎ IsTrue a r) clause.0
       → HasReason b.coding u.chosen.keys told.turn
   refused_reason a b t u s begin clause told at is reason =
       let later : 0 < clause.0 = reason.later in
@@ -177,7 +177,7 @@ module _ {N S : Type 0} where
 
   -- ---- what each turn comes to
 
-  module _ (same : S → S → Bool) (a b : Encoding N S) (t u : Turns S) (s : S) (coding : IsCoding a.coding) (at : AreAt a t) (keeps : KeepsTrail a b) where
+  module _ (same : S → S → Bool) (a b : Encoder N S) (t u : Turns S) (s : S) (coding : IsCoding a.coding) (at : AreAt a t) (keeps : KeepsTrail a b) where
     stays_chosen : history b.coding.search ≡ history a.coding.search → t.chosen.keys ≡ on_trail b
     stays_chosen trail = at.chosen ∙ sym (trail_stays a b coding keeps trail)
 

@@ -3,19 +3,19 @@ use Rattle.std.proofs.Common.{◌≡◌, ◌+◌, ◌<◌, ◌∷◌, inl, inr, 
 use Rattle.std.specs.Prelude.{Contains}
 use Rattle.std.proofs.lemmas.Bool.{both_ways, cases_Bool}
 use Rattle.std.proofs.lemmas.List.{take_more}
-use Rattle.resolvo_pool.specs.declared.requirement.Requirement.{Requirement}
-use Rattle.resolvo_rules.proofs.Lists.{contains_one, contains_parts}
-use Rattle.resolvo_rules.specs.Encoding.{same_requirement}
-use Rattle.resolvo_rules.proofs.Members.{same_requirement_true, same_requirement-self}
-use Rattle.resolvo_cache.specs.declared.cache.CacheFault.{CacheFault}
-use Rattle.resolvo_cache.specs.Cached.{IsCancelledBy}
-use Rattle.resolvo_cache.specs.Fault.{fault_of}
-use Rattle.resolvo_pool.specs.declared.want.Want.{Want}
-use Rattle.resolvo_pool.specs.declared.want.Want.TheVariants as want
+use Rattle.resolvo_pool_core.specs.declared.requirement.Requirement.{Requirement}
+use Rattle.resolvo_soundness.proofs.Lists.{contains_one, contains_parts}
+use Rattle.resolvo_soundness.specs.Encoding.{same_requirement}
+use Rattle.resolvo_soundness.proofs.Members.{same_requirement_true, same_requirement-self}
+use Rattle.resolvo_pool.specs.declared.cache.CacheFault.{CacheFault}
+use Rattle.resolvo_pool.specs.Cached.{IsCancelledBy}
+use Rattle.resolvo_pool.specs.Fault.{fault_of}
+use Rattle.resolvo_pool_core.specs.declared.want.Want.{Want}
+use Rattle.resolvo_pool_core.specs.declared.want.Want.TheVariants as want
 use Rattle.std.specs.Result.{IfOk, IfErr, IsErrAnd}
-use Rattle.resolvo_pool.specs.RuleKeeping.{Packages}
-use Rattle.resolvo_answers.specs.Answering.{AreOffered, offered_solvables}
-use Rattle.resolvo_answers.specs.declared.answering.Offered.{Offered}
+use Rattle.resolvo_pool_core.specs.RuleKeeping.{Packages}
+use Rattle.resolvo_packages.specs.Answering.{AreOffered, offered_solvables}
+use Rattle.resolvo_packages.specs.declared.package_source.Offered.{Offered}
 use Rattle.resolvo_graph.specs.Graph.{Graph}
 use Rattle.resolvo_proof.specs.declared.step.ProofStep.{ProofStep}
 use Rattle.resolvo_conflict.specs.Truth.{TellsTruth}

@@ -2,20 +2,20 @@
 use Rattle.std.proofs.Common.{◌≡◌, ℕ, suc, ◌+◌, ◌<◌, inl, inr, true, false, List, length, Some, None, sym, ◌∙◌, ap, subst, arith}
 use Rattle.std.specs.Prelude.{Contains, slice_get}
 use Rattle.std.proofs.lemmas.Option.{same_Some, slice_get_within}
-use Rattle.resolvo_store.specs.Signed.{Signed, has}
-use Rattle.resolvo_search.specs.declared.state.HeldClause.{HeldClause}
-use Rattle.resolvo_pool.specs.OnePass.{Literal}
-use Rattle.resolvo_rules.specs.Encoding.{Atom}
-use Rattle.resolvo_rules.specs.Numbered.{meanings, Means}
-use Rattle.resolvo_rules.proofs.Lists.{contains_map}
-use Rattle.resolvo_rules.proofs.Meanings.{stands_meaning}
-use Rattle.resolvo_coding.specs.declared.atom.ProofAtom.TheVariants.{Solvable}
-use Rattle.resolvo_coding.specs.declared.coding.Coding.{Coding}
-use Rattle.resolvo_coding.specs.declared.stated.Stated.{Stated}
-use Rattle.resolvo_coding.specs.declared.stated.Stated.TheVariants as Says
-use Rattle.resolvo_coding.specs.Atoms.{origin}
-use Rattle.resolvo_coding.proofs.Origins.{atom_of_one, origin_stands}
-use Rattle.resolvo_coding.proofs.Positions.{get_below}
+use Rattle.resolvo_store_core.specs.Signed.{Signed, has}
+use Rattle.resolvo_sat.specs.declared.state.SatClause.{SatClause}
+use Rattle.resolvo_pool_core.specs.OnePass.{Literal}
+use Rattle.resolvo_soundness.specs.Encoding.{Atom}
+use Rattle.resolvo_soundness.specs.Numbered.{meanings, Means}
+use Rattle.resolvo_soundness.proofs.Lists.{contains_map}
+use Rattle.resolvo_soundness.proofs.Meanings.{stands_meaning}
+use Rattle.resolvo_state.specs.declared.atom.ProofAtom.TheVariants.{Solvable}
+use Rattle.resolvo_state.specs.declared.solver_state.SolverState.{SolverState}
+use Rattle.resolvo_state.specs.declared.clause_kind.Stated.{Stated}
+use Rattle.resolvo_state.specs.declared.clause_kind.Stated.TheVariants as Says
+use Rattle.resolvo_state.specs.Atoms.{origin}
+use Rattle.resolvo_state.proofs.Origins.{atom_of_one, origin_stands}
+use Rattle.resolvo_state.proofs.Positions.{get_below}
 use Rattle.resolvo_proof.specs.declared.step.ProofLiteral.{ProofLiteral}
 use Rattle.resolvo_proof.specs.declared.step.ProofStep.{ProofStep}
 use Rattle.resolvo_proof.specs.Steps.{literal_in}
@@ -25,7 +25,7 @@ use Rattle.resolvo.specs.Wished.{DeniesOne, IsReasonOf}
 use Rattle.resolvo.specs.Turns.{HasReason, IsDeniable}
 use Rattle.resolvo.specs.Solving.{DeniesOnly, HasProof}
 
-module _ {N S : Type 0} (c : Coding N S) (steps : List (ProofStep N S)) (are : AreSteps c steps) where
+module _ {N S : Type 0} (c : SolverState N S) (steps : List (ProofStep N S)) (are : AreSteps c steps) where
   -- a literal whose meaning is that of one that denies a solvable denies it
   denies_one : (among : S → Type 0) (x : Signed) (l : ProofLiteral N S) → DeniesOne c among x → Means (origin c.atoms.keys) x (literal_in l) → (l.positive ≡ false) × ((s : S) × (l.atom ≡ Solvable s) × among s)
   denies_one among x l (inl root) (other, is) = absurd (let later : 0 < x.variable.0 = other in let first : x.variable.0 ≡ 0 = ap (λ (y : Signed). y.variable.0) root in omega arith)
@@ -35,7 +35,7 @@ module _ {N S : Type 0} (c : Coding N S) (steps : List (ProofStep N S)) (are : A
   )
 
   -- a derived step of such a clause
-  denies_only : (among : S → Type 0) (k : ℕ) (step : ProofStep N S) → slice_get steps k ≡ Some step → (held : HeldClause) → ((l : Signed) → has held.literals.items l ≡ true → DeniesOne c among l) → IsDerivation c.atoms.keys held.literals.items held.causes.items step
+  denies_only : (among : S → Type 0) (k : ℕ) (step : ProofStep N S) → slice_get steps k ≡ Some step → (held : SatClause) → ((l : Signed) → has held.literals.items l ≡ true → DeniesOne c among l) → IsDerivation c.atoms.keys held.literals.items held.causes.items step
       → DeniesOnly steps among k
   denies_only among k step at held denies d = record {
     literals = d.literals;
@@ -48,7 +48,7 @@ module _ {N S : Type 0} (c : Coding N S) (steps : List (ProofStep N S)) (are : A
   }
 
   -- what a learnt clause states is no rule
-  learnt_step : (x : Stated N S) (held : HeldClause) (step : ProofStep N S) → x ≡ Says.Learnt → IsStepOf c.atoms.keys x held step → IsDerivation c.atoms.keys held.literals.items held.causes.items step
+  learnt_step : (x : Stated N S) (held : SatClause) (step : ProofStep N S) → x ≡ Says.Learnt → IsStepOf c.atoms.keys x held step → IsDerivation c.atoms.keys held.literals.items held.causes.items step
   learnt_step x held step is (inl (r, rule, told)) = absurd (let none : Some r ≡ None = subst (λ (y : Stated N S). IsTold y (Some r)) is told in cc)
   learnt_step x held step is (inr (learnt, derivation)) = derivation
 
@@ -61,7 +61,7 @@ module _ {N S : Type 0} (c : Coding N S) (steps : List (ProofStep N S)) (are : A
       let its : IsStepAt c (suc k) step = are.each k step at in
       let is : its.stated ≡ Says.Learnt = same_Some its.stated Says.Learnt (sym its.states ∙ reason.learnt) in
       let held : its.clause ≡ reason.held = same_Some its.clause reason.held (sym its.stands ∙ reason.stands) in
-      denies_only among k step at its.clause (λ l h. reason.denies l (subst (λ (x : HeldClause). has x.literals.items l ≡ true) held h)) (learnt_step its.stated its.clause step is its.writes)
+      denies_only among k step at its.clause (λ l h. reason.denies l (subst (λ (x : SatClause). has x.literals.items l ≡ true) held h)) (learnt_step its.stated its.clause step is its.writes)
 
   pub reason_proof : (chosen : List S) (t : Turn S) → HasReason c chosen t → HasProof steps chosen t
   reason_proof chosen t r = record {

@@ -1,19 +1,19 @@
 -- What a search found holds, with its proof.
 use Rattle.std.proofs.Common.{◌≡◌, Bool, List, Result, Ok, Err, sym, subst}
 use Rattle.std.specs.Prelude.{IfOk}
-use Rattle.resolvo_pool.specs.declared.requirement.Requirement.{Requirement}
-use Rattle.resolvo_pool.specs.RuleKeeping.{Packages, Rules}
-use Rattle.resolvo_encoding.specs.declared.encoding.Encoding.{Encoding}
-use Rattle.resolvo_coding.specs.declared.registry.Registry.{Registry}
-use Rattle.resolvo_coding.specs.Registered.{AreTied}
-use Rattle.resolvo_coding.specs.Spelled.{Spelled}
+use Rattle.resolvo_pool_core.specs.declared.requirement.Requirement.{Requirement}
+use Rattle.resolvo_pool_core.specs.RuleKeeping.{Packages, Rules}
+use Rattle.resolvo_encoder.specs.declared.encoder.Encoder.{Encoder}
+use Rattle.resolvo_state.specs.declared.registry.Registry.{Registry}
+use Rattle.resolvo_state.specs.Registered.{AreTied}
+use Rattle.resolvo_state.specs.Spelled.{Spelled}
 use Rattle.resolvo_proof.specs.Drawn.{AreDrawn, HaveOneSigns}
 use Rattle.resolvo_proof.specs.Places.{HaveOnePlace, AreNamedBy}
 use Rattle.resolvo_proof.specs.Proof.{Proves}
 use Rattle.resolvo_proof.specs.declared.step.ProofStep.{ProofStep}
-use Rattle.resolvo.specs.declared.search.Found.{Found}
-use Rattle.resolvo.specs.declared.search.Found.TheVariants.{Chosen, Clash}
-use Rattle.resolvo.specs.declared.proving.Solved.{Solved}
+use Rattle.resolvo.specs.declared.search.SearchResult.{SearchResult}
+use Rattle.resolvo.specs.declared.search.SearchResult.TheVariants.{Chosen, Clash}
+use Rattle.resolvo.specs.declared.prove.Solved.{Solved}
 use Rattle.resolvo.specs.Solving.{HasSteps, HaveProofs, IsFound, IsPreferred, IsSearch, Holds, IsSolved}
 use Rattle.resolvo.proofs.Reasons.{reason_proof}
 
@@ -28,25 +28,25 @@ with_given (Ok v) G P h given = h given
 with_given (Err e) G P h given = tt
 
 module _ {N S : Type 0} (same : S → S → Bool) (p : Packages N S) (orders : Requirement → List S → Type 0) (root : Rules) (wishes : List S) where
-  found_holds : (e : Encoding N S) (f : Found S) → IsFound same p root wishes e f → Holds same p root wishes f
+  found_holds : (e : Encoder N S) (f : SearchResult S) → IsFound same p root wishes e f → Holds same p root wishes f
   found_holds e (Chosen v turns) h = h.0
   found_holds e (Clash r) h = h.0
 
   -- each turn has its step
-  found_proofs : (e : Encoding N S) (f : Found S) (steps : List (ProofStep N S)) → HasSteps e.coding f steps → IsFound same p root wishes e f → HaveProofs steps f
+  found_proofs : (e : Encoder N S) (f : SearchResult S) (steps : List (ProofStep N S)) → HasSteps e.coding f steps → IsFound same p root wishes e f → HaveProofs steps f
   found_proofs e (Chosen v turns) steps are h = λ t there. reason_proof e.coding steps are v.items t (h.1 t there)
   found_proofs e (Clash r) steps are h = tt
 
   -- what was found, with the steps of its clauses
-  pub search_solved : (e : Encoding N S) (f : Found S) (x : Solved N S) → IsSearch same p orders root wishes e f → x.found ≡ f → Proves e.coding x.proof.items
+  pub search_solved : (e : Encoder N S) (f : SearchResult S) (x : Solved N S) → IsSearch same p orders root wishes e f → x.found ≡ f → Proves e.coding x.proof.items
       → ((alike : S → S → Bool) (q : Packages N S) → Spelled alike q e.coding → AreDrawn alike q x.proof.items) → HaveOneSigns x.proof.items
       → ((r : Registry N) (package_of : S → N) → AreTied r e.coding → AreNamedBy r e.coding package_of → HaveOnePlace x.proof.items) → HasSteps e.coding f x.proof.items → IsSolved same p orders root wishes x
   search_solved e f x search is proves drawn signs places clauses = record {
-    found = subst (λ (g : Found S). Holds same p root wishes g) (sym is) (found_holds e f search.found);
+    found = subst (λ (g : SearchResult S). Holds same p root wishes g) (sym is) (found_holds e f search.found);
     proof = λ same_atom exact. proves same_atom exact same p root search.encoding.spelled search.encoding.rule;
     drawn = drawn same p search.encoding.spelled;
     signs = signs;
     one_place = places e.registry p.package_of search.encoding.tied search.encoding.named;
-    preferred = subst (λ (g : Found S). IsPreferred same p orders root g) (sym is) search.preferred;
-    proofs = subst (λ (g : Found S). HaveProofs x.proof.items g) (sym is) (found_proofs e f x.proof.items clauses search.found);
+    preferred = subst (λ (g : SearchResult S). IsPreferred same p orders root g) (sym is) search.preferred;
+    proofs = subst (λ (g : SearchResult S). HaveProofs x.proof.items g) (sym is) (found_proofs e f x.proof.items clauses search.found);
   }

@@ -1,59 +1,59 @@
 -- The turns of wishes.
 use Rattle.std.proofs.Common.{◌≡◌, suc, ◌<◌, ◌≤◌, inl, inr, Bool, true, false, List, [], length, Some, refl, sym, ◌∙◌, ap, subst, arith}
 use Rattle.std.specs.Prelude.{not}
-use Rattle.resolvo_pool.specs.declared.id.VariableId.{VariableId}
-use Rattle.resolvo_pool.specs.declared.requirement.Requirement.{Requirement}
+use Rattle.resolvo_pool_core.specs.declared.id.VariableId.{VariableId}
+use Rattle.resolvo_pool_core.specs.declared.requirement.Requirement.{Requirement}
 use Rattle.std.proofs.lemmas.Bool.{both_ways}
-use Rattle.resolvo_pool.specs.RuleKeeping.{Packages, Rules, IsRuleKeeping}
-use Rattle.resolvo_store.specs.AtMostOne.{IsFrontOf}
-use Rattle.resolvo_store.specs.declared.decision.Entry.{Entry}
-use Rattle.resolvo_store.specs.Clauses.{yes, no, root as root_variable}
-use Rattle.resolvo_store.specs.Signed.{Signed, negation, has}
-use Rattle.resolvo_search.specs.declared.analysis.Refusal.{Refusal}
-use Rattle.resolvo_search.specs.declared.state.SearchState.{SearchState}
-use Rattle.resolvo_search.specs.Analysis.{DeniesKept, IsBar, IsRefusal}
-use Rattle.resolvo_search.proofs.Literals.{has-cons, negation-negation}
-use Rattle.resolvo_search.specs.Entries.{made_true, top_level}
-use Rattle.resolvo_search.specs.State.{count_of, history, clauses_of}
-use Rattle.resolvo_search.proofs.Trails.{known_in_range, level_le_last, root_stands}
-use Rattle.resolvo_rules.specs.Encoding.{IsExact}
-use Rattle.resolvo_coding.specs.declared.atom.ProofAtom.TheVariants.{Solvable}
-use Rattle.resolvo_coding.specs.Atoms.{StandsFor}
-use Rattle.resolvo_coding.specs.Coding.{IsCoding}
-use Rattle.resolvo_coding.proofs.Origins.{count_is, stands_front, stands_other, stands_same, stands_some}
-use Rattle.resolvo_encoding.specs.declared.encoding.Encoding.{Encoding}
-use Rattle.resolvo_encoding.specs.Base.{base_of, IsBlamed, IsOpen, IsTaken}
-use Rattle.resolvo_encoding.specs.Encoded.{IsEncoding}
-use Rattle.resolvo_encoding.specs.Steps.{IsBuilt, AddsParent}
-use Rattle.resolvo_encoding.specs.Wishing.{turn_of, IsWish}
-use Rattle.resolvo_encoding.proofs.Bases.{turn_begun}
-use Rattle.resolvo_encoding.proofs.Blaming.{blame_refuses, empty_refuses, reason_blames, refusal_blames}
+use Rattle.resolvo_pool_core.specs.RuleKeeping.{Packages, Rules, IsRuleKeeping}
+use Rattle.resolvo_store_core.specs.AtMostOne.{IsFrontOf}
+use Rattle.resolvo_store_core.specs.declared.decision.Entry.{Entry}
+use Rattle.resolvo_store_core.specs.Clauses.{yes, no, root as root_variable}
+use Rattle.resolvo_store_core.specs.Signed.{Signed, negation, has}
+use Rattle.resolvo_sat.specs.declared.analyze.FinalConflict.{FinalConflict}
+use Rattle.resolvo_sat.specs.declared.state.SatState.{SatState}
+use Rattle.resolvo_sat.specs.Analysis.{DeniesKept, IsBar, IsRefusal}
+use Rattle.resolvo_sat.proofs.Literals.{has-cons, negation-negation}
+use Rattle.resolvo_sat.specs.Entries.{made_true, top_level}
+use Rattle.resolvo_sat.specs.State.{count_of, history, clauses_of}
+use Rattle.resolvo_sat.proofs.Trails.{known_in_range, level_le_last, root_stands}
+use Rattle.resolvo_soundness.specs.Encoding.{IsExact}
+use Rattle.resolvo_state.specs.declared.atom.ProofAtom.TheVariants.{Solvable}
+use Rattle.resolvo_state.specs.Atoms.{StandsFor}
+use Rattle.resolvo_state.specs.Coding.{IsCoding}
+use Rattle.resolvo_state.proofs.Origins.{count_is, stands_front, stands_other, stands_same, stands_some}
+use Rattle.resolvo_encoder.specs.declared.encoder.Encoder.{Encoder}
+use Rattle.resolvo_encoder.specs.Base.{base_of, IsBlamed, IsOpen, IsTaken}
+use Rattle.resolvo_encoder.specs.Encoded.{IsEncoding}
+use Rattle.resolvo_encoder.specs.Steps.{IsBuilt, AddsParent}
+use Rattle.resolvo_encoder.specs.Wishing.{turn_of, IsWish}
+use Rattle.resolvo_encoder.proofs.Bases.{turn_begun}
+use Rattle.resolvo_encoder.proofs.Blaming.{blame_refuses, empty_refuses, reason_blames, refusal_blames}
 use Rattle.resolvo_turn.specs.Encoder.{IsInOrder, AddsParents}
 use Rattle.resolvo_turn.specs.Turn.{IsRefusedBy}
 use Rattle.resolvo.specs.Wished.{IsDenied, IsTrue}
 use Rattle.resolvo_turn.proofs.Adding.{all_then, needs_parents, parents_in_order, parents_needs}
 
 -- the root stands at the first level
-pub above_root : {N S : Type 0} (e : Encoding N S) → IsBuilt e → 1 ≤ top_level (history e.coding.search)
+pub above_root : {N S : Type 0} (e : Encoder N S) → IsBuilt e → 1 ≤ top_level (history e.coding.search)
 above_root e built = level_le_last (count_of e.coding.search) (clauses_of e.coding.search) (history e.coding.search) (yes root_variable) 1 built.coding.ready.state.trail (root_stands (history e.coding.search) built.coding.ready.state.rooted)
 
-module _ {N S : Type 0} (e begun first : Encoding N S) (is : begun ≡ turn_of e) (added : AddsParent begun first) where
+module _ {N S : Type 0} (e begun first : Encoder N S) (is : begun ≡ turn_of e) (added : AddsParent begun first) where
   -- a turn begins, and the wish is a parent
   pub begun_turn : (v : VariableId) → IsBuilt e → IsWish e v → has (made_true (history e.coding.search)) (yes v) ≡ false → IsOpen first v × (base_of first ≡ history e.coding.search)
   begun_turn v built wish unchosen =
       let (o, base) = turn_begun e v wish (above_root e built) unchosen in
-      let (o', base') = (parents_needs begun first added).turn (Some v) (subst (λ (x : Encoding N S). IsOpen x v) (sym is) o) in
-      (o', base' ∙ ap (λ (x : Encoding N S). base_of x) is ∙ base)
+      let (o', base') = (parents_needs begun first added).turn (Some v) (subst (λ (x : Encoder N S). IsOpen x v) (sym is) o) in
+      (o', base' ∙ ap (λ (x : Encoder N S). base_of x) is ∙ base)
 
-  pub begun_adds : (last : Encoding N S) → AddsParents first last → AddsParents (turn_of e) last
-  begun_adds last adds = subst (λ (x : Encoding N S). AddsParents x last) is (all_then begun first last (needs_parents begun first (parents_needs begun first added)) adds)
+  pub begun_adds : (last : Encoder N S) → AddsParents first last → AddsParents (turn_of e) last
+  begun_adds last adds = subst (λ (x : Encoder N S). AddsParents x last) is (all_then begun first last (needs_parents begun first (parents_needs begun first added)) adds)
 
   pub begun_in_turn : (same : S → S → Bool) (p : Packages N S) (orders : Requirement → List S → Type 0) (root : Rules) → IsEncoding same p root begun → IsInOrder same p orders root e → IsInOrder same p orders root first
   begun_in_turn same p orders root holds order = parents_in_order same p orders root begun first
-      (subst (λ (x : Encoding N S). IsInOrder same p orders root x) (sym is) (record { encoding = subst (λ (x : Encoding N S). IsEncoding same p root x) is holds; ordered = order.ordered })) added
+      (subst (λ (x : Encoder N S). IsInOrder same p orders root x) (sym is) (record { encoding = subst (λ (x : Encoder N S). IsEncoding same p root x) is holds; ordered = order.ordered })) added
 
 -- a variable that was true stood for what it stands for
-true_before : {N S : Type 0} (a b : Encoding N S) → IsCoding a.coding → IsFrontOf a.coding.atoms.keys b.coding.atoms.keys → (s : S) (u : VariableId) → StandsFor b.coding.atoms.keys u (Solvable s) → has (made_true (history a.coding.search)) (yes u) ≡ true → IsTrue a s
+true_before : {N S : Type 0} (a b : Encoder N S) → IsCoding a.coding → IsFrontOf a.coding.atoms.keys b.coding.atoms.keys → (s : S) (u : VariableId) → StandsFor b.coding.atoms.keys u (Solvable s) → has (made_true (history a.coding.search)) (yes u) ≡ true → IsTrue a s
 true_before a b coding front s u stands known =
     let range : u.0 < count_of a.coding.search = known_in_range (count_of a.coding.search) (clauses_of a.coding.search) (history a.coding.search) (yes u) coding.ready.state.trail known in
     let count : count_of a.coding.search ≡ suc (length a.coding.atoms.keys) = count_is a.coding coding in
@@ -64,12 +64,12 @@ true_before a b coding front s u stands known =
 -- ---- what a refused turn tells
 
 -- a literal that denies a kept choice is negative
-denial_negative : (s : SearchState) (l : Signed) → DeniesKept s l → l.positive ≡ false
+denial_negative : (s : SatState) (l : Signed) → DeniesKept s l → l.positive ≡ false
 denial_negative s l (d, older, stands, is, kept) = ap (λ (x : Signed). x.positive) (sym (negation-negation l) ∙ ap negation (sym is)) ∙ ap not kept.chosen
 
-module _ {N S : Type 0} (e : Encoding N S) (v : VariableId) where
+module _ {N S : Type 0} (e : Encoder N S) (v : VariableId) where
   -- a refused turn has a clause that only denies
-  pub refused_bars : (r : Refusal) → IsRefusedBy (Some v) e r → IsBar e.coding.search r.literals.items r.causes.items
+  pub refused_bars : (r : FinalConflict) → IsRefusedBy (Some v) e r → IsBar e.coding.search r.literals.items r.causes.items
   refused_bars r (inl (refusal, has)) = record { derived = refusal.derived; caused = refusal.caused; from = refusal.from; negative = λ l h. denial_negative e.coding.search l (refusal.denies l h) }
   refused_bars r (inr (reason, low)) = record {
     derived = reason.derived;
@@ -82,26 +82,26 @@ module _ {N S : Type 0} (e : Encoding N S) (v : VariableId) where
   }
 
   -- and without literals it is a refusal of the root's turn
-  pub refused_empty : (r : Refusal) → IsRefusedBy (Some v) e r → r.literals.items ≡ [] → IsRefusal e.coding.search r.literals.items r.causes.items
+  pub refused_empty : (r : FinalConflict) → IsRefusedBy (Some v) e r → r.literals.items ≡ [] → IsRefusal e.coding.search r.literals.items r.causes.items
   refused_empty r (inl (refusal, has)) none = refusal
   refused_empty r (inr (reason, low)) none = record { derived = reason.derived; caused = reason.caused; from = reason.from; denies = λ l h. absurd (both_ways false refl (subst (λ (ls : List Signed). has ls l ≡ true) none h)) }
 
   module _ (same : S → S → Bool) (exact : IsExact same) (p : Packages N S) (root : Rules) (holds : IsEncoding same p root e) (same_name : N → N → Bool) (names : IsExact same_name) (o : IsOpen e v) where
     -- the wish is blamed on what was chosen before its turn
-    pub refused_blamed : (r : Refusal) → IsRefusedBy (Some v) e r → IsBlamed e v r.literals.items r.causes.items
+    pub refused_blamed : (r : FinalConflict) → IsRefusedBy (Some v) e r → IsBlamed e v r.literals.items r.causes.items
     refused_blamed r (inl (refusal, has)) = refusal_blames same exact p root e holds v r.literals.items r.causes.items o has refusal
     refused_blamed r (inr (reason, low)) = reason_blames same exact p root e holds v r.literals.items r.causes.items low reason
 
     -- where there are no literals, no solvables keep all rules
-    pub refused_all : (r : Refusal) → IsRefusedBy (Some v) e r → r.literals.items ≡ [] → (set : List S) → IsRuleKeeping same p root set → ⊥
+    pub refused_all : (r : FinalConflict) → IsRefusedBy (Some v) e r → r.literals.items ≡ [] → (set : List S) → IsRuleKeeping same p root set → ⊥
     refused_all r refused none set keeping = empty_refuses same exact p root e holds same_name names v r.literals.items r.causes.items (refused_blamed r refused) (ap (λ ls. length ls) none) set keeping
 
     -- what was chosen before the turn is what the trail chose then
-    pub taken_true : (before : Encoding N S) → IsCoding before.coding → IsFrontOf before.coding.atoms.keys e.coding.atoms.keys → base_of e ≡ history before.coding.search → (t : S) → IsTaken e t → IsTrue before t
+    pub taken_true : (before : Encoder N S) → IsCoding before.coding → IsFrontOf before.coding.atoms.keys e.coding.atoms.keys → base_of e ≡ history before.coding.search → (t : S) → IsTaken e t → IsTrue before t
     taken_true before coding front base t (u, stands, truth) = true_before before e coding front t u stands (subst (λ (h : List Entry). has (made_true h) (yes u) ≡ true) base truth)
 
     -- no rule-keeping set holds the wish with what was chosen before
-    pub refused_denied : (before : Encoding N S) → IsCoding before.coding → IsFrontOf before.coding.atoms.keys e.coding.atoms.keys → base_of e ≡ history before.coding.search → (s : S) → StandsFor e.coding.atoms.keys v (Solvable s)
-        → (r : Refusal) → IsRefusedBy (Some v) e r → IsDenied same p root before s
+    pub refused_denied : (before : Encoder N S) → IsCoding before.coding → IsFrontOf before.coding.atoms.keys e.coding.atoms.keys → base_of e ≡ history before.coding.search → (s : S) → StandsFor e.coding.atoms.keys v (Solvable s)
+        → (r : FinalConflict) → IsRefusedBy (Some v) e r → IsDenied same p root before s
     refused_denied before coding front base s stands r refused = λ set keeping holds_all held.
         blame_refuses same exact p root e holds same_name names v s r.literals.items r.causes.items (refused_blamed r refused) stands set keeping (λ t taken. holds_all t (taken_true before coding front base t taken)) held

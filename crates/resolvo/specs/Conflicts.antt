@@ -1,14 +1,14 @@
 -- What a solver keeps of a conflict.
 use Rattle.std.specs.Prelude.{◌≡◌, Bool, List, Option, Some, None, Contains}
-use Rattle.resolvo_pool.specs.declared.id.ClauseId.{ClauseId}
-use Rattle.resolvo_pool.specs.declared.requirement.Requirement.{Requirement}
-use Rattle.resolvo_pool.specs.RuleKeeping.{Packages, is_in, meets}
+use Rattle.resolvo_pool_core.specs.declared.id.ClauseId.{ClauseId}
+use Rattle.resolvo_pool_core.specs.declared.requirement.Requirement.{Requirement}
+use Rattle.resolvo_pool_core.specs.RuleKeeping.{Packages, is_in, meets}
 use Rattle.resolvo_proof.specs.declared.step.ProofStep.{ProofStep}
 use Rattle.resolvo_conflict.specs.Order.{conflict_rules, requirements_in}
 use Rattle.resolvo_conflict.specs.Offered.{offered_by}
 use Rattle.resolvo_conflict.specs.declared.offers.Offers.{Offers}
-use Rattle.resolvo.specs.declared.search.Found.{Found}
-use Rattle.resolvo.specs.declared.search.Found.TheVariants.{Chosen, Clash}
+use Rattle.resolvo.specs.declared.search.SearchResult.{SearchResult}
+use Rattle.resolvo.specs.declared.search.SearchResult.TheVariants.{Chosen, Clash}
 use Rattle.resolvo.specs.declared.conflict.KeptConflict.{KeptConflict}
 
 -- its clauses, and what was offered for the requirements that its rules name
@@ -29,6 +29,6 @@ abbrev pub AreOffers : {N S : Type 0} → (S → S → Bool) → Packages N S �
 AreOffers same p orders steps offers = (r : Requirement) → Contains (requirements_in (conflict_rules steps)) r → IsRightOffer same p orders r (offered_by offers r)
 
 -- what is left of what was found: of a clash its clauses and the offers, else nothing
-abbrev pub IsLeft : {N S : Type 0} → (S → S → Bool) → Packages N S → (Requirement → List S → Type 0) → Found S → List (ProofStep N S) → Option (KeptConflict S) → Type 0
+abbrev pub IsLeft : {N S : Type 0} → (S → S → Bool) → Packages N S → (Requirement → List S → Type 0) → SearchResult S → List (ProofStep N S) → Option (KeptConflict S) → Type 0
 IsLeft same p orders (Chosen v turns) steps left = left ≡ None
 IsLeft {N} {S} same p orders (Clash r) steps left = (k : KeptConflict S) × (left ≡ Some k) × (k.clauses.items ≡ r.causes.items) × AreOffers same p orders steps k.offers

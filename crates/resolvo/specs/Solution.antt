@@ -1,6 +1,6 @@
 -- A problem's solution, or that it has none.
 use Rattle.std.specs.Prelude.{◌≡◌, Bool, true, List, []}
-use Rattle.resolvo_pool.specs.RuleKeeping.{Packages, Rules, is_in, IsRuleKeeping, IsReached}
+use Rattle.resolvo_pool_core.specs.RuleKeeping.{Packages, Rules, is_in, IsRuleKeeping, IsReached}
 
 module _ {N S : Type 0} (same : S → S → Bool) (p : Packages N S) (root : Rules) where
   -- The solvables keep all rules, and are those that the root reaches: by a requirement of its own, or of a solvable

@@ -1,13 +1,13 @@
 -- What a solver keeps, and what a search leaves in it.
 use Rattle.std.specs.Prelude.{◌≡◌, ℕ, ◌+◌, ⊤, Bool, List, [], length, take, Contains, Option, Some, None, Result, Ok, Err}
 use Rattle.std.specs.Global.{Vec}
-use Rattle.resolvo_pool.specs.declared.id.ClauseId.{ClauseId}
-use Rattle.resolvo_pool.specs.RuleKeeping.{Packages, Rules}
-use Rattle.resolvo_pool.specs.declared.requirement.Requirement.{Requirement}
-use Rattle.resolvo_rules.specs.First.{ArePreferred}
+use Rattle.resolvo_pool_core.specs.declared.id.ClauseId.{ClauseId}
+use Rattle.resolvo_pool_core.specs.RuleKeeping.{Packages, Rules}
+use Rattle.resolvo_pool_core.specs.declared.requirement.Requirement.{Requirement}
+use Rattle.resolvo_soundness.specs.First.{ArePreferred}
 use Rattle.resolvo_proof.specs.Proof.{EndsEmpty}
 use Rattle.resolvo_proof.specs.declared.step.ProofStep.{ProofStep}
-use Rattle.resolvo_search.specs.declared.analysis.Refusal.{Refusal}
+use Rattle.resolvo_sat.specs.declared.analyze.FinalConflict.{FinalConflict}
 use Rattle.resolvo.specs.Solution.{IsUnsolvable}
 use Rattle.resolvo_graph.specs.Graph.{Graph}
 use Rattle.resolvo_graph.specs.Message.{IsMessage}
@@ -19,11 +19,11 @@ use Rattle.resolvo_conflict.specs.Truth.{TellsTruth}
 use Rattle.resolvo.specs.Conflicts.{Left, AreOffers}
 use Rattle.resolvo.specs.Turns.{AreWished, first_of}
 use Rattle.resolvo.specs.Solving.{AreProved, HasProof}
-use Rattle.resolvo.specs.declared.proving.Solved.{Solved}
+use Rattle.resolvo.specs.declared.prove.Solved.{Solved}
 use Rattle.resolvo.specs.declared.turns.Turn.{Turn}
-use Rattle.resolvo_cache.specs.declared.cache.CacheFault.{CacheFault}
-use Rattle.resolvo_cache.specs.declared.cache.CacheFault.TheVariants as fault
-use Rattle.resolvo.specs.declared.search.Found.TheVariants.{Chosen, Clash}
+use Rattle.resolvo_pool.specs.declared.cache.CacheFault.{CacheFault}
+use Rattle.resolvo_pool.specs.declared.cache.CacheFault.TheVariants as fault
+use Rattle.resolvo.specs.declared.search.SearchResult.TheVariants.{Chosen, Clash}
 use Rattle.resolvo.specs.declared.problem.Problem.{Problem}
 use Rattle.resolvo.specs.declared.solver.UnsolvableOrCancelled.{UnsolvableOrCancelled}
 use Rattle.resolvo.specs.declared.solver.UnsolvableOrCancelled.TheVariants.{Unsolvable, Cancelled, Memory, Ids}
@@ -107,7 +107,7 @@ Leaves (Err Ids) k = HasNothing k
 -- what a search found and left is kept, and said
 abbrev pub Keeps : {P N S C : Type 0} → Solved N S → Option (Left S) → Kept P N S → Result (Vec S) (UnsolvableOrCancelled C) → Kept P N S → Type 0
 Keeps {P} {N} {S} {C} s left old (Ok v) new = (turns : Vec (Turn S)) × (s.found ≡ Chosen v turns) × (new ≡ record old { clause_count = s.clause_count; deferred_count = s.deferred_count; turns = turns.items; proof = s.proof.items; conflict = left })
-Keeps {P} {N} {S} {C} s left old (Err (Unsolvable conflict)) new = (r : Refusal) × (s.found ≡ Clash r) × (conflict.clauses ≡ r.causes) × (new ≡ record old { clause_count = s.clause_count; deferred_count = s.deferred_count; proof = s.proof.items; conflict = left })
+Keeps {P} {N} {S} {C} s left old (Err (Unsolvable conflict)) new = (r : FinalConflict) × (s.found ≡ Clash r) × (conflict.clauses ≡ r.causes) × (new ≡ record old { clause_count = s.clause_count; deferred_count = s.deferred_count; proof = s.proof.items; conflict = left })
 Keeps {P} {N} {S} {C} s left old (Err (Cancelled value)) new = ⊥
 Keeps {P} {N} {S} {C} s left old (Err Memory) new = ⊥
 Keeps {P} {N} {S} {C} s left old (Err Ids) new = ⊥

@@ -1,57 +1,57 @@
 -- What a search for a problem's solvables comes to.
 use Rattle.std.specs.Prelude.{◌≡◌, ℕ, ◌+◌, ⊤, Bool, true, false, take, List, Option, Some, None, Contains, slice_get}
 use Rattle.std.specs.Global.{Vec}
-use Rattle.resolvo_pool.specs.declared.requirement.Requirement.{Requirement}
-use Rattle.resolvo_pool.specs.RuleKeeping.{Packages, Rules}
-use Rattle.resolvo_search.specs.declared.analysis.Refusal.{Refusal}
-use Rattle.resolvo_search.specs.Analysis.{IsRefusal}
-use Rattle.resolvo_rules.specs.First.{ArePreferred}
-use Rattle.resolvo_coding.specs.declared.coding.Coding.{Coding}
-use Rattle.resolvo_coding.specs.declared.atom.ProofAtom.TheVariants.{Solvable}
-use Rattle.resolvo_coding.specs.Keys.{AreOnce}
-use Rattle.resolvo_encoding.specs.Encoded.{IsEncoding}
-use Rattle.resolvo_encoding.specs.Steps.{IsBuilt}
+use Rattle.resolvo_pool_core.specs.declared.requirement.Requirement.{Requirement}
+use Rattle.resolvo_pool_core.specs.RuleKeeping.{Packages, Rules}
+use Rattle.resolvo_sat.specs.declared.analyze.FinalConflict.{FinalConflict}
+use Rattle.resolvo_sat.specs.Analysis.{IsRefusal}
+use Rattle.resolvo_soundness.specs.First.{ArePreferred}
+use Rattle.resolvo_state.specs.declared.solver_state.SolverState.{SolverState}
+use Rattle.resolvo_state.specs.declared.atom.ProofAtom.TheVariants.{Solvable}
+use Rattle.resolvo_state.specs.Keys.{AreOnce}
+use Rattle.resolvo_encoder.specs.Encoded.{IsEncoding}
+use Rattle.resolvo_encoder.specs.Steps.{IsBuilt}
 use Rattle.resolvo_proof.specs.Drawn.{AreDrawn, HaveOneSigns}
 use Rattle.resolvo_proof.specs.Places.{HaveOnePlace}
 use Rattle.resolvo_proof.specs.Proof.{IsProof, EndsEmpty, DenyRoot}
-use Rattle.resolvo_rules.specs.Encoding.{Atom, IsExact}
+use Rattle.resolvo_soundness.specs.Encoding.{Atom, IsExact}
 use Rattle.resolvo_proof.specs.declared.step.ProofLiteral.{ProofLiteral}
 use Rattle.resolvo_proof.specs.declared.step.ProofStep.{ProofStep}
 use Rattle.resolvo_proof.specs.declared.step.ProofStep.TheVariants.{Derived}
 use Rattle.resolvo_proof.specs.Written.{AreSteps}
-use Rattle.resolvo_encoding.specs.declared.encoding.Encoding.{Encoding}
+use Rattle.resolvo_encoder.specs.declared.encoder.Encoder.{Encoder}
 use Rattle.resolvo.specs.Solution.{IsUnsolvable}
 use Rattle.resolvo.specs.Turns.{AreWished, HasReason, IsDeniable, first_of, on_trail}
 use Rattle.resolvo.specs.declared.turns.Turn.{Turn}
 use Rattle.resolvo.specs.declared.turns.Turns.{Turns}
-use Rattle.resolvo.specs.declared.search.Found.{Found}
-use Rattle.resolvo.specs.declared.search.Found.TheVariants.{Chosen, Clash}
-use Rattle.resolvo.specs.declared.proving.Solved.{Solved}
+use Rattle.resolvo.specs.declared.search.SearchResult.{SearchResult}
+use Rattle.resolvo.specs.declared.search.SearchResult.TheVariants.{Chosen, Clash}
+use Rattle.resolvo.specs.declared.prove.Solved.{Solved}
 
 -- what is told of turns: what was chosen in them, or why nothing can be
-abbrev pub IsFoundIn : {S : Type 0} → Turns S → Option Refusal → Found S → Type 0
+abbrev pub IsFoundIn : {S : Type 0} → Turns S → Option FinalConflict → SearchResult S → Type 0
 IsFoundIn t None (Chosen v turns) = (v.items ≡ t.chosen.keys) × (turns ≡ t.turns)
 IsFoundIn t None (Clash q) = ⊥
 IsFoundIn t (Some r) (Chosen v turns) = ⊥
 IsFoundIn t (Some r) (Clash q) = q ≡ r
 
 -- These are the solvables that the trail chooses, in its order, and none stands twice.
-pub record AreOnTrail {N S : Type 0} (e : Encoding N S) (solvables : List S) : Type 0 where
+pub record AreOnTrail {N S : Type 0} (e : Encoder N S) (solvables : List S) : Type 0 where
   pub in_order : solvables ≡ on_trail e
   pub once : AreOnce solvables
 
 -- what was chosen is what the trail chooses; of a clash nothing is said
-abbrev pub IsListedIn : {N S : Type 0} → Encoding N S → Found S → Type 0
+abbrev pub IsListedIn : {N S : Type 0} → Encoder N S → SearchResult S → Type 0
 IsListedIn e (Chosen v turns) = AreOnTrail e v.items
 IsListedIn e (Clash r) = ⊤
 
 -- what clashes was derived from the clauses, and denies the root alone
-abbrev pub IsDenial : {N S : Type 0} → Coding N S → Found S → Type 0
+abbrev pub IsDenial : {N S : Type 0} → SolverState N S → SearchResult S → Type 0
 IsDenial c (Chosen v turns) = ⊤
 IsDenial c (Clash r) = IsRefusal c.search r.literals.items r.causes.items × DenyRoot r.literals.items
 
 -- What was encoded is built, whatever the packages are, and a clash is one of its clauses: its proof can be written.
-pub record IsProvable {N S : Type 0} (e : Encoding N S) (f : Found S) : Type 0 where
+pub record IsProvable {N S : Type 0} (e : Encoder N S) (f : SearchResult S) : Type 0 where
   pub built : IsBuilt e
   pub denial : IsDenial e.coding f
 
@@ -68,24 +68,24 @@ pub record HasProof {N S : Type 0} (steps : List (ProofStep N S)) (chosen : List
   pub refused : t.accepted ≡ false → (k : ℕ) × (t.step ≡ Some k) × DeniesOnly steps (IsDeniable chosen t) k
 
 -- each turn has
-abbrev pub HaveProofs : {N S : Type 0} → List (ProofStep N S) → Found S → Type 0
+abbrev pub HaveProofs : {N S : Type 0} → List (ProofStep N S) → SearchResult S → Type 0
 HaveProofs {N} {S} steps (Chosen v turns) = (t : Turn S) → Contains turns.items t → HasProof steps v.items t
 HaveProofs {N} {S} steps (Clash r) = ⊤
 
 -- what was chosen, and the turns: each has a learnt clause for its step
-abbrev pub HaveClauses : {N S : Type 0} → Coding N S → Found S → Type 0
+abbrev pub HaveClauses : {N S : Type 0} → SolverState N S → SearchResult S → Type 0
 HaveClauses {N} {S} c (Chosen v turns) = (t : Turn S) → Contains turns.items t → HasReason c v.items t
 HaveClauses {N} {S} c (Clash r) = ⊤
 
 module _ {N S : Type 0} (same : S → S → Bool) (p : Packages N S) (root : Rules) (wishes : List S) where
   -- What was found: what the turns of the wishes come to, each with its reason; or a clause that denies the root alone, and no
   -- solvables keep all rules.
-  abbrev pub IsFound : Encoding N S → Found S → Type 0
+  abbrev pub IsFound : Encoder N S → SearchResult S → Type 0
   IsFound e (Chosen v turns) = AreWished same p root v.items (first_of v.items turns.items) wishes turns.items × HaveClauses e.coding (Chosen v turns)
   IsFound e (Clash r) = IsUnsolvable same p root × IsRefusal e.coding.search r.literals.items r.causes.items
 
   -- what was found holds: what the turns come to, or that no solvables keep all rules
-  abbrev pub Holds : Found S → Type 0
+  abbrev pub Holds : SearchResult S → Type 0
   Holds (Chosen v turns) = AreWished same p root v.items (first_of v.items turns.items) wishes turns.items
   Holds (Clash r) = IsUnsolvable same p root
 
@@ -96,13 +96,13 @@ module _ {N S : Type 0} (same : S → S → Bool) (p : Packages N S) (root : Rul
 
 module _ {N S : Type 0} (same : S → S → Bool) (p : Packages N S) (orders : Requirement → List S → Type 0) (root : Rules) where
   -- in the root's turn candidates were chosen in the order in which they are tried
-  abbrev pub IsPreferred : Found S → Type 0
+  abbrev pub IsPreferred : SearchResult S → Type 0
   IsPreferred (Chosen v turns) = ArePreferred same p orders root (take (first_of v.items turns.items) v.items)
   IsPreferred (Clash r) = Unit {0}
 
   -- The encoding is the problem's, and so is what was found, by an order in which each requirement's candidates may be
   -- tried.
-  pub record IsSearch (wishes : List S) (e : Encoding N S) (f : Found S) : Type 0 where
+  pub record IsSearch (wishes : List S) (e : Encoder N S) (f : SearchResult S) : Type 0 where
     pub encoding : IsEncoding same p root e
     pub found : IsFound same p root wishes e f
     pub preferred : IsPreferred f
@@ -120,16 +120,16 @@ module _ {N S : Type 0} (same : S → S → Bool) (p : Packages N S) (orders : R
     pub proofs : HaveProofs s.proof.items s.found
 
 -- after a clash the last step has no literals
-abbrev pub EndsSo : {N S : Type 0} → Found S → List (ProofStep N S) → Type 0
+abbrev pub EndsSo : {N S : Type 0} → SearchResult S → List (ProofStep N S) → Type 0
 EndsSo (Chosen v turns) steps = ⊤
 EndsSo (Clash r) steps = EndsEmpty steps
 
 -- Each clause but the root's has a step; after a clash there is one step more.
-abbrev pub Counts : {S : Type 0} → Found S → ℕ → ℕ → Type 0
+abbrev pub Counts : {S : Type 0} → SearchResult S → ℕ → ℕ → Type 0
 Counts (Chosen v turns) clauses steps = clauses ≡ steps + 1
 Counts (Clash r) clauses steps = clauses ≡ steps
 
 -- what was chosen leaves a step for each clause behind the root's
-abbrev pub HasSteps : {N S : Type 0} → Coding N S → Found S → List (ProofStep N S) → Type 0
+abbrev pub HasSteps : {N S : Type 0} → SolverState N S → SearchResult S → List (ProofStep N S) → Type 0
 HasSteps c (Chosen v turns) steps = AreSteps c steps
 HasSteps c (Clash r) steps = ⊤

@@ -1,16 +1,16 @@
 -- The turns of wishes, and what was chosen in each.
 use Rattle.std.specs.Prelude.{◌≡◌, ℕ, suc, ◌-◌, ◌≤◌, ◌⊎◌, cond, Bool, true, false, take, reverse, List, [], ◌∷◌, ◌++◌, length, Option, Some, None, Contains}
-use Rattle.resolvo_pool.specs.RuleKeeping.{Packages, Rules, is_in, IsRuleKeeping}
-use Rattle.resolvo_search.specs.declared.analysis.Refusal.{Refusal}
-use Rattle.resolvo_search.specs.Analysis.{IsRefusal}
-use Rattle.resolvo_rules.specs.Ending.{IsAccepted}
-use Rattle.resolvo_coding.specs.Chosen.{choices}
-use Rattle.resolvo_coding.specs.declared.coding.Coding.{Coding}
-use Rattle.resolvo_encoding.specs.declared.encoding.Encoding.{Encoding}
+use Rattle.resolvo_pool_core.specs.RuleKeeping.{Packages, Rules, is_in, IsRuleKeeping}
+use Rattle.resolvo_sat.specs.declared.analyze.FinalConflict.{FinalConflict}
+use Rattle.resolvo_sat.specs.Analysis.{IsRefusal}
+use Rattle.resolvo_soundness.specs.Ending.{IsAccepted}
+use Rattle.resolvo_state.specs.Chosen.{choices}
+use Rattle.resolvo_state.specs.declared.solver_state.SolverState.{SolverState}
+use Rattle.resolvo_encoder.specs.declared.encoder.Encoder.{Encoder}
 use Rattle.resolvo.specs.Solution.{IsSolution, IsUnsolvable}
 use Rattle.resolvo.specs.Wished.{IsReasonOf}
-use Rattle.resolvo.specs.declared.wishing.Wished.{Wished}
-use Rattle.resolvo.specs.declared.wishing.Wished.TheVariants.{Stood, Chosen, Refused, Clash}
+use Rattle.resolvo.specs.declared.soft_requirements.SoftOutcome.{SoftOutcome}
+use Rattle.resolvo.specs.declared.soft_requirements.SoftOutcome.TheVariants.{Stood, Chosen, Refused, Clash}
 use Rattle.resolvo.specs.declared.turns.Turn.{Turn}
 use Rattle.resolvo.specs.declared.turns.Turns.{Turns}
 
@@ -73,11 +73,11 @@ module _ {N S : Type 0} (same : S → S → Bool) (p : Packages N S) (root : Rul
     pub whole : end_of first (reverse told) ≡ length chosen
 
 -- the solvables that the trail chooses, in its order
-abbrev pub on_trail : {N S : Type 0} → Encoding N S → List S
+abbrev pub on_trail : {N S : Type 0} → Encoder N S → List S
 on_trail e = choices e.coding.atoms.keys e.coding.search.tracker.trail
 
 -- these are what the trail chooses, in its order, and the noted wishes are the accepted ones
-pub record AreAt {N S : Type 0} (e : Encoding N S) (t : Turns S) : Type 0 where
+pub record AreAt {N S : Type 0} (e : Encoder N S) (t : Turns S) : Type 0 where
   pub chosen : t.chosen.keys ≡ on_trail e
   pub wishes : e.noted.wishes.items ≡ accepted_of (reverse t.turns.items)
 
@@ -88,30 +88,30 @@ pub record AreRight {N S : Type 0} (same : S → S → Bool) (p : Packages N S) 
 
 -- An accepted wish has no step. The step of a refused one is that of a learnt clause, which denies nothing but the wish and what
 -- was chosen before its turn.
-pub record HasReason {N S : Type 0} (c : Coding N S) (chosen : List S) (t : Turn S) : Type 0 where
+pub record HasReason {N S : Type 0} (c : SolverState N S) (chosen : List S) (t : Turn S) : Type 0 where
   pub accepted : t.accepted ≡ true → t.step ≡ None
   pub refused : t.accepted ≡ false → (k : ℕ) × (t.step ≡ Some k) × IsReasonOf c (IsDeniable chosen t) (suc k)
 
 -- each turn has
-abbrev pub HaveReasons : {N S : Type 0} → Coding N S → Turns S → Type 0
+abbrev pub HaveReasons : {N S : Type 0} → SolverState N S → Turns S → Type 0
 HaveReasons {N} {S} c t = (turn : Turn S) → Contains t.turns.items turn → HasReason c t.chosen.keys turn
 
 -- whether the wish's turn accepted it
-abbrev pub was_accepted : Wished → Bool
+abbrev pub was_accepted : SoftOutcome → Bool
 was_accepted Stood = true
 was_accepted Chosen = true
 was_accepted (Refused clause) = false
 was_accepted (Clash r) = false
 
 -- the proof's step of the clause that tells why it was not
-abbrev pub step_of : Wished → Option ℕ
+abbrev pub step_of : SoftOutcome → Option ℕ
 step_of Stood = None
 step_of Chosen = None
 step_of (Refused clause) = Some (clause.0 - 1)
 step_of (Clash r) = None
 
 -- the turn tells what it came to
-pub record Tells {S : Type 0} (wish : S) (begin end_ : ℕ) (wished : Wished) (t : Turn S) : Type 0 where
+pub record Tells {S : Type 0} (wish : S) (begin end_ : ℕ) (wished : SoftOutcome) (t : Turn S) : Type 0 where
   pub solvable : t.solvable ≡ wish
   pub begin_is : t.begin ≡ begin
   pub end_is : t.end ≡ end_
@@ -119,18 +119,18 @@ pub record Tells {S : Type 0} (wish : S) (begin end_ : ℕ) (wished : Wished) (t
   pub step : t.step ≡ step_of wished
 
 -- it came behind the others
-pub record Records {S : Type 0} (wish : S) (begin : ℕ) (wished : Wished) (old new : Turns S) : Type 0 where
+pub record Records {S : Type 0} (wish : S) (begin : ℕ) (wished : SoftOutcome) (old new : Turns S) : Type 0 where
   pub turn : Turn S
   pub tells : Tells wish begin (length old.chosen.keys) wished turn
   pub chosen : new.chosen ≡ old.chosen
   pub turns : new.turns.items ≡ old.turns.items ++ turn ∷ []
 
 -- what was chosen is right after these wishes, and each turn has its reason; or the rules can't all be kept
-abbrev pub IsNextRight : {N S : Type 0} → (S → S → Bool) → Packages N S → Rules → ℕ → List S → Encoding N S → Turns S → Option Refusal → Type 0
+abbrev pub IsNextRight : {N S : Type 0} → (S → S → Bool) → Packages N S → Rules → ℕ → List S → Encoder N S → Turns S → Option FinalConflict → Type 0
 IsNextRight same p root first wishes e t None = AreRight same p root first wishes t × HaveReasons e.coding t
 IsNextRight same p root first wishes e t (Some r) = IsUnsolvable same p root
 
 -- what is told of the turns stands; or this clause can't be true
-abbrev pub StandSo : {N S : Type 0} → Encoding N S → Turns S → Option Refusal → Type 0
+abbrev pub StandSo : {N S : Type 0} → Encoder N S → Turns S → Option FinalConflict → Type 0
 StandSo e t None = AreAt e t
 StandSo e t (Some r) = IsRefusal e.coding.search r.literals.items r.causes.items × (r.literals.items ≡ [])

@@ -1,27 +1,27 @@
 -- What the turn of a wish comes to.
 use Rattle.std.specs.Prelude.{◌≡◌, ◌⊎◌, ◌<◌, ℕ, Bool, true, ⊤, List, [], ◌∷◌, ◌++◌, Some, None, Contains, slice_get}
-use Rattle.resolvo_pool.specs.declared.id.ClauseId.{ClauseId}
-use Rattle.resolvo_pool.specs.declared.id.VariableId.{VariableId}
-use Rattle.resolvo_pool.specs.Provider.{listed}
-use Rattle.resolvo_pool.specs.RuleKeeping.{Packages, Rules, is_in, IsRuleKeeping}
-use Rattle.resolvo_store.specs.AtMostOne.{IsFrontOf}
-use Rattle.resolvo_store.specs.Clauses.{yes, no, root as root_variable}
-use Rattle.resolvo_store.specs.Signed.{Signed, has}
-use Rattle.resolvo_search.specs.declared.state.HeldClause.{HeldClause}
-use Rattle.resolvo_search.specs.Analysis.{IsRefusal}
-use Rattle.resolvo_search.specs.Entries.{made_true, EndsWith}
-use Rattle.resolvo_search.specs.State.{history}
-use Rattle.resolvo_coding.specs.declared.atom.ProofAtom.TheVariants.{Solvable}
-use Rattle.resolvo_coding.specs.Atoms.{StandsFor}
-use Rattle.resolvo_coding.specs.Coding.{Grows}
-use Rattle.resolvo_coding.specs.declared.coding.Coding.{Coding}
-use Rattle.resolvo_coding.specs.Statements.{stated_at}
-use Rattle.resolvo_coding.specs.declared.stated.Stated.TheVariants.{Learnt}
-use Rattle.resolvo_search.specs.declared.analysis.Refusal.{Refusal}
-use Rattle.resolvo_encoding.specs.Base.{base_of, IsOpen}
-use Rattle.resolvo_encoding.specs.declared.encoding.Encoding.{Encoding}
-use Rattle.resolvo.specs.declared.wishing.Wished.{Wished}
-use Rattle.resolvo.specs.declared.wishing.Wished.TheVariants.{Stood, Chosen, Refused, Clash}
+use Rattle.resolvo_pool_core.specs.declared.id.ClauseId.{ClauseId}
+use Rattle.resolvo_pool_core.specs.declared.id.VariableId.{VariableId}
+use Rattle.resolvo_pool_core.specs.Provider.{listed}
+use Rattle.resolvo_pool_core.specs.RuleKeeping.{Packages, Rules, is_in, IsRuleKeeping}
+use Rattle.resolvo_store_core.specs.AtMostOne.{IsFrontOf}
+use Rattle.resolvo_store_core.specs.Clauses.{yes, no, root as root_variable}
+use Rattle.resolvo_store_core.specs.Signed.{Signed, has}
+use Rattle.resolvo_sat.specs.declared.state.SatClause.{SatClause}
+use Rattle.resolvo_sat.specs.Analysis.{IsRefusal}
+use Rattle.resolvo_sat.specs.Entries.{made_true, EndsWith}
+use Rattle.resolvo_sat.specs.State.{history}
+use Rattle.resolvo_state.specs.declared.atom.ProofAtom.TheVariants.{Solvable}
+use Rattle.resolvo_state.specs.Atoms.{StandsFor}
+use Rattle.resolvo_state.specs.Coding.{Grows}
+use Rattle.resolvo_state.specs.declared.solver_state.SolverState.{SolverState}
+use Rattle.resolvo_state.specs.Statements.{stated_at}
+use Rattle.resolvo_state.specs.declared.clause_kind.Stated.TheVariants.{Learnt}
+use Rattle.resolvo_sat.specs.declared.analyze.FinalConflict.{FinalConflict}
+use Rattle.resolvo_encoder.specs.Base.{base_of, IsOpen}
+use Rattle.resolvo_encoder.specs.declared.encoder.Encoder.{Encoder}
+use Rattle.resolvo.specs.declared.soft_requirements.SoftOutcome.{SoftOutcome}
+use Rattle.resolvo.specs.declared.soft_requirements.SoftOutcome.TheVariants.{Stood, Chosen, Refused, Clash}
 use Rattle.resolvo.specs.Solution.{IsUnsolvable}
 use Rattle.resolvo_turn.specs.Turn.{IsRefusedBy, IsRooted, IsTurn}
 
@@ -34,24 +34,24 @@ abbrev pub AreCandidates : {N S : Type 0} → (S → S → Bool) → Packages N 
 AreCandidates {N} {S} same p list = (s : S) → Contains list s → IsCandidate same p s
 
 -- the trail chooses the solvable
-abbrev pub IsTrue : {N S : Type 0} → Encoding N S → S → Type 0
+abbrev pub IsTrue : {N S : Type 0} → Encoder N S → S → Type 0
 IsTrue e s = (u : VariableId) × StandsFor e.coding.atoms.keys u (Solvable s) × (has (made_true (history e.coding.search)) (yes u) ≡ true)
 
 -- the literal denies the root, or one of these solvables
-abbrev pub DeniesOne : {N S : Type 0} → Coding N S → (S → Type 0) → Signed → Type 0
+abbrev pub DeniesOne : {N S : Type 0} → SolverState N S → (S → Type 0) → Signed → Type 0
 DeniesOne {N} {S} c among l = (l ≡ no root_variable) ⊎ ((t : S) × (u : VariableId) × (l ≡ no u) × StandsFor c.atoms.keys u (Solvable t) × among t)
 
 -- The clause of this number, which is not the root's, was learnt, and denies nothing but these solvables.
-pub record IsReasonOf {N S : Type 0} (c : Coding N S) (among : S → Type 0) (number : ℕ) : Type 0 where
+pub record IsReasonOf {N S : Type 0} (c : SolverState N S) (among : S → Type 0) (number : ℕ) : Type 0 where
   pub later : 0 < number
-  pub held : HeldClause
+  pub held : SatClause
   pub stands : slice_get c.search.clauses number ≡ Some held
   pub learnt : stated_at c.stated.items number ≡ Some Learnt
   pub denies : (l : Signed) → has held.literals.items l ≡ true → DeniesOne c among l
 
 -- What the trail made true stands, the newest entries apart, clauses came behind the others, and the root still is the first
 -- parent.
-pub record KeepsTrail {N S : Type 0} (old new : Encoding N S) : Type 0 where
+pub record KeepsTrail {N S : Type 0} (old new : Encoder N S) : Type 0 where
   pub atoms : IsFrontOf old.coding.atoms.keys new.coding.atoms.keys
   pub clauses : IsFrontOf old.coding.search.clauses new.coding.search.clauses
   pub stated : IsFrontOf old.coding.stated.items new.coding.stated.items
@@ -60,50 +60,50 @@ pub record KeepsTrail {N S : Type 0} (old new : Encoding N S) : Type 0 where
 
 -- Where the wish was chosen, it is noted behind the accepted ones, and its turn has ended. Where it was refused, the trail and the
 -- accepted ones are what they were.
-abbrev pub IsOutcome : {N S : Type 0} → (S → S → Bool) → S → Encoding N S → Encoding N S → Wished → Type 0
+abbrev pub IsOutcome : {N S : Type 0} → (S → S → Bool) → S → Encoder N S → Encoder N S → SoftOutcome → Type 0
 IsOutcome same s old new Stood = (new.noted.wishes.items ≡ old.noted.wishes.items ++ s ∷ []) × (history new.coding.search ≡ history old.coding.search) × IsTrue new s
 IsOutcome same s old new Chosen = (new.noted.wishes.items ≡ old.noted.wishes.items ++ s ∷ []) × ((v : VariableId) × StandsFor new.coding.atoms.keys v (Solvable s) × IsTurn same (Some v) new None)
 IsOutcome same s old new (Refused clause) = (new.noted.wishes.items ≡ old.noted.wishes.items) × (history new.coding.search ≡ history old.coding.search) × (IsTrue new s → ⊥)
 IsOutcome same s old new (Clash r) = IsRefusal new.coding.search r.literals.items r.causes.items × (r.literals.items ≡ [])
 
 -- the variable is that of the last wish
-abbrev pub IsLast : {N S : Type 0} → Encoding N S → VariableId → Type 0
+abbrev pub IsLast : {N S : Type 0} → Encoder N S → VariableId → Type 0
 IsLast {N} {S} e v = (front : List S) × (s : S) × (e.noted.wishes.items ≡ front ++ s ∷ []) × StandsFor e.coding.atoms.keys v (Solvable s)
 
 -- the turn is that of the last wish, and is refused
-abbrev pub IsRefusable : {N S : Type 0} → Encoding N S → Refusal → Type 0
+abbrev pub IsRefusable : {N S : Type 0} → Encoder N S → FinalConflict → Type 0
 IsRefusable e r = (v : VariableId) × IsOpen e v × IsLast e v × IsRefusedBy (Some v) e r
 
 -- the clause has these literals, and was learnt
-pub record IsLearntAs {N S : Type 0} (c : Coding N S) (literals : List Signed) (clause : ClauseId) : Type 0 where
+pub record IsLearntAs {N S : Type 0} (c : SolverState N S) (literals : List Signed) (clause : ClauseId) : Type 0 where
   pub later : 0 < clause.0
-  pub held : HeldClause
+  pub held : SatClause
   pub stands : slice_get c.search.clauses clause.0 ≡ Some held
   pub learnt : stated_at c.stated.items clause.0 ≡ Some Learnt
   pub is : held.literals.items ≡ literals
 
 -- Where the refusal has literals, they are those of a clause more, the trail is what it was before the turn, and the wish is noted
 -- no more. Else nothing changed.
-abbrev pub IsTurnedDown : {N S : Type 0} → Refusal → Encoding N S → Encoding N S → Wished → Type 0
+abbrev pub IsTurnedDown : {N S : Type 0} → FinalConflict → Encoder N S → Encoder N S → SoftOutcome → Type 0
 IsTurnedDown refusal old new Stood = ⊥
 IsTurnedDown refusal old new Chosen = ⊥
 IsTurnedDown {N} {S} refusal old new (Refused clause) = (history new.coding.search ≡ base_of old) × ((front : List S) (s : S) → old.noted.wishes.items ≡ front ++ s ∷ [] → new.noted.wishes.items ≡ front) × IsLearntAs new.coding refusal.literals.items clause
 IsTurnedDown refusal old new (Clash r) = (r ≡ refusal) × (r.literals.items ≡ []) × (new ≡ old)
 
 -- clauses may have come, and what variables stand for, candidates and parents are what they were
-pub record KeepsRest {N S : Type 0} (old new : Encoding N S) : Type 0 where
+pub record KeepsRest {N S : Type 0} (old new : Encoder N S) : Type 0 where
   pub grows : Grows old.coding new.coding
   pub lists : new.lists ≡ old.lists
   pub parents : new.parents ≡ old.parents
 
 module _ {N S : Type 0} (same : S → S → Bool) (p : Packages N S) (root : Rules) where
   -- no rule-keeping set holds the solvable with all that the trail chooses
-  abbrev pub IsDenied : Encoding N S → S → Type 0
+  abbrev pub IsDenied : Encoder N S → S → Type 0
   IsDenied e s = (set : List S) → IsRuleKeeping same p root set → ((t : S) → IsTrue e t → is_in same p set t ≡ true) → is_in same p set s ≡ true → ⊥
 
   -- What is told of the wish is true: it is refused only where no rule-keeping set holds it with what was chosen before its turn,
   -- and by a clause that denies nothing else.
-  abbrev pub IsTold : Encoding N S → Encoding N S → S → Wished → Type 0
+  abbrev pub IsTold : Encoder N S → Encoder N S → S → SoftOutcome → Type 0
   IsTold old new s Stood = ⊤
   IsTold old new s Chosen = ⊤
   IsTold old new s (Refused clause) = IsDenied old s × IsReasonOf new.coding (λ t. (t ≡ s) ⊎ IsTrue old t) clause.0

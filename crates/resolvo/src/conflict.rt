@@ -1,31 +1,31 @@
 //! The conflict of a search that found no solution: its clauses, and the graph that tells people of them.
 ghost use Rattle.std.specs.Prelude.{◌≡◌, length, IfOk, IfErr};
-ghost use Rattle.resolvo_pool.specs.RuleKeeping.{Rules};
-ghost use Rattle.resolvo_answers.specs.Answering.{offered_solvables};
-ghost use Rattle.resolvo_cache.specs.Cached.{IsCancelledBy};
+ghost use Rattle.resolvo_pool_core.specs.RuleKeeping.{Rules};
+ghost use Rattle.resolvo_packages.specs.Answering.{offered_solvables};
+ghost use Rattle.resolvo_pool.specs.Cached.{IsCancelledBy};
 ghost use Rattle.resolvo.specs.Conflicts.{AreOffers, IsLeft};
 ghost use Rattle.resolvo.specs.Solver.{HoldsConflict, IsGraphOf, IsTrueOf, TellsConflict};
 ghost use Rattle.resolvo_turn.specs.Encoder.{IsRoot};
 ghost use Rattle.resolvo.specs.Solving.{IsSolved, EndsSo, Counts};
 ghost use Rattle.resolvo.specs.Wished.{AreCandidates};
 
-use crate::proving::{Solved, solve};
-use crate::search::Found;
+use crate::prove::{Solved, solve};
+use crate::search::SearchResult;
 use crate::solver::Solver;
-use resolvo_answers::answering::{Answering, Offered};
-use resolvo_cache::cache::CacheFault;
 use resolvo_conflict::graph::conflict_graph;
 use resolvo_conflict::offers::Offers;
 use resolvo_conflict::rules::requirements_of;
 use resolvo_graph::display_unsat::DisplayUnsat;
 use resolvo_graph::graph::ConflictGraph;
-use resolvo_pool::id::{ClauseId, VersionSetId};
-use resolvo_pool::id_map::ScoreMap;
-use resolvo_pool::provider::DependencyProvider;
-use resolvo_pool::requirement::ConditionalRequirement;
-use resolvo_pool::want::R;
+use resolvo_packages::package_source::{Offered, PackageSource};
+use resolvo_pool::cache::CacheFault;
+use resolvo_pool_core::id::{ClauseId, VersionSetId};
+use resolvo_pool_core::id_map::ScoreMap;
+use resolvo_pool_core::provider::DependencyProvider;
+use resolvo_pool_core::requirement::ConditionalRequirement;
+use resolvo_pool_core::want::R;
 use resolvo_proof::step::ProofStep;
-use resolvo_turn::deciding::Activity;
+use resolvo_turn::cdcl::Activity;
 use std::alloc::Global;
 
 /// The clauses that can't be true together.
@@ -96,7 +96,7 @@ fn solvables_of<N, S: Copy>(alloc: Global, offered: &[Offered<N, S>]) -> R<Vec<S
 }
 
 /// The candidates of the requirements that the rules of a conflict name, in the order in which they are tried.
-pub fn offers_for<A: Answering>(
+pub fn offers_for<A: PackageSource>(
     alloc: Global,
     answers: &mut A,
     steps: &[ProofStep<A::NameId, A::SolvableId>],
@@ -115,7 +115,7 @@ pub fn offers_for<A: Answering>(
 }
 
 /// What a search leaves for a conflict's graph: of a clash its clauses, and what was offered.
-fn conflict_left<A: Answering>(
+fn conflict_left<A: PackageSource>(
     alloc: Global,
     answers: &mut A,
     solved: &Solved<A::NameId, A::SolvableId>,
@@ -125,8 +125,8 @@ fn conflict_left<A: Answering>(
     ensures cancelled { IfErr result (IsCancelledBy (A.may_cancel answers.old)) }
 {
     match &solved.found {
-        Found::Chosen { .. } => Ok(None),
-        Found::Clash(refusal) => {
+        SearchResult::Chosen { .. } => Ok(None),
+        SearchResult::Clash(refusal) => {
             let offers = offers_for(alloc, answers, solved.proof.as_slice())?;
             let clauses = Vec::from_slice(alloc, refusal.causes.as_slice())?;
             Ok(Some(KeptConflict { clauses, offers }))
@@ -135,7 +135,7 @@ fn conflict_left<A: Answering>(
 }
 
 /// Searches as `solve` does. Of a clash it gives what a solver keeps of the conflict, too.
-pub(crate) fn solve_to_conflict<A: Answering, C: ScoreMap<A::NameId> + Drop>(
+pub(crate) fn solve_to_conflict<A: PackageSource, C: ScoreMap<A::NameId> + Drop>(
     alloc: Global,
     answers: &mut A,
     activity: Activity,

@@ -4,8 +4,8 @@
 
 pub mod conflict;
 pub mod problem;
-pub mod proving;
+pub mod prove;
 pub mod search;
+pub mod soft_requirements;
 pub mod solver;
 pub mod turns;
-pub mod wishing;

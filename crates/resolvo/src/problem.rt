@@ -2,8 +2,8 @@
 ghost use Rattle.std.specs.Prelude.{◌≡◌, [], None};
 ghost use Rattle.std.specs.Iterator.{at_most};
 
-use resolvo_pool::id::{SolvableId, VersionSetId};
-use resolvo_pool::requirement::ConditionalRequirement;
+use resolvo_pool_core::id::{SolvableId, VersionSetId};
+use resolvo_pool_core::requirement::ConditionalRequirement;
 use std::alloc::Global;
 use std::marker::PhantomData;
 

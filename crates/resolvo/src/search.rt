@@ -1,25 +1,25 @@
 //! A whole search for what a problem's root needs and for its wishes.
 ghost use Rattle.std.specs.Prelude.{◌≡◌, [], None, IfOk, IfErr, OnOk};
-ghost use Rattle.resolvo_cache.specs.Cached.{IsCancelledBy};
-ghost use Rattle.resolvo_pool.specs.RuleKeeping.{Rules};
-ghost use Rattle.resolvo_encoding.specs.Encoded.{IsEncoding};
-ghost use Rattle.resolvo_encoding.specs.Steps.{IsBegunEncoding, IsBuilt};
+ghost use Rattle.resolvo_pool.specs.Cached.{IsCancelledBy};
+ghost use Rattle.resolvo_pool_core.specs.RuleKeeping.{Rules};
+ghost use Rattle.resolvo_encoder.specs.Encoded.{IsEncoding};
+ghost use Rattle.resolvo_encoder.specs.Steps.{IsBegunEncoding, IsBuilt};
 ghost use Rattle.resolvo_turn.specs.Encoder.{IsInOrder, IsRoot};
 ghost use Rattle.resolvo_turn.specs.Turn.{IsRooted, IsTurn};
 ghost use Rattle.resolvo.specs.Wished.{AreCandidates};
 ghost use Rattle.resolvo.specs.Solving.{IsFound, IsFoundIn, IsListedIn, IsPreferred, IsSearch, IsDenial, IsProvable};
 
+use crate::soft_requirements::run_soft_requirements;
 use crate::turns::{Turn, Turns};
-use crate::wishing::run_wishes;
-use resolvo_answers::answering::Answering;
-use resolvo_cache::cache::CacheFault;
-use resolvo_encoding::encoding::Encoding;
-use resolvo_pool::id::{Exact, VersionSetId};
-use resolvo_pool::id_map::ScoreMap;
-use resolvo_pool::requirement::ConditionalRequirement;
-use resolvo_pool::want::R;
-use resolvo_search::analysis::Refusal;
-use resolvo_turn::deciding::Activity;
+use resolvo_encoder::encoder::Encoder;
+use resolvo_packages::package_source::PackageSource;
+use resolvo_pool::cache::CacheFault;
+use resolvo_pool_core::id::{Exact, VersionSetId};
+use resolvo_pool_core::id_map::ScoreMap;
+use resolvo_pool_core::requirement::ConditionalRequirement;
+use resolvo_pool_core::want::R;
+use resolvo_sat::analyze::FinalConflict;
+use resolvo_turn::cdcl::Activity;
 use resolvo_turn::turn::run_turn;
 use std::alloc::Global;
 use std::fmt::Debug;
@@ -27,7 +27,7 @@ use std::hash::Hash;
 
 /// What was found.
 #[derive(Debug, Drop)]
-pub enum Found<S> {
+pub enum SearchResult<S> {
     /// What was chosen, each once and in the order of the trail, which is that in which it was: first in the root's turn, then in
     /// those of the wishes.
     Chosen {
@@ -35,39 +35,39 @@ pub enum Found<S> {
         turns: Vec<Turn<S>>,
     },
     /// The clauses can't be true together: no solvables keep all rules.
-    Clash(Refusal),
+    Clash(FinalConflict),
 }
 
 /// What was chosen in the turns; or why nothing can be.
 fn found_in<S: Copy + Exact + Hash + Debug>(
     alloc: Global,
     turns: Turns<S>,
-    clash: Option<Refusal>,
-) -> R<Found<S>>
+    clash: Option<FinalConflict>,
+) -> R<SearchResult<S>>
     ensures { IfOk result (IsFoundIn turns clash) }
 {
     match clash {
-        Some(refusal) => Ok(Found::Clash(refusal)),
+        Some(refusal) => Ok(SearchResult::Clash(refusal)),
         None => {
             let Turns { chosen, turns } = turns;
             let mut solvables = Vec::new(alloc);
             solvables.extend_from_slice(chosen.as_slice())?;
-            Ok(Found::Chosen { solvables, turns })
+            Ok(SearchResult::Chosen { solvables, turns })
         }
     }
 }
 
 /// The turns of the wishes, after the root's, and what was found in all of them.
-fn run_others<A: Answering, C: ScoreMap<A::NameId>>(
+fn run_others<A: PackageSource, C: ScoreMap<A::NameId>>(
     alloc: Global,
     answers: &mut A,
-    encoding: &mut Encoding<A::NameId, A::SolvableId>,
+    encoding: &mut Encoder<A::NameId, A::SolvableId>,
     scores: &mut C,
     activity: Activity,
     requirements: &[ConditionalRequirement],
     constraints: &[VersionSetId],
     wishes: &[A::SolvableId],
-) -> Result<Found<A::SolvableId>, CacheFault<A::Cancel>>
+) -> Result<SearchResult<A::SolvableId>, CacheFault<A::Cancel>>
     requires built { IsBuilt encoding.old }
     requires rooted { IsRooted encoding.old }
     requires ended { IsTurn A.SolvableId.eq None encoding.old None }
@@ -81,7 +81,7 @@ fn run_others<A: Answering, C: ScoreMap<A::NameId>>(
 {
     let mut turns = Turns::new(alloc);
     turns.list(alloc, encoding)?;
-    let clash = run_wishes(
+    let clash = run_soft_requirements(
         alloc,
         answers,
         encoding,
@@ -97,16 +97,16 @@ fn run_others<A: Answering, C: ScoreMap<A::NameId>>(
 }
 
 /// All turns, and what was found in them.
-fn run_turns<A: Answering, C: ScoreMap<A::NameId>>(
+fn run_turns<A: PackageSource, C: ScoreMap<A::NameId>>(
     alloc: Global,
     answers: &mut A,
-    encoding: &mut Encoding<A::NameId, A::SolvableId>,
+    encoding: &mut Encoder<A::NameId, A::SolvableId>,
     scores: &mut C,
     activity: Activity,
     requirements: &[ConditionalRequirement],
     constraints: &[VersionSetId],
     wishes: &[A::SolvableId],
-) -> Result<Found<A::SolvableId>, CacheFault<A::Cancel>>
+) -> Result<SearchResult<A::SolvableId>, CacheFault<A::Cancel>>
     requires { IsBegunEncoding encoding.old }
     ensures same { answers.new ≡ answers.old }
     ensures found { IfOk result (λ f. (root : Rules) → IsRoot requirements.now constraints.now root → AreCandidates A.SolvableId.eq (A.packages answers.old) wishes.now → IsInOrder A.SolvableId.eq (A.packages answers.old) (A.orders answers.old) root encoding.old → IsInOrder A.SolvableId.eq (A.packages answers.old) (A.orders answers.old) root encoding.new × IsFound A.SolvableId.eq (A.packages answers.old) root wishes.now encoding.new f × IsPreferred A.SolvableId.eq (A.packages answers.old) (A.orders answers.old) root f) }
@@ -126,7 +126,7 @@ fn run_turns<A: Answering, C: ScoreMap<A::NameId>>(
         None,
     )?;
     if let Some(refusal) = turn {
-        return Ok(Found::Clash(refusal));
+        return Ok(SearchResult::Clash(refusal));
     }
     let found = run_others(
         alloc,
@@ -145,15 +145,15 @@ fn run_turns<A: Answering, C: ScoreMap<A::NameId>>(
 /// takes candidates in the order in which they are tried; then for the wishes, in their order. The solvables come in the order in
 /// which the trail made them true. What it encodes stands in the encoding, which has just begun. It stops with `Memory`, `Ids`,
 /// or a value with which the answers are cancelled.
-pub fn search<A: Answering, C: ScoreMap<A::NameId> + Drop>(
+pub fn search<A: PackageSource, C: ScoreMap<A::NameId> + Drop>(
     alloc: Global,
     answers: &mut A,
-    encoding: &mut Encoding<A::NameId, A::SolvableId>,
+    encoding: &mut Encoder<A::NameId, A::SolvableId>,
     activity: Activity,
     requirements: &[ConditionalRequirement],
     constraints: &[VersionSetId],
     wishes: &[A::SolvableId],
-) -> Result<Found<A::SolvableId>, CacheFault<A::Cancel>>
+) -> Result<SearchResult<A::SolvableId>, CacheFault<A::Cancel>>
     requires { IsBegunEncoding encoding.old }
     ensures same { answers.new ≡ answers.old }
     ensures found { IfOk result (λ f. (root : Rules) → IsRoot requirements.now constraints.now root → AreCandidates A.SolvableId.eq (A.packages answers.old) wishes.now → IsEncoding A.SolvableId.eq (A.packages answers.old) root encoding.old → IsSearch A.SolvableId.eq (A.packages answers.old) (A.orders answers.old) root wishes.now encoding.new f) }

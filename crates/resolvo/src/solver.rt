@@ -4,23 +4,23 @@ ghost use Rattle.std.specs.Bool.{Decides};
 ghost use Rattle.std.specs.Option.{option_map};
 ghost use Rattle.std.specs.Iterator.{IsFinite};
 ghost use Rattle.std.specs.Iterator.Runs.{WholeRun};
-ghost use Rattle.resolvo_answers.specs.Answering.{packages_by, orders_by};
+ghost use Rattle.resolvo_packages.specs.Answering.{packages_by, orders_by};
 ghost use Rattle.resolvo.specs.Wished.{AreCandidates};
 ghost use Rattle.resolvo.specs.Conflicts.{Left, left_of};
 ghost use Rattle.resolvo.specs.Solver.{HoldsConflict, Kept, IfEnded, IsAnswer, IsStopped, Keeps, Leaves, root_of, stopped_by};
 
 use crate::conflict::{Conflict, KeptConflict, solve_to_conflict};
 use crate::problem::Problem;
-use crate::proving::Solved;
-use crate::search::Found;
+use crate::prove::Solved;
+use crate::search::SearchResult;
 use crate::turns::Turn;
-use resolvo_answers::answers::Answers;
-use resolvo_cache::cache::CacheFault;
 use resolvo_conflict::offers::Offers;
-use resolvo_pool::provider::DependencyProvider;
-use resolvo_pool::solver_id::SolverId;
+use resolvo_packages::cached_packages::CachedPackages;
+use resolvo_pool::cache::CacheFault;
+use resolvo_pool_core::provider::DependencyProvider;
+use resolvo_pool_core::solver_id::SolverId;
 use resolvo_proof::step::ProofStep;
-use resolvo_turn::deciding::Activity;
+use resolvo_turn::cdcl::Activity;
 use std::alloc::Global;
 use std::marker::Model;
 use thiserror::Error;
@@ -58,7 +58,7 @@ impl<C> From<CacheFault<C>> for UnsolvableOrCancelled<C> {
 #[derive(Drop)]
 pub struct Solver<D: DependencyProvider> {
     alloc: Global,
-    answers: Answers<D>,
+    answers: CachedPackages<D>,
     activity: Activity,
     clause_count: usize,
     deferred_count: usize,
@@ -104,11 +104,11 @@ impl<D: DependencyProvider> Solver<D> {
         self.proof = proof;
         self.conflict = conflict;
         match found {
-            Found::Chosen { solvables, turns } => {
+            SearchResult::Chosen { solvables, turns } => {
                 self.turns = turns;
                 Ok(solvables)
             }
-            Found::Clash(refusal) => Err(UnsolvableOrCancelled::Unsolvable(Conflict {
+            SearchResult::Clash(refusal) => Err(UnsolvableOrCancelled::Unsolvable(Conflict {
                 clauses: refusal.causes,
             })),
         }
@@ -120,7 +120,7 @@ impl<D: DependencyProvider> Solver<D> {
     {
         Solver {
             alloc,
-            answers: Answers::new(alloc, provider),
+            answers: CachedPackages::new(alloc, provider),
             activity: Activity::standard(),
             clause_count: 0,
             deferred_count: 0,
@@ -241,7 +241,7 @@ impl<D: DependencyProvider> Solver<D> {
             Ok(wishes) => wishes,
             Err(_) => return Err(UnsolvableOrCancelled::Memory),
         };
-        match solve_to_conflict::<Answers<D>, <D::NameId as SolverId>::Scores>(
+        match solve_to_conflict::<CachedPackages<D>, <D::NameId as SolverId>::Scores>(
             self.alloc,
             &mut self.answers,
             self.activity,

@@ -1,14 +1,14 @@
 //! The turns of wishes, as a solver tells of them, and the solvables that were chosen in them.
 ghost use Rattle.std.specs.Prelude.{◌≡◌, [], OnOk, IfOk};
 ghost use Rattle.indexmap.specs.IndexSet.{insert_all};
-ghost use Rattle.resolvo_store.specs.AtMostOne.{IsFrontOf};
+ghost use Rattle.resolvo_store_core.specs.AtMostOne.{IsFrontOf};
 ghost use Rattle.resolvo.specs.Turns.{Records, Tells, on_trail};
 
-use crate::wishing::Wished;
+use crate::soft_requirements::SoftOutcome;
 use indexmap::IndexSet;
-use resolvo_encoding::encoding::{Encoding, add_key};
-use resolvo_pool::id::Exact;
-use resolvo_pool::want::R;
+use resolvo_encoder::encoder::{Encoder, add_key};
+use resolvo_pool_core::id::Exact;
+use resolvo_pool_core::want::R;
 use std::alloc::Global;
 use std::fmt::Debug;
 use std::hash::Hash;
@@ -50,7 +50,7 @@ impl<S: Copy + Exact + Hash + Debug> Turns<S> {
     pub fn list<N: Copy + Exact + Hash + Debug>(
         &mut self,
         alloc: Global,
-        encoding: &Encoding<N, S>,
+        encoding: &Encoder<N, S>,
     ) -> R<()>
         ensures listed { OnOk result (IsFrontOf self.old.chosen.keys self.new.chosen.keys) }
         ensures in_order { OnOk result (self.new.chosen.keys ≡ insert_all S.eq self.old.chosen.keys (on_trail encoding.now)) }
@@ -62,7 +62,7 @@ impl<S: Copy + Exact + Hash + Debug> Turns<S> {
     }
 
     /// Notes the turn of a wish that began when so many solvables were chosen.
-    pub fn record(&mut self, wish: S, begin: usize, wished: Wished) -> R<()>
+    pub fn record(&mut self, wish: S, begin: usize, wished: SoftOutcome) -> R<()>
         ensures { OnOk result (Records wish begin wished self.old self.new) }
     {
         let end = self.chosen.len();
@@ -72,14 +72,14 @@ impl<S: Copy + Exact + Hash + Debug> Turns<S> {
 }
 
 /// What a wish's turn came to.
-fn turn_of<S>(wish: S, begin: usize, end: usize, wished: Wished) -> Turn<S>
+fn turn_of<S>(wish: S, begin: usize, end: usize, wished: SoftOutcome) -> Turn<S>
     ensures { Tells wish begin end wished result }
 {
     let (accepted, step) = match wished {
-        Wished::Stood => (true, None),
-        Wished::Chosen => (true, None),
-        Wished::Refused(clause) => (false, Some((clause.0 as usize).saturating_sub(1))),
-        Wished::Clash(_) => (false, None),
+        SoftOutcome::Stood => (true, None),
+        SoftOutcome::Chosen => (true, None),
+        SoftOutcome::Refused(clause) => (false, Some((clause.0 as usize).saturating_sub(1))),
+        SoftOutcome::Clash(_) => (false, None),
     };
     Turn {
         solvable: wish,

@@ -1,13 +1,13 @@
 -- The tests that `==` runs are those that definitions name.
 use Rattle.std.proofs.Common.{◌≡◌, Bool, true, false, refl}
 use Rattle.std.specs.Prelude.{◌==◌}
-use Rattle.resolvo_pool.specs.declared.id.StringId.{StringId}
-use Rattle.resolvo_pool.specs.declared.requirement.Requirement.{Requirement}
-use Rattle.resolvo_pool.specs.declared.requirement.Requirement.TheVariants.{Single, Union}
-use Rattle.resolvo_pool.specs.contracts.requirement.RequirementPartialEq.TheImpl as Requirements
+use Rattle.resolvo_pool_core.specs.declared.id.StringId.{StringId}
+use Rattle.resolvo_pool_core.specs.declared.requirement.Requirement.{Requirement}
+use Rattle.resolvo_pool_core.specs.declared.requirement.Requirement.TheVariants.{Single, Union}
+use Rattle.resolvo_pool_core.specs.contracts.requirement.RequirementPartialEq.TheImpl as Requirements
 use Rattle.resolvo_graph.specs.declared.graph.ConflictNode.{ConflictNode}
 use Rattle.resolvo_graph.specs.declared.graph.ConflictNode.TheVariants.{Root, Solvable, UnresolvedDependency, Excluded}
-use Rattle.resolvo_rules.specs.Encoding.{same_requirement}
+use Rattle.resolvo_soundness.specs.Encoding.{same_requirement}
 use Rattle.resolvo_conflict.specs.Tests.{same_node}
 
 pub requirement_test : Requirements.eq-value.it ≡ same_requirement

@@ -7,12 +7,12 @@ use Rattle.std.proofs.lemmas.List.{length-take, length-set, get_or-take, get_or-
 use Rattle.std.proofs.lemmas.List.Sums.{passes_at_first}
 use Rattle.std.proofs.lemmas.List.Elements.{All-nil, All-cons, All-head, All-tail, All-append, All-contains}
 use Rattle.std.proofs.lemmas.Option.{same_Some, slice_get-get_or, slice_get_within, get_or_from_slice_get}
-use Rattle.resolvo_pool.specs.declared.id.ConditionId.{ConditionId}
-use Rattle.resolvo_pool.specs.declared.requirement.Requirement.{Requirement}
-use Rattle.resolvo_pool.specs.RuleKeeping.{Packages, Rules}
-use Rattle.resolvo_rules.specs.Encoding.{Atom, IsExact, IsRule, same_requirement}
-use Rattle.resolvo_rules.proofs.Lists.{any_contained, contains_none, contains_cases, contains_first, contains_later}
-use Rattle.resolvo_rules.proofs.Members.{same_requirement_true, same_requirement-self}
+use Rattle.resolvo_pool_core.specs.declared.id.ConditionId.{ConditionId}
+use Rattle.resolvo_pool_core.specs.declared.requirement.Requirement.{Requirement}
+use Rattle.resolvo_pool_core.specs.RuleKeeping.{Packages, Rules}
+use Rattle.resolvo_soundness.specs.Encoding.{Atom, IsExact, IsRule, same_requirement}
+use Rattle.resolvo_soundness.proofs.Lists.{any_contained, contains_none, contains_cases, contains_first, contains_later}
+use Rattle.resolvo_soundness.proofs.Members.{same_requirement_true, same_requirement-self}
 use Rattle.resolvo_graph.specs.declared.graph.NodeIndex.{NodeIndex}
 use Rattle.resolvo_graph.specs.declared.graph.ConflictNode.{ConflictNode}
 use Rattle.resolvo_graph.specs.declared.graph.ConflictNode.TheVariants.{Root, Solvable, UnresolvedDependency, Excluded}

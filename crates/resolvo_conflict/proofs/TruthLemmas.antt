@@ -6,14 +6,14 @@ use Rattle.std.specs.Option.{option_or, option_to_list}
 use Rattle.std.proofs.lemmas.Bool.{eqb-true, and_parts, both_ways}
 use Rattle.std.proofs.lemmas.List.Elements.{All-nil, All-cons, All-head, All-tail, All-append, All-map, All-filter, filter_passes, All-weaker, All-contains_itself, Contains-get_or, Contains-append_right}
 use Rattle.std.proofs.lemmas.List.Folds.{list_any_at, Any-from_list_any}
-use Rattle.resolvo_pool.specs.declared.id.ConditionId.{ConditionId}
-use Rattle.resolvo_pool.specs.declared.id.VersionSetId.{VersionSetId}
-use Rattle.resolvo_pool.specs.declared.requirement.ConditionalRequirement.{ConditionalRequirement}
-use Rattle.resolvo_pool.specs.declared.requirement.Requirement.{Requirement}
-use Rattle.resolvo_pool.specs.declared.requirement.Requirement.TheVariants.{Single, Union}
-use Rattle.resolvo_pool.specs.RuleKeeping.{Packages, Rules, rules_of, is_in, is_outside, meets, rules_for}
-use Rattle.resolvo_rules.specs.Encoding as Encoding
-use Rattle.resolvo_rules.specs.Encoding.{IsExact, IsRule, KeepsOut, asks, has_condition, same_requirement}
+use Rattle.resolvo_pool_core.specs.declared.id.ConditionId.{ConditionId}
+use Rattle.resolvo_pool_core.specs.declared.id.VersionSetId.{VersionSetId}
+use Rattle.resolvo_pool_core.specs.declared.requirement.ConditionalRequirement.{ConditionalRequirement}
+use Rattle.resolvo_pool_core.specs.declared.requirement.Requirement.{Requirement}
+use Rattle.resolvo_pool_core.specs.declared.requirement.Requirement.TheVariants.{Single, Union}
+use Rattle.resolvo_pool_core.specs.RuleKeeping.{Packages, Rules, rules_of, is_in, is_outside, meets, rules_for}
+use Rattle.resolvo_soundness.specs.Encoding as Encoder
+use Rattle.resolvo_soundness.specs.Encoding.{IsExact, IsRule, KeepsOut, asks, has_condition, same_requirement}
 use Rattle.resolvo_graph.specs.Tree.{same_set}
 use Rattle.resolvo_proof.specs.declared.step.ProofRule.{ProofRule}
 use Rattle.resolvo_proof.specs.declared.step.ProofRule.TheVariants.{Needs, GateOf, Shared, Limit, Outside, Locked, Excluded, Digit, AtLeastOne}
@@ -67,10 +67,10 @@ asked_need list q h =
 module _ {N S : Type 0} (same_name : N → N → Bool) (names : IsExact same_name) (same : S → S → Bool) (exact : IsExact same) (name_of : S → N) (p : Packages N S) (root : Rules) (of : (s : S) → p.package_of s ≡ name_of s) where
   -- what a link says
   abbrev pub IsTrueLink : Link S → Type 0
-  IsTrueLink (Links.Excluded s why) = KeepsOut same p (Encoding.Bar.word why) s
+  IsTrueLink (Links.Excluded s why) = KeepsOut same p (Encoder.Bar.word why) s
   IsTrueLink (Links.Requires parent q None) = Asks same p root parent q × ((s : S) → meets same p q s ≡ false)
   IsTrueLink (Links.Requires parent q (Some t)) = Asks same p root parent q × (meets same p q t ≡ true)
-  IsTrueLink (Links.Locked locked s) = KeepsOut same p (Encoding.Bar.lock locked) s
+  IsTrueLink (Links.Locked locked s) = KeepsOut same p (Encoder.Bar.lock locked) s
   IsTrueLink (Links.Instance None s) = Unit {0}
   IsTrueLink (Links.Instance (Some b) s) = p.package_of b ≡ p.package_of s
   IsTrueLink (Links.Constrains parent v s) = Contains (rules_for same p root parent).constraints v × (is_outside same p v s ≡ true)

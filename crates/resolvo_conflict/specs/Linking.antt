@@ -2,14 +2,14 @@
 use Rattle.std.specs.Prelude.{Bool, true, not, cond, List, [], ◌∷◌, ◌++◌, map, filter, Option, Some, None}
 use Rattle.std.specs.List.{flat_map, filter_map, list_any}
 use Rattle.std.specs.Option.{option_or, option_and_then, option_to_list}
-use Rattle.resolvo_pool.specs.declared.id.VersionSetId.{VersionSetId}
-use Rattle.resolvo_pool.specs.declared.requirement.Requirement.{Requirement}
+use Rattle.resolvo_pool_core.specs.declared.id.VersionSetId.{VersionSetId}
+use Rattle.resolvo_pool_core.specs.declared.requirement.Requirement.{Requirement}
 use Rattle.resolvo_proof.specs.declared.step.ProofRule.{ProofRule}
 use Rattle.resolvo_proof.specs.declared.step.ProofRule.TheVariants.{Needs, GateOf, Shared, Limit, Outside, Locked, Excluded, Digit, AtLeastOne}
 use Rattle.resolvo_conflict.specs.declared.link.Link.{Link}
 use Rattle.resolvo_conflict.specs.declared.link.Link.TheVariants as Links
 use Rattle.resolvo_graph.specs.Tree.{same_set}
-use Rattle.resolvo_rules.specs.Encoding.{same_requirement}
+use Rattle.resolvo_soundness.specs.Encoding.{same_requirement}
 use Rattle.resolvo_conflict.specs.Tests.{same_limited}
 
 -- who opens the gate of which requirement

@@ -1,8 +1,8 @@
 -- Which candidates were offered for which requirement.
 use Rattle.std.specs.Prelude.{◌≡◌, Bool, true, List, [], Option, Some, None, Vec, is_some, cond}
 use Rattle.std.specs.declared.alloc.Global.{Global}
-use Rattle.resolvo_pool.specs.declared.requirement.Requirement.{Requirement}
-use Rattle.resolvo_pool.specs.ByRequirement.{slot_of}
+use Rattle.resolvo_pool_core.specs.declared.requirement.Requirement.{Requirement}
+use Rattle.resolvo_pool_core.specs.ByRequirement.{slot_of}
 use Rattle.resolvo_conflict.specs.declared.offers.Offers.{Offers}
 
 abbrev pub items_or_none : {X : Type 0} → Option (Vec X Global) → List X

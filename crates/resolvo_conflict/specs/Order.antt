@@ -2,12 +2,12 @@
 use Rattle.std.specs.Prelude.{ℕ, zero, suc, ◌-◌, nat_eq, nat_lt, Bool, List, [], ◌∷◌, length, reverse, filter, slice_get, Option, Some, None}
 use Rattle.std.specs.List.{flat_map, filter_map}
 use Rattle.indexmap.specs.IndexSet.{insert_all}
-use Rattle.resolvo_pool.specs.declared.requirement.Requirement.{Requirement}
+use Rattle.resolvo_pool_core.specs.declared.requirement.Requirement.{Requirement}
 use Rattle.resolvo_proof.specs.declared.step.ProofRule.{ProofRule}
 use Rattle.resolvo_proof.specs.declared.step.ProofRule.TheVariants.{Needs, GateOf, Shared, Limit, Outside, Locked, Excluded, Digit, AtLeastOne}
 use Rattle.resolvo_proof.specs.declared.step.ProofStep.{ProofStep}
 use Rattle.resolvo_proof.specs.declared.step.ProofStep.TheVariants.{Rule, Derived}
-use Rattle.resolvo_rules.specs.Encoding.{same_requirement}
+use Rattle.resolvo_soundness.specs.Encoding.{same_requirement}
 
 abbrev pub is_earlier : ℕ → ℕ → Bool
 is_earlier place cause = nat_lt cause place

@@ -1,11 +1,11 @@
 -- When an edge of a conflict's graph is true of a provider's packages and a problem's root.
 use Rattle.std.specs.Prelude.{◌≡◌, ◌⊎◌, Bool, true, false, List, Option, Some, Contains, All, slice_get}
-use Rattle.resolvo_pool.specs.declared.id.StringId.{StringId}
-use Rattle.resolvo_pool.specs.declared.requirement.ConditionalRequirement.{ConditionalRequirement}
-use Rattle.resolvo_pool.specs.declared.requirement.Requirement.{Requirement}
-use Rattle.resolvo_pool.specs.RuleKeeping.{Packages, Rules, is_in, is_outside, meets, rules_for}
-use Rattle.resolvo_rules.specs.Encoding as Encoding
-use Rattle.resolvo_rules.specs.Encoding.{Atom, KeepsOut}
+use Rattle.resolvo_pool_core.specs.declared.id.StringId.{StringId}
+use Rattle.resolvo_pool_core.specs.declared.requirement.ConditionalRequirement.{ConditionalRequirement}
+use Rattle.resolvo_pool_core.specs.declared.requirement.Requirement.{Requirement}
+use Rattle.resolvo_pool_core.specs.RuleKeeping.{Packages, Rules, is_in, is_outside, meets, rules_for}
+use Rattle.resolvo_soundness.specs.Encoding as Encoder
+use Rattle.resolvo_soundness.specs.Encoding.{Atom, KeepsOut}
 use Rattle.resolvo_graph.specs.declared.graph.ConflictNode.{ConflictNode}
 use Rattle.resolvo_graph.specs.declared.graph.ConflictNode.TheVariants as Nodes
 use Rattle.resolvo_graph.specs.declared.graph.ConflictCause.TheVariants as Causes
@@ -35,9 +35,9 @@ module _ {N S : Type 0} (same : S → S → Bool) (p : Packages N S) (root : Rul
   abbrev pub IsTrue : ConflictEdge S → ConflictNode S → ConflictNode S → Type 0
   IsTrue (Edges.Requires q) source target = IsTrueNeed q source target
   IsTrue (Edges.Conflict (Causes.Constrains v)) source target = (parent : Option S) × (s : S) × (source ≡ parent_node parent) × (target ≡ Nodes.Solvable s) × Contains (rules_for same p root parent).constraints v × (is_outside same p v s ≡ true)
-  IsTrue (Edges.Conflict (Causes.Locked locked)) source target = (s : S) × (source ≡ Nodes.Root) × (target ≡ Nodes.Solvable s) × KeepsOut same p (Encoding.Bar.lock locked) s
+  IsTrue (Edges.Conflict (Causes.Locked locked)) source target = (s : S) × (source ≡ Nodes.Root) × (target ≡ Nodes.Solvable s) × KeepsOut same p (Encoder.Bar.lock locked) s
   IsTrue (Edges.Conflict Causes.ForbidMultipleInstances) source target = (s t : S) × (source ≡ Nodes.Solvable s) × (target ≡ Nodes.Solvable t) × (p.package_of s ≡ p.package_of t)
-  IsTrue (Edges.Conflict Causes.Excluded) source target = (s : S) × (why : StringId) × (source ≡ Nodes.Solvable s) × (target ≡ Nodes.Excluded why) × KeepsOut same p (Encoding.Bar.word why) s
+  IsTrue (Edges.Conflict Causes.Excluded) source target = (s : S) × (why : StringId) × (source ≡ Nodes.Solvable s) × (target ≡ Nodes.Excluded why) × KeepsOut same p (Encoder.Bar.word why) s
 
   -- the ends of the edge are nodes, and what it says of them is true
   pub record IsTrueEdge (nodes : List (ConflictNode S)) (e : Edge S) : Type 0 where

@@ -3,7 +3,7 @@
 ghost use Rattle.std.specs.Prelude.{◌≡◌, ◌<◌, ◌++◌, length, IfOk, OnOk, IsOkUnless};
 ghost use Rattle.indexmap.specs.IndexSet.{insert_key, insert_all};
 ghost use Rattle.resolvo_graph.specs.declared.graph.ConflictNode.{ConflictNode};
-ghost use Rattle.resolvo_pool.specs.declared.want.Want.TheVariants.{Memory};
+ghost use Rattle.resolvo_pool_core.specs.declared.want.Want.TheVariants.{Memory};
 ghost use Rattle.resolvo_conflict.specs.Offered.{offered_by};
 ghost use Rattle.resolvo_conflict.specs.Order.{conflict_rules};
 ghost use Rattle.resolvo_conflict.specs.Tests.{same_node};
@@ -12,13 +12,13 @@ ghost use Rattle.resolvo_conflict.specs.Truth.{TellsTruth};
 ghost use Rattle.resolvo_conflict.specs.Drawing.{index_among, edges_in, drawn, conflict_drawing};
 
 use crate::link::Link;
-use crate::linking::{each_limit_once, links_of};
+use crate::link_rules::{each_limit_once, links_of};
 use crate::offers::Offers;
 use crate::rules::conflict_rules;
 use resolvo_graph::graph::{ConflictGraph, ConflictNode, NodeIndex};
-use resolvo_pool::id::Exact;
-use resolvo_pool::provider::Interner;
-use resolvo_pool::want::R;
+use resolvo_pool_core::id::Exact;
+use resolvo_pool_core::provider::Interner;
+use resolvo_pool_core::want::R;
 use resolvo_proof::step::ProofStep;
 use std::alloc::Global;
 use std::fmt::Debug;

@@ -3,6 +3,6 @@
 
 pub mod graph;
 pub mod link;
-mod linking;
+mod link_rules;
 pub mod offers;
 pub mod rules;

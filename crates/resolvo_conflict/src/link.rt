@@ -4,8 +4,8 @@ ghost use Rattle.std.specs.Prelude.{◌≡◌};
 ghost use Rattle.resolvo_conflict.specs.Links.{parent_node, source_of, target_of, weight_of};
 
 use resolvo_graph::graph::{ConflictCause, ConflictEdge, ConflictNode};
-use resolvo_pool::id::{StringId, VersionSetId};
-use resolvo_pool::requirement::Requirement;
+use resolvo_pool_core::id::{StringId, VersionSetId};
+use resolvo_pool_core::requirement::Requirement;
 use std::alloc::AllocError;
 
 /// An edge, by what stands at its ends. A parent is a solvable, or none for the root.

@@ -1,13 +1,13 @@
 //! The candidates that were offered for requirements, each list in the order in which it is tried.
 //! Whoever draws a conflict fills it first, from what the solver asked its provider.
 ghost use Rattle.std.specs.Prelude.{◌≡◌, [], IfOk, OnOk, OnErr, IsErrOf, IsOkUnless, true, false};
-ghost use Rattle.resolvo_pool.specs.declared.requirement.Requirement.{Requirement};
-ghost use Rattle.resolvo_pool.specs.declared.want.Want.TheVariants.{Ids, Memory};
-ghost use Rattle.resolvo_pool.specs.ByRequirement.{index_in};
+ghost use Rattle.resolvo_pool_core.specs.declared.requirement.Requirement.{Requirement};
+ghost use Rattle.resolvo_pool_core.specs.declared.want.Want.TheVariants.{Ids, Memory};
+ghost use Rattle.resolvo_pool_core.specs.ByRequirement.{index_in};
 ghost use Rattle.resolvo_conflict.specs.Offered.{was_offered, offered_by, IsOffered};
 
-use resolvo_pool::requirement::{Requirement, RequirementMap};
-use resolvo_pool::want::R;
+use resolvo_pool_core::requirement::{Requirement, RequirementMap};
+use resolvo_pool_core::want::R;
 use std::alloc::Global;
 
 /// The candidates that were offered for requirements.

@@ -3,13 +3,13 @@
 //! causes in that same order, and each rule taken once, at its first place.
 ghost use Rattle.std.specs.Prelude.{◌≡◌, ◌++◌, IfOk, OnOk, IsOkUnless, filter, slice_get, option_and_then};
 ghost use Rattle.std.specs.Option.{option_copied};
-ghost use Rattle.resolvo_pool.specs.declared.want.Want.TheVariants.{Memory};
+ghost use Rattle.resolvo_pool_core.specs.declared.want.Want.TheVariants.{Memory};
 ghost use Rattle.resolvo_conflict.specs.Order.{conflict_order, conflict_rules, requirements_in, named_by, rule_in, is_earlier};
 
 use indexmap::IndexSet;
-use resolvo_pool::id::Exact;
-use resolvo_pool::requirement::Requirement;
-use resolvo_pool::want::R;
+use resolvo_pool_core::id::Exact;
+use resolvo_pool_core::requirement::Requirement;
+use resolvo_pool_core::want::R;
 use resolvo_proof::step::{ProofRule, ProofStep};
 use std::alloc::Global;
 use std::fmt::Debug;

@@ -10,11 +10,11 @@ use Rattle.std.proofs.lemmas.Bool.Decides.{nat_tests}
 use Rattle.std.proofs.lemmas.List.{map-append}
 use Rattle.std.proofs.lemmas.List.Folds.{list_any-append}
 use Rattle.std.proofs.lemmas.List.Elements.{All-nil, All-cons, All-head, All-tail, All-push}
-use Rattle.resolvo_pool.specs.declared.requirement.Requirement.{Requirement}
-use Rattle.resolvo_pool.specs.declared.requirement.Requirement.TheVariants.{Single, Union}
-use Rattle.resolvo_pool.specs.contracts.requirement.RequirementPartialEq.TheImpl as Requirements
-use Rattle.resolvo_graph.specs.declared.merging.Likeness.{Likeness}
-use Rattle.resolvo_graph.specs.declared.merging.Member.{Member}
+use Rattle.resolvo_pool_core.specs.declared.requirement.Requirement.{Requirement}
+use Rattle.resolvo_pool_core.specs.declared.requirement.Requirement.TheVariants.{Single, Union}
+use Rattle.resolvo_pool_core.specs.contracts.requirement.RequirementPartialEq.TheImpl as Requirements
+use Rattle.resolvo_graph.specs.declared.merge.Likeness.{Likeness}
+use Rattle.resolvo_graph.specs.declared.merge.Member.{Member}
 use Rattle.resolvo_graph.specs.Merging.{Profile, alike, same_neighbour, numbered, group, AreMembers, together, told_together, group_in}
 use Rattle.resolvo_graph.proofs.LinkLemmas.{or_true}
 

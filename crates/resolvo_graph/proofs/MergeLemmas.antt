@@ -8,7 +8,7 @@ use Rattle.std.proofs.lemmas.Bool.{eqb-true, eqb-false}
 use Rattle.std.proofs.lemmas.List.{take_more, length-take, append-nil, nil_from_length}
 use Rattle.resolvo_graph.specs.declared.graph.NodeIndex.{NodeIndex}
 use Rattle.resolvo_graph.specs.declared.graph.ConflictNode.{ConflictNode}
-use Rattle.resolvo_graph.specs.declared.merging.MergedConflictNode.{MergedConflictNode}
+use Rattle.resolvo_graph.specs.declared.merge.MergedConflictNode.{MergedConflictNode}
 use Rattle.resolvo_graph.specs.Kept.{ids_at}
 use Rattle.resolvo_graph.specs.Merging.{solvable_of, with_version, versions_from}
 

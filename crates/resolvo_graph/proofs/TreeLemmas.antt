@@ -8,9 +8,9 @@ use Rattle.std.proofs.Math.Nat.{mul-le-mul_left}
 use Rattle.std.proofs.lemmas.List.Elements.{All-nil, All-cons, All-head, All-tail, All-filter, All-append, All-map, All-same}
 use Rattle.std.proofs.lemmas.List.Sorted.{All-permutation, IsPermutation-reverse}
 use Rattle.std.specs.List.{list_any}
-use Rattle.resolvo_pool.specs.declared.id.StringId.{StringId}
-use Rattle.resolvo_pool.specs.declared.id.VersionSetId.{VersionSetId}
-use Rattle.resolvo_pool.specs.declared.requirement.Requirement.{Requirement as Need}
+use Rattle.resolvo_pool_core.specs.declared.id.StringId.{StringId}
+use Rattle.resolvo_pool_core.specs.declared.id.VersionSetId.{VersionSetId}
+use Rattle.resolvo_pool_core.specs.declared.requirement.Requirement.{Requirement as Need}
 use Rattle.resolvo_graph.specs.declared.graph.NodeIndex.{NodeIndex}
 use Rattle.resolvo_graph.specs.declared.graph.Edge.{Edge}
 use Rattle.resolvo_graph.specs.declared.line.Outlook.{Outlook}

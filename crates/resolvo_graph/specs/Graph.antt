@@ -1,8 +1,8 @@
 -- The conflict graph, as the list of its nodes and that of its edges, and what is read off it.
 use Rattle.std.specs.Prelude.{ℕ, ◌+◌, ◌==◌, ◌<◌, ◌&&◌, cond, Bool, true, false, List, [], ◌∷◌, Option, Some, None, filter, length, map, reverse, slice_get}
 use Rattle.std.specs.List.{list_any}
-use Rattle.resolvo_pool.specs.declared.id.VersionSetId.{VersionSetId}
-use Rattle.resolvo_pool.specs.declared.requirement.Requirement.{Requirement}
+use Rattle.resolvo_pool_core.specs.declared.id.VersionSetId.{VersionSetId}
+use Rattle.resolvo_pool_core.specs.declared.requirement.Requirement.{Requirement}
 use Rattle.resolvo_graph.specs.declared.graph.NodeIndex.{NodeIndex}
 use Rattle.resolvo_graph.specs.declared.graph.ConflictNode.{ConflictNode}
 use Rattle.resolvo_graph.specs.declared.graph.ConflictNode.TheVariants as Nodes

@@ -5,7 +5,7 @@ use Rattle.std.specs.HashMap.{HashMap, get}
 use Rattle.std.specs.declared.rc.Rc.{Rc}
 use Rattle.std.specs.declared.alloc.Global.{Global}
 use Rattle.resolvo_graph.specs.declared.graph.NodeIndex.{NodeIndex}
-use Rattle.resolvo_graph.specs.declared.merging.MergedConflictNode.{MergedConflictNode}
+use Rattle.resolvo_graph.specs.declared.merge.MergedConflictNode.{MergedConflictNode}
 use Rattle.resolvo_graph.specs.Graph.{Graph}
 use Rattle.resolvo_graph.specs.Tree.{Findings}
 

@@ -6,13 +6,13 @@ use Rattle.std.specs.Cmp.Lexicographic.{pointwise}
 use Rattle.std.specs.Option.{option_or as or_else, option_eq, option_cmp}
 use Rattle.std.specs.Ordering.{ordering_then, nat_cmp}
 use Rattle.std.specs.List.Sorted.{IsPermutation, IsSorted}
-use Rattle.resolvo_pool.specs.declared.requirement.Requirement.{Requirement}
-use Rattle.resolvo_pool.specs.contracts.requirement.RequirementPartialEq.TheImpl as Requirements
-use Rattle.resolvo_pool.specs.contracts.requirement.RequirementOrd.TheImpl as Orders
+use Rattle.resolvo_pool_core.specs.declared.requirement.Requirement.{Requirement}
+use Rattle.resolvo_pool_core.specs.contracts.requirement.RequirementPartialEq.TheImpl as Requirements
+use Rattle.resolvo_pool_core.specs.contracts.requirement.RequirementOrd.TheImpl as Orders
 use Rattle.resolvo_graph.specs.declared.graph.NodeIndex.{NodeIndex}
 use Rattle.resolvo_graph.specs.declared.graph.ConflictNode.{ConflictNode}
 use Rattle.resolvo_graph.specs.declared.graph.ConflictNode.TheVariants.{Root, Solvable, UnresolvedDependency, Excluded}
-use Rattle.resolvo_graph.specs.declared.merging.Member.{Member}
+use Rattle.resolvo_graph.specs.declared.merge.Member.{Member}
 use Rattle.resolvo_graph.specs.Graph.{Graph, requirement_of, edges_of, edges_to}
 
 -- a neighbour, with the requirement of the edge; none for a conflict

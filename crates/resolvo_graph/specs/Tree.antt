@@ -3,8 +3,8 @@ use Rattle.std.specs.Prelude.{◌==◌, ◌||◌, ◌++◌, Bool, true, false, n
 use Rattle.std.specs.List.{list_any, dedup}
 use Rattle.std.specs.Option.{option_or}
 use Rattle.indexmap.specs.IndexSet.{insert_all}
-use Rattle.resolvo_pool.specs.declared.id.StringId.{StringId}
-use Rattle.resolvo_pool.specs.declared.id.VersionSetId.{VersionSetId}
+use Rattle.resolvo_pool_core.specs.declared.id.StringId.{StringId}
+use Rattle.resolvo_pool_core.specs.declared.id.VersionSetId.{VersionSetId}
 use Rattle.resolvo_graph.specs.declared.graph.NodeIndex.{NodeIndex}
 use Rattle.resolvo_graph.specs.declared.graph.ConflictNode.{ConflictNode}
 use Rattle.resolvo_graph.specs.declared.graph.ConflictNode.TheVariants as Nodes

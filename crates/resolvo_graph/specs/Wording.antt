@@ -1,10 +1,10 @@
 -- How the lines of the message are worded.
 use Rattle.std.specs.Prelude.{ℕ, ◌==◌, ◌++◌, Bool, true, false, List, [], codes, length}
-use Rattle.resolvo_pool.specs.declared.id.StringId.{StringId}
-use Rattle.resolvo_pool.specs.declared.id.VersionSetId.{VersionSetId}
-use Rattle.resolvo_pool.specs.declared.id.VersionSetUnionId.{VersionSetUnionId}
-use Rattle.resolvo_pool.specs.declared.requirement.Requirement.{Requirement}
-use Rattle.resolvo_pool.specs.Text.{set_text, requirement_text}
+use Rattle.resolvo_pool_core.specs.declared.id.StringId.{StringId}
+use Rattle.resolvo_pool_core.specs.declared.id.VersionSetId.{VersionSetId}
+use Rattle.resolvo_pool_core.specs.declared.id.VersionSetUnionId.{VersionSetUnionId}
+use Rattle.resolvo_pool_core.specs.declared.requirement.Requirement.{Requirement}
+use Rattle.resolvo_pool_core.specs.Text.{set_text, requirement_text}
 use Rattle.resolvo_graph.specs.declared.line.Outlook.{Outlook}
 use Rattle.resolvo_graph.specs.declared.line.Outlook.TheVariants.{Missing, Installable, Hopeless}
 use Rattle.resolvo_graph.specs.declared.line.Verdict.{Verdict}

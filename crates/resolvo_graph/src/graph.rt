@@ -5,7 +5,7 @@
 ghost use Rattle.std.specs.Prelude.{◌≡◌, ◌<◌, ◌++◌, ◌∷◌, [], IfOk, OnOk, OnErr, IsOkUnless, length, map, filter, reverse, slice_get, Some, None, nat_lt};
 ghost use Rattle.std.specs.List.{position_or_len};
 ghost use Rattle.indexmap.specs.IndexSet.{insert_key};
-ghost use Rattle.resolvo_pool.specs.declared.want.Want.TheVariants.{Memory};
+ghost use Rattle.resolvo_pool_core.specs.declared.want.Want.TheVariants.{Memory};
 ghost use Rattle.resolvo_graph.specs.declared.graph.ConflictNode.TheVariants.{Root};
 ghost use Rattle.resolvo_graph.specs.Removal.{has_edge_at, moved, with_ends_moved, without_unused_unresolved};
 ghost use Rattle.resolvo_graph.specs.Links.{is_at, newest_of, linked_with_ends_moved};
@@ -15,9 +15,9 @@ use crate::links::{
     LinkedEdge, Links, Side, cover, move_links, newest_at_ends, newest_on, put_newest,
 };
 use indexmap::IndexSet;
-use resolvo_pool::id::{Exact, SolvableId, StringId, VersionSetId};
-use resolvo_pool::requirement::Requirement;
-use resolvo_pool::want::R;
+use resolvo_pool_core::id::{Exact, SolvableId, StringId, VersionSetId};
+use resolvo_pool_core::requirement::Requirement;
+use resolvo_pool_core::want::R;
 use std::alloc::Global;
 use std::hash::Hash;
 use std::marker::Model;

@@ -1,10 +1,10 @@
 //! The indent of a line of the message: which of the entries above it, and whether it itself, have
 //! siblings below. The model is the list of the levels.
 ghost use Rattle.std.specs.Prelude.{◌≡◌, ◌==◌, [], IfOk, IsOkUnless, length, Some};
-ghost use Rattle.resolvo_pool.specs.declared.want.Want.TheVariants.{Memory};
+ghost use Rattle.resolvo_pool_core.specs.declared.want.Want.TheVariants.{Memory};
 ghost use Rattle.resolvo_graph.specs.Indent.{own_sign, sign_above, shown_levels, indent_text, level_below};
 
-use resolvo_pool::want::R;
+use resolvo_pool_core::want::R;
 use std::alloc::Global;
 use std::fmt;
 use std::marker::Model;

@@ -6,7 +6,7 @@ pub mod graph;
 pub mod indenter;
 pub mod line;
 mod links;
-pub mod merging;
+pub mod merge;
 mod outlook;
 mod runs;
 mod tree;

@@ -5,9 +5,9 @@ ghost use Rattle.std.specs.Fmt.{WritesOnOk};
 ghost use Rattle.resolvo_graph.specs.Wording.{line_text, sentence_words, requirement_words, versions_words, set_words, admitted_words, constraint_words, words_before, words_behind, words_of};
 
 use crate::indenter::Indenter;
-use resolvo_pool::id::{SolvableId, StringId, VersionSetId};
-use resolvo_pool::provider::Interner;
-use resolvo_pool::requirement::{DisplayRequirement, Requirement};
+use resolvo_pool_core::id::{SolvableId, StringId, VersionSetId};
+use resolvo_pool_core::provider::Interner;
+use resolvo_pool_core::requirement::{DisplayRequirement, Requirement};
 use std::fmt;
 use std::marker::Model;
 

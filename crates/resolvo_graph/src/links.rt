@@ -2,12 +2,12 @@
 //! and to the one before it that enters its target; for each node the newest edges are known. So who
 //! goes from link to link meets the edges at one node alone, the newest first.
 ghost use Rattle.std.specs.Prelude.{◌≡◌, ℕ, ◌<◌, ◌≤◌, cond, Some, OnOk, IsOkUnless, length, vec_len};
-ghost use Rattle.resolvo_pool.specs.declared.want.Want.TheVariants.{Memory};
+ghost use Rattle.resolvo_pool_core.specs.declared.want.Want.TheVariants.{Memory};
 ghost use Rattle.resolvo_graph.specs.declared.links.Side.{Side};
 ghost use Rattle.resolvo_graph.specs.Links.{end_on, is_at, link_on, links_of, no_links, exchanged};
 
 use crate::graph::{Edge, EdgeIndex, NodeIndex};
-use resolvo_pool::want::R;
+use resolvo_pool_core::want::R;
 
 /// A side of a node.
 #[derive(Clone, Copy)]

@@ -3,15 +3,15 @@
 //! nodes in that order.
 ghost use Rattle.std.specs.Prelude.{◌≡◌, IfOk, OnOk, IsOkUnless};
 ghost use Rattle.std.specs.List.{list_any, list_all};
-ghost use Rattle.resolvo_pool.specs.declared.want.Want.TheVariants.{Memory};
+ghost use Rattle.resolvo_pool_core.specs.declared.want.Want.TheVariants.{Memory};
 ghost use Rattle.resolvo_graph.specs.Graph.{is_conflict};
 ghost use Rattle.resolvo_graph.specs.Outlook.{installable_in, missing_in, marked_along, can_be_installed, misses_one, has_target_in, has_targets_in};
 
 use crate::graph::{ConflictGraph, Edge, NodeIndex};
 use crate::runs::{Run, runs};
 use indexmap::IndexSet;
-use resolvo_pool::id::Exact;
-use resolvo_pool::want::R;
+use resolvo_pool_core::id::Exact;
+use resolvo_pool_core::want::R;
 use std::alloc::Global;
 use std::hash::Hash;
 

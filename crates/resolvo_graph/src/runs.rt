@@ -1,12 +1,12 @@
 //! Runs: stretches of neighbouring edges with one requirement. The message tells a requirement and
 //! its candidates once for each run.
 ghost use Rattle.std.specs.Prelude.{◌≡◌, ◌++◌, ◌∷◌, [], IfOk, OnOk, IsOkUnless};
-ghost use Rattle.resolvo_pool.specs.declared.want.Want.TheVariants.{Memory};
+ghost use Rattle.resolvo_pool_core.specs.declared.want.Want.TheVariants.{Memory};
 ghost use Rattle.resolvo_graph.specs.Runs.{runs_of, same_requirement, with_last};
 
 use crate::graph::{Edge, NodeIndex};
-use resolvo_pool::requirement::Requirement;
-use resolvo_pool::want::R;
+use resolvo_pool_core::requirement::Requirement;
+use resolvo_pool_core::want::R;
 use std::alloc::Global;
 use std::marker::Model;
 

@@ -16,12 +16,12 @@ ghost use Rattle.resolvo_graph.specs.Tree.{siblings, is_missing, candidates_at, 
 use crate::graph::{ConflictGraph, ConflictNode, Edge, NodeIndex};
 use crate::indenter::{ChildOrder, Indenter};
 use crate::line::{MessageLine, Outlook, Sentence, Verdict, Versions};
-use crate::merging::MergedConflictNode;
+use crate::merge::MergedConflictNode;
 use crate::outlook::has_some;
 use crate::runs::{Run, runs};
 use indexmap::IndexSet;
-use resolvo_pool::id::{Exact, SolvableId, StringId, VersionSetId};
-use resolvo_pool::want::R;
+use resolvo_pool_core::id::{Exact, SolvableId, StringId, VersionSetId};
+use resolvo_pool_core::want::R;
 use std::alloc::Global;
 use std::collections::HashMap;
 use std::fmt::Debug;

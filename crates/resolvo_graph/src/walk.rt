@@ -1,7 +1,7 @@
 //! The walk of the graph in post-order, from the root: a node is given after the nodes that its edges
 //! lead to, the oldest edge first. It ends on cyclic graphs, since each node is entered once.
 ghost use Rattle.std.specs.Prelude.{◌≡◌, ◌++◌, ◌∷◌, [], IfOk, OnOk, IsOkUnless, cond, map};
-ghost use Rattle.resolvo_pool.specs.declared.want.Want.TheVariants.{Memory};
+ghost use Rattle.resolvo_pool_core.specs.declared.want.Want.TheVariants.{Memory};
 ghost use Rattle.resolvo_graph.specs.Graph.{edges_of};
 ghost use Rattle.resolvo_graph.specs.Walk.{IsPostOrder, is_among};
 ghost use Rattle.resolvo_graph.specs.Steps.{steps_into};
@@ -9,8 +9,8 @@ ghost use Rattle.resolvo_graph.specs.declared.walk.Step.TheVariants.{Enter};
 
 use crate::graph::{ConflictGraph, Edge, NodeIndex};
 use indexmap::IndexSet;
-use resolvo_pool::id::Exact;
-use resolvo_pool::want::R;
+use resolvo_pool_core::id::Exact;
+use resolvo_pool_core::want::R;
 use std::alloc::Global;
 use std::hash::Hash;
 

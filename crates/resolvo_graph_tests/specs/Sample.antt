@@ -2,8 +2,8 @@
 use Rattle.std.specs.Prelude.{ℕ, ◌==◌, ◌/◌, ◌%◌, ◌++◌, List, [], ◌∷◌, cond, codes, nat_lt}
 use Rattle.std.specs.Fmt.{decimal}
 use Rattle.std.specs.List.{flat_map}
-use Rattle.resolvo_pool.specs.declared.id.DenseId.{DenseId}
-use Rattle.resolvo_pool.specs.declared.id.SolvableTag.{SolvableTag}
+use Rattle.resolvo_pool_core.specs.declared.id.DenseId.{DenseId}
+use Rattle.resolvo_pool_core.specs.declared.id.SolvableTag.{SolvableTag}
 
 -- the name of a package
 unfoldable pub letter : ℕ → List ℕ

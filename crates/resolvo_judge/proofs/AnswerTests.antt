@@ -3,12 +3,12 @@ use Rattle.std.specs.Prelude.{◌≡◌, ℕ, Bool, false, not, ◌&&◌, ◌||�
 use Rattle.std.specs.List.{list_any, list_all, flat_map}
 use Rattle.resolvo_text.specs.Line.{Version, Line, Needs, Wish}
 use Rattle.resolvo_text.specs.Matching.{Set, same_package, same_version, is_member, matches, condition_holds}
-use Rattle.resolvo_catalogue.specs.Grammar.{line_at, owner_of}
-use Rattle.resolvo_catalogue.specs.Rules.{keeps, keeps_in_request}
-use Rattle.resolvo_catalogue.specs.Answers as answer
-use Rattle.resolvo_catalogue.specs.Answers.{Answer, Reason, entries_of, wish_line_of}
+use Rattle.resolvo_catalogue_core.specs.Grammar.{line_at, owner_of}
+use Rattle.resolvo_catalogue_core.specs.Rules.{keeps, keeps_in_request}
+use Rattle.resolvo_catalogue_core.specs.Answers as answer
+use Rattle.resolvo_catalogue_core.specs.Answers.{Answer, Reason, entries_of, wish_line_of}
 use Rattle.resolvo_report.specs.Value.{Step}
-use Rattle.resolvo_steps.specs.StepClauses.{is_listed, is_owner}
+use Rattle.resolvo_checker.specs.StepClauses.{is_listed, is_owner}
 use Rattle.resolvo_judge.specs.Refusal.{step_bars}
 
 -- The line is a `needs` line, an alternative of which the version matches, and its condition holds among the entries.

@@ -8,17 +8,17 @@ use Rattle.std.proofs.lemmas.Bool.{false≢true, and_parts, eqb-true, false_from
 use Rattle.std.proofs.lemmas.Option.{slice_get_within}
 use Rattle.resolvo_text.specs.Line.{Version, Line}
 use Rattle.resolvo_text.specs.Matching.{Set, same_version, is_member}
-use Rattle.resolvo_catalogue.specs.Listed.{listed}
-use Rattle.resolvo_pool.specs.OnePass.{AreNamed, AreNamedClauses}
+use Rattle.resolvo_catalogue_core.specs.Listed.{listed}
+use Rattle.resolvo_pool_core.specs.OnePass.{AreNamed, AreNamedClauses}
 use Rattle.resolvo_report.specs.Value.{Atom, Chosen, AnyOf, SharedBy, OutsideOf, BitOf, Step}
-use Rattle.resolvo_steps.specs.declared.literal.Literal.{Literal}
-use Rattle.resolvo_steps.specs.Literals.{literals_of}
-use Rattle.resolvo_steps.specs.Numbers.{number_in, AreNumbers}
-use Rattle.resolvo_steps.specs.StepClauses.{Clause, clause_of}
-use Rattle.resolvo_steps.specs.Proof.{is_among, bars, IsProof}
+use Rattle.resolvo_checker.specs.declared.literal.Literal.{Literal}
+use Rattle.resolvo_checker.specs.Literals.{literals_of}
+use Rattle.resolvo_checker.specs.Numbers.{number_in, AreNumbers}
+use Rattle.resolvo_checker.specs.StepClauses.{Clause, clause_of}
+use Rattle.resolvo_checker.specs.Proof.{is_among, bars, IsProof}
 use Rattle.resolvo_judge.specs.Refusal.{step_bars}
-use Rattle.resolvo_steps.specs.Keys.{IsKey, Names}
-use Rattle.resolvo_steps.specs.Checking.{clause_or_none, StandFor}
+use Rattle.resolvo_checker.specs.Keys.{IsKey, Names}
+use Rattle.resolvo_checker.specs.Checking.{clause_or_none, StandFor}
 use Rattle.resolvo_judge.specs.KeptAnswers.{BarredWish}
 use Rattle.resolvo_judge.specs.Barring.{number_told, TellsVersions, version_told, is_barring, are_barring, clause_bars, is_barred}
 

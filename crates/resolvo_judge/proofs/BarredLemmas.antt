@@ -10,7 +10,7 @@ use Rattle.resolvo_text.specs.Matching.{Set}
 use Rattle.resolvo_report.specs.Value.{AnswerLine, Entry, Wished, LeftOut}
 use Rattle.resolvo_judge.specs.Entries.{entry_of, entries_of}
 use Rattle.resolvo_judge.specs.KeptAnswers.{BarredWish, barred_from}
-use Rattle.resolvo_steps.proofs.WholeProofs.{take_front}
+use Rattle.resolvo_checker.proofs.WholeProofs.{take_front}
 
 module _ (f : Set → Version → ℕ → Bool) (answers : List AnswerLine) where
   -- the wish is barred with the entries above it

@@ -5,11 +5,11 @@ use Rattle.std.proofs.lemmas.Bool.{false≢true}
 use Rattle.resolvo_text.specs.Line.{Line}
 use Rattle.resolvo_report.specs.Value.{Report, Install, Refused, Answer, Step, AnswerLine, ReportLine, InstallHead, RefusedHead, CatalogueLine, RequestLine, Numbered, Message}
 use Rattle.resolvo_report.specs.Text.{report_lines, numbered}
-use Rattle.resolvo_judge.specs.declared.judging.Judging.{Judging}
-use Rattle.resolvo_judge.specs.declared.log.Log.{Log}
+use Rattle.resolvo_judge.specs.declared.judge_state.JudgeState.{JudgeState}
+use Rattle.resolvo_judge.specs.declared.log.ProofState.{ProofState}
 use Rattle.resolvo_judge.specs.declared.entries.Entries.{Entries}
 use Rattle.resolvo_judge.specs.Log.{LogStands, is_head}
-use Rattle.resolvo_steps.specs.Proof.{IsProof, every_line, ends_empty}
+use Rattle.resolvo_checker.specs.Proof.{IsProof, every_line, ends_empty}
 use Rattle.resolvo_judge.specs.Entries.{entries_of}
 use Rattle.resolvo_judge.specs.Refusal.{answers_in, steps_in, is_refusal, step_bars, ArePassed}
 use Rattle.resolvo_judge.specs.Ending.{KeepsAll}
@@ -20,7 +20,7 @@ use Rattle.resolvo_judge.proofs.Accepted.{install_proof}
 use Rattle.resolvo_judge.proofs.BarredLemmas.{barred_each, barred_all}
 
 -- the last step of a refusal
-pub refused_ends : (catalogue request : List Line) (j : Judging) (r : Report) → j.refused ≡ true → Stands catalogue request j (report_lines r) → EndsSo catalogue request (report_lines r) j.log.ends_empty
+pub refused_ends : (catalogue request : List Line) (j : JudgeState) (r : Report) → j.refused ≡ true → Stands catalogue request j (report_lines r) → EndsSo catalogue request (report_lines r) j.log.ends_empty
 refused_ends catalogue request j (Install ls ss) refused stands = absurd (false≢true (sym stands.refused ∙ refused))
 refused_ends catalogue request j (Refused cs rs ss ms) refused stands = one j.log.ends_empty stands.log.ends where
   one : (b : Bool) → b ≡ ends_empty (steps_in (report_lines (Refused cs rs ss ms))) → EndsSo catalogue request (report_lines (Refused cs rs ss ms)) b
@@ -39,7 +39,7 @@ by_answer catalogue request rest true keeps told all = record {
 by_answer catalogue request rest false keeps told all = λ ends. false≢true (all ∙ barred_all (step_bars catalogue request (steps_in rest)) (answers_in rest) ends.barred)
 
 -- an install report: the entries keep all rules, the wishes are told, and those that are left out are barred
-pub install_ends : (catalogue request : List Line) (j : Judging) (r : Report) (fine : Bool) → is_refusal (report_lines r) ≡ false → ArePassed catalogue request (report_lines r) → Stands catalogue request j (report_lines r)
+pub install_ends : (catalogue request : List Line) (j : JudgeState) (r : Report) (fine : Bool) → is_refusal (report_lines r) ≡ false → ArePassed catalogue request (report_lines r) → Stands catalogue request j (report_lines r)
     → KeepsAll catalogue request (entries_of (answers_in (report_lines r))) true → AreWishesTold request (answers_in (report_lines r)) true
     → (IsProof catalogue request every_line every_line (steps_in (report_lines r)) → fine ≡ list_all (is_barred catalogue request (steps_in (report_lines r)) (entries_of (answers_in (report_lines r)))) (map barred_of j.entries.barred.items))
     → EndsSo catalogue request (report_lines r) fine
@@ -72,11 +72,11 @@ is_install_head (RequestLine n) head h = absurd cc
 is_install_head (Numbered n s) head h = absurd cc
 is_install_head (Message b) head h = absurd cc
 
-pub head_stands : (catalogue request : List Line) (l head : ReportLine) (refused : Bool) (given log : Log) (entries : Entries) → l ≡ head → answers_in (head ∷ []) ≡ [] → given ≡ log → refused ≡ is_refusal (l ∷ [])
+pub head_stands : (catalogue request : List Line) (l head : ReportLine) (refused : Bool) (given log : ProofState) (entries : Entries) → l ≡ head → answers_in (head ∷ []) ≡ [] → given ≡ log → refused ≡ is_refusal (l ∷ [])
     → LogStands catalogue request log.checker.numbers log.checker.clauses log.checker.places.items log.scope log.ends_empty (head ∷ []) → KeepsAnswers entries [] → KeepsLines request entries [] → Stands catalogue request (record { refused = refused; log = given; entries = entries }) (l ∷ [])
 head_stands catalogue request l head refused given log entries is none same refusal stands kept lines =
     subst (λ (x : ReportLine). Stands catalogue request (record { refused = refused; log = given; entries = entries }) (x ∷ [])) (sym is)
-    (subst (λ (g : Log). Stands catalogue request (record { refused = refused; log = g; entries = entries }) (head ∷ [])) (sym same) (record {
+    (subst (λ (g : ProofState). Stands catalogue request (record { refused = refused; log = g; entries = entries }) (head ∷ [])) (sym same) (record {
       refused = refusal ∙ ap (λ (x : ReportLine). is_refusal (x ∷ [])) is;
       log = stands;
       entries = subst (λ (xs : List AnswerLine). KeepsAnswers entries xs) (sym none) kept;

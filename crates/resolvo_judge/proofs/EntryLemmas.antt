@@ -6,14 +6,14 @@ use Rattle.std.proofs.lemmas.List.{append-nil, length-append, map_push}
 use Rattle.std.proofs.lemmas.List.Concat.{flat_map-append}
 use Rattle.std.proofs.lemmas.Bool.{and_parts, lt-ltb, ltb-true}
 use Rattle.resolvo_text.specs.Line.{Version, Line, Skipped, Listed, Needs, Limits, Unknown, Lock, Favour, Exclude, Wish}
-use Rattle.resolvo_steps.specs.Stated.{owned_line}
-use Rattle.resolvo_catalogue.specs.Questions.{wished_in}
+use Rattle.resolvo_checker.specs.Stated.{owned_line}
+use Rattle.resolvo_catalogue_core.specs.Questions.{wished_in}
 use Rattle.resolvo_text.specs.Matching.{Set, same_package, same_version, is_member}
 use Rattle.resolvo_report.specs.Value.{AnswerLine, Entry, Wished, LeftOut}
 use Rattle.resolvo_judge.specs.Entries.{entry_of, entries_of, left_out_of, left_out, wish_line_of, wish_lines, may_enter, gives, wishes, is_wish}
 use Rattle.resolvo_judge.specs.Refusal.{leaves_out}
-use Rattle.resolvo_catalogue.specs.Grammar.{line_at}
-use Rattle.resolvo_steps.proofs.Sets.{same_is, same_own}
+use Rattle.resolvo_catalogue_core.specs.Grammar.{line_at}
+use Rattle.resolvo_checker.proofs.Sets.{same_is, same_own}
 use Rattle.std.proofs.lemmas.Bool.Decides.{Decides-eqb}
 use Rattle.std.specs.HashMap.{get}
 use Rattle.std.specs.Map.{update}

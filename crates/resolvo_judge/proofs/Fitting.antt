@@ -7,18 +7,18 @@ use Rattle.std.proofs.lemmas.Bool.{false≢true, and_parts, and_from, or_parts, 
 use Rattle.std.proofs.lemmas.Option.{none-some, same_Some, slice_get-map}
 use Rattle.resolvo_text.specs.Line.{Version, Line, Skipped, Listed, Needs, Limits, Unknown, Lock, Favour, Exclude, Wish}
 use Rattle.resolvo_text.specs.Matching.{Set, same_package, same_version, is_member}
-use Rattle.resolvo_catalogue.specs.Grammar.{line_at, owner_of}
-use Rattle.resolvo_catalogue.specs.Rules.{keeps, keeps_in_request}
-use Rattle.resolvo_catalogue.specs.Answers as answer
-use Rattle.resolvo_catalogue.specs.Answers.{Answer}
+use Rattle.resolvo_catalogue_core.specs.Grammar.{line_at, owner_of}
+use Rattle.resolvo_catalogue_core.specs.Rules.{keeps, keeps_in_request}
+use Rattle.resolvo_catalogue_core.specs.Answers as answer
+use Rattle.resolvo_catalogue_core.specs.Answers.{Answer}
 use Rattle.resolvo_report.specs.Value.{OfRequest, OfVersion, AnswerLine, Entry, Wished, LeftOut, Step}
-use Rattle.resolvo_steps.specs.StepClauses.{is_listed, is_owner, line_of}
+use Rattle.resolvo_checker.specs.StepClauses.{is_listed, is_owner, line_of}
 use Rattle.resolvo_judge.specs.Entries as said
 use Rattle.resolvo_judge.specs.Entries.{answer_fits, may_enter, gives, wishes, left_out, is_reason}
 use Rattle.resolvo_judge.specs.Refusal.{answer_of, step_bars, leaves_out, InstallEnds}
 use Rattle.resolvo_judge.proofs.AnswerTests as test
 use Rattle.resolvo_judge.proofs.AnswerTests.{answer_passes, is_needed, is_wish, is_left_out, rises, leaves_out_at, AnswersEnd}
-use Rattle.resolvo_steps.proofs.Sets.{same_own, same_is}
+use Rattle.resolvo_checker.proofs.Sets.{same_own, same_is}
 
 -- ---- what both say of the lines
 

@@ -13,9 +13,9 @@ use Rattle.resolvo_text.specs.Line.{Line}
 use Rattle.resolvo_text.specs.Lines.{newlines}
 use Rattle.resolvo_text.specs.Spelling.{Words}
 use Rattle.resolvo_text.proofs.KnownBytes.{consumed}
-use Rattle.resolvo_catalogue.specs.Answers.{ClaimsInstall, ClaimsRefusal}
-use Rattle.resolvo_catalogue.specs.Listed.{listed}
-use Rattle.resolvo_catalogue.proofs.Pushed.{get_push}
+use Rattle.resolvo_catalogue_core.specs.Answers.{ClaimsInstall, ClaimsRefusal}
+use Rattle.resolvo_catalogue_core.specs.Listed.{listed}
+use Rattle.resolvo_catalogue_core.proofs.Pushed.{get_push}
 use Rattle.resolvo_report.specs.declared.place.Part.{Part}
 use Rattle.resolvo_report.specs.declared.place.Part.TheVariants as part
 use Rattle.resolvo_report.specs.declared.reader.ReportReader.{ReportReader}
@@ -30,16 +30,16 @@ use Rattle.resolvo_report.specs.Stream.{GivesLine, IsLineFault}
 use Rattle.resolvo_report.proofs.DraftLemmas.{push_answer, push_install_step, push_catalogue, push_request, push_refused_step, push_message, install_takes, no_install_head, no_refused_head, no_answer}
 use Rattle.resolvo_report.proofs.StreamLemmas.{ReadTo, first_newline, read_gives, read_whole}
 use Rattle.resolvo_report.proofs.WholeLines.{line_has_no_newline, same_line}
-use Rattle.resolvo_steps.specs.declared.clauses.Readings.{Readings}
-use Rattle.resolvo_judge.specs.declared.judging.Judging.{Judging}
+use Rattle.resolvo_checker.specs.declared.clauses.Readings.{Readings}
+use Rattle.resolvo_judge.specs.declared.judge_state.JudgeState.{JudgeState}
 use Rattle.resolvo_judge.specs.declared.judgement.Verdict.{Verdict}
 use Rattle.resolvo_judge.specs.declared.judgement.Verdict.TheVariants.{Yes, No}
-use Rattle.resolvo_steps.specs.Checking.{causes_in, count_causes}
+use Rattle.resolvo_checker.specs.Checking.{causes_in, count_causes}
 use Rattle.resolvo_judge.specs.Refusal.{answer_of, answer_in, answers_in, answers_claimed, step_in, steps_in, catalogue_line_in, catalogue_lines_in, request_line_in, request_lines_in, is_refusal, passes, Ends, ArePassed, IsAccepted}
 use Rattle.resolvo_judge.specs.Log.{is_head, causes_of_line}
 use Rattle.resolvo_judge.specs.Judging.{Stands, EndsSo}
 use Rattle.resolvo_judge.specs.Judgement.{IsClaimTrue, IsUpheld, causes_named, HoldsOn, IsRefusedAt, IsVerdict, ClaimsTruth, CountsReadings, CameRight, IsStop}
-use Rattle.resolvo_steps.proofs.WholeProofs.{take_front, count_push}
+use Rattle.resolvo_checker.proofs.WholeProofs.{take_front, count_push}
 use Rattle.resolvo_judge.proofs.LogLemmas.{one_more}
 use Rattle.resolvo_judge.proofs.Accepted.{install_true, refusal_true}
 
@@ -186,7 +186,7 @@ lines_within (l ∷ ls) =
 -- ---- the lines so far
 
 -- Of the bytes known at first, the lines of a report were read; all passed, and what is kept stands for them.
-pub record Reached (catalogue request : List Line) (known left : Option (List ℕ)) (r : ReportReader) (j : Judging) (readings : Readings) (next : ℕ) : Type 0 where
+pub record Reached (catalogue request : List Line) (known left : Option (List ℕ)) (r : ReportReader) (j : JudgeState) (readings : Readings) (next : ℕ) : Type 0 where
   pub report : Report
   pub read : ReadTo known left (report_lines report) r.part r.number r.lines.room
   pub part : r.part ≡ part_of report
@@ -200,7 +200,7 @@ pub record Reached (catalogue request : List Line) (known left : Option (List �
   pub named : readings.named ≡ causes_named report
   pub counted : readings.read ≡ causes_named report
 
-pub reached_first : (catalogue request : List Line) (known before after : Option (List ℕ)) (fresh r : ReportReader) (l : ReportLine) (j : Judging) (readings : Readings) → ReadTo known before [] fresh.part fresh.number fresh.lines.room → fresh.part ≡ part.Start
+pub reached_first : (catalogue request : List Line) (known before after : Option (List ℕ)) (fresh r : ReportReader) (l : ReportLine) (j : JudgeState) (readings : Readings) → ReadTo known before [] fresh.part fresh.number fresh.lines.room → fresh.part ≡ part.Start
     → GivesLine before fresh l after r → Stands catalogue request j (l ∷ []) → j.log.checker.truth.pass ≤ length j.log.checker.clauses → length j.log.checker.places.items ≡ length (listed catalogue) → length j.log.checker.clauses ≡ 0 → j.entries.chosen.count ≡ 0
     → readings.named ≡ 0 → readings.read ≡ 0 → Reached catalogue request known after r j readings 2
 reached_first catalogue request known before after fresh r l j readings nothing start g stands later long steps entries named read =
@@ -228,7 +228,7 @@ pub refusal_kept : (r : Report) (l : ReportLine) → is_refusal (report_lines r 
 refusal_kept (Install ls ss) l = refl
 refusal_kept (Refused cs rs ss ms) l = refl
 
-module _ (catalogue request : List Line) (known before after : Option (List ℕ)) (r s : ReportReader) (l : ReportLine) (j : Judging) (readings : Readings) (n : ℕ) (reached : Reached catalogue request known before r j readings n) (g : GivesLine before r l after s) where
+module _ (catalogue request : List Line) (known before after : Option (List ℕ)) (r s : ReportReader) (l : ReportLine) (j : JudgeState) (readings : Readings) (n : ℕ) (reached : Reached catalogue request known before r j readings n) (g : GivesLine before r l after s) where
   -- so many clauses were named, with those of the line
   pub few_causes : causes_named reached.report + causes_of_line l ≤ most_bytes
   few_causes = omega (arith, (lines_within (report_lines reached.report)).0, line_within l, length-append (line_text l) (codes "\n"), reached.read.used, g.room)
@@ -239,7 +239,7 @@ module _ (catalogue request : List Line) (known before after : Option (List ℕ)
   pub is_no_head : is_head l ≡ false
   is_no_head = no_head reached.report l s.part (ap (λ (p : Part). next_part p l) (sym reached.part) ∙ g.placed)
 
-  pub reached_more : (k : Judging) (after_readings : Readings) → passes catalogue request (report_lines reached.report) l ≡ true → Stands catalogue request k (report_lines reached.report ++ l ∷ []) → k.log.checker.truth.pass ≤ length k.log.checker.clauses
+  pub reached_more : (k : JudgeState) (after_readings : Readings) → passes catalogue request (report_lines reached.report) l ≡ true → Stands catalogue request k (report_lines reached.report ++ l ∷ []) → k.log.checker.truth.pass ≤ length k.log.checker.clauses
       → length k.log.checker.places.items ≡ length (listed catalogue) → length k.log.checker.clauses ≤ length j.log.checker.clauses + 1 → k.entries.chosen.count < j.entries.chosen.count + 2
       → after_readings.named ≡ readings.named + causes_of_line l → after_readings.read ≡ readings.read + causes_of_line l → Reached catalogue request known after s k after_readings (n + 1)
   reached_more k after_readings pass stands later long steps entries named read =
@@ -342,7 +342,7 @@ claim_true catalogue request (Refused cs rs ss ms) accepted =
     (subst (λ (xs : List ℕ). ClaimsRefusal catalogue request xs (request_lines_in (map CatalogueLine cs ++ map RequestLine rs ++ numbered 1 ss ++ map Message ms))) (catalogue_lines_are cs rs ss ms)
     (refusal_true catalogue request (map CatalogueLine cs ++ map RequestLine rs ++ numbered 1 ss ++ map Message ms) accepted))
 
-pub upheld : (catalogue request : List Line) (known left : Option (List ℕ)) (r : ReportReader) (j : Judging) (readings : Readings) (n : ℕ) (reached : Reached catalogue request known left r j readings n) → IsAtEnd left → IsTrue (may_end r.part) → EndsSo catalogue request (report_lines reached.report) true
+pub upheld : (catalogue request : List Line) (known left : Option (List ℕ)) (r : ReportReader) (j : JudgeState) (readings : Readings) (n : ℕ) (reached : Reached catalogue request known left r j readings n) → IsAtEnd left → IsTrue (may_end r.part) → EndsSo catalogue request (report_lines reached.report) true
     → IfKnown known (λ text. IsUpheld catalogue request text reached.report)
 upheld catalogue request known left r j readings n reached end may ends = λ text e. record {
   report = record { part = r.part; lines = reached.read.good; whole = may };

@@ -8,10 +8,10 @@ use Rattle.std.proofs.lemmas.List.Concat.{flat_map-append}
 use Rattle.resolvo_text.specs.Line.{Line}
 use Rattle.resolvo_report.specs.Value.{AnswerLine, ReportLine, InstallHead, RefusedHead, CatalogueLine, RequestLine, Numbered, Message, Step}
 use Rattle.resolvo_report.specs.Value as line
-use Rattle.resolvo_steps.specs.declared.literal.Literal.{Literal}
-use Rattle.resolvo_steps.specs.declared.checking.Scope.{Scope}
-use Rattle.resolvo_steps.specs.Proof.{may_stand, is_named, derives_empty, ends_empty}
-use Rattle.resolvo_steps.specs.Checking.{names_catalogue, names_request, StandFor}
+use Rattle.resolvo_checker.specs.declared.literal.Literal.{Literal}
+use Rattle.resolvo_checker.specs.declared.check_step.Premises.{Premises}
+use Rattle.resolvo_checker.specs.Proof.{may_stand, is_named, derives_empty, ends_empty}
+use Rattle.resolvo_checker.specs.Checking.{names_catalogue, names_request, StandFor}
 use Rattle.resolvo_judge.specs.Refusal.{answer_in, answers_in, step_in, steps_in, catalogue_line_in, catalogue_lines_in, request_line_in, request_lines_in, is_refusal, may_rest, passes}
 use Rattle.resolvo_judge.specs.Log.{LogStands}
 
@@ -39,7 +39,7 @@ rest_more above n s f none k =
     ap (λ xs. may_rest (above ++ Numbered n s ∷ []) xs k) (one_more f above (Numbered n s) [] none ∙ append-nil (flat_map f above))
     ∙ ap (λ b. cond b (is_named (flat_map f above) k) true) (refusal_more above (Numbered n s) refl)
 
-module _ (catalogue request : List Line) (entries : List (Vec ℕ × ℕ)) (clauses : List (List Literal)) (places : List (Option ℕ)) (scope : Scope) (empty : Bool) (above : List ReportLine) (stands : LogStands catalogue request entries clauses places scope empty above) where
+module _ (catalogue request : List Line) (entries : List (Vec ℕ × ℕ)) (clauses : List (List Literal)) (places : List (Option ℕ)) (scope : Premises) (empty : Bool) (above : List ReportLine) (stands : LogStands catalogue request entries clauses places scope empty above) where
   -- a step passes exactly where it may stand after what is kept
   pub passes_so : (n : ℕ) (s : Step) → may_stand catalogue request (names_catalogue scope) (names_request scope) (steps_in above) s ≡ passes catalogue request above (Numbered n s)
   passes_so n s =
@@ -78,7 +78,7 @@ module _ (catalogue request : List Line) (entries : List (Vec ℕ × ℕ)) (clau
   without_step : (l : ReportLine) → step_in l ≡ [] → steps_in (above ++ l ∷ []) ≡ steps_in above
   without_step l h = one_more step_in above l [] h ∙ append-nil (steps_in above)
 
-  pub catalogue_line_more : (after : Scope) (m : ℕ) → ((n : ℕ) → names_catalogue after n ≡ (eqb m n || names_catalogue scope n)) → ((n : ℕ) → names_request after n ≡ names_request scope n) → LogStands catalogue request entries clauses places after empty (above ++ CatalogueLine m ∷ [])
+  pub catalogue_line_more : (after : Premises) (m : ℕ) → ((n : ℕ) → names_catalogue after n ≡ (eqb m n || names_catalogue scope n)) → ((n : ℕ) → names_request after n ≡ names_request scope n) → LogStands catalogue request entries clauses places after empty (above ++ CatalogueLine m ∷ [])
   catalogue_line_more after m named others = record {
     steps = subst (λ (xs : List Step). StandFor catalogue request entries clauses places xs) (sym (without_step (CatalogueLine m) refl)) stands.steps;
     catalogue_lines = λ n. named n ∙ (rest_named (is_refusal above) (catalogue_lines_in above) m n (names_catalogue scope n) (stands.catalogue_lines n) ∙ sym (lines_more (CatalogueLine m) catalogue_line_in (m ∷ []) refl refl n));
@@ -86,7 +86,7 @@ module _ (catalogue request : List Line) (entries : List (Vec ℕ × ℕ)) (clau
     ends = stands.ends ∙ ap ends_empty (sym (without_step (CatalogueLine m) refl));
   }
 
-  pub request_line_more : (after : Scope) (m : ℕ) → ((n : ℕ) → names_request after n ≡ (eqb m n || names_request scope n)) → ((n : ℕ) → names_catalogue after n ≡ names_catalogue scope n) → LogStands catalogue request entries clauses places after empty (above ++ RequestLine m ∷ [])
+  pub request_line_more : (after : Premises) (m : ℕ) → ((n : ℕ) → names_request after n ≡ (eqb m n || names_request scope n)) → ((n : ℕ) → names_catalogue after n ≡ names_catalogue scope n) → LogStands catalogue request entries clauses places after empty (above ++ RequestLine m ∷ [])
   request_line_more after m named others = record {
     steps = subst (λ (xs : List Step). StandFor catalogue request entries clauses places xs) (sym (without_step (RequestLine m) refl)) stands.steps;
     catalogue_lines = λ n. others n ∙ (stands.catalogue_lines n ∙ sym (lines_more (RequestLine m) catalogue_line_in [] refl refl n ∙ ap (λ xs. may_rest above xs n) (append-nil (catalogue_lines_in above))));

@@ -13,7 +13,7 @@ use Rattle.resolvo_report.specs.Grammar.{next_part, part_after, may_end, AreLine
 use Rattle.resolvo_report.specs.declared.place.Part.{Part}
 use Rattle.resolvo_report.specs.declared.place.Part.TheVariants as part
 use Rattle.resolvo_judge.specs.Refusal.{step_in, steps_in, passes, Ends, ArePassed, IsAccepted}
-use Rattle.resolvo_steps.specs.Proof.{ends_empty}
+use Rattle.resolvo_checker.specs.Proof.{ends_empty}
 use Rattle.resolvo_judge.specs.Judgement.{IsUpheld}
 
 -- ---- lists

@@ -2,12 +2,12 @@
 use Rattle.std.proofs.Common.{◌≡◌, ℕ, zero, suc, ◌<◌, Bool, true, false, List, [], ◌∷◌, ◌++◌, length, Option, Some, None, refl, sym, ap, ◌∙◌, eqb, slice_set, inl, inr}
 use Rattle.std.specs.Prelude.{◌||◌, unwrap_or}
 use Rattle.std.proofs.lemmas.Bool.{false≢true, cases_Bool, eqb-true, eq-eqb}
-use Rattle.resolvo_steps.proofs.CheckLemmas.{get_set, get_set_other}
+use Rattle.resolvo_checker.proofs.CheckLemmas.{get_set, get_set_other}
 use Rattle.resolvo_text.specs.Line.{Version, Line}
-use Rattle.resolvo_catalogue.specs.Questions.{States, is_rule}
-use Rattle.resolvo_catalogue.specs.declared.rule.Rule.{Rule}
-use Rattle.resolvo_catalogue.specs.declared.rule.Rule.TheVariants as rule
-use Rattle.resolvo_steps.specs.Checking.{flag_at}
+use Rattle.resolvo_catalogue_core.specs.Questions.{States, is_rule}
+use Rattle.resolvo_catalogue_core.specs.declared.rule.Rule.{Rule}
+use Rattle.resolvo_catalogue_core.specs.declared.rule.Rule.TheVariants as rule
+use Rattle.resolvo_checker.specs.Checking.{flag_at}
 use Rattle.resolvo_judge.specs.Refusal.{states_rule}
 
 pub flag_push : (marks : List Bool) (n : ℕ) → flag_at (marks ++ false ∷ []) n ≡ flag_at marks n

@@ -16,7 +16,7 @@ use Rattle.resolvo_report.proofs.StreamLemmas.{first_newline}
 use Rattle.resolvo_report.proofs.WholeLines.{line_has_no_newline, same_line}
 use Rattle.resolvo_judge.specs.Refusal.{passes, Ends, ArePassed}
 use Rattle.resolvo_judge.specs.Judgement.{IsUpheld, HoldsOn, IsRefusedAt}
-use Rattle.resolvo_steps.proofs.WholeProofs.{take_front}
+use Rattle.resolvo_checker.proofs.WholeProofs.{take_front}
 use Rattle.resolvo_judge.proofs.Accepted.{get_seam}
 
 abbrev AllHaveText : List ReportLine → Type 0

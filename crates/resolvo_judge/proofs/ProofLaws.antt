@@ -4,14 +4,14 @@ use Rattle.std.specs.Prelude.{unwrap_or, Contains}
 use Rattle.std.proofs.lemmas.Bool.{false≢true, or_cases, eqb-true}
 use Rattle.resolvo_text.specs.Line.{Line}
 use Rattle.resolvo_text.specs.Matching.{Set}
-use Rattle.resolvo_catalogue.specs.Sets.{IsSingle, AreRefuted}
-use Rattle.resolvo_pool.specs.OnePass.{clause_true}
+use Rattle.resolvo_catalogue_core.specs.Sets.{IsSingle, AreRefuted}
+use Rattle.resolvo_pool_core.specs.OnePass.{clause_true}
 use Rattle.resolvo_report.specs.Value.{Step}
-use Rattle.resolvo_steps.specs.StepClauses.{clause_of}
-use Rattle.resolvo_steps.specs.Helpers.{value_of}
-use Rattle.resolvo_steps.specs.Proof.{IsProof, is_named, ends_empty, ObeysLines, ObeysTested, IsTrueIn}
-use Rattle.resolvo_steps.proofs.Sets.{all_at}
-use Rattle.resolvo_steps.proofs.ProofTrue.{place_given, proof_true, proof_refutes}
+use Rattle.resolvo_checker.specs.StepClauses.{clause_of}
+use Rattle.resolvo_checker.specs.Helpers.{value_of}
+use Rattle.resolvo_checker.specs.Proof.{IsProof, is_named, ends_empty, ObeysLines, ObeysTested, IsTrueIn}
+use Rattle.resolvo_checker.proofs.Sets.{all_at}
+use Rattle.resolvo_checker.proofs.ProofTrue.{place_given, proof_true, proof_refutes}
 
 pub named_in : (lines : List ℕ) (n : ℕ) → is_named lines n ≡ true → Contains lines n
 named_in [] n h = absurd (false≢true h)

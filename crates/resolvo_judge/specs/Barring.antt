@@ -6,8 +6,8 @@ use Rattle.std.specs.Option.{option_map_or, option_and_then}
 use Rattle.resolvo_text.specs.Line.{Version, Line}
 use Rattle.resolvo_text.specs.Matching.{Set, same_version, is_member}
 use Rattle.resolvo_report.specs.Value.{Step}
-use Rattle.resolvo_steps.specs.declared.literal.Literal.{Literal}
-use Rattle.resolvo_steps.specs.Numbers.{number_in}
+use Rattle.resolvo_checker.specs.declared.literal.Literal.{Literal}
+use Rattle.resolvo_checker.specs.Numbers.{number_in}
 use Rattle.resolvo_judge.specs.KeptAnswers.{BarredWish}
 use Rattle.resolvo_judge.specs.Refusal.{step_bars}
 

@@ -2,7 +2,7 @@
 use Rattle.std.specs.Prelude.{ℕ, Bool, true, false, IsTrue, List}
 use Rattle.resolvo_text.specs.Line.{Line}
 use Rattle.resolvo_text.specs.Matching.{Set}
-use Rattle.resolvo_catalogue.specs.Rules.{keeps, keeps_in_request}
+use Rattle.resolvo_catalogue_core.specs.Rules.{keeps, keeps_in_request}
 
 -- each line of both texts is obeyed
 pub record ObeysAll (catalogue request : List Line) (set : Set) : Type 0 where

@@ -3,19 +3,19 @@ use Rattle.std.specs.Prelude.{◌≡◌, ℕ, ◌+◌, ◌<◌, ◌⊎◌, ⊤, 
 use Rattle.resolvo_text.specs.Device.{IfKnown}
 use Rattle.resolvo_text.specs.Line.{Line}
 use Rattle.resolvo_text.specs.Lines.{newlines}
-use Rattle.resolvo_catalogue.specs.Answers.{ClaimsInstall, ClaimsRefusal}
+use Rattle.resolvo_catalogue_core.specs.Answers.{ClaimsInstall, ClaimsRefusal}
 use Rattle.resolvo_report.specs.declared.place.Part.{Part}
 use Rattle.resolvo_report.specs.declared.reader.ReportFault.{ReportFault}
 use Rattle.resolvo_report.specs.declared.reader.ReportFault.TheVariants as read
 use Rattle.resolvo_report.specs.Value.{Report, Install, Refused, ReportLine}
 use Rattle.resolvo_report.specs.Text.{line_text, lines_text, HasText, report_lines, report_text}
 use Rattle.resolvo_report.specs.Grammar.{next_part, may_end, AreLines, IsReport, most_bytes}
-use Rattle.resolvo_steps.specs.declared.clauses.Readings.{Readings}
+use Rattle.resolvo_checker.specs.declared.clauses.Readings.{Readings}
 use Rattle.resolvo_judge.specs.declared.judgement.Verdict.{Verdict}
 use Rattle.resolvo_judge.specs.declared.judgement.Verdict.TheVariants.{Yes, No}
 use Rattle.resolvo_judge.specs.declared.judgement.JudgeFault.{JudgeFault}
 use Rattle.resolvo_judge.specs.declared.judgement.JudgeFault.TheVariants.{Reader, TooLong, Memory}
-use Rattle.resolvo_steps.specs.Checking.{count_causes}
+use Rattle.resolvo_checker.specs.Checking.{count_causes}
 use Rattle.resolvo_judge.specs.Refusal.{answer_of, steps_in, passes, Ends, ArePassed, IsAccepted}
 
 -- ---- what holds

@@ -4,7 +4,7 @@ use Rattle.std.specs.HashMap.{get}
 use Rattle.std.specs.List.{list_any, list_all}
 use Rattle.resolvo_text.specs.Line.{Version, Line, Wish}
 use Rattle.resolvo_text.specs.Matching.{is_member}
-use Rattle.resolvo_catalogue.specs.Grammar.{line_at}
+use Rattle.resolvo_catalogue_core.specs.Grammar.{line_at}
 use Rattle.resolvo_text.specs.View.{version_of}
 use Rattle.resolvo_report.specs.Value.{AnswerLine, Entry, Wished, LeftOut}
 use Rattle.resolvo_judge.specs.Entries.{entries_of, left_out, wish_lines, wishes}

@@ -3,15 +3,15 @@ use Rattle.std.specs.Prelude.{◌≡◌, ℕ, Bool, true, false, List, Option}
 use Rattle.std.specs.Global.{Vec}
 use Rattle.resolvo_text.specs.Line.{Line}
 use Rattle.resolvo_report.specs.Value.{ReportLine, InstallHead, RefusedHead, Numbered}
-use Rattle.resolvo_steps.specs.declared.literal.Literal.{Literal}
-use Rattle.resolvo_steps.specs.declared.checking.Scope.{Scope}
-use Rattle.resolvo_steps.specs.Proof.{ends_empty}
-use Rattle.resolvo_steps.specs.Checking.{names_catalogue, names_request, causes_in, StandFor}
+use Rattle.resolvo_checker.specs.declared.literal.Literal.{Literal}
+use Rattle.resolvo_checker.specs.declared.check_step.Premises.{Premises}
+use Rattle.resolvo_checker.specs.Proof.{ends_empty}
+use Rattle.resolvo_checker.specs.Checking.{names_catalogue, names_request, causes_in, StandFor}
 use Rattle.resolvo_judge.specs.Refusal.{steps_in, catalogue_lines_in, request_lines_in, may_rest}
 
 -- What is kept stands for these lines: their steps, the lines that steps may rest on, and whether the last step
 -- derives the clause without literals.
-pub record LogStands (catalogue request : List Line) (entries : List (Vec ℕ × ℕ)) (clauses : List (List Literal)) (places : List (Option ℕ)) (scope : Scope) (empty : Bool) (above : List ReportLine) : Type 0 where
+pub record LogStands (catalogue request : List Line) (entries : List (Vec ℕ × ℕ)) (clauses : List (List Literal)) (places : List (Option ℕ)) (scope : Premises) (empty : Bool) (above : List ReportLine) : Type 0 where
   pub steps : StandFor catalogue request entries clauses places (steps_in above)
   pub catalogue_lines : (n : ℕ) → names_catalogue scope n ≡ may_rest above (catalogue_lines_in above) n
   pub request_lines : (n : ℕ) → names_request scope n ≡ may_rest above (request_lines_in above) n

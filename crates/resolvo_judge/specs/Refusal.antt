@@ -4,16 +4,16 @@ use Rattle.std.specs.List.{list_any, flat_map}
 use Rattle.std.specs.Option.{option_map_or, option_and_then}
 use Rattle.resolvo_text.specs.Line.{Version, Line, Wish}
 use Rattle.resolvo_text.specs.Matching.{Set, same_version, is_member}
-use Rattle.resolvo_catalogue.specs.Grammar.{line_at}
-use Rattle.resolvo_catalogue.specs.Rules.{keeps, keeps_in_request}
-use Rattle.resolvo_catalogue.specs.Questions.{is_rule}
-use Rattle.resolvo_catalogue.specs.Answers as answer
-use Rattle.resolvo_catalogue.specs.Answers.{Answer}
+use Rattle.resolvo_catalogue_core.specs.Grammar.{line_at}
+use Rattle.resolvo_catalogue_core.specs.Rules.{keeps, keeps_in_request}
+use Rattle.resolvo_catalogue_core.specs.Questions.{is_rule}
+use Rattle.resolvo_catalogue_core.specs.Answers as answer
+use Rattle.resolvo_catalogue_core.specs.Answers.{Answer}
 use Rattle.resolvo_report.specs.Value.{AnswerLine, Entry, Wished, LeftOut, OfRequest, OfVersion, ReportLine, InstallHead, RefusedHead, CatalogueLine, RequestLine, Numbered, Message, Step}
 use Rattle.resolvo_report.specs.Value as line
-use Rattle.resolvo_steps.specs.StepClauses.{clause_of}
+use Rattle.resolvo_checker.specs.StepClauses.{clause_of}
 use Rattle.resolvo_judge.specs.Entries.{entries_of, answer_fits}
-use Rattle.resolvo_steps.specs.Proof.{may_stand, is_named, ends_empty, bars}
+use Rattle.resolvo_checker.specs.Proof.{may_stand, is_named, ends_empty, bars}
 
 -- ---- what lines say
 

@@ -5,7 +5,7 @@ ghost use Rattle.std.specs.Prelude.{◌≡◌, ◌++◌, ◌∷◌, [], ◌<◌,
 ghost use Rattle.std.specs.HashMap.{get_by_text};
 ghost use Rattle.std.specs.List.{list_any, list_all};
 ghost use Rattle.std.specs.Str.{bytes_eq};
-ghost use Rattle.resolvo_catalogue.specs.Listed.{pair_version};
+ghost use Rattle.resolvo_catalogue_core.specs.Listed.{pair_version};
 ghost use Rattle.std.specs.Option.{option_map_or};
 ghost use Rattle.std.specs.String.{string_bytes};
 ghost use Rattle.resolvo_text.specs.Line as says;
@@ -13,7 +13,7 @@ ghost use Rattle.resolvo_text.specs.Matching.{Set, is_in_span, same_package, mat
 ghost use Rattle.resolvo_text.specs.View.{version_of, spec_of, specs_of, cond_of, condition_of};
 ghost use Rattle.resolvo_judge.specs.Chosen.{Holds, number_for};
 
-use resolvo_catalogue::{Cond, Span, Spec, Version, is_in_span};
+use resolvo_catalogue_core::{Cond, Span, Spec, Version, is_in_span};
 use std::alloc::{AllocError, Global};
 use std::collections::HashMap;
 

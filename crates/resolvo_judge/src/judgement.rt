@@ -7,10 +7,10 @@ ghost use Rattle.std.specs.Prelude.{◌≡◌, IfOk, IfErr};
 ghost use Rattle.resolvo_text.specs.Device.{IfKnown, DeviceFailed};
 ghost use Rattle.resolvo_judge.specs.Judgement.{IsVerdict, ClaimsTruth, CountsReadings, IsJudgeFault, IsStop, none_read};
 
-use crate::judging::{begin, may_end, take};
-use resolvo_catalogue::{Catalogue, Request, Source};
+use crate::judge_state::{begin, may_end, take};
+use resolvo_catalogue_core::{Catalogue, Request, Source};
+use resolvo_checker::clauses::Readings;
 use resolvo_report::{ReportFault, ReportReader};
-use resolvo_steps::clauses::Readings;
 use std::alloc::{AllocError, Global};
 use thiserror::Error;
 

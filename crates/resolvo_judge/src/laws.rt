@@ -4,14 +4,14 @@ ghost use Rattle.std.specs.Prelude.{◌≡◌, ℕ, List, Some, true, slice_get,
 ghost use Rattle.std.specs.List.{AllByRecursion};
 ghost use Rattle.resolvo_text.specs.Line.{Version, Line};
 ghost use Rattle.resolvo_text.specs.Matching.{Set};
-ghost use Rattle.resolvo_catalogue.specs.Sets.{AreRefuted};
-ghost use Rattle.resolvo_catalogue.specs.Answers.{ClaimsInstall, ClaimsRefusal};
+ghost use Rattle.resolvo_catalogue_core.specs.Sets.{AreRefuted};
+ghost use Rattle.resolvo_catalogue_core.specs.Answers.{ClaimsInstall, ClaimsRefusal};
 ghost use Rattle.resolvo_report.specs.Value.{Step, ReportLine, InstallHead, RefusedHead, Message, Refused};
 ghost use Rattle.resolvo_report.specs.Text.{HasText, report_text};
 ghost use Rattle.resolvo_judge.specs.Refusal.{IsAccepted, answers_claimed, catalogue_lines_in, request_lines_in};
-ghost use Rattle.resolvo_steps.specs.StepClauses.{Clause, clause_of};
-ghost use Rattle.resolvo_steps.specs.Proof.{IsProof, is_named, every_line, ends_empty, bars, AreApart, ObeysLines, IsTrueIn};
-ghost use Rattle.resolvo_catalogue.specs.Sets.{IsSingle};
+ghost use Rattle.resolvo_checker.specs.StepClauses.{Clause, clause_of};
+ghost use Rattle.resolvo_checker.specs.Proof.{IsProof, is_named, every_line, ends_empty, bars, AreApart, ObeysLines, IsTrueIn};
+ghost use Rattle.resolvo_catalogue_core.specs.Sets.{IsSingle};
 ghost use Rattle.resolvo_report.specs.Value.{Report};
 ghost use Rattle.resolvo_judge.specs.Judgement.{IsUpheld, IsRefusedAt};
 

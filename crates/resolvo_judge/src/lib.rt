@@ -1,13 +1,13 @@
 //! The judge of a report: whether its steps are a proof, and its claim is true.
 #![tactic(auto)]
 
-mod barring;
 mod chosen;
-mod ending;
+mod end_rules;
 mod entries;
+mod judge_state;
 mod judgement;
-mod judging;
 mod laws;
+mod left_out;
 mod log;
 mod named;
 mod versions;
@@ -17,6 +17,6 @@ pub use laws::{
     accepted_install_is_true, accepted_refusal_is_true, places_are_one, proof_bars, proof_refutes,
     steps_are_true, upheld_texts_are_refused_nowhere,
 };
-pub use resolvo_steps::checking::Scope;
-pub use resolvo_steps::clauses::Readings;
-pub use resolvo_steps::proof::{Checked, check_steps, count_causes};
+pub use resolvo_checker::check_step::Premises;
+pub use resolvo_checker::clauses::Readings;
+pub use resolvo_checker::proof::{Checked, check_steps, count_causes};

@@ -2,29 +2,29 @@
 //! What is kept stands for the lines so far: `LogStands` of specs/Log.antt. The judge of reports takes its lines here.
 
 ghost use Rattle.std.specs.Prelude.{◌≡◌, ◌+◌, ◌^◌, ◌<◌, ◌≤◌, [], ◌∷◌, ◌++◌, List, IfOk, IsTrue, length, ℕ, ◌==◌, ◌||◌};
-ghost use Rattle.resolvo_catalogue.specs.Listed.{listed};
+ghost use Rattle.resolvo_catalogue_core.specs.Listed.{listed};
 ghost use Rattle.resolvo_report.specs.Value.{ReportLine, InstallHead, RefusedHead, CatalogueLine, RequestLine, Numbered};
 ghost use Rattle.resolvo_report.specs.View.{step_of};
-ghost use Rattle.resolvo_steps.specs.Checking.{causes_in, names_catalogue, names_request};
-ghost use Rattle.resolvo_steps.specs.Proof.{derives_empty as derives_empty_lem};
+ghost use Rattle.resolvo_checker.specs.Checking.{causes_in, names_catalogue, names_request};
+ghost use Rattle.resolvo_checker.specs.Proof.{derives_empty as derives_empty_lem};
 ghost use Rattle.resolvo_judge.specs.Refusal.{passes, states_rule};
-ghost use Rattle.resolvo_catalogue.specs.Grammar.{line_at};
+ghost use Rattle.resolvo_catalogue_core.specs.Grammar.{line_at};
 ghost use Rattle.resolvo_text.specs.Line.{Line};
 ghost use Rattle.resolvo_judge.specs.Log.{LogStands};
 
 use crate::named::{is_rule, name_in_catalogue, name_in_request};
-use resolvo_catalogue::{Catalogue, Request};
+use resolvo_catalogue_core::{Catalogue, Request};
+use resolvo_checker::check_step::{Checker, Premises, advance};
+use resolvo_checker::clauses::Readings;
+use resolvo_checker::proof::begin;
 use resolvo_report::Step;
-use resolvo_steps::checking::{Checker, Scope, advance};
-use resolvo_steps::clauses::Readings;
-use resolvo_steps::proof::begin;
 use std::alloc::{AllocError, Global};
 
 /// What is kept of the named lines and the steps of a report.
 #[derive(Drop)]
-pub struct Log {
+pub struct ProofState {
     pub checker: Checker,
-    pub scope: Scope,
+    pub scope: Premises,
     /// The last step derives the clause without literals.
     pub ends_empty: bool,
 }
@@ -34,15 +34,15 @@ pub fn install_log(
     alloc: Global,
     catalogue: &Catalogue,
     request: &Request,
-) -> Result<Log, AllocError>
+) -> Result<ProofState, AllocError>
     ensures stands { IfOk result (λ l. LogStands catalogue.now request.now.lines l.checker.numbers l.checker.clauses l.checker.places.items l.scope l.ends_empty (InstallHead ∷ [])) }
     ensures later { IfOk result (λ l. l.checker.truth.pass ≤ length l.checker.clauses) }
     ensures long { IfOk result (λ l. length l.checker.places.items ≡ length (listed catalogue.now)) }
     ensures count { IfOk result (λ l. length l.checker.clauses ≡ 0) }
 {
-    Ok(Log {
+    Ok(ProofState {
         checker: begin(alloc, catalogue, request)?,
-        scope: Scope::All,
+        scope: Premises::All,
         ends_empty: false,
     })
 }
@@ -52,15 +52,15 @@ pub fn refusal_log(
     alloc: Global,
     catalogue: &Catalogue,
     request: &Request,
-) -> Result<Log, AllocError>
+) -> Result<ProofState, AllocError>
     ensures stands { IfOk result (λ l. LogStands catalogue.now request.now.lines l.checker.numbers l.checker.clauses l.checker.places.items l.scope l.ends_empty (RefusedHead ∷ [])) }
     ensures later { IfOk result (λ l. l.checker.truth.pass ≤ length l.checker.clauses) }
     ensures long { IfOk result (λ l. length l.checker.places.items ≡ length (listed catalogue.now)) }
     ensures count { IfOk result (λ l. length l.checker.clauses ≡ 0) }
 {
-    Ok(Log {
+    Ok(ProofState {
         checker: begin(alloc, catalogue, request)?,
-        scope: Scope::Named {
+        scope: Premises::Named {
             catalogue: Vec::new(alloc),
             request: Vec::new(alloc),
         },
@@ -82,7 +82,7 @@ pub fn take_step(
     alloc: Global,
     catalogue: &Catalogue,
     request: &Request,
-    log: &mut Log,
+    log: &mut ProofState,
     readings: &mut Readings,
     step: &Step,
 ) -> Result<bool, AllocError>
@@ -113,7 +113,7 @@ pub fn take_step(
 /// Takes a named line of the catalogue: whether it passes. Where it does, what is kept stands for it too.
 pub fn take_catalogue_line(
     catalogue: &Catalogue,
-    log: &mut Log,
+    log: &mut ProofState,
     line: u32,
 ) -> Result<bool, AllocError>
     ensures answer { IfOk result (λ fine. (request : List Line) (above : List ReportLine) → fine ≡ passes catalogue.now request above (CatalogueLine line)) }
@@ -125,7 +125,11 @@ pub fn take_catalogue_line(
 }
 
 /// Takes a named line of the request: whether it passes. Where it does, what is kept stands for it too.
-pub fn take_request_line(request: &Request, log: &mut Log, line: u32) -> Result<bool, AllocError>
+pub fn take_request_line(
+    request: &Request,
+    log: &mut ProofState,
+    line: u32,
+) -> Result<bool, AllocError>
     ensures answer { IfOk result (λ fine. (catalogue : List Line) (above : List ReportLine) → fine ≡ passes catalogue request.now.lines above (RequestLine line)) }
     ensures stands { IfOk result (λ fine. IsTrue fine → (catalogue : List Line) (above : List ReportLine) → LogStands catalogue request.now.lines log.old.checker.numbers log.old.checker.clauses log.old.checker.places.items log.old.scope log.old.ends_empty above → LogStands catalogue request.now.lines log.new.checker.numbers log.new.checker.clauses log.new.checker.places.items log.new.scope log.new.ends_empty (above ++ RequestLine line ∷ [])) }
     ensures checker { log.new.checker ≡ log.old.checker }
@@ -134,27 +138,31 @@ pub fn take_request_line(request: &Request, log: &mut Log, line: u32) -> Result<
     Ok(fine)
 }
 
-fn name_catalogue(catalogue: &Catalogue, scope: &mut Scope, line: u32) -> Result<bool, AllocError>
+fn name_catalogue(
+    catalogue: &Catalogue,
+    scope: &mut Premises,
+    line: u32,
+) -> Result<bool, AllocError>
     ensures fine { IfOk result (λ fine. fine ≡ states_rule (line_at catalogue.now line)) }
     ensures named { IfOk result (λ fine. IsTrue fine → (n : ℕ) → names_catalogue scope.new n ≡ ((line == n) || names_catalogue scope.old n)) }
     ensures others { IfOk result (λ fine. IsTrue fine → (n : ℕ) → names_request scope.new n ≡ names_request scope.old n) }
 {
     match scope {
-        Scope::Named {
+        Premises::Named {
             catalogue: marks,
             ..
         } => name_in_catalogue(catalogue, marks, line),
-        Scope::All => Ok(catalogue.rule(line).is_some()),
+        Premises::All => Ok(catalogue.rule(line).is_some()),
     }
 }
 
-fn name_request(request: &Request, scope: &mut Scope, line: u32) -> Result<bool, AllocError>
+fn name_request(request: &Request, scope: &mut Premises, line: u32) -> Result<bool, AllocError>
     ensures fine { IfOk result (λ fine. fine ≡ states_rule (line_at request.now.lines line)) }
     ensures named { IfOk result (λ fine. IsTrue fine → (n : ℕ) → names_request scope.new n ≡ ((line == n) || names_request scope.old n)) }
     ensures others { IfOk result (λ fine. IsTrue fine → (n : ℕ) → names_catalogue scope.new n ≡ names_catalogue scope.old n) }
 {
     match scope {
-        Scope::Named { request: marks, .. } => name_in_request(request, marks, line),
-        Scope::All => Ok(is_rule(request, line)),
+        Premises::Named { request: marks, .. } => name_in_request(request, marks, line),
+        Premises::All => Ok(is_rule(request, line)),
     }
 }

@@ -1,11 +1,11 @@
 //! The lines that a refusal names. The judge takes each named line here, and `Scope` then tells which steps may rest on them.
 
 ghost use Rattle.std.specs.Prelude.{◌≡◌, ◌==◌, ◌||◌, ◌<◌, ℕ, IfOk, OnOk, IsTrue, vec_len};
-ghost use Rattle.resolvo_catalogue.specs.Grammar.{line_at};
-ghost use Rattle.resolvo_steps.specs.Checking.{flag_at};
+ghost use Rattle.resolvo_catalogue_core.specs.Grammar.{line_at};
+ghost use Rattle.resolvo_checker.specs.Checking.{flag_at};
 ghost use Rattle.resolvo_judge.specs.Refusal.{states_rule};
 
-use resolvo_catalogue::{Catalogue, Request};
+use resolvo_catalogue_core::{Catalogue, Request};
 use std::alloc::AllocError;
 
 /// Makes room for the mark of the line. No more lines are marked.

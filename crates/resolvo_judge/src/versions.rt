@@ -8,7 +8,7 @@ ghost use Rattle.resolvo_text.specs.Matching.{Set, is_member};
 ghost use Rattle.resolvo_text.specs.View.{version_of};
 ghost use Rattle.resolvo_judge.specs.Versions.{HoldsAll, numbers_kept, AddsNumber};
 
-use resolvo_catalogue::Version;
+use resolvo_catalogue_core::Version;
 use std::alloc::{AllocError, Global};
 use std::collections::HashMap;
 

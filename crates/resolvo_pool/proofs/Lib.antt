@@ -1,7 +1,3 @@
-pub mod Conditions
-pub mod Interned
-pub mod PassLearns
-pub mod PassNamed
-pub mod PassSound
-pub mod SlotLemmas
-pub mod Texts
+pub mod Favoured
+pub mod HintedLemmas
+pub mod KeptLemmas

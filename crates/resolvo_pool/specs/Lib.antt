@@ -1,9 +1,4 @@
-pub mod ByRequirement
-pub mod Ids
-pub mod Interning
-pub mod Lends
-pub mod OnePass
-pub mod Provider
-pub mod RuleKeeping
-pub mod Slots
-pub mod Text
+pub mod Cached
+pub mod Fault
+pub mod Hinted
+pub mod Keyed

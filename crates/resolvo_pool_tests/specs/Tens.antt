@@ -2,10 +2,10 @@
 use Rattle.std.specs.Prelude.{◌≡◌, ◌==◌, ℕ, ◌+◌, ◌*◌, ◌/◌, ◌%◌, Bool, true, false, [], ◌∷◌, Option, None, Some, cond, nat_lt, All}
 use Rattle.std.proofs.Common.{ap, arith}
 use Rattle.std.proofs.lemmas.List.Elements.{All-nil, All-cons}
-use Rattle.resolvo_pool.specs.declared.id.DenseId.{DenseId}
-use Rattle.resolvo_pool.specs.declared.id.NameTag.{NameTag}
-use Rattle.resolvo_pool.specs.declared.id.SolvableTag.{SolvableTag}
-use Rattle.resolvo_pool.specs.Provider.{Listing, Needs, known, unknown, all, AreOf}
+use Rattle.resolvo_pool_core.specs.declared.id.DenseId.{DenseId}
+use Rattle.resolvo_pool_core.specs.declared.id.NameTag.{NameTag}
+use Rattle.resolvo_pool_core.specs.declared.id.SolvableTag.{SolvableTag}
+use Rattle.resolvo_pool_core.specs.Provider.{Listing, Needs, known, unknown, all, AreOf}
 
 abbrev pub Place : Type 0
 Place = DenseId SolvableTag ℕ

@@ -1,8 +1,8 @@
 //! What no clause says: that each call succeeds with ample memory, the worked examples, and the same
 //! generic code at dense and at sparse ids.
 
-mod caching;
+mod cache;
 mod containers;
-mod pooling;
-mod sourcing;
-mod writing;
+mod pool;
+mod provider;
+mod write;

@@ -4,16 +4,16 @@ use Rattle.std.specs.Prelude.{slice_get}
 use Rattle.std.specs.List.{list_all}
 use Rattle.std.proofs.lemmas.Bool.{false≢true}
 use Rattle.std.proofs.lemmas.List.{length-append}
-use Rattle.resolvo_pool.specs.declared.id.ConditionId.{ConditionId}
-use Rattle.resolvo_pool.specs.OnePass.{Literal, clause_true}
-use Rattle.resolvo_pool.specs.RuleKeeping.{Packages, Rules, IsRuleKeeping}
-use Rattle.resolvo_pool.proofs.PassSound.{one_pass_true}
-use Rattle.resolvo_store.specs.AtMostOne.{digit}
-use Rattle.resolvo_rules.specs.Encoding as Encoding
-use Rattle.resolvo_rules.specs.Encoding.{Atom, IsExact, IsRule, AgreeWith, value, shown}
-use Rattle.resolvo_rules.proofs.Lists.{contained_all, map_contains}
-use Rattle.resolvo_rules.proofs.Sound.{rules_sound}
-use Rattle.resolvo_coding.proofs.Positions.{get_below, get_last}
+use Rattle.resolvo_pool_core.specs.declared.id.ConditionId.{ConditionId}
+use Rattle.resolvo_pool_core.specs.OnePass.{Literal, clause_true}
+use Rattle.resolvo_pool_core.specs.RuleKeeping.{Packages, Rules, IsRuleKeeping}
+use Rattle.resolvo_pool_core.proofs.PassSound.{one_pass_true}
+use Rattle.resolvo_store_core.specs.AtMostOne.{digit}
+use Rattle.resolvo_soundness.specs.Encoding as Encoder
+use Rattle.resolvo_soundness.specs.Encoding.{Atom, IsExact, IsRule, AgreeWith, value, shown}
+use Rattle.resolvo_soundness.proofs.Lists.{contained_all, map_contains}
+use Rattle.resolvo_soundness.proofs.Sound.{rules_sound}
+use Rattle.resolvo_state.proofs.Positions.{get_below, get_last}
 use Rattle.resolvo_proof.specs.declared.step.ProofRule.{ProofRule}
 use Rattle.resolvo_proof.specs.declared.step.ProofRule.TheVariants.{Needs, GateOf, Shared, Limit, Outside, Locked, Excluded, Digit, AtLeastOne}
 use Rattle.resolvo_proof.specs.declared.step.ProofStep.{ProofStep}
@@ -23,7 +23,7 @@ use Rattle.resolvo_proof.specs.Proof.{IsRefuted, IsProof, EndsEmpty, HaveDigits,
 use Rattle.resolvo_proof.proofs.Proving.{under_any, step_clause}
 
 -- a rule that tells a digit is stated as that of a place
-digit_stated : {N S : Type 0} (condition : Option ConditionId) (x : ProofRule N S) (s : S) (bit : ℕ) (b : Bool) → Encoding.Rule.has_digit s bit b ≡ rule_under condition x → (place : ℕ) × (x ≡ Digit s place bit) × (b ≡ digit place bit)
+digit_stated : {N S : Type 0} (condition : Option ConditionId) (x : ProofRule N S) (s : S) (bit : ℕ) (b : Bool) → Encoder.Rule.has_digit s bit b ≡ rule_under condition x → (place : ℕ) × (x ≡ Digit s place bit) × (b ≡ digit place bit)
 digit_stated condition (Needs parent q case) s bit b h = absurd cc
 digit_stated condition (GateOf t q) s bit b h = absurd cc
 digit_stated condition (Shared q) s bit b h = absurd cc
@@ -42,7 +42,7 @@ digit_stated condition (AtLeastOne n t) s bit b h = absurd cc
 module _ {N S : Type 0} (same_atom : Atom N S → Atom N S → Bool) (exact_atom : IsExact same_atom) (same : S → S → Bool) (exact : IsExact same) (same_name : N → N → Bool) (names : IsExact same_name) (p : Packages N S) (root : Rules)
     (steps : List (ProofStep N S)) (proof : IsProof same_atom same p root steps) (bits : S → ℕ → Bool) (digits : HaveDigits steps bits) (chosen : List S) (keeps : IsRuleKeeping same p root chosen) where
   -- a rule of the provider that a step states
-  abbrev Stands : Encoding.Rule N S → Type 0
+  abbrev Stands : Encoder.Rule N S → Type 0
   Stands r = IsRule same p root r × ((place : ℕ) × (condition : Option ConditionId) × (x : ProofRule N S) × (slice_get steps place ≡ Some (Rule x)) × (r ≡ rule_under condition x))
 
   agree : AgreeWith Stands bits

@@ -2,29 +2,29 @@
 use Rattle.std.proofs.Common.{◌≡◌, ℕ, zero, suc, ◌+◌, ◌<◌, ◌⊎◌, inl, inr, Bool, true, false, not, List, [], ◌∷◌, map, length, Some, Vec, Global, refl, sym, ◌∙◌, ap, subst, arith}
 use Rattle.std.specs.Prelude.{slice_get, Contains}
 use Rattle.std.proofs.lemmas.Option.{slice_get_within}
-use Rattle.resolvo_pool.specs.declared.id.ClauseId.{ClauseId}
-use Rattle.resolvo_pool.specs.OnePass.{Literal}
-use Rattle.resolvo_pool.specs.RuleKeeping.{Packages}
-use Rattle.resolvo_store.specs.Signed.{Signed, negation, has}
-use Rattle.resolvo_store.specs.Clauses.{no, root as root_variable}
-use Rattle.resolvo_search.specs.Known.{clause_at}
-use Rattle.resolvo_search.specs.State.{AreApart, clauses_of, count_of}
-use Rattle.resolvo_search.specs.Analysis.{IsRefusal}
-use Rattle.resolvo_search.specs.Steps.{AreInRange}
-use Rattle.resolvo_search.proofs.Literals.{has_later}
-use Rattle.resolvo_search.proofs.Apart.{false_apart}
-use Rattle.resolvo_rules.specs.Encoding.{Atom}
-use Rattle.resolvo_rules.specs.Numbered.{meaning, meanings, IsOnce}
-use Rattle.resolvo_rules.proofs.Lists.{contains_none, contains_map}
-use Rattle.resolvo_rules.proofs.Meanings.{stands_meaning, clause_in_range as place_in_range}
-use Rattle.resolvo_coding.specs.declared.coding.Coding.{Coding}
-use Rattle.resolvo_coding.specs.declared.stated.Stated.TheVariants as Says
-use Rattle.resolvo_coding.specs.Atoms.{origin}
-use Rattle.resolvo_coding.specs.Coding.{IsCoding}
-use Rattle.resolvo_coding.specs.Spelled.{Spelled}
-use Rattle.resolvo_coding.specs.Statements.{stated_at}
-use Rattle.resolvo_coding.proofs.Origins.{coding_once}
-use Rattle.resolvo_coding.proofs.Positions.{get_below, get_front, get_push}
+use Rattle.resolvo_pool_core.specs.declared.id.ClauseId.{ClauseId}
+use Rattle.resolvo_pool_core.specs.OnePass.{Literal}
+use Rattle.resolvo_pool_core.specs.RuleKeeping.{Packages}
+use Rattle.resolvo_store_core.specs.Signed.{Signed, negation, has}
+use Rattle.resolvo_store_core.specs.Clauses.{no, root as root_variable}
+use Rattle.resolvo_sat.specs.Known.{clause_at}
+use Rattle.resolvo_sat.specs.State.{AreApart, clauses_of, count_of}
+use Rattle.resolvo_sat.specs.Analysis.{IsRefusal}
+use Rattle.resolvo_sat.specs.Steps.{AreInRange}
+use Rattle.resolvo_sat.proofs.Literals.{has_later}
+use Rattle.resolvo_sat.proofs.Apart.{false_apart}
+use Rattle.resolvo_soundness.specs.Encoding.{Atom}
+use Rattle.resolvo_soundness.specs.Numbered.{meaning, meanings, IsOnce}
+use Rattle.resolvo_soundness.proofs.Lists.{contains_none, contains_map}
+use Rattle.resolvo_soundness.proofs.Meanings.{stands_meaning, clause_in_range as place_in_range}
+use Rattle.resolvo_state.specs.declared.solver_state.SolverState.{SolverState}
+use Rattle.resolvo_state.specs.declared.clause_kind.Stated.TheVariants as Says
+use Rattle.resolvo_state.specs.Atoms.{origin}
+use Rattle.resolvo_state.specs.Coding.{IsCoding}
+use Rattle.resolvo_state.specs.Spelled.{Spelled}
+use Rattle.resolvo_state.specs.Statements.{stated_at}
+use Rattle.resolvo_state.proofs.Origins.{coding_once}
+use Rattle.resolvo_state.proofs.Positions.{get_below, get_front, get_push}
 use Rattle.resolvo_proof.specs.declared.step.ProofLiteral.{ProofLiteral}
 use Rattle.resolvo_proof.specs.declared.step.ProofRule.{ProofRule}
 use Rattle.resolvo_proof.specs.declared.step.ProofStep.{ProofStep}
@@ -67,7 +67,7 @@ one_sign {N} {S} of count once literals in_range apart l m a b same =
     go x y h k one true false e f = absurd (clash x y h k one (f ∙ sym (ap not e)))
     go x y h k one false true e f = absurd (clash x y h k one (f ∙ sym (ap not e)))
 
-module _ {N S : Type 0} (c : Coding N S) (coding : IsCoding c) where
+module _ {N S : Type 0} (c : SolverState N S) (coding : IsCoding c) where
   -- a derived step of a clause says what the literals of a learnt one mean
   learnt_at : (n : ℕ) (literals : Vec (ProofLiteral N S) Global) (causes : Vec ℕ Global) → (at : IsStepAt c n (Derived literals causes)) → (stated_at c.stated.items n ≡ Some Says.Learnt) × (map literal_in literals.items ≡ meanings (origin c.atoms.keys) at.clause.literals.items)
   learnt_at n literals causes at = go at.writes

@@ -2,21 +2,21 @@
 use Rattle.std.proofs.Common.{◌≡◌, ℕ, zero, suc, ◌<◌, ◌⊎◌, inl, inr, Bool, true, false, List, [], ◌∷◌, map, length, Option, Some, None, refl, sym, ◌∙◌, ap, subst, arith, eqb-true, eq-eqb}
 use Rattle.std.specs.Prelude.{Contains, nat_eq, ◌||◌}
 use Rattle.std.proofs.lemmas.Bool.{cases_Bool, false≢true}
-use Rattle.resolvo_pool.specs.declared.id.ClauseId.{ClauseId}
-use Rattle.resolvo_pool.specs.OnePass as Pass
-use Rattle.resolvo_pool.specs.OnePass.{Literal, negate, is_denied, is_broken, reading, learn, refutes, one_pass, IsFalseUnder, RefutesFrom, HasNoOpposites}
-use Rattle.resolvo_pool.proofs.PassLearns.{literal_is, literal_own, refuted_from}
-use Rattle.resolvo_store.specs.Signed.{Signed, negation, same_literal, has}
-use Rattle.resolvo_store.specs.Clauses.{yes, no, root as root_variable}
-use Rattle.resolvo_search.specs.Known.{clause_at}
-use Rattle.resolvo_search.specs.Refuting.{said, said_all, Refutes}
-use Rattle.resolvo_search.specs.State.{named, AllBelow, AreApart}
-use Rattle.resolvo_search.proofs.Literals.{has-cons, has_here, has_later}
-use Rattle.resolvo_search.proofs.Coming.{has_contained, contained_has}
-use Rattle.resolvo_rules.specs.Encoding.{IsExact, Atom}
-use Rattle.resolvo_rules.specs.Numbered.{meaning, meanings, Means, IsOnce, Spells}
-use Rattle.resolvo_rules.proofs.Lists.{contains_none, contains_cases, contains_map, map_contains, any_contained, contained_any}
-use Rattle.resolvo_rules.proofs.Meanings.{meaning_stands, stands_meaning, one_literal}
+use Rattle.resolvo_pool_core.specs.declared.id.ClauseId.{ClauseId}
+use Rattle.resolvo_pool_core.specs.OnePass as Pass
+use Rattle.resolvo_pool_core.specs.OnePass.{Literal, negate, is_denied, is_broken, reading, learn, refutes, one_pass, IsFalseUnder, RefutesFrom, HasNoOpposites}
+use Rattle.resolvo_pool_core.proofs.PassLearns.{literal_is, literal_own, refuted_from}
+use Rattle.resolvo_store_core.specs.Signed.{Signed, negation, same_literal, has}
+use Rattle.resolvo_store_core.specs.Clauses.{yes, no, root as root_variable}
+use Rattle.resolvo_sat.specs.Known.{clause_at}
+use Rattle.resolvo_sat.specs.Refuting.{said, said_all, Refutes}
+use Rattle.resolvo_sat.specs.State.{named, AllBelow, AreApart}
+use Rattle.resolvo_sat.proofs.Literals.{has-cons, has_here, has_later}
+use Rattle.resolvo_sat.proofs.Coming.{has_contained, contained_has}
+use Rattle.resolvo_soundness.specs.Encoding.{IsExact, Atom}
+use Rattle.resolvo_soundness.specs.Numbered.{meaning, meanings, Means, IsOnce, Spells}
+use Rattle.resolvo_soundness.proofs.Lists.{contains_none, contains_cases, contains_map, map_contains, any_contained, contained_any}
+use Rattle.resolvo_soundness.proofs.Meanings.{meaning_stands, stands_meaning, one_literal}
 use Rattle.resolvo_proof.specs.Written.{with_place, places}
 use Rattle.resolvo_proof.proofs.PassSets.{Spelt, Agree, read_alike, true_idle}
 

@@ -1,19 +1,19 @@
 -- The steps of a coding tell one place of each solvable.
 use Rattle.std.proofs.Common.{◌≡◌, ℕ, suc, inl, inr, List, Some, sym, ◌∙◌, ap, subst}
 use Rattle.std.specs.Prelude.{slice_get}
-use Rattle.resolvo_pool.specs.declared.id.VariableId.{VariableId}
-use Rattle.resolvo_pool.specs.declared.id.ClauseId.{ClauseId}
-use Rattle.resolvo_store.specs.Signed.{Signed}
-use Rattle.resolvo_store.specs.AtMostOne.{Tracking}
-use Rattle.resolvo_coding.specs.declared.atom.ProofAtom.TheVariants.{Solvable}
-use Rattle.resolvo_coding.specs.declared.coding.Coding.{Coding}
-use Rattle.resolvo_coding.specs.declared.registry.Registry.{Registry}
-use Rattle.resolvo_coding.specs.declared.stated.Stated.{Stated}
-use Rattle.resolvo_coding.specs.declared.stated.Stated.TheVariants as Says
-use Rattle.resolvo_coding.specs.Coding.{IsCoding}
-use Rattle.resolvo_coding.specs.Registered.{IsPlaced, AreTied, IsTied, IsRegistered}
-use Rattle.resolvo_coding.proofs.Growth.{stands_once}
-use Rattle.resolvo_coding.proofs.Positions.{get_contains, get_push}
+use Rattle.resolvo_pool_core.specs.declared.id.VariableId.{VariableId}
+use Rattle.resolvo_pool_core.specs.declared.id.ClauseId.{ClauseId}
+use Rattle.resolvo_store_core.specs.Signed.{Signed}
+use Rattle.resolvo_store_core.specs.AtMostOne.{Tracking}
+use Rattle.resolvo_state.specs.declared.atom.ProofAtom.TheVariants.{Solvable}
+use Rattle.resolvo_state.specs.declared.solver_state.SolverState.{SolverState}
+use Rattle.resolvo_state.specs.declared.registry.Registry.{Registry}
+use Rattle.resolvo_state.specs.declared.clause_kind.Stated.{Stated}
+use Rattle.resolvo_state.specs.declared.clause_kind.Stated.TheVariants as Says
+use Rattle.resolvo_state.specs.Coding.{IsCoding}
+use Rattle.resolvo_state.specs.Registered.{IsPlaced, AreTied, IsTied, IsRegistered}
+use Rattle.resolvo_state.proofs.Growth.{stands_once}
+use Rattle.resolvo_state.proofs.Positions.{get_contains, get_push}
 use Rattle.resolvo_proof.specs.declared.step.ProofRule.{ProofRule}
 use Rattle.resolvo_proof.specs.declared.step.ProofRule.TheVariants.{Digit}
 use Rattle.resolvo_proof.specs.declared.step.ProofStep.{ProofStep}
@@ -46,7 +46,7 @@ digit_stated Says.Learnt s k bit h = absurd cc
 rule_same : {N S : Type 0} (x : ProofRule N S) (y : ProofRule N S) → Rule x ≡ Rule y → x ≡ y
 rule_same x y e = cc
 
-module _ {N S : Type 0} (c : Coding N S) (r : Registry N) (coding : IsCoding c) (tied : AreTied r c) (package_of : S → N) (named : AreNamedBy r c package_of) where
+module _ {N S : Type 0} (c : SolverState N S) (r : Registry N) (coding : IsCoding c) (tied : AreTied r c) (package_of : S → N) (named : AreNamedBy r c package_of) where
   -- a step that tells a digit tells that of the place where the solvable stands
   placed : (n : ℕ) (s : S) (k bit : ℕ) → IsStepAt c n (Rule (Digit s k bit)) → (name : N) × IsPlaced r c name k s
   placed n s k bit at = go at.writes

@@ -4,26 +4,26 @@ use Rattle.std.proofs.lemmas.Bool.{cases_Bool}
 use Rattle.std.specs.Prelude.{slice_get}
 use Rattle.std.proofs.lemmas.Option.{slice_get_within}
 use Rattle.std.proofs.lemmas.List.{map-append, length-append, take_more, take_all}
-use Rattle.resolvo_pool.specs.declared.id.ClauseId.{ClauseId}
-use Rattle.resolvo_pool.specs.OnePass.{Literal}
+use Rattle.resolvo_pool_core.specs.declared.id.ClauseId.{ClauseId}
+use Rattle.resolvo_pool_core.specs.OnePass.{Literal}
 use Rattle.std.specs.List.{AllZip}
-use Rattle.resolvo_store.specs.Signed.{Signed, has}
-use Rattle.resolvo_search.specs.declared.state.HeldClause.{HeldClause}
-use Rattle.resolvo_search.specs.State.{count_of}
-use Rattle.resolvo_search.specs.Steps.{AreInRange}
-use Rattle.resolvo_search.proofs.Clauses.{literals_at}
-use Rattle.resolvo_search.proofs.Literals.{has_here, has_later}
-use Rattle.resolvo_rules.specs.Encoding.{Atom}
-use Rattle.resolvo_rules.specs.Numbered.{meaning, meanings}
-use Rattle.resolvo_coding.specs.declared.atom.ProofAtom.{ProofAtom}
-use Rattle.resolvo_coding.specs.declared.coding.Coding.{Coding}
-use Rattle.resolvo_coding.specs.declared.stated.Stated.{Stated}
-use Rattle.resolvo_coding.specs.declared.stated.Stated.TheVariants as Says
-use Rattle.resolvo_coding.specs.Statements.{stated_at}
-use Rattle.resolvo_coding.specs.Atoms.{atom_of, origin}
-use Rattle.resolvo_coding.specs.Coding.{IsCoding}
-use Rattle.resolvo_coding.proofs.Origins.{atom_at_place}
-use Rattle.resolvo_coding.proofs.Positions.{get_below, get_push}
+use Rattle.resolvo_store_core.specs.Signed.{Signed, has}
+use Rattle.resolvo_sat.specs.declared.state.SatClause.{SatClause}
+use Rattle.resolvo_sat.specs.State.{count_of}
+use Rattle.resolvo_sat.specs.Steps.{AreInRange}
+use Rattle.resolvo_sat.proofs.Clauses.{literals_at}
+use Rattle.resolvo_sat.proofs.Literals.{has_here, has_later}
+use Rattle.resolvo_soundness.specs.Encoding.{Atom}
+use Rattle.resolvo_soundness.specs.Numbered.{meaning, meanings}
+use Rattle.resolvo_state.specs.declared.atom.ProofAtom.{ProofAtom}
+use Rattle.resolvo_state.specs.declared.solver_state.SolverState.{SolverState}
+use Rattle.resolvo_state.specs.declared.clause_kind.Stated.{Stated}
+use Rattle.resolvo_state.specs.declared.clause_kind.Stated.TheVariants as Says
+use Rattle.resolvo_state.specs.Statements.{stated_at}
+use Rattle.resolvo_state.specs.Atoms.{atom_of, origin}
+use Rattle.resolvo_state.specs.Coding.{IsCoding}
+use Rattle.resolvo_state.proofs.Origins.{atom_at_place}
+use Rattle.resolvo_state.proofs.Positions.{get_below, get_push}
 use Rattle.resolvo_proof.specs.declared.step.ProofLiteral.{ProofLiteral}
 use Rattle.resolvo_proof.specs.declared.step.ProofRule.{ProofRule}
 use Rattle.resolvo_proof.specs.declared.step.ProofStep.{ProofStep}
@@ -101,22 +101,22 @@ pub place_skip : (cs : List ClauseId) (c : ClauseId) (ys : List ℕ) → c.0 ≡
 place_skip cs c ys is e = e ∙ (sym (Rattle.std.proofs.lemmas.List.append-nil (places cs)) ∙ (ap (λ n. places cs ++ with_place n []) (sym is) ∙ sym (places-append cs (c ∷ []))))
 
 -- a coding has the root's clause
-pub some_clause : {N S : Type 0} (c : Coding N S) → IsCoding c → 1 ≤ length c.search.clauses
+pub some_clause : {N S : Type 0} (c : SolverState N S) → IsCoding c → 1 ≤ length c.search.clauses
 some_clause c coding =
     let within : 0 < length c.stated.items = slice_get_within c.stated.items 0 Says.Root coding.first in
     let each : length c.stated.items ≡ length c.search.clauses = coding.each in
     omega arith
 
 -- the literals of a clause are of variables that are there
-pub clause_in_range : {N S : Type 0} (c : Coding N S) → IsCoding c → (n : ℕ) (clause : HeldClause) → slice_get c.search.clauses n ≡ Some clause → AreInRange (count_of c.search) clause.literals.items
+pub clause_in_range : {N S : Type 0} (c : SolverState N S) → IsCoding c → (n : ℕ) (clause : SatClause) → slice_get c.search.clauses n ≡ Some clause → AreInRange (count_of c.search) clause.literals.items
 clause_in_range c coding n clause at l h = coding.ready.state.in_range n l (subst (λ xs. has xs l ≡ true) (sym (literals_at c.search.clauses n clause at)) h)
 
 -- the step of a clause that states a rule
-pub rule_step : {N S : Type 0} (c : Coding N S) (n : ℕ) (x : Stated N S) (r : ProofRule N S) → n < length c.search.clauses → stated_at c.stated.items n ≡ Some x → IsTold x (Some r) → IsStepAt c n (Rule r)
+pub rule_step : {N S : Type 0} (c : SolverState N S) (n : ℕ) (x : Stated N S) (r : ProofRule N S) → n < length c.search.clauses → stated_at c.stated.items n ≡ Some x → IsTold x (Some r) → IsStepAt c n (Rule r)
 rule_step c n x r below states told = let (clause, at) = get_below c.search.clauses n below in record { stated = x; clause = clause; states = states; stands = at; writes = inl (r, refl, told) }
 
 -- the step of a clause behind the root's that states none
-pub learnt_step : {N S : Type 0} (c : Coding N S) → IsCoding c → (n : ℕ) (x : Stated N S) (clause : HeldClause) (step : ProofStep N S) → 0 < n → stated_at c.stated.items n ≡ Some x → slice_get c.search.clauses n ≡ Some clause → IsTold x None
+pub learnt_step : {N S : Type 0} (c : SolverState N S) → IsCoding c → (n : ℕ) (x : Stated N S) (clause : SatClause) (step : ProofStep N S) → 0 < n → stated_at c.stated.items n ≡ Some x → slice_get c.search.clauses n ≡ Some clause → IsTold x None
     → IsDerivation c.atoms.keys clause.literals.items clause.causes.items step → IsStepAt c n step
 learnt_step {N} {S} c coding n x clause step behind states at told d = record { stated = x; clause = clause; states = states; stands = at; writes = inr (go x states told, d) }
   where
@@ -135,7 +135,7 @@ learnt_step {N} {S} c coding n x clause step behind states at told d = record { 
     go Says.Learnt e t = refl
 
 -- the steps of the first clauses, and the next one
-pub step_more : {N S : Type 0} (c : Coding N S) (steps : List (ProofStep N S)) (n : ℕ) (step : ProofStep N S) → n ≡ suc (length steps) → ((place : ℕ) (x : ProofStep N S) → slice_get steps place ≡ Some x → IsStepAt c (suc place) x) → IsStepAt c n step
+pub step_more : {N S : Type 0} (c : SolverState N S) (steps : List (ProofStep N S)) (n : ℕ) (step : ProofStep N S) → n ≡ suc (length steps) → ((place : ℕ) (x : ProofStep N S) → slice_get steps place ≡ Some x → IsStepAt c (suc place) x) → IsStepAt c n step
     → (place : ℕ) (x : ProofStep N S) → slice_get (steps ++ step ∷ []) place ≡ Some x → IsStepAt c (suc place) x
 step_more c steps n step number each at place x h = elim (get_push steps step x place h) [
   | inl old ↦ each place x old
@@ -143,7 +143,7 @@ step_more c steps n step number each at place x h = elim (get_push steps step x 
 ]
 
 -- the steps of the clauses, with a refusal's behind them
-pub refusal_step : {N S : Type 0} (c : Coding N S) (literals spelled : List Signed) (causes from : List ClauseId) (earlier steps : List (ProofStep N S)) (step : ProofStep N S) → steps ≡ earlier ++ step ∷ [] → AreSteps c earlier → spelled ≡ literals → from ≡ causes
+pub refusal_step : {N S : Type 0} (c : SolverState N S) (literals spelled : List Signed) (causes from : List ClauseId) (earlier steps : List (ProofStep N S)) (step : ProofStep N S) → steps ≡ earlier ++ step ∷ [] → AreSteps c earlier → spelled ≡ literals → from ≡ causes
     → IsDerivation c.atoms.keys spelled from step → AreStepsThen c literals causes steps
 refusal_step c literals spelled causes from earlier steps step ends are e f d = record {
   earlier = earlier;

@@ -3,38 +3,38 @@ use Rattle.std.proofs.Common.{◌≡◌, ℕ, zero, suc, ◌+◌, ◌<◌, ◌�
 use Rattle.std.specs.Prelude.{slice_get, Contains}
 use Rattle.std.proofs.lemmas.List.{reverse-append, append_assoc, length-append}
 use Rattle.std.proofs.lemmas.Option.{slice_get_within}
-use Rattle.resolvo_pool.specs.declared.id.ClauseId.{ClauseId}
-use Rattle.resolvo_pool.specs.declared.id.ConditionId.{ConditionId}
-use Rattle.resolvo_pool.specs.OnePass.{Literal, one_pass, deny, nothing}
-use Rattle.resolvo_pool.specs.RuleKeeping.{Packages, Rules}
-use Rattle.resolvo_store.specs.Signed.{Signed, negation, has}
-use Rattle.resolvo_store.specs.Clauses.{yes, no, root as root_variable}
-use Rattle.resolvo_search.specs.declared.state.HeldClause.{HeldClause}
-use Rattle.resolvo_search.specs.declared.state.SearchState.{SearchState}
-use Rattle.resolvo_search.specs.Known.{clause_at}
-use Rattle.resolvo_search.specs.Refuting.{Refutes}
-use Rattle.resolvo_search.specs.State.{lists, named, AllBelow, AreDerived, IsDerived, IsState, AreApart, clauses_of, count_of, history}
-use Rattle.resolvo_search.specs.Entries.{made_true}
-use Rattle.resolvo_search.specs.Analysis.{DenyKept, IsRefusal}
-use Rattle.resolvo_search.specs.Steps.{AreInRange}
-use Rattle.resolvo_search.proofs.Clauses.{literals_at, length-lists}
-use Rattle.resolvo_search.proofs.Literals.{has_here, has_later}
-use Rattle.resolvo_search.proofs.Trails.{known_in_range, known_from_stands, stands_from_entry}
-use Rattle.resolvo_search.proofs.Apart.{false_apart}
-use Rattle.resolvo_rules.specs.Encoding as Encoding
-use Rattle.resolvo_rules.specs.Encoding.{Atom, IsExact, IsRule, literals_of}
-use Rattle.resolvo_rules.specs.Numbered.{meaning, meanings, Spells}
-use Rattle.resolvo_rules.proofs.Meanings.{meaning_stands, stands_meaning, root_or_other}
-use Rattle.resolvo_coding.specs.declared.coding.Coding.{Coding}
-use Rattle.resolvo_coding.specs.declared.stated.Stated.{Stated}
-use Rattle.resolvo_coding.specs.declared.stated.Stated.TheVariants as Says
-use Rattle.resolvo_coding.specs.Atoms.{origin}
-use Rattle.resolvo_coding.specs.Coding.{IsCoding}
-use Rattle.resolvo_coding.specs.Spelled.{Spelled}
-use Rattle.resolvo_coding.specs.Statements.{stated_at, rule_of, rules_in}
-use Rattle.resolvo_coding.proofs.Origins.{coding_once}
-use Rattle.resolvo_coding.proofs.Positions.{get_front, get_push, get_below}
-use Rattle.resolvo_coding.proofs.Rules.{rule_stated}
+use Rattle.resolvo_pool_core.specs.declared.id.ClauseId.{ClauseId}
+use Rattle.resolvo_pool_core.specs.declared.id.ConditionId.{ConditionId}
+use Rattle.resolvo_pool_core.specs.OnePass.{Literal, one_pass, deny, nothing}
+use Rattle.resolvo_pool_core.specs.RuleKeeping.{Packages, Rules}
+use Rattle.resolvo_store_core.specs.Signed.{Signed, negation, has}
+use Rattle.resolvo_store_core.specs.Clauses.{yes, no, root as root_variable}
+use Rattle.resolvo_sat.specs.declared.state.SatClause.{SatClause}
+use Rattle.resolvo_sat.specs.declared.state.SatState.{SatState}
+use Rattle.resolvo_sat.specs.Known.{clause_at}
+use Rattle.resolvo_sat.specs.Refuting.{Refutes}
+use Rattle.resolvo_sat.specs.State.{lists, named, AllBelow, AreDerived, IsDerived, IsState, AreApart, clauses_of, count_of, history}
+use Rattle.resolvo_sat.specs.Entries.{made_true}
+use Rattle.resolvo_sat.specs.Analysis.{DenyKept, IsRefusal}
+use Rattle.resolvo_sat.specs.Steps.{AreInRange}
+use Rattle.resolvo_sat.proofs.Clauses.{literals_at, length-lists}
+use Rattle.resolvo_sat.proofs.Literals.{has_here, has_later}
+use Rattle.resolvo_sat.proofs.Trails.{known_in_range, known_from_stands, stands_from_entry}
+use Rattle.resolvo_sat.proofs.Apart.{false_apart}
+use Rattle.resolvo_soundness.specs.Encoding as Encoder
+use Rattle.resolvo_soundness.specs.Encoding.{Atom, IsExact, IsRule, literals_of}
+use Rattle.resolvo_soundness.specs.Numbered.{meaning, meanings, Spells}
+use Rattle.resolvo_soundness.proofs.Meanings.{meaning_stands, stands_meaning, root_or_other}
+use Rattle.resolvo_state.specs.declared.solver_state.SolverState.{SolverState}
+use Rattle.resolvo_state.specs.declared.clause_kind.Stated.{Stated}
+use Rattle.resolvo_state.specs.declared.clause_kind.Stated.TheVariants as Says
+use Rattle.resolvo_state.specs.Atoms.{origin}
+use Rattle.resolvo_state.specs.Coding.{IsCoding}
+use Rattle.resolvo_state.specs.Spelled.{Spelled}
+use Rattle.resolvo_state.specs.Statements.{stated_at, rule_of, rules_in}
+use Rattle.resolvo_state.proofs.Origins.{coding_once}
+use Rattle.resolvo_state.proofs.Positions.{get_front, get_push, get_below}
+use Rattle.resolvo_state.proofs.Rules.{rule_stated}
 use Rattle.resolvo_proof.specs.declared.step.ProofRule.{ProofRule}
 use Rattle.resolvo_proof.specs.declared.step.ProofRule.TheVariants.{Needs, GateOf, Shared, Limit, Outside, Locked, Excluded, Digit, AtLeastOne}
 use Rattle.resolvo_proof.specs.declared.step.ProofStep.{ProofStep}
@@ -52,16 +52,16 @@ split_at [] n x h = absurd cc
 split_at (y ∷ xs) zero x h = ([], xs, ap (λ z. z ∷ xs) (some_is y x h), refl)
 split_at (y ∷ xs) (suc n) x h = let (front, rest, e, long) = split_at xs n x h in (y ∷ front, rest, ap (λ zs. y ∷ zs) e, ap suc long)
 
-derived_older : (newer older : List HeldClause) → AreDerived (newer ++ older) → AreDerived older
+derived_older : (newer older : List SatClause) → AreDerived (newer ++ older) → AreDerived older
 derived_older [] older d = d
 derived_older (c ∷ newer) older d = derived_older newer older d.1
 
-clause_front : (cs ds : List HeldClause) (n : ℕ) → n < length (lists cs) → clause_at (lists (cs ++ ds)) n ≡ clause_at (lists cs) n
+clause_front : (cs ds : List SatClause) (n : ℕ) → n < length (lists cs) → clause_at (lists (cs ++ ds)) n ≡ clause_at (lists cs) n
 clause_front [] ds n below = absurd (omega arith)
 clause_front (c ∷ cs) ds zero below = refl
 clause_front (c ∷ cs) ds (suc n) below = clause_front cs ds n (omega arith)
 
-named_front : (cs ds : List HeldClause) (causes : List ClauseId) → AllBelow (length (lists cs)) causes → named (lists (cs ++ ds)) causes ≡ named (lists cs) causes
+named_front : (cs ds : List SatClause) (causes : List ClauseId) → AllBelow (length (lists cs)) causes → named (lists (cs ++ ds)) causes ≡ named (lists cs) causes
 named_front cs ds [] below = refl
 named_front cs ds (c ∷ causes) below = ap (λ x. x ∷ named (lists (cs ++ ds)) causes) (clause_front cs ds c.0 below.0) ∙ ap (λ xs. clause_at (lists cs) c.0 ∷ xs) (named_front cs ds causes below.1)
 
@@ -70,7 +70,7 @@ below_more m n [] le below = tt
 below_more m n (c ∷ causes) le below = ((let one : c.0 < m = below.0 in omega arith), below_more m n causes le below.1)
 
 -- A clause with causes follows from them, and they stand before it.
-derived_at : (cs : List HeldClause) (n : ℕ) (c : HeldClause) → AreDerived (reverse cs) → slice_get cs n ≡ Some c → 0 < length c.causes.items → AllBelow n c.causes.items × Refutes (no root_variable ∷ c.literals.items) (named (lists cs) c.causes.items)
+derived_at : (cs : List SatClause) (n : ℕ) (c : SatClause) → AreDerived (reverse cs) → slice_get cs n ≡ Some c → 0 < length c.causes.items → AllBelow n c.causes.items × Refutes (no root_variable ∷ c.literals.items) (named (lists cs) c.causes.items)
 derived_at cs n c derived at some =
     let (front, rest, e, long) = split_at cs n c at in
     let newest : reverse cs ≡ reverse rest ++ (c ∷ reverse front) = ap reverse e ∙ reverse-append front (c ∷ rest) ∙ ap (λ xs. xs ++ reverse front) (reverse-append (c ∷ []) rest) ∙ append_assoc (reverse rest) (c ∷ []) (reverse front) in
@@ -80,13 +80,13 @@ derived_at cs n c derived at some =
     (subst (λ k. AllBelow k c.causes.items) (length-lists front ∙ long) own.in_range, subst (Refutes (no root_variable ∷ c.literals.items)) (sym same) own.refuted)
 
 -- what denies choices of the trail is false on it
-pub kept_false : (s : SearchState) (literals : List Signed) → DenyKept s literals → (l : Signed) → has literals l ≡ true → has (made_true (history s)) (negation l) ≡ true
+pub kept_false : (s : SatState) (literals : List Signed) → DenyKept s literals → (l : Signed) → has literals l ≡ true → has (made_true (history s)) (negation l) ≡ true
 kept_false s literals denies l h =
     let (e, older, on, is, kept) = denies l h in
     subst (λ x. has (made_true (history s)) x ≡ true) is (known_from_stands (history s) _ e.level (stands_from_entry (history s) e older on))
 
 -- a refusal's literals are of variables that are there
-pub refusal_in_range : (s : SearchState) (literals : List Signed) (causes : List ClauseId) → IsState s → IsRefusal s literals causes → AreInRange (count_of s) literals
+pub refusal_in_range : (s : SatState) (literals : List Signed) (causes : List ClauseId) → IsState s → IsRefusal s literals causes → AreInRange (count_of s) literals
 refusal_in_range s literals causes state refusal l h = known_in_range (count_of s) (clauses_of s) (history s) (negation l) state.trail (kept_false s literals refusal.denies l h)
 
 -- literals that stand apart are spelled by what they mean
@@ -119,7 +119,7 @@ map_none f (x ∷ xs) h = absurd cc
 -- the rule that a step states is the clause's, under some condition
 told_rule : {N S : Type 0} (x : Stated N S) (r : ProofRule N S) → IsTold x (Some r) → (condition : Option ConditionId) × (rule_of x ≡ Some (rule_under condition r))
 told_rule Says.Root r h = absurd cc
-told_rule (Says.Needs parent need case) r (copy, e, same) = (need.condition, ap (λ vs. Some (Encoding.Rule.needs parent need vs)) (sym same) ∙ sym (ap (λ y. Some (rule_under need.condition y)) (some_is r (Needs parent need.requirement copy) e)))
+told_rule (Says.Needs parent need case) r (copy, e, same) = (need.condition, ap (λ vs. Some (Encoder.Rule.needs parent need vs)) (sym same) ∙ sym (ap (λ y. Some (rule_under need.condition y)) (some_is r (Needs parent need.requirement copy) e)))
 told_rule (Says.Gated s q) r h = (None, sym (ap (λ y. Some (rule_under None y)) (some_is r (GateOf s q) h)))
 told_rule (Says.Shared q) r h = (None, sym (ap (λ y. Some (rule_under None y)) (some_is r (Shared q) h)))
 told_rule (Says.Limits parent v s) r h = (None, sym (ap (λ y. Some (rule_under None y)) (some_is r (Limit parent v (Some s)) h)))
@@ -150,7 +150,7 @@ module _ {N S : Type 0} (same : S → S → Bool) (p : Packages N S) where
   step_clause (x ∷ steps) zero step h = ap (clause_of same p) (some_is x step h)
   step_clause (x ∷ steps) (suc place) step h = step_clause steps place step h
 
-  module _ (c : Coding N S) (coding : IsCoding c) (spelled : Spelled same p c) (steps : List (ProofStep N S)) (each : (place : ℕ) → suc place < length c.search.clauses → (step : ProofStep N S) × (slice_get steps place ≡ Some step) × IsStepAt c (suc place) step) where
+  module _ (c : SolverState N S) (coding : IsCoding c) (spelled : Spelled same p c) (steps : List (ProofStep N S)) (each : (place : ℕ) → suc place < length c.search.clauses → (step : ProofStep N S) × (slice_get steps place ≡ Some step) × IsStepAt c (suc place) step) where
     -- the step of a clause has what the clause's literals mean
     spells_clause : (n : ℕ) (step : ProofStep N S) → IsStepAt c n step → Spells (origin c.atoms.keys) (clause_at (clauses_of c.search) n) (clause_of same p step)
     spells_clause n step at = go at.writes
@@ -199,7 +199,7 @@ module _ {N S : Type 0} (same : S → S → Bool) (p : Packages N S) where
               (subst (λ xs. one_pass same_atom xs (map (step_at same p steps) (places causes)) ≡ true) (sym d.means) meant)
 
       -- the step of a clause may stand at its place
-      clause_step : ((r : Encoding.Rule N S) → rules_in c.stated.items r → IsRule same p root r) → (place : ℕ) (step : ProofStep N S) → suc place < length c.search.clauses → IsStepAt c (suc place) step → IsStep same_atom same p root steps place step
+      clause_step : ((r : Encoder.Rule N S) → rules_in c.stated.items r → IsRule same p root r) → (place : ℕ) (step : ProofStep N S) → suc place < length c.search.clauses → IsStepAt c (suc place) step → IsStep same_atom same p root steps place step
       clause_step rule place step below at = go at.writes
         where
           go : IsStepOf c.atoms.keys at.stated at.clause step → IsStep same_atom same p root steps place step
@@ -214,14 +214,14 @@ module _ {N S : Type 0} (same : S → S → Bool) (p : Packages N S) where
               (derivation_refuted place at.clause.literals.items at.clause.causes.items step (omega arith) earlier refuted in_range (coding.apart (suc place) at.clause learnt at.stands) d)
 
 -- each clause behind the root's has its step
-has_step : {N S : Type 0} (c : Coding N S) (steps more : List (ProofStep N S)) → AreSteps c steps → (place : ℕ) → suc place < length c.search.clauses → (step : ProofStep N S) × (slice_get (steps ++ more) place ≡ Some step) × IsStepAt c (suc place) step
+has_step : {N S : Type 0} (c : SolverState N S) (steps more : List (ProofStep N S)) → AreSteps c steps → (place : ℕ) → suc place < length c.search.clauses → (step : ProofStep N S) × (slice_get (steps ++ more) place ≡ Some step) × IsStepAt c (suc place) step
 has_step c steps more are place below =
     let count : length steps + 1 ≡ length c.search.clauses = are.count in
     let (step, at) = get_below steps place (omega arith) in
     (step, get_front steps more place step at, are.each place step at)
 
 -- The steps of a coding's clauses are a proof.
-pub steps_prove : {N S : Type 0} (c : Coding N S) (steps : List (ProofStep N S)) → IsCoding c → AreSteps c steps → Proves c steps
+pub steps_prove : {N S : Type 0} (c : SolverState N S) (steps : List (ProofStep N S)) → IsCoding c → AreSteps c steps → Proves c steps
 steps_prove {N} {S} c steps coding are same_atom exact same p root spelled rule place step at =
     let within : place < length steps = slice_get_within steps place step at in
     let count : length steps + 1 ≡ length c.search.clauses = are.count in
@@ -234,7 +234,7 @@ steps_prove {N} {S} c steps coding are same_atom exact same p root spelled rule 
         (x, there, are.each k x there)
 
 -- So are they with a refusal's step behind them.
-pub refusal_proves : {N S : Type 0} (c : Coding N S) (literals : List Signed) (causes : List ClauseId) (steps : List (ProofStep N S)) → IsCoding c → IsRefusal c.search literals causes → AreStepsThen c literals causes steps → Proves c steps
+pub refusal_proves : {N S : Type 0} (c : SolverState N S) (literals : List Signed) (causes : List ClauseId) (steps : List (ProofStep N S)) → IsCoding c → IsRefusal c.search literals causes → AreStepsThen c literals causes steps → Proves c steps
 refusal_proves {N} {S} c literals causes steps coding refusal are same_atom exact same p root spelled rule place step at = elim (get_push are.earlier are.final step place (subst (λ xs. slice_get xs place ≡ Some step) are.ends at)) [
   | inl old ↦
       let within : place < length are.earlier = slice_get_within are.earlier place step old in
@@ -253,7 +253,7 @@ refusal_proves {N} {S} c literals causes steps coding refusal are same_atom exac
     each k below = subst (λ xs. (x : ProofStep N S) × (slice_get xs k ≡ Some x) × IsStepAt c (suc k) x) (sym are.ends) (has_step c are.earlier (are.final ∷ []) are.clauses k below)
 
 -- a refusal that denies the root alone ends with the empty clause
-pub ends_empty : {N S : Type 0} (c : Coding N S) (literals : List Signed) (causes : List ClauseId) (steps : List (ProofStep N S)) → AreStepsThen c literals causes steps → DenyRoot literals → EndsEmpty steps
+pub ends_empty : {N S : Type 0} (c : SolverState N S) (literals : List Signed) (causes : List ClauseId) (steps : List (ProofStep N S)) → AreStepsThen c literals causes steps → DenyRoot literals → EndsEmpty steps
 ends_empty c literals causes steps are deny = record {
   earlier = are.earlier;
   literals = are.derivation.literals;

@@ -1,7 +1,7 @@
 -- The literals of a proof's derived steps: where they stand, and their signs.
 use Rattle.std.specs.Prelude.{◌≡◌, ℕ, ◌<◌, Bool, List, map, Some, Contains, slice_get}
 use Rattle.std.proofs.Common.{Vec, Global}
-use Rattle.resolvo_pool.specs.RuleKeeping.{Packages}
+use Rattle.resolvo_pool_core.specs.RuleKeeping.{Packages}
 use Rattle.resolvo_proof.specs.declared.step.ProofLiteral.{ProofLiteral}
 use Rattle.resolvo_proof.specs.declared.step.ProofStep.{ProofStep}
 use Rattle.resolvo_proof.specs.declared.step.ProofStep.TheVariants.{Derived}

@@ -1,6 +1,6 @@
 -- Clauses with the same literals, in whatever order and number.
 use Rattle.std.specs.Prelude.{◌≡◌, List, Contains}
-use Rattle.resolvo_pool.specs.OnePass.{Literal}
+use Rattle.resolvo_pool_core.specs.OnePass.{Literal}
 
 pub record SameMembers {X : Type 0} (xs ys : List X) : Type 0 where
   pub only : (x : X) → Contains xs x → Contains ys x

@@ -1,17 +1,17 @@
 -- What a proof is: a list of steps, each a rule or refuted by one pass over earlier ones.
 use Rattle.std.specs.Prelude.{◌≡◌, ℕ, ◌<◌, Bool, true, List, [], ◌∷◌, ◌++◌, length, map, slice_get, Option, Some, Contains}
 use Rattle.std.proofs.Common.{Vec, Global}
-use Rattle.resolvo_pool.specs.declared.id.ConditionId.{ConditionId}
-use Rattle.resolvo_pool.specs.OnePass.{one_pass}
-use Rattle.resolvo_pool.specs.RuleKeeping.{Packages, Rules, IsRuleKeeping}
-use Rattle.resolvo_store.specs.AtMostOne.{digit}
-use Rattle.resolvo_store.specs.Signed.{Signed, has}
-use Rattle.resolvo_store.specs.Clauses.{no, root as root_variable}
-use Rattle.resolvo_rules.specs.Encoding as Encoding
-use Rattle.resolvo_rules.specs.Encoding.{Atom, IsExact, IsRule}
-use Rattle.resolvo_coding.specs.declared.coding.Coding.{Coding}
-use Rattle.resolvo_coding.specs.Statements.{rules_in}
-use Rattle.resolvo_coding.specs.Spelled.{Spelled}
+use Rattle.resolvo_pool_core.specs.declared.id.ConditionId.{ConditionId}
+use Rattle.resolvo_pool_core.specs.OnePass.{one_pass}
+use Rattle.resolvo_pool_core.specs.RuleKeeping.{Packages, Rules, IsRuleKeeping}
+use Rattle.resolvo_store_core.specs.AtMostOne.{digit}
+use Rattle.resolvo_store_core.specs.Signed.{Signed, has}
+use Rattle.resolvo_store_core.specs.Clauses.{no, root as root_variable}
+use Rattle.resolvo_soundness.specs.Encoding as Encoder
+use Rattle.resolvo_soundness.specs.Encoding.{Atom, IsExact, IsRule}
+use Rattle.resolvo_state.specs.declared.solver_state.SolverState.{SolverState}
+use Rattle.resolvo_state.specs.Statements.{rules_in}
+use Rattle.resolvo_state.specs.Spelled.{Spelled}
 use Rattle.resolvo_proof.specs.declared.step.ProofRule.TheVariants.{Digit}
 use Rattle.resolvo_proof.specs.declared.step.ProofLiteral.{ProofLiteral}
 use Rattle.resolvo_proof.specs.declared.step.ProofStep.{ProofStep}
@@ -57,6 +57,6 @@ abbrev pub DenyRoot : List Signed → Type 0
 DenyRoot literals = (l : Signed) → has literals l ≡ true → l ≡ no root_variable
 
 -- the steps are a proof for all packages and for each root whose rules the clauses state
-abbrev pub Proves : {N S : Type 0} → Coding N S → List (ProofStep N S) → Type 0
+abbrev pub Proves : {N S : Type 0} → SolverState N S → List (ProofStep N S) → Type 0
 Proves {N} {S} c steps = (same_atom : Atom N S → Atom N S → Bool) → IsExact same_atom → (same : S → S → Bool) (p : Packages N S) (root : Rules)
-    → Spelled same p c → ((r : Encoding.Rule N S) → rules_in c.stated.items r → IsRule same p root r) → IsProof same_atom same p root steps
+    → Spelled same p c → ((r : Encoder.Rule N S) → rules_in c.stated.items r → IsRule same p root r) → IsProof same_atom same p root steps

@@ -1,12 +1,12 @@
 -- What the steps of a proof say: rules, and clauses over atoms.
 use Rattle.std.specs.Prelude.{ℕ, zero, suc, Bool, List, [], ◌∷◌, map, Option, Some, None}
-use Rattle.resolvo_pool.specs.declared.id.ConditionId.{ConditionId}
-use Rattle.resolvo_pool.specs.OnePass.{Literal}
-use Rattle.resolvo_pool.specs.RuleKeeping.{Packages}
-use Rattle.resolvo_store.specs.AtMostOne.{digit}
-use Rattle.resolvo_rules.specs.Encoding as Encoding
-use Rattle.resolvo_rules.specs.Encoding.{Atom, literals_of}
-use Rattle.resolvo_coding.specs.Atoms.{atom_of}
+use Rattle.resolvo_pool_core.specs.declared.id.ConditionId.{ConditionId}
+use Rattle.resolvo_pool_core.specs.OnePass.{Literal}
+use Rattle.resolvo_pool_core.specs.RuleKeeping.{Packages}
+use Rattle.resolvo_store_core.specs.AtMostOne.{digit}
+use Rattle.resolvo_soundness.specs.Encoding as Encoder
+use Rattle.resolvo_soundness.specs.Encoding.{Atom, literals_of}
+use Rattle.resolvo_state.specs.Atoms.{atom_of}
 use Rattle.resolvo_proof.specs.declared.step.ProofRule.{ProofRule}
 use Rattle.resolvo_proof.specs.declared.step.ProofRule.TheVariants.{Needs, GateOf, Shared, Limit, Outside, Locked, Excluded, Digit, AtLeastOne}
 use Rattle.resolvo_proof.specs.declared.step.ProofLiteral.{ProofLiteral}
@@ -18,17 +18,17 @@ abbrev pub literal_in : {N S : Type 0} → ProofLiteral N S → Literal (Atom N 
 literal_in l = record { atom = atom_of l.atom; positive = l.positive }
 
 -- The rule that is stated. A need is stated for a case of its condition, which is given.
-abbrev pub rule_under : {N S : Type 0} → Option ConditionId → ProofRule N S → Encoding.Rule N S
-rule_under condition (Needs parent r case) = Encoding.Rule.needs parent (record { condition = condition; requirement = r }) case.items
-rule_under condition (GateOf s r) = Encoding.Rule.gated s r
-rule_under condition (Shared r) = Encoding.Rule.shared r
-rule_under condition (Limit parent v None) = Encoding.Rule.limits_outside parent v
-rule_under condition (Limit parent v (Some s)) = Encoding.Rule.limits parent v s
-rule_under condition (Outside v s) = Encoding.Rule.is_out v s
-rule_under condition (Locked locked s) = Encoding.Rule.bars (Encoding.Bar.lock locked) s
-rule_under condition (Excluded s reason) = Encoding.Rule.bars (Encoding.Bar.word reason) s
-rule_under condition (Digit s place bit) = Encoding.Rule.has_digit s bit (digit place bit)
-rule_under condition (AtLeastOne n s) = Encoding.Rule.is_there n s
+abbrev pub rule_under : {N S : Type 0} → Option ConditionId → ProofRule N S → Encoder.Rule N S
+rule_under condition (Needs parent r case) = Encoder.Rule.needs parent (record { condition = condition; requirement = r }) case.items
+rule_under condition (GateOf s r) = Encoder.Rule.gated s r
+rule_under condition (Shared r) = Encoder.Rule.shared r
+rule_under condition (Limit parent v None) = Encoder.Rule.limits_outside parent v
+rule_under condition (Limit parent v (Some s)) = Encoder.Rule.limits parent v s
+rule_under condition (Outside v s) = Encoder.Rule.is_out v s
+rule_under condition (Locked locked s) = Encoder.Rule.bars (Encoder.Bar.lock locked) s
+rule_under condition (Excluded s reason) = Encoder.Rule.bars (Encoder.Bar.word reason) s
+rule_under condition (Digit s place bit) = Encoder.Rule.has_digit s bit (digit place bit)
+rule_under condition (AtLeastOne n s) = Encoder.Rule.is_there n s
 
 module _ {N S : Type 0} (same : S → S → Bool) (p : Packages N S) where
   -- the clause of a step; that of a need is the same under each condition

@@ -2,8 +2,8 @@
 use Rattle.std.specs.Prelude.{◌≡◌, ◌↔◌, ℕ, suc, ◌<◌, ◌≤◌, ◌⊎◌, Bool, true, false, List, [], ◌∷◌, ◌++◌, length, map, slice_get, slice_index_or, Some, Contains}
 use Rattle.std.specs.List.{AllZip}
 use Rattle.std.proofs.Common.{Vec, Global}
-use Rattle.resolvo_pool.specs.RuleKeeping.{Packages, Rules}
-use Rattle.resolvo_rules.specs.Encoding.{Atom}
+use Rattle.resolvo_pool_core.specs.RuleKeeping.{Packages, Rules}
+use Rattle.resolvo_soundness.specs.Encoding.{Atom}
 use Rattle.resolvo_proof.specs.Proof.{IsProof}
 use Rattle.resolvo_proof.specs.declared.step.ProofStep.{ProofStep}
 use Rattle.resolvo_proof.specs.declared.step.ProofStep.TheVariants.{Rule, Derived}

@@ -1,17 +1,17 @@
 -- Which steps are written for which clauses.
 use Rattle.std.specs.Prelude.{◌≡◌, ℕ, zero, suc, ◌+◌, ◌⊎◌, List, [], ◌∷◌, ◌++◌, length, map, slice_get, Option, Some, None}
 use Rattle.std.proofs.Common.{Vec, Global}
-use Rattle.resolvo_pool.specs.declared.id.ClauseId.{ClauseId}
-use Rattle.resolvo_pool.specs.declared.id.VersionSetId.{VersionSetId}
-use Rattle.resolvo_store.specs.Signed.{Signed}
-use Rattle.resolvo_search.specs.declared.state.HeldClause.{HeldClause}
-use Rattle.resolvo_rules.specs.Numbered.{meanings}
-use Rattle.resolvo_coding.specs.declared.atom.ProofAtom.{ProofAtom}
-use Rattle.resolvo_coding.specs.declared.coding.Coding.{Coding}
-use Rattle.resolvo_coding.specs.declared.stated.Stated.{Stated}
-use Rattle.resolvo_coding.specs.declared.stated.Stated.TheVariants as Says
-use Rattle.resolvo_coding.specs.Atoms.{origin}
-use Rattle.resolvo_coding.specs.Statements.{stated_at}
+use Rattle.resolvo_pool_core.specs.declared.id.ClauseId.{ClauseId}
+use Rattle.resolvo_pool_core.specs.declared.id.VersionSetId.{VersionSetId}
+use Rattle.resolvo_store_core.specs.Signed.{Signed}
+use Rattle.resolvo_sat.specs.declared.state.SatClause.{SatClause}
+use Rattle.resolvo_soundness.specs.Numbered.{meanings}
+use Rattle.resolvo_state.specs.declared.atom.ProofAtom.{ProofAtom}
+use Rattle.resolvo_state.specs.declared.solver_state.SolverState.{SolverState}
+use Rattle.resolvo_state.specs.declared.clause_kind.Stated.{Stated}
+use Rattle.resolvo_state.specs.declared.clause_kind.Stated.TheVariants as Says
+use Rattle.resolvo_state.specs.Atoms.{origin}
+use Rattle.resolvo_state.specs.Statements.{stated_at}
 use Rattle.resolvo_proof.specs.declared.step.ProofRule.{ProofRule}
 use Rattle.resolvo_proof.specs.declared.step.ProofRule.TheVariants.{Needs, GateOf, Shared, Limit, Outside, Locked, Excluded, Digit, AtLeastOne}
 use Rattle.resolvo_proof.specs.declared.step.ProofLiteral.{ProofLiteral}
@@ -58,24 +58,24 @@ pub record IsDerivation {N S : Type 0} (atoms : List (ProofAtom N S)) (spelled :
   pub read : causes.items ≡ places from
 
 -- the step states the rule that the clause states, or is derived as the clause was
-abbrev pub IsStepOf : {N S : Type 0} → List (ProofAtom N S) → Stated N S → HeldClause → ProofStep N S → Type 0
+abbrev pub IsStepOf : {N S : Type 0} → List (ProofAtom N S) → Stated N S → SatClause → ProofStep N S → Type 0
 IsStepOf {N} {S} atoms stated clause step = ((r : ProofRule N S) × (step ≡ Rule r) × IsTold stated (Some r)) ⊎ ((stated ≡ Says.Learnt) × IsDerivation atoms clause.literals.items clause.causes.items step)
 
 -- the step of the clause of this number
-pub record IsStepAt {N S : Type 0} (c : Coding N S) (n : ℕ) (step : ProofStep N S) : Type 0 where
+pub record IsStepAt {N S : Type 0} (c : SolverState N S) (n : ℕ) (step : ProofStep N S) : Type 0 where
   pub stated : Stated N S
-  pub clause : HeldClause
+  pub clause : SatClause
   pub states : stated_at c.stated.items n ≡ Some stated
   pub stands : slice_get c.search.clauses n ≡ Some clause
   pub writes : IsStepOf c.atoms.keys stated clause step
 
 -- the steps of the clauses behind the root's, in their order
-pub record AreSteps {N S : Type 0} (c : Coding N S) (steps : List (ProofStep N S)) : Type 0 where
+pub record AreSteps {N S : Type 0} (c : SolverState N S) (steps : List (ProofStep N S)) : Type 0 where
   pub count : length steps + 1 ≡ length c.search.clauses
   pub each : (place : ℕ) (step : ProofStep N S) → slice_get steps place ≡ Some step → IsStepAt c (suc place) step
 
 -- the steps of a coding's clauses, and the refusal's behind them
-pub record AreStepsThen {N S : Type 0} (c : Coding N S) (spelled : List Signed) (from : List ClauseId) (steps : List (ProofStep N S)) : Type 0 where
+pub record AreStepsThen {N S : Type 0} (c : SolverState N S) (spelled : List Signed) (from : List ClauseId) (steps : List (ProofStep N S)) : Type 0 where
   pub earlier : List (ProofStep N S)
   pub final : ProofStep N S
   pub ends : steps ≡ earlier ++ final ∷ []

@@ -5,5 +5,5 @@
 
 pub mod proof;
 pub mod step;
-pub mod trimming;
-mod writing;
+pub mod trim;
+mod write;

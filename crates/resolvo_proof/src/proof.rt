@@ -1,23 +1,23 @@
 //! The proof of a search, as a list of steps that anybody can check.
 ghost use Rattle.std.specs.Prelude.{Bool, IfOk, IfSome, IsOkUnless, MatchOption};
-ghost use Rattle.resolvo_pool.specs.declared.want.Want.TheVariants.{Memory};
-ghost use Rattle.resolvo_search.specs.Analysis.{IsRefusal};
-ghost use Rattle.resolvo_coding.specs.Coding.{IsCoding};
-ghost use Rattle.resolvo_coding.specs.declared.registry.Registry.{Registry};
-ghost use Rattle.resolvo_coding.specs.Registered.{AreTied};
-ghost use Rattle.resolvo_pool.specs.RuleKeeping.{Packages};
-ghost use Rattle.resolvo_coding.specs.Spelled.{Spelled};
+ghost use Rattle.resolvo_pool_core.specs.declared.want.Want.TheVariants.{Memory};
+ghost use Rattle.resolvo_sat.specs.Analysis.{IsRefusal};
+ghost use Rattle.resolvo_state.specs.Coding.{IsCoding};
+ghost use Rattle.resolvo_state.specs.declared.registry.Registry.{Registry};
+ghost use Rattle.resolvo_state.specs.Registered.{AreTied};
+ghost use Rattle.resolvo_pool_core.specs.RuleKeeping.{Packages};
+ghost use Rattle.resolvo_state.specs.Spelled.{Spelled};
 ghost use Rattle.resolvo_proof.specs.Drawn.{AreDrawn, HaveOneSigns};
 ghost use Rattle.resolvo_proof.specs.Places.{HaveOnePlace, AreNamedBy};
 ghost use Rattle.resolvo_proof.specs.Written.{AreSteps, AreStepsThen};
 ghost use Rattle.resolvo_proof.specs.Proof.{Proves, DenyRoot, EndsEmpty, Convinces};
 
 use crate::step::ProofStep;
-use crate::writing::{write_derived, write_step};
-use resolvo_coding::coding::Coding;
-use resolvo_pool::id::Exact;
-use resolvo_pool::want::R;
-use resolvo_search::analysis::Refusal;
+use crate::write::{write_derived, write_step};
+use resolvo_pool_core::id::Exact;
+use resolvo_pool_core::want::R;
+use resolvo_sat::analyze::FinalConflict;
+use resolvo_state::solver_state::SolverState;
 use std::alloc::Global;
 use std::fmt::Debug;
 use std::hash::Hash;
@@ -25,8 +25,8 @@ use std::hash::Hash;
 /// The steps of the clauses behind the root's, in their order, and of a refusal, where there is one.
 pub fn proof_of<N: Copy + Exact + Hash + Debug, S: Copy + Exact + Hash + Debug>(
     alloc: Global,
-    coding: &Coding<N, S>,
-    last: Option<&Refusal>,
+    coding: &SolverState<N, S>,
+    last: Option<&FinalConflict>,
 ) -> R<Vec<ProofStep<N, S>>>
     requires coding { IsCoding coding.now }
     requires refusal { IfSome last (λ r. IsRefusal coding.now.search r.now.literals.items r.now.causes.items) }
@@ -54,7 +54,7 @@ pub fn proof_of<N: Copy + Exact + Hash + Debug, S: Copy + Exact + Hash + Debug>(
 /// The steps of the clauses behind the root's.
 fn steps_of<N: Copy + Exact + Hash + Debug, S: Copy + Exact + Hash + Debug>(
     alloc: Global,
-    coding: &Coding<N, S>,
+    coding: &SolverState<N, S>,
 ) -> R<Vec<ProofStep<N, S>>>
     requires coding { IsCoding coding.now }
     ensures steps { IfOk result (λ v. AreSteps coding.now v.items) }

@@ -1,8 +1,8 @@
 //! The steps of a proof. A parent is a solvable, or none for the root, whose literal is never written.
 
-use resolvo_coding::atom::ProofAtom;
-use resolvo_pool::id::{StringId, VersionSetId};
-use resolvo_pool::requirement::Requirement;
+use resolvo_pool_core::id::{StringId, VersionSetId};
+use resolvo_pool_core::requirement::Requirement;
+use resolvo_state::atom::ProofAtom;
 
 /// A rule of the provider, or of the problem's root.
 #[derive(Debug, Drop)]

@@ -7,8 +7,8 @@ use Rattle.std.proofs.lemmas.Grind.{flat_map-append}
 use Rattle.std.proofs.lemmas.List.{drop_more}
 use Rattle.std.proofs.Math.Seq.{take-suc}
 use Rattle.resolvo_text.specs.Device.{WriterFailed}
-use Rattle.resolvo_report.specs.declared.writing.ReportWriteFault.{ReportWriteFault}
-use Rattle.resolvo_report.specs.declared.writing.ReportWriteFault.TheVariants.{Memory}
+use Rattle.resolvo_report.specs.declared.write.ReportWriteFault.{ReportWriteFault}
+use Rattle.resolvo_report.specs.declared.write.ReportWriteFault.TheVariants.{Memory}
 use Rattle.resolvo_report.specs.Value.{Step, AnswerLine, Install, Refused, ReportLine, Answer, CatalogueLine, RequestLine, Numbered, Message}
 use Rattle.resolvo_report.specs.Text.{line_text, lines_text, numbered, report_text}
 use Rattle.resolvo_report.specs.Writing.{Wrote, StopsWriting}

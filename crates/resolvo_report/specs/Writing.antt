@@ -2,8 +2,8 @@
 use Rattle.std.specs.Prelude.{◌≡◌, ℕ, List, Option}
 use Rattle.std.specs.Io.KnownBytes.{Appends}
 use Rattle.resolvo_text.specs.Device.{WriterFailed, TakesFront}
-use Rattle.resolvo_report.specs.declared.writing.ReportWriteFault.{ReportWriteFault}
-use Rattle.resolvo_report.specs.declared.writing.ReportWriteFault.TheVariants.{Writer}
+use Rattle.resolvo_report.specs.declared.write.ReportWriteFault.{ReportWriteFault}
+use Rattle.resolvo_report.specs.declared.write.ReportWriteFault.TheVariants.{Writer}
 
 -- The device took this text, and didn't fail: its contents, its failures and its empty writes before and after.
 abbrev pub Wrote : Option (List ℕ) → Option (List ℕ) → ℕ → ℕ → ℕ → ℕ → List ℕ → Type 0

@@ -5,18 +5,18 @@
 #![tactic(auto)]
 
 mod laws;
+mod parse;
 mod part;
 mod place;
 mod reader;
-mod reading;
 mod report;
 mod step;
 mod text;
-mod writing;
+mod write;
 
 pub use laws::{reports_are_read, texts_say_one_report};
 pub use place::Part;
 pub use reader::{ReportFault, ReportReader};
 pub use report::{AnswerLine, Report, ReportLine};
 pub use step::{Atom, Literal, Place, Step};
-pub use writing::ReportWriteFault;
+pub use write::ReportWriteFault;

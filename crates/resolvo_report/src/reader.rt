@@ -11,8 +11,8 @@ ghost use Rattle.resolvo_report.specs.Text.{report_lines, report_text};
 ghost use Rattle.resolvo_report.specs.Grammar.{next_part, may_end, IsReport, IsReportFault};
 ghost use Rattle.resolvo_report.specs.Draft.{part_of};
 
+use crate::parse::line_read;
 use crate::place::Part;
-use crate::reading::line_read;
 use crate::report::{Report, ReportLine};
 use resolvo_text::{LineFault, LineReader, ReadFault, Source};
 use std::alloc::{AllocError, AllocFailed, Global};

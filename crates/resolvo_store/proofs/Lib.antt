@@ -1,11 +1,6 @@
-pub mod CaseLaws
-pub mod ClauseLists
-pub mod ClauseValues
-pub mod Digits
-pub mod Rooms
-pub mod Seconds
-pub mod Ties
-pub mod Trails
-pub mod Walks
-pub mod Watched
-pub mod Watching
+pub mod Alike
+pub mod Fitting
+pub mod Interning
+pub mod Picks
+pub mod Plain
+pub mod Undone

@@ -5,17 +5,17 @@ mod provider;
 mod sources;
 
 use resolvo::problem::Problem;
-use resolvo::proving::solve;
-use resolvo::search::Found;
+use resolvo::prove::solve;
+use resolvo::search::SearchResult;
 use resolvo::solver::Solver;
-use resolvo_answers::answers::Answers;
-use resolvo_cache::cache::CacheFault;
-use resolvo_catalogue::{Catalogue, MemorySource, Request, VersionNo};
-use resolvo_pool::id::SolvableId;
-use resolvo_pool::want::Want;
-use resolvo_provider::lawful::Never;
-use resolvo_provider::provider::{CatalogueProvider, Hint, RequestIds};
-use resolvo_turn::deciding::Activity;
+use resolvo_catalogue::impls::Never;
+use resolvo_catalogue::provider::{CatalogueProvider, Hint, RequestIds};
+use resolvo_catalogue_core::{Catalogue, MemorySource, Request, VersionNo};
+use resolvo_packages::cached_packages::CachedPackages;
+use resolvo_pool::cache::CacheFault;
+use resolvo_pool_core::id::SolvableId;
+use resolvo_pool_core::want::Want;
+use resolvo_turn::cdcl::Activity;
 use std::alloc::Global;
 use std::test::Fail;
 
@@ -39,12 +39,12 @@ fn failed(fault: CacheFault<Never>) -> Fail {
 /// The versions of what was found, if something was.
 fn versions(
     alloc: Global,
-    answers: &Answers<CatalogueProvider>,
-    found: &Found<SolvableId>,
+    answers: &CachedPackages<CatalogueProvider>,
+    found: &SearchResult<SolvableId>,
 ) -> Result<Option<Vec<VersionNo>>, Fail> {
     match found {
-        Found::Clash(_) => Ok(None),
-        Found::Chosen { solvables, .. } => {
+        SearchResult::Clash(_) => Ok(None),
+        SearchResult::Chosen { solvables, .. } => {
             let mut set = Vec::new(alloc);
             for one in solvables {
                 set.push(answers.provider().version_of(*one))?;
@@ -57,12 +57,12 @@ fn versions(
 /// The versions that are chosen for the ids of a request, or none where it is refused.
 fn chosen_of(
     alloc: Global,
-    answers: &mut Answers<CatalogueProvider>,
+    answers: &mut CachedPackages<CatalogueProvider>,
     root: &RequestIds,
 ) -> Result<Option<Vec<VersionNo>>, Fail> {
     let requirements = root.requirements.as_slice();
     let constraints = root.constraints.as_slice();
-    match solve::<Answers<CatalogueProvider>, Vec<u64>>(
+    match solve::<CachedPackages<CatalogueProvider>, Vec<u64>>(
         alloc,
         answers,
         Activity::standard(),
@@ -84,7 +84,7 @@ fn chosen(
 ) -> Result<Option<Vec<VersionNo>>, Fail> {
     let mut provider = CatalogueProvider::new(alloc, catalogue, hint)?;
     let root = provider.intern_request(request)?;
-    chosen_of(alloc, &mut Answers::new(alloc, provider), &root)
+    chosen_of(alloc, &mut CachedPackages::new(alloc, provider), &root)
 }
 
 fn solved_over(

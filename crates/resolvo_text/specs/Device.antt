@@ -1,8 +1,8 @@
 -- What a device that gives or takes bytes tells of itself.
 use Rattle.std.specs.Prelude.{◌≡◌, ℕ, ◌+◌, ◌<◌, ◌≤◌, ◌⊎◌, min, ◌==◌, if◌then◌else◌, List, ◌++◌, Option, Some, Result, Ok, Err}
 use Rattle.std.specs.Io.KnownBytes.{Appends}
-use Rattle.resolvo_text.specs.declared.device.Trouble.{Trouble}
-use Rattle.resolvo_text.specs.declared.device.Trouble.TheVariants.{Interrupted, Failed}
+use Rattle.resolvo_text.specs.declared.device.IoFault.{IoFault}
+use Rattle.resolvo_text.specs.declared.device.IoFault.TheVariants.{Interrupted, Failed}
 
 -- a fact of the bytes, where they are known
 abbrev pub IfKnown : Option (List ℕ) → (List ℕ → Type 0) → Type 0
@@ -17,19 +17,19 @@ abbrev pub one_more : ℕ → ℕ
 one_more n = min (n + 1) last
 
 -- A call that failed is counted, up to the last count. At the last count each call fails.
-abbrev pub CountsFailures : {T : Type 0} → ℕ → ℕ → Result T Trouble → Type 0
+abbrev pub CountsFailures : {T : Type 0} → ℕ → ℕ → Result T IoFault → Type 0
 CountsFailures old new (Ok x) = (new ≡ old) × (old < last)
 CountsFailures old new (Err Interrupted) = (new ≡ old) × (old < last)
 CountsFailures old new (Err Failed) = new ≡ one_more old
 
 -- An interruption is counted, up to the last count, and any other answer ends the row of them.
-abbrev pub CountsInterruptions : {T : Type 0} → ℕ → ℕ → Result T Trouble → Type 0
+abbrev pub CountsInterruptions : {T : Type 0} → ℕ → ℕ → Result T IoFault → Type 0
 CountsInterruptions old new (Ok x) = new ≡ 0
 CountsInterruptions old new (Err Interrupted) = new ≡ one_more old
 CountsInterruptions old new (Err Failed) = new ≡ 0
 
 -- A write that took no byte is counted, up to the last count.
-abbrev pub CountsEmpty : ℕ → ℕ → Result ℕ Trouble → Type 0
+abbrev pub CountsEmpty : ℕ → ℕ → Result ℕ IoFault → Type 0
 CountsEmpty old new (Ok n) = new ≡ (if n == 0 then one_more old else old)
 CountsEmpty old new (Err e) = new ≡ old
 

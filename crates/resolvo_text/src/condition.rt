@@ -11,7 +11,7 @@ ghost use Rattle.resolvo_text.specs.Cases.{cases, pairs, some_case_met};
 ghost use Rattle.resolvo_text.specs.Line as says;
 
 use crate::line::LineFault;
-use crate::reading::{no_more, skip, spec_at};
+use crate::parse::{no_more, skip, spec_at};
 use crate::spec::{Spec, Version, is_met};
 use std::alloc::{AllocError, Global};
 

@@ -14,7 +14,7 @@ pub(crate) const MOST_INTERRUPTIONS: u32 = 1000;
 
 /// Why a call moved no byte.
 #[derive(Clone, Copy, Debug, PartialEq, Eq)]
-pub enum Trouble {
+pub enum IoFault {
     /// The call can be made again.
     Interrupted,
     Failed,
@@ -37,7 +37,7 @@ pub trait Source {
     ghost interruptions: { Self → ℕ };
 
     /// Gives bytes to the front of `buf` and answers how many. None come only at the end.
-    fn read(&mut self, buf: &mut [u8]) -> Result<usize, Trouble>
+    fn read(&mut self, buf: &mut [u8]) -> Result<usize, IoFault>
         ensures bound { ReadsAtMost result buf.new }
         ensures bytes { ReadConsumes (left self.old) (left self.new) result buf.new }
         ensures failures { CountsFailures (failures self.old) (failures self.new) result }
@@ -64,7 +64,7 @@ pub trait Sink {
     ghost empty_writes: { Self → ℕ };
 
     /// Takes bytes from the front of `buf` and answers how many.
-    fn write(&mut self, buf: &[u8]) -> Result<usize, Trouble>
+    fn write(&mut self, buf: &[u8]) -> Result<usize, IoFault>
         ensures bound { WritesAtMost result buf.now }
         ensures bytes { WriteAppends (contents self.old) (contents self.new) result buf.now }
         ensures failures { CountsFailures (failures self.old) (failures self.new) result }
@@ -103,21 +103,21 @@ impl Tally {
         self.interruptions = 0;
     }
 
-    pub(crate) fn interrupted(&mut self) -> Trouble
-        ensures answer { result ≡ Trouble.Interrupted }
+    pub(crate) fn interrupted(&mut self) -> IoFault
+        ensures answer { result ≡ IoFault.Interrupted }
         ensures counted { self.new ≡ record self.old { interruptions = one_more self.old.interruptions } }
     {
         self.interruptions = self.interruptions.saturating_add(1);
-        Trouble::Interrupted
+        IoFault::Interrupted
     }
 
-    pub(crate) fn failed(&mut self) -> Trouble
-        ensures answer { result ≡ Trouble.Failed }
+    pub(crate) fn failed(&mut self) -> IoFault
+        ensures answer { result ≡ IoFault.Failed }
         ensures counted { self.new ≡ record { failures = one_more self.old.failures; interruptions = 0 } }
     {
         self.failures = self.failures.saturating_add(1);
         self.interruptions = 0;
-        Trouble::Failed
+        IoFault::Failed
     }
 }
 
@@ -159,7 +159,7 @@ impl<T: Read> Source for Counted<T> {
 
     ghost interruptions = { λ c. c.tally.interruptions };
 
-    fn read(&mut self, buf: &mut [u8]) -> Result<usize, Trouble> {
+    fn read(&mut self, buf: &mut [u8]) -> Result<usize, IoFault> {
         if self.tally.is_full() {
             return Err(self.tally.failed());
         }
@@ -187,7 +187,7 @@ impl<T: Write> Sink for Counted<T> {
 
     ghost empty_writes = { λ c. c.empty_writes };
 
-    fn write(&mut self, buf: &[u8]) -> Result<usize, Trouble> {
+    fn write(&mut self, buf: &[u8]) -> Result<usize, IoFault> {
         if self.tally.is_full() {
             return Err(self.tally.failed());
         }

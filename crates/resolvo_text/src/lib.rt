@@ -6,25 +6,25 @@
 
 mod condition;
 mod device;
-mod growing;
+mod growing_sink;
 mod line;
 mod lines;
 mod memory;
-mod reading;
+mod parse;
 mod spec;
 mod words;
-mod writing;
+mod write_all;
 
 pub use condition::{Cond, cases_are_exact, cases_in, holds};
-pub use device::{Counted, Sink, Source, Trouble};
-pub use growing::GrowingSink;
+pub use device::{Counted, IoFault, Sink, Source};
+pub use growing_sink::GrowingSink;
 pub use line::{Line, LineFault};
 pub use lines::{LineReader, ReadFault};
 pub use memory::{MemorySink, MemorySource};
-pub use reading::{
+pub use parse::{
     alternatives_at, first_word, line_in, name_of, next_word, no_more, number_of, reason_at, skip,
     span_at, spec_at, texts_say_one_line, version_at, word_at,
 };
 pub use spec::{Span, Spec, Version, is_in_span, is_member, is_met, is_met_by_one, matches};
 pub use words::{is_name, name_in, number_in, span_in};
-pub use writing::{WriteFault, write_all};
+pub use write_all::{WriteFault, write_all};

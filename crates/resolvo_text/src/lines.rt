@@ -10,7 +10,7 @@ ghost use Rattle.resolvo_text.specs.Device.{DeviceFailed};
 ghost use Rattle.std.specs.List.{position};
 ghost use Rattle.resolvo_text.specs.Lines.{newlines, is_newline};
 
-use crate::device::{MOST_INTERRUPTIONS, Source, Trouble};
+use crate::device::{IoFault, MOST_INTERRUPTIONS, Source};
 use std::alloc::{AllocError, AllocFailed, Global};
 use thiserror::Error;
 
@@ -228,8 +228,8 @@ impl LineReader {
                     self.end = count;
                     return Ok(());
                 }
-                Err(Trouble::Interrupted) => {}
-                Err(Trouble::Failed) => return Err(ReadFault::Reader),
+                Err(IoFault::Interrupted) => {}
+                Err(IoFault::Failed) => return Err(ReadFault::Reader),
             }
         }
         Err(ReadFault::Reader)

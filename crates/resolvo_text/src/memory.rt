@@ -5,7 +5,7 @@
 ghost use Rattle.std.specs.Prelude.{◌≡◌, ◌<◌, ◌≤◌, ◌++◌, [], Some, IfOk, take, drop, length, vec_len};
 ghost use Rattle.resolvo_text.specs.Device.{CountsFailures, CountsInterruptions};
 
-use crate::device::{Sink, Source, Tally, Trouble, empty_after};
+use crate::device::{IoFault, Sink, Source, Tally, empty_after};
 use std::alloc::{AllocError, Global};
 
 /// What comes before the bytes: so many interruptions, and from a chosen call on only failures.
@@ -46,7 +46,7 @@ impl Turns {
     }
 
     /// Whether the next call moves bytes.
-    fn next(&mut self) -> Result<(), Trouble>
+    fn next(&mut self) -> Result<(), IoFault>
         ensures failures { CountsFailures self.old.tally.failures self.new.tally.failures result }
         ensures interruptions { CountsInterruptions self.old.tally.interruptions self.new.tally.interruptions result }
     {
@@ -135,7 +135,7 @@ impl Source for MemorySource<'_> {
 
     ghost interruptions = { λ s. s.turns.tally.interruptions };
 
-    fn read(&mut self, buf: &mut [u8]) -> Result<usize, Trouble> {
+    fn read(&mut self, buf: &mut [u8]) -> Result<usize, IoFault> {
         self.turns.next()?;
         let count = copy_front(buf, self.left, self.per_call);
         self.left = &self.left[count..];
@@ -208,7 +208,7 @@ impl Sink for MemorySink {
 
     ghost empty_writes = { λ s. s.empty_writes };
 
-    fn write(&mut self, buf: &[u8]) -> Result<usize, Trouble> {
+    fn write(&mut self, buf: &[u8]) -> Result<usize, IoFault> {
         let count = self.per_call.min(buf.len());
         if count > self.room.len() - self.used {
             return Err(self.turns.tally.failed());

@@ -1,24 +1,24 @@
 -- A case that waited becomes a clause.
 use Rattle.std.proofs.Common.{◌≡◌, ℕ, Bool, List, Some, sym, ◌∙◌, subst}
 use Rattle.std.specs.Prelude.{Contains, slice_get}
-use Rattle.resolvo_pool.specs.declared.id.VersionSetId.{VersionSetId}
-use Rattle.resolvo_pool.specs.declared.requirement.ConditionalRequirement.{ConditionalRequirement}
-use Rattle.resolvo_pool.specs.declared.requirement.Requirement.{Requirement}
-use Rattle.resolvo_pool.specs.RuleKeeping.{Packages, Rules, rules_for}
-use Rattle.resolvo_store.specs.AtMostOne.{IsFrontOf}
-use Rattle.resolvo_rules.specs.Encoding.{cases_for}
-use Rattle.resolvo_rules.specs.Ending.{IsNeedEncoded}
-use Rattle.resolvo_coding.proofs.Positions.{front_get}
-use Rattle.resolvo_encoding.specs.declared.casing.Waiting.{Waiting}
-use Rattle.resolvo_encoding.specs.declared.encoding.Deferred.{Deferred}
-use Rattle.resolvo_encoding.specs.declared.encoding.Encoding.{Encoding}
-use Rattle.resolvo_encoding.specs.Casing.{case_of, Fires, IsWaiting}
-use Rattle.resolvo_encoding.specs.Encoded.{rules_of, IsEncoding}
-use Rattle.resolvo_encoding.proofs.Requiring.{some_one}
+use Rattle.resolvo_pool_core.specs.declared.id.VersionSetId.{VersionSetId}
+use Rattle.resolvo_pool_core.specs.declared.requirement.ConditionalRequirement.{ConditionalRequirement}
+use Rattle.resolvo_pool_core.specs.declared.requirement.Requirement.{Requirement}
+use Rattle.resolvo_pool_core.specs.RuleKeeping.{Packages, Rules, rules_for}
+use Rattle.resolvo_store_core.specs.AtMostOne.{IsFrontOf}
+use Rattle.resolvo_soundness.specs.Encoding.{cases_for}
+use Rattle.resolvo_soundness.specs.Ending.{IsNeedEncoded}
+use Rattle.resolvo_state.proofs.Positions.{front_get}
+use Rattle.resolvo_encoder.specs.declared.conditions.DeferredRequirement.{DeferredRequirement}
+use Rattle.resolvo_encoder.specs.declared.encoder.Deferred.{Deferred}
+use Rattle.resolvo_encoder.specs.declared.encoder.Encoder.{Encoder}
+use Rattle.resolvo_encoder.specs.Casing.{case_of, Fires, IsWaiting}
+use Rattle.resolvo_encoder.specs.Encoded.{rules_of, IsEncoding}
+use Rattle.resolvo_encoder.proofs.Requiring.{some_one}
 use Rattle.resolvo_turn.specs.Encoder.{IsInOrder}
 use Rattle.resolvo_turn.proofs.Adding.{fires_in_order}
 
-module _ {N S : Type 0} (same : S → S → Bool) (p : Packages N S) (orders : Requirement → List S → Type 0) (root : Rules) (index : ℕ) (old middle new : Encoding N S) (w : Waiting S) where
+module _ {N S : Type 0} (same : S → S → Bool) (p : Packages N S) (orders : Requirement → List S → Type 0) (root : Rules) (index : ℕ) (old middle new : Encoder N S) (w : DeferredRequirement S) where
   -- the encoding is one of the packages after the case was stated and noted, where the case was one of what waits
   pub stated_in_order : IsWaiting old index w → IsInOrder same p orders root old → IsFrontOf old.deferred.items middle.deferred.items
       → (Contains (rules_for same p root w.parent).requirements w.need → Contains (cases_for same p w.need) w.case.items → IsInOrder same p orders root middle × IsNeedEncoded same p (rules_of middle) w.parent w.need w.case.items)

@@ -1,16 +1,16 @@
 -- How the encoding of parents goes on.
 use Rattle.std.specs.Prelude.{◌≡◌, ◌≤◌, Bool, false, List, length, Option, Some, Contains}
-use Rattle.resolvo_pool.specs.declared.id.VersionSetId.{VersionSetId}
-use Rattle.resolvo_pool.specs.declared.requirement.ConditionalRequirement.{ConditionalRequirement}
-use Rattle.resolvo_pool.specs.declared.requirement.Requirement.{Requirement}
-use Rattle.resolvo_pool.specs.RuleKeeping.{Packages, Rules, rules_for, is_unknown}
-use Rattle.resolvo_store.specs.AtMostOne.{IsFrontOf}
-use Rattle.resolvo_coding.specs.Coding.{Grows}
-use Rattle.resolvo_encoding.specs.declared.encoding.Encoding.{Encoding}
-use Rattle.resolvo_encoding.specs.Base.{KeepsTurns}
-use Rattle.resolvo_encoding.specs.Casing.{IsDeferred}
-use Rattle.resolvo_encoding.specs.Encoded.{AreOrdered, IsCaseEncoded, IsEncoding}
-use Rattle.resolvo_rules.specs.Encoding.{cases_for}
+use Rattle.resolvo_pool_core.specs.declared.id.VersionSetId.{VersionSetId}
+use Rattle.resolvo_pool_core.specs.declared.requirement.ConditionalRequirement.{ConditionalRequirement}
+use Rattle.resolvo_pool_core.specs.declared.requirement.Requirement.{Requirement}
+use Rattle.resolvo_pool_core.specs.RuleKeeping.{Packages, Rules, rules_for, is_unknown}
+use Rattle.resolvo_store_core.specs.AtMostOne.{IsFrontOf}
+use Rattle.resolvo_state.specs.Coding.{Grows}
+use Rattle.resolvo_encoder.specs.declared.encoder.Encoder.{Encoder}
+use Rattle.resolvo_encoder.specs.Base.{KeepsTurns}
+use Rattle.resolvo_encoder.specs.Casing.{IsDeferred}
+use Rattle.resolvo_encoder.specs.Encoded.{AreOrdered, IsCaseEncoded, IsEncoding}
+use Rattle.resolvo_soundness.specs.Encoding.{cases_for}
 
 -- the root has these requirements and constraints
 abbrev pub IsRoot : List ConditionalRequirement → List VersionSetId → Rules → Type 0
@@ -23,21 +23,21 @@ pub record AreRulesOf {N S : Type 0} (same : S → S → Bool) (p : Packages N S
   pub known : (s : S) → parent ≡ Some s → is_unknown (p.dependencies_of s) ≡ false
 
 -- the encoding is one of the packages, and the candidates that requirements have got are in an order of theirs
-pub record IsInOrder {N S : Type 0} (same : S → S → Bool) (p : Packages N S) (orders : Requirement → List S → Type 0) (root : Rules) (e : Encoding N S) : Type 0 where
+pub record IsInOrder {N S : Type 0} (same : S → S → Bool) (p : Packages N S) (orders : Requirement → List S → Type 0) (root : Rules) (e : Encoder N S) : Type 0 where
   pub encoding : IsEncoding same p root e
   pub ordered : AreOrdered orders e
 
 -- each of these cases of the parent's need waits, or did
-abbrev pub AreDeferred : {N S : Type 0} → Encoding N S → Option S → ConditionalRequirement → List (List VersionSetId) → Type 0
+abbrev pub AreDeferred : {N S : Type 0} → Encoder N S → Option S → ConditionalRequirement → List (List VersionSetId) → Type 0
 AreDeferred {N} {S} e parent need cases = (case : List VersionSetId) → Contains cases case → IsDeferred e parent need case
 
 -- each case of the parent's need is a clause, or waits
-abbrev pub IsConditionalEncoded : {N S : Type 0} → (S → S → Bool) → Packages N S → Encoding N S → Option S → ConditionalRequirement → Type 0
+abbrev pub IsConditionalEncoded : {N S : Type 0} → (S → S → Bool) → Packages N S → Encoder N S → Option S → ConditionalRequirement → Type 0
 IsConditionalEncoded {N} {S} same p e parent need = (case : List VersionSetId) → Contains (cases_for same p need) case → IsCaseEncoded same p e parent need case
 
 -- clauses, what they state, parents, and cases that wait or fired came behind the others; no parent more is encoded, no wish
 -- came, and the turn keeps what stood before it
-pub record AddsNeeds {N S : Type 0} (old new : Encoding N S) : Type 0 where
+pub record AddsNeeds {N S : Type 0} (old new : Encoder N S) : Type 0 where
   pub grows : Grows old.coding new.coding
   pub turn : KeepsTurns old new
   pub wishes : new.noted.wishes.items ≡ old.noted.wishes.items
@@ -47,7 +47,7 @@ pub record AddsNeeds {N S : Type 0} (old new : Encoding N S) : Type 0 where
   pub fired : IsFrontOf old.fired.keys new.fired.keys
 
 -- the same, and parents more may be encoded
-pub record AddsParents {N S : Type 0} (old new : Encoding N S) : Type 0 where
+pub record AddsParents {N S : Type 0} (old new : Encoder N S) : Type 0 where
   pub grows : Grows old.coding new.coding
   pub wishes : new.noted.wishes.items ≡ old.noted.wishes.items
   pub parents : IsFrontOf old.parents.keys new.parents.keys
@@ -56,6 +56,6 @@ pub record AddsParents {N S : Type 0} (old new : Encoding N S) : Type 0 where
   pub fired : IsFrontOf old.fired.keys new.fired.keys
 
 -- the same, and all parents are encoded
-pub record AddsAll {N S : Type 0} (old new : Encoding N S) : Type 0 where
+pub record AddsAll {N S : Type 0} (old new : Encoder N S) : Type 0 where
   pub adds : AddsParents old new
   pub all : new.encoded ≡ length new.parents.keys

@@ -1,82 +1,82 @@
 -- What a turn comes to.
 use Rattle.std.specs.Prelude.{◌≡◌, ℕ, ◌<◌, ◌≤◌, ◌+◌, ◌-◌, ◌*◌, nat_lt, cond, ◌⊎◌, Bool, true, List, length, Option, Some, None, Contains, slice_get}
-use Rattle.resolvo_pool.specs.declared.id.VariableId.{VariableId}
-use Rattle.resolvo_store.specs.Clauses.{yes}
-use Rattle.resolvo_store.specs.Signed.{has}
-use Rattle.resolvo_encoding.specs.Base.{IsTried}
-use Rattle.resolvo_pool.specs.declared.solver_id.SolvableIdOrRoot.TheVariants.{Root, Solvable}
+use Rattle.resolvo_pool_core.specs.declared.id.VariableId.{VariableId}
+use Rattle.resolvo_store_core.specs.Clauses.{yes}
+use Rattle.resolvo_store_core.specs.Signed.{has}
+use Rattle.resolvo_encoder.specs.Base.{IsTried}
+use Rattle.resolvo_pool_core.specs.declared.solver_id.SolvableIdOrRoot.TheVariants.{Root, Solvable}
 use Rattle.resolvo_turn.specs.declared.turn.Round.{Round}
 use Rattle.resolvo_turn.specs.declared.turn.Round.TheVariants.{Goes, Whole, Refused}
-use Rattle.resolvo_search.specs.declared.analysis.Refusal.{Refusal}
-use Rattle.resolvo_search.specs.Analysis.{IsRefusal}
-use Rattle.resolvo_search.specs.Entries.{made_true}
-use Rattle.resolvo_search.specs.State.{history}
-use Rattle.resolvo_coding.specs.Chosen.{AreChosen}
-use Rattle.resolvo_encoding.specs.Casing.{AreSpent}
-use Rattle.resolvo_encoding.specs.Turning.{AreAmongEncoded}
-use Rattle.resolvo_encoding.specs.Going.{IsSettled}
-use Rattle.resolvo_encoding.specs.Steps.{AddsParent}
-use Rattle.resolvo_encoding.specs.declared.encoding.Encoding.{Encoding}
+use Rattle.resolvo_sat.specs.declared.analyze.FinalConflict.{FinalConflict}
+use Rattle.resolvo_sat.specs.Analysis.{IsRefusal}
+use Rattle.resolvo_sat.specs.Entries.{made_true}
+use Rattle.resolvo_sat.specs.State.{history}
+use Rattle.resolvo_state.specs.Chosen.{AreChosen}
+use Rattle.resolvo_encoder.specs.Casing.{AreSpent}
+use Rattle.resolvo_encoder.specs.Turning.{AreAmongEncoded}
+use Rattle.resolvo_encoder.specs.Going.{IsSettled}
+use Rattle.resolvo_encoder.specs.Steps.{AddsParent}
+use Rattle.resolvo_encoder.specs.declared.encoder.Encoder.{Encoder}
 
 -- the needs of the root and of each chosen solvable are clauses
-abbrev pub IsWhole : {N S : Type 0} → Encoding N S → Type 0
+abbrev pub IsWhole : {N S : Type 0} → Encoder N S → Type 0
 IsWhole {N} {S} e = (members : List S) → AreChosen e.coding.atoms.keys (made_true (history e.coding.search)) members → AreAmongEncoded e members
 
 -- the turn's wish, if it has one, is chosen
-abbrev pub HasWish : {N S : Type 0} → Option VariableId → Encoding N S → Type 0
+abbrev pub HasWish : {N S : Type 0} → Option VariableId → Encoder N S → Type 0
 HasWish None e = Unit {0}
 HasWish (Some v) e = has (made_true (history e.coding.search)) (yes v) ≡ true
 
 -- choices can't stand together, the wish's among them; or the wish is false by what stood before its turn
-abbrev pub IsRefusedBy : {N S : Type 0} → Option VariableId → Encoding N S → Refusal → Type 0
+abbrev pub IsRefusedBy : {N S : Type 0} → Option VariableId → Encoder N S → FinalConflict → Type 0
 IsRefusedBy None e r = IsRefusal e.coding.search r.literals.items r.causes.items
 IsRefusedBy (Some v) e r = (IsRefusal e.coding.search r.literals.items r.causes.items × HasWish (Some v) e) ⊎ IsTried e v (Some r)
 
 -- the search for the turn's choices has nothing left to set or to choose, or can't go on
-abbrev pub IsDecisionOf : {N S : Type 0} → Option VariableId → Encoding N S → Option Refusal → Type 0
+abbrev pub IsDecisionOf : {N S : Type 0} → Option VariableId → Encoder N S → Option FinalConflict → Type 0
 IsDecisionOf wish e None = IsSettled e × HasWish wish e
 IsDecisionOf wish e (Some r) = IsRefusedBy wish e r
 
 -- a first try of the turn's wish: it is chosen, or this is why it is false
-abbrev pub IsBegunBy : {N S : Type 0} → Option VariableId → Encoding N S → Option Refusal → Type 0
+abbrev pub IsBegunBy : {N S : Type 0} → Option VariableId → Encoder N S → Option FinalConflict → Type 0
 IsBegunBy wish e None = HasWish wish e
 IsBegunBy None e (Some r) = ⊥
 IsBegunBy (Some v) e (Some r) = IsTried e v (Some r)
 
 -- nothing is left to set, to choose or to encode, and no case that waits holds; or the turn is refused
-abbrev pub IsTurn : {N S : Type 0} → (S → S → Bool) → Option VariableId → Encoding N S → Option Refusal → Type 0
+abbrev pub IsTurn : {N S : Type 0} → (S → S → Bool) → Option VariableId → Encoder N S → Option FinalConflict → Type 0
 IsTurn same wish e None = IsSettled e × IsWhole e × AreSpent same e × HasWish wish e
 IsTurn same wish e (Some r) = IsRefusedBy wish e r
 
 -- the chosen solvables are among the parents
-pub record AddsChosen {N S : Type 0} (old new : Encoding N S) : Type 0 where
+pub record AddsChosen {N S : Type 0} (old new : Encoder N S) : Type 0 where
   pub added : AddsParent old new
   pub chosen : (members : List S) → AreChosen new.coding.atoms.keys (made_true (history new.coding.search)) members → (s : S) → Contains members s → Contains new.parents.keys (Solvable s)
 
 -- the root is the first parent
-abbrev pub IsRooted : {N S : Type 0} → Encoding N S → Type 0
+abbrev pub IsRooted : {N S : Type 0} → Encoder N S → Type 0
 IsRooted e = slice_get e.parents.keys 0 ≡ Some Root
 
 -- cases more became clauses
-pub record FiresMore {N S : Type 0} (old new : Encoding N S) : Type 0 where
+pub record FiresMore {N S : Type 0} (old new : Encoder N S) : Type 0 where
   pub more : length old.fired.keys < length new.fired.keys
   pub bounded : length new.fired.keys < 18446744073709551616
 
 -- a parent waits to be encoded
-abbrev pub IsWaiting : {N S : Type 0} → Encoding N S → Type 0
+abbrev pub IsWaiting : {N S : Type 0} → Encoder N S → Type 0
 IsWaiting e = e.encoded < length e.parents.keys
 
 -- Parents more are encoded, cases more became clauses, or a parent waits where none did.
-abbrev pub GoesFurther : {N S : Type 0} → Encoding N S → Encoding N S → Type 0
+abbrev pub GoesFurther : {N S : Type 0} → Encoder N S → Encoder N S → Type 0
 GoesFurther old new = ((old.encoded < new.encoded) × (new.encoded < 18446744073709551616)) ⊎ (FiresMore old new ⊎ ((length old.parents.keys ≤ old.encoded) × IsWaiting new))
 
 -- how often a turn may go further: by each parent that may be encoded, by each case that may become a clause, and once where no
 -- parent waits
-abbrev pub rounds_left : {N S : Type 0} → Encoding N S → ℕ
+abbrev pub rounds_left : {N S : Type 0} → Encoder N S → ℕ
 rounds_left e = 2 * (18446744073709551616 - e.encoded) + 2 * (18446744073709551616 - length e.fired.keys) + cond (nat_lt e.encoded (length e.parents.keys)) 0 1
 
 -- what a round came to: it went further, or the turn has ended
-abbrev pub IsRound : {N S : Type 0} → (S → S → Bool) → Option VariableId → Encoding N S → Encoding N S → Round → Type 0
+abbrev pub IsRound : {N S : Type 0} → (S → S → Bool) → Option VariableId → Encoder N S → Encoder N S → Round → Type 0
 IsRound same wish old new Goes = GoesFurther old new
 IsRound same wish old new Whole = IsTurn same wish new None
 IsRound same wish old new (Refused r) = IsTurn same wish new (Some r)

@@ -2,8 +2,8 @@
 //! is met or the turn is refused.
 #![tactic(auto)]
 
-pub mod deciding;
-pub mod deferring;
-pub mod encoder;
-pub mod firing;
+pub mod cdcl;
+pub mod defer;
+pub mod encode;
+pub mod fire;
 pub mod turn;

@@ -1,28 +1,28 @@
 //! A turn, the root's or that of a wish: what was asked for is encoded, the wish is chosen, then decisions are made; what was
 //! chosen and isn't encoded yet is, in the order of the trail, then cases of conditions that hold, until nothing is left to encode.
 ghost use Rattle.std.specs.Prelude.{◌≡◌, true, false, IfOk, IfErr, OnOk};
-ghost use Rattle.resolvo_cache.specs.Cached.{IsCancelledBy};
-ghost use Rattle.resolvo_pool.specs.RuleKeeping.{Packages, Rules, IsLawful};
-ghost use Rattle.resolvo_encoding.specs.Base.{HasTurn, KeepsTurn, KeepsTurns};
-ghost use Rattle.resolvo_encoding.specs.Casing.{AreSpent};
-ghost use Rattle.resolvo_encoding.specs.Steps.{IsBuilt, AddsParent};
-ghost use Rattle.resolvo_encoding.specs.Encoded.{IsEncoding};
-ghost use Rattle.resolvo_encoding.specs.Going.{GoesOn};
+ghost use Rattle.resolvo_pool.specs.Cached.{IsCancelledBy};
+ghost use Rattle.resolvo_pool_core.specs.RuleKeeping.{Packages, Rules, IsLawful};
+ghost use Rattle.resolvo_encoder.specs.Base.{HasTurn, KeepsTurn, KeepsTurns};
+ghost use Rattle.resolvo_encoder.specs.Casing.{AreSpent};
+ghost use Rattle.resolvo_encoder.specs.Steps.{IsBuilt, AddsParent};
+ghost use Rattle.resolvo_encoder.specs.Encoded.{IsEncoding};
+ghost use Rattle.resolvo_encoder.specs.Going.{GoesOn};
 ghost use Rattle.resolvo_turn.specs.Encoder.{IsInOrder, IsRoot, AddsNeeds, AddsParents, AddsAll};
 ghost use Rattle.resolvo_turn.specs.Turn.{AddsChosen, FiresMore, IsBegunBy, IsDecisionOf, IsRooted, IsRound, IsTurn};
 
-use crate::deciding::{Activity, decide};
-use crate::encoder::encode_parents;
-use crate::firing::fire_cases;
-use resolvo_answers::answering::Answering;
-use resolvo_cache::cache::CacheFault;
-use resolvo_encoding::encoding::Encoding;
-use resolvo_pool::id::{Exact, VariableId, VersionSetId};
-use resolvo_pool::id_map::ScoreMap;
-use resolvo_pool::requirement::ConditionalRequirement;
-use resolvo_pool::want::R;
-use resolvo_search::analysis::Refusal;
-use resolvo_search::state::SearchState;
+use crate::cdcl::{Activity, decide};
+use crate::encode::encode_parents;
+use crate::fire::fire_cases;
+use resolvo_encoder::encoder::Encoder;
+use resolvo_packages::package_source::PackageSource;
+use resolvo_pool::cache::CacheFault;
+use resolvo_pool_core::id::{Exact, VariableId, VersionSetId};
+use resolvo_pool_core::id_map::ScoreMap;
+use resolvo_pool_core::requirement::ConditionalRequirement;
+use resolvo_pool_core::want::R;
+use resolvo_sat::analyze::FinalConflict;
+use resolvo_sat::state::SatState;
 use std::alloc::Global;
 use std::fmt::Debug;
 use std::hash::Hash;
@@ -30,7 +30,7 @@ use std::hash::Hash;
 /// Lets the needs of each chosen solvable be encoded in its turn, in the order of the trail.
 fn add_chosen<N: Copy + Exact + Hash + Debug, S: Copy + Exact + Hash + Debug>(
     alloc: Global,
-    encoding: &mut Encoding<N, S>,
+    encoding: &mut Encoder<N, S>,
 ) -> R<()>
     requires { IsBuilt encoding.old }
     ensures { OnOk result (AddsChosen encoding.old encoding.new) }
@@ -43,7 +43,7 @@ fn add_chosen<N: Copy + Exact + Hash + Debug, S: Copy + Exact + Hash + Debug>(
 }
 
 /// Whether some clause from this number on has no literal that is true or open.
-fn is_any_broken(search: &SearchState, from: usize) -> bool {
+fn is_any_broken(search: &SatState, from: usize) -> bool {
     let values = search.tracker.map();
     search.clauses.iter().skip(from).any(|(_, clause)| {
         clause
@@ -55,7 +55,7 @@ fn is_any_broken(search: &SearchState, from: usize) -> bool {
 
 /// Takes the turn's choices away where one of the clauses from this number on is broken.
 fn undo_broken<N: Copy + Exact + Hash + Debug, S: Copy + Exact + Hash + Debug>(
-    encoding: &mut Encoding<N, S>,
+    encoding: &mut Encoder<N, S>,
     from: usize,
 )
     requires { IsBuilt encoding.old }
@@ -70,10 +70,10 @@ fn undo_broken<N: Copy + Exact + Hash + Debug, S: Copy + Exact + Hash + Debug>(
 }
 
 /// Encodes what is asked for. Where a clause that came is broken by choices, these are taken away.
-fn encode<A: Answering>(
+fn encode<A: PackageSource>(
     alloc: Global,
     answers: &mut A,
-    encoding: &mut Encoding<A::NameId, A::SolvableId>,
+    encoding: &mut Encoder<A::NameId, A::SolvableId>,
     requirements: &[ConditionalRequirement],
     constraints: &[VersionSetId],
 ) -> Result<(), CacheFault<A::Cancel>>
@@ -93,10 +93,10 @@ fn encode<A: Answering>(
 
 /// States the cases that hold, when nothing is left to decide. Whether there was one; if there was none, nothing changed.
 /// Where a clause that came is broken by choices, these are taken away.
-fn fire<A: Answering>(
+fn fire<A: PackageSource>(
     alloc: Global,
     answers: &mut A,
-    encoding: &mut Encoding<A::NameId, A::SolvableId>,
+    encoding: &mut Encoder<A::NameId, A::SolvableId>,
 ) -> Result<bool, CacheFault<A::Cancel>>
     requires { IsBuilt encoding.old }
     ensures same { answers.new ≡ answers.old }
@@ -118,9 +118,9 @@ fn fire<A: Answering>(
 /// Chooses the turn's wish, if it has one and it isn't chosen. Where it is false before its turn, this tells why.
 fn choose_first<N: Copy + Exact + Hash + Debug, S: Copy + Exact + Hash + Debug>(
     alloc: Global,
-    encoding: &mut Encoding<N, S>,
+    encoding: &mut Encoder<N, S>,
     wish: Option<VariableId>,
-) -> R<Option<Refusal>>
+) -> R<Option<FinalConflict>>
     requires built { IsBuilt encoding.old }
     requires turn { HasTurn wish encoding.old }
     ensures stays { OnOk result ((p : Packages N S) (root : Rules) → IsLawful p → IsEncoding S.eq p root encoding.old → IsEncoding S.eq p root encoding.new) }
@@ -131,19 +131,19 @@ fn choose_first<N: Copy + Exact + Hash + Debug, S: Copy + Exact + Hash + Debug>(
 {
     match wish {
         None => Ok(None),
-        Some(variable) => encoding.choose_wish(alloc, variable),
+        Some(variable) => encoding.assume_soft(alloc, variable),
     }
 }
 
 /// Chooses the turn's wish, and decides what it leaves open.
-fn choose_and_decide<A: Answering, C: ScoreMap<A::NameId>>(
+fn choose_and_decide<A: PackageSource, C: ScoreMap<A::NameId>>(
     alloc: Global,
     answers: &A,
-    encoding: &mut Encoding<A::NameId, A::SolvableId>,
+    encoding: &mut Encoder<A::NameId, A::SolvableId>,
     scores: &mut C,
     activity: Activity,
     wish: Option<VariableId>,
-) -> Result<Option<Refusal>, CacheFault<A::Cancel>>
+) -> Result<Option<FinalConflict>, CacheFault<A::Cancel>>
     requires built { IsBuilt encoding.old }
     requires turn { HasTurn wish encoding.old }
     ensures stays { OnOk result ((root : Rules) → IsInOrder A.SolvableId.eq (A.packages answers.now) (A.orders answers.now) root encoding.old → IsInOrder A.SolvableId.eq (A.packages answers.now) (A.orders answers.now) root encoding.new) }
@@ -161,16 +161,16 @@ fn choose_and_decide<A: Answering, C: ScoreMap<A::NameId>>(
 }
 
 /// Encodes what is asked for, and decides.
-fn encode_and_decide<A: Answering, C: ScoreMap<A::NameId>>(
+fn encode_and_decide<A: PackageSource, C: ScoreMap<A::NameId>>(
     alloc: Global,
     answers: &mut A,
-    encoding: &mut Encoding<A::NameId, A::SolvableId>,
+    encoding: &mut Encoder<A::NameId, A::SolvableId>,
     scores: &mut C,
     activity: Activity,
     requirements: &[ConditionalRequirement],
     constraints: &[VersionSetId],
     wish: Option<VariableId>,
-) -> Result<Option<Refusal>, CacheFault<A::Cancel>>
+) -> Result<Option<FinalConflict>, CacheFault<A::Cancel>>
     requires built { IsBuilt encoding.old }
     requires turn { HasTurn wish encoding.old }
     ensures same { answers.new ≡ answers.old }
@@ -194,15 +194,15 @@ enum Round {
     /// Nothing is left to set, to choose or to encode.
     Whole,
     /// Choices can't stand together.
-    Refused(Refusal),
+    Refused(FinalConflict),
 }
 
 /// Encodes what is asked for, chooses the turn's wish, decides, and lets what was chosen be encoded in the next round. Where nothing was, the cases
 /// that hold become clauses.
-fn run_round<A: Answering, C: ScoreMap<A::NameId>>(
+fn run_round<A: PackageSource, C: ScoreMap<A::NameId>>(
     alloc: Global,
     answers: &mut A,
-    encoding: &mut Encoding<A::NameId, A::SolvableId>,
+    encoding: &mut Encoder<A::NameId, A::SolvableId>,
     scores: &mut C,
     activity: Activity,
     requirements: &[ConditionalRequirement],
@@ -245,16 +245,16 @@ fn run_round<A: Answering, C: ScoreMap<A::NameId>>(
 }
 
 /// Goes round after round, until nothing is left to encode or to choose, or choices can't stand together.
-pub fn run_turn<A: Answering, C: ScoreMap<A::NameId>>(
+pub fn run_turn<A: PackageSource, C: ScoreMap<A::NameId>>(
     alloc: Global,
     answers: &mut A,
-    encoding: &mut Encoding<A::NameId, A::SolvableId>,
+    encoding: &mut Encoder<A::NameId, A::SolvableId>,
     scores: &mut C,
     activity: Activity,
     requirements: &[ConditionalRequirement],
     constraints: &[VersionSetId],
     wish: Option<VariableId>,
-) -> Result<Option<Refusal>, CacheFault<A::Cancel>>
+) -> Result<Option<FinalConflict>, CacheFault<A::Cancel>>
     requires built { IsBuilt encoding.old }
     requires rooted { IsRooted encoding.old }
     requires turn { HasTurn wish encoding.old }

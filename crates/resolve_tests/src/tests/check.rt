@@ -1,8 +1,8 @@
 //! Checks of a report whose reader or writer fails.
 
-use resolvo_catalogue::{MemorySink, MemorySource};
-use resolvo_judging::check::check;
-use resolvo_judging::outcome::{Checked, RunFault};
+use resolve_check::check::check;
+use resolve_check::outcome::{Checked, RunFault};
+use resolvo_catalogue_core::{MemorySink, MemorySource};
 use std::alloc::{AllocError, Global};
 use std::test::Fail;
 

@@ -5,11 +5,11 @@ ghost use Rattle.std.specs.Prelude.{◌<◌};
 mod devices;
 mod plain;
 
-use resolvo_catalogue::{MemorySink, MemorySource};
-use resolvo_commands::run::run;
-use resolvo_judging::check::check;
-use resolvo_judging::endings::{check_ending, run_ending};
-use resolvo_judging::outcome::{Outcome, RunFault};
+use resolve_check::check::check;
+use resolve_check::endings::{check_ending, run_ending};
+use resolve_check::outcome::{Outcome, RunFault};
+use resolve_run::run::run;
+use resolvo_catalogue_core::{MemorySink, MemorySource};
 use std::alloc::{AllocError, Global};
 
 /// How a run over the two texts ends, over devices that move so many bytes a call.

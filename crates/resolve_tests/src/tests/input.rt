@@ -1,8 +1,8 @@
 //! Standard input: how it is parted, and its limit.
 
-use resolvo_catalogue::MemorySource;
-use resolvo_judging::input::{read_input, split_input};
-use resolvo_judging::outcome::RunFault;
+use resolve_check::input::{read_input, split_input};
+use resolve_check::outcome::RunFault;
+use resolvo_catalogue_core::MemorySource;
 use std::alloc::Global;
 use std::test::Fail;
 

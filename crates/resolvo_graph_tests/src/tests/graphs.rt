@@ -4,8 +4,8 @@ use super::sample::{Link, Place, drawn, message, told};
 use resolvo_graph::graph::{
     ConflictCause, ConflictEdge, ConflictGraph, ConflictNode, EdgeIndex, NodeIndex,
 };
-use resolvo_pool::id::{SolvableId, StringId, VersionSetId};
-use resolvo_pool::want::R;
+use resolvo_pool_core::id::{SolvableId, StringId, VersionSetId};
+use resolvo_pool_core::want::R;
 use std::alloc::Global;
 use std::process::Abort;
 use std::test::Fail;

@@ -1,10 +1,10 @@
 //! Ids whose digits tell their meaning: the version 100 p + v is version v of package p.
 
-use resolvo_pool::condition::Condition;
-use resolvo_pool::id::{
+use resolvo_pool_core::condition::Condition;
+use resolvo_pool_core::id::{
     ConditionId, NameId, SolvableId, StringId, VersionSetId, VersionSetUnionId,
 };
-use resolvo_pool::provider::Interner;
+use resolvo_pool_core::provider::Interner;
 use std::fmt;
 
 /// The meaning of the ids, which have no texts.
@@ -13,7 +13,7 @@ pub struct Numbers;
 
 impl Interner for Numbers {
     ghost use Rattle.std.specs.Prelude.{◌/◌, []};
-    ghost use Rattle.resolvo_pool.specs.declared.condition.Condition.TheVariants.{Requirement};
+    ghost use Rattle.resolvo_pool_core.specs.declared.condition.Condition.TheVariants.{Requirement};
 
     type NameId = NameId;
 

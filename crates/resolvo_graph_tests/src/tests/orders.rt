@@ -2,9 +2,9 @@
 
 use super::conflicts::{TestStep, derived, excluded, need};
 use resolvo_conflict::rules::{conflict_rules, requirements_of};
-use resolvo_pool::id::VersionSetId;
-use resolvo_pool::requirement::Requirement;
-use resolvo_pool::want::R;
+use resolvo_pool_core::id::VersionSetId;
+use resolvo_pool_core::requirement::Requirement;
+use resolvo_pool_core::want::R;
 use std::alloc::Global;
 use std::process::Abort;
 use std::test::Fail;

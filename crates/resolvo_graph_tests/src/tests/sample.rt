@@ -8,13 +8,13 @@ ghost use Rattle.resolvo_graph_tests.specs.Sample.{letter, span_text, word, merg
 
 use resolvo_graph::display_unsat::DisplayUnsat;
 use resolvo_graph::graph::{ConflictCause, ConflictEdge, ConflictGraph, ConflictNode};
-use resolvo_pool::condition::Condition;
-use resolvo_pool::id::{
+use resolvo_pool_core::condition::Condition;
+use resolvo_pool_core::id::{
     ConditionId, NameId, SolvableId, StringId, VersionSetId, VersionSetUnionId,
 };
-use resolvo_pool::provider::Interner;
-use resolvo_pool::requirement::Requirement;
-use resolvo_pool::want::R;
+use resolvo_pool_core::provider::Interner;
+use resolvo_pool_core::requirement::Requirement;
+use resolvo_pool_core::want::R;
 use std::alloc::{AllocError, Global};
 use std::fmt;
 
@@ -52,7 +52,7 @@ fn word(reason: StringId) -> &'static str
 impl Interner for Sample {
     ghost use Rattle.std.specs.Prelude.{◌/◌, ◌%◌, ◌++◌, codes, ⊤};
     ghost use Rattle.std.specs.Fmt.{decimal};
-    ghost use Rattle.resolvo_pool.specs.declared.condition.Condition.TheVariants.{Requirement};
+    ghost use Rattle.resolvo_pool_core.specs.declared.condition.Condition.TheVariants.{Requirement};
     ghost use Rattle.resolvo_graph_tests.specs.Sample.{letter, span_text, word, merged};
 
     type NameId = NameId;

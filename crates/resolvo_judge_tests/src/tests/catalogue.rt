@@ -2,7 +2,7 @@
 
 ghost use Rattle.std.specs.Prelude.{◌<◌};
 
-use resolvo_catalogue::{
+use resolvo_catalogue_core::{
     Catalogue, MemorySource, ReadFault, Request, Rule, Span, Spec, VersionNo,
     catalogue_has_no_fault, request_has_no_fault, text_is_one_catalogue, text_is_one_request,
 };

@@ -1,10 +1,10 @@
 //! The report of turns that are chosen here: their order, and that of their steps, differs from the solver's.
 
-use resolvo_catalogue::{Catalogue, MemorySource, ReadFault, Request, Version, VersionNo};
-use resolvo_entries::{install_report, numbers_of};
+use resolve_install::{install_report, numbers_of};
+use resolve_order::Turn;
+use resolvo_catalogue_core::{Catalogue, MemorySource, ReadFault, Request, Version, VersionNo};
 use resolvo_judge::{Verdict, judge};
-use resolvo_listing::Turn;
-use resolvo_pool::id::SolvableId;
+use resolvo_pool_core::id::SolvableId;
 use resolvo_report::{Report, Step};
 use resolvo_text::MemorySink;
 use std::alloc::{AllocError, Global};

@@ -1,7 +1,7 @@
 //! The order of what is listed for turns that are chosen here, and not by the solver.
 
-use resolvo_catalogue::{Catalogue, MemorySource, Request, VersionNo};
-use resolvo_listing::{Answer, Entry, Reason, Turn, list};
+use resolve_order::{Answer, Entry, Reason, Turn, list};
+use resolvo_catalogue_core::{Catalogue, MemorySource, Request, VersionNo};
 use std::alloc::{AllocError, Global};
 use std::process::Abort;
 use std::test::Fail;

@@ -3,8 +3,8 @@
 ghost use Rattle.std.specs.Prelude.{◌<◌};
 
 use resolvo_text::{
-    Cond, Counted, Line, LineFault, LineReader, MemorySink, MemorySource, ReadFault, Sink, Source,
-    Span, Spec, Trouble, Version, cases_in, holds, is_in_span, is_member, is_met, is_met_by_one,
+    Cond, Counted, IoFault, Line, LineFault, LineReader, MemorySink, MemorySource, ReadFault, Sink,
+    Source, Span, Spec, Version, cases_in, holds, is_in_span, is_member, is_met, is_met_by_one,
     line_in, matches, write_all,
 };
 use std::alloc::{AllocError, Global};
@@ -84,11 +84,11 @@ fn sinks(rt: HostRuntime) -> Result<(), Fail> {
     let mut sink = MemorySink::new(rt.alloc(), 5, 3)?
         .interrupted(1)
         .failing_after(2);
-    assert_eq!(rt; sink.write(b"abcd"), Err(Trouble::Interrupted));
+    assert_eq!(rt; sink.write(b"abcd"), Err(IoFault::Interrupted));
     assert_eq!(rt; sink.write(b"abcd"), Ok(3));
-    assert_eq!(rt; sink.write(b"def"), Err(Trouble::Failed), "past the room");
+    assert_eq!(rt; sink.write(b"def"), Err(IoFault::Failed), "past the room");
     assert_eq!(rt; sink.write(b"de"), Ok(2));
-    assert_eq!(rt; sink.write(b""), Err(Trouble::Failed), "the chosen call");
+    assert_eq!(rt; sink.write(b""), Err(IoFault::Failed), "the chosen call");
     assert_eq!(rt; sink.bytes(), b"abcde".as_slice());
     Ok(())
 }
@@ -163,11 +163,11 @@ fn counted(rt: HostRuntime) -> Result<(), Fail> {
     let mut failing = Counted::new(Broken {
         kind: ErrorKind::Other,
     });
-    assert_eq!(rt; failing.read(&mut buf), Err(Trouble::Failed));
+    assert_eq!(rt; failing.read(&mut buf), Err(IoFault::Failed));
     let mut interrupted = Counted::new(Broken {
         kind: ErrorKind::Interrupted,
     });
-    assert_eq!(rt; interrupted.read(&mut buf), Err(Trouble::Interrupted));
+    assert_eq!(rt; interrupted.read(&mut buf), Err(IoFault::Interrupted));
     Ok(())
 }
 

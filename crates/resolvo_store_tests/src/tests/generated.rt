@@ -3,11 +3,11 @@
 //! numbers; each is run under both settings, on which no answer rests.
 
 use crate::tests::generator::{CallList, draw_list};
-use resolvo_clause_store::clause_store::ClauseStore;
-use resolvo_clause_store::store_call::{StoreAnswer, StoreCall};
-use resolvo_pool::id::NameId;
-use resolvo_pool::want::R;
-use resolvo_store::decision_tracker::Set;
+use resolvo_pool_core::id::NameId;
+use resolvo_pool_core::want::R;
+use resolvo_store::clause_store::ClauseStore;
+use resolvo_store::store_call::{StoreAnswer, StoreCall};
+use resolvo_store_core::decision_tracker::Set;
 use std::alloc::Global;
 use std::process::Abort;
 use std::test::Fail;

@@ -4,16 +4,16 @@
 
 use crate::tests::draws::Draws;
 use crate::tests::slow_store::{Signed, SlowStore};
-use resolvo_clause_store::store_call::{StoreAnswer, StoreCall};
-use resolvo_pool::id::{
+use resolvo_pool_core::id::{
     ClauseId, DisjunctionId, LearntClauseId, NameId, StringId, VariableId, VersionSetId,
     VersionSetUnionId,
 };
-use resolvo_pool::requirement::Requirement;
-use resolvo_pool::want::R;
-use resolvo_store::clause::Clause;
-use resolvo_store::literal::Literal;
-use resolvo_store::watched_literals::WatchedLiterals;
+use resolvo_pool_core::requirement::Requirement;
+use resolvo_pool_core::want::R;
+use resolvo_store::store_call::{StoreAnswer, StoreCall};
+use resolvo_store_core::clause::Clause;
+use resolvo_store_core::literal::Literal;
+use resolvo_store_core::watched_literals::WatchedLiterals;
 use std::alloc::Global;
 
 /// A list of calls, with the answer of the slow store to each.

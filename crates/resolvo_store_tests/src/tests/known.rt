@@ -2,19 +2,19 @@
 //! them, and over a long chain.
 
 ghost use Rattle.std.specs.Prelude.{List, OnOk, IfOk};
-ghost use Rattle.resolvo_pool.specs.declared.requirement.Requirement.{Requirement};
-ghost use Rattle.resolvo_store.specs.Signed.{Signed};
-ghost use Rattle.resolvo_needs.specs.Needs.{Fits, literals_in};
+ghost use Rattle.resolvo_pool_core.specs.declared.requirement.Requirement.{Requirement};
+ghost use Rattle.resolvo_store_core.specs.Signed.{Signed};
+ghost use Rattle.resolvo_decide.specs.Needs.{Fits, literals_in};
 
-use crate::tests::picking::{fix, no_scores, three_needs};
-use resolvo_needs::open_needs::OpenNeeds;
-use resolvo_pool::id::{ClauseId, NameId, VariableId, VersionSetId};
-use resolvo_pool::requirement::Requirement;
-use resolvo_pool::want::R;
-use resolvo_store::decide_queue::{DecideQueue, NeedClause};
-use resolvo_store::decision::Decision;
-use resolvo_store::decision_tracker::DecisionTracker;
-use resolvo_store::lists::FixedLists;
+use crate::tests::pick::{fix, no_scores, three_needs};
+use resolvo_decide::undecided_clauses::UndecidedClauses;
+use resolvo_pool_core::id::{ClauseId, NameId, VariableId, VersionSetId};
+use resolvo_pool_core::requirement::Requirement;
+use resolvo_pool_core::want::R;
+use resolvo_store_core::decide_queue::{DecideQueue, NeedClause};
+use resolvo_store_core::decision::Decision;
+use resolvo_store_core::decision_tracker::DecisionTracker;
+use resolvo_store_core::lists::FixedLists;
 use std::alloc::Global;
 use std::process::Abort;
 use std::test::Fail;
@@ -46,7 +46,7 @@ const LINKS: u16 = 250;
 struct Known {
     lists: FixedLists<NameId>,
     queue: DecideQueue,
-    needs: OpenNeeds,
+    needs: UndecidedClauses,
     trail: DecisionTracker,
     scores: Vec<u64>,
 }
@@ -67,10 +67,10 @@ fn nothing_known(alloc: Global, needs: (FixedLists<NameId>, DecideQueue)) -> R<K
 }
 
 /// Each of these clauses noted.
-fn noted(alloc: Global, queue: &[NeedClause]) -> R<OpenNeeds>
+fn noted(alloc: Global, queue: &[NeedClause]) -> R<UndecidedClauses>
     ensures { IfOk result (λ needs. (literals : Requirement → List Signed) → Fits literals needs queue.now) }
 {
-    let mut needs = OpenNeeds::new(alloc);
+    let mut needs = UndecidedClauses::new(alloc);
     for need in queue {
         needs.add(alloc, need.parent)?;
     }

@@ -1,17 +1,17 @@
 //! Ids whose texts show their numbers, and clauses as texts.
 
-use resolvo_clause_store::clause_display::ClauseDisplay;
-use resolvo_clause_store::variable_map::VariableMap;
-use resolvo_pool::condition::Condition;
-use resolvo_pool::id::{
+use resolvo_pool_core::condition::Condition;
+use resolvo_pool_core::id::{
     ConditionId, DisjunctionId, LearntClauseId, NameId, SolvableId, StringId, VariableId,
     VersionSetId, VersionSetUnionId,
 };
-use resolvo_pool::provider::Interner;
-use resolvo_pool::requirement::Requirement;
-use resolvo_pool::want::R;
-use resolvo_store::clause::Clause;
-use resolvo_store::literal::Literal;
+use resolvo_pool_core::provider::Interner;
+use resolvo_pool_core::requirement::Requirement;
+use resolvo_pool_core::want::R;
+use resolvo_store::clause_display::ClauseDisplay;
+use resolvo_store::variable_map::VariableMap;
+use resolvo_store_core::clause::Clause;
+use resolvo_store_core::literal::Literal;
 use std::alloc::{AllocError, Global};
 use std::fmt;
 use std::process::Abort;
@@ -26,7 +26,7 @@ struct Numbers {
 impl Interner for Numbers {
     ghost use Rattle.std.specs.Prelude.{◌/◌, ◌++◌, codes, ⊤};
     ghost use Rattle.std.specs.Fmt.{decimal};
-    ghost use Rattle.resolvo_pool.specs.declared.condition.Condition.TheVariants.{Requirement};
+    ghost use Rattle.resolvo_pool_core.specs.declared.condition.Condition.TheVariants.{Requirement};
 
     type NameId = NameId;
 

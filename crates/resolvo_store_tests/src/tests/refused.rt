@@ -1,17 +1,19 @@
 //! A list with every kind of call, each call made again where it was refused: it changed nothing then.
 //! To be run with each allocation refused in turn (checks/refusals_in_tests.py).
 
-use resolvo_clause_store::clause_store::ClauseStore;
-use resolvo_clause_store::store_call::{StoreAnswer, StoreCall};
-use resolvo_pool::id::{ClauseId, DisjunctionId, LearntClauseId, NameId, VariableId, VersionSetId};
-use resolvo_pool::requirement::Requirement;
-use resolvo_pool::want::R;
-use resolvo_store::clause::Clause;
-use resolvo_store::decide_queue::NextDecision;
-use resolvo_store::decision::Decision;
-use resolvo_store::decision_tracker::Set;
-use resolvo_store::literal::Literal;
-use resolvo_store::watched_literals::WatchedLiterals;
+use resolvo_pool_core::id::{
+    ClauseId, DisjunctionId, LearntClauseId, NameId, VariableId, VersionSetId,
+};
+use resolvo_pool_core::requirement::Requirement;
+use resolvo_pool_core::want::R;
+use resolvo_store::clause_store::ClauseStore;
+use resolvo_store::store_call::{StoreAnswer, StoreCall};
+use resolvo_store_core::clause::Clause;
+use resolvo_store_core::decide_queue::NextDecision;
+use resolvo_store_core::decision::Decision;
+use resolvo_store_core::decision_tracker::Set;
+use resolvo_store_core::literal::Literal;
+use resolvo_store_core::watched_literals::WatchedLiterals;
 use std::alloc::Global;
 use std::process::Abort;
 use std::test::Fail;

@@ -1,22 +1,22 @@
 //! Solvables of one package are registered, and one of them is chosen.
 ghost use Rattle.std.specs.Prelude.{◌<◌, OnOk};
-ghost use Rattle.resolvo_search.specs.State.{count_of};
-ghost use Rattle.resolvo_coding.specs.Coding.{IsCoding, Grows};
-ghost use Rattle.resolvo_coding.specs.Registered.{AreTied};
+ghost use Rattle.resolvo_sat.specs.State.{count_of};
+ghost use Rattle.resolvo_state.specs.Coding.{IsCoding, Grows};
+ghost use Rattle.resolvo_state.specs.Registered.{AreTied};
 
-use resolvo_coding::coding::Coding;
-use resolvo_coding::registry::Registry;
-use resolvo_coding::stated::Stated;
-use resolvo_pool::id::{NameId, SolvableId, StringId, VariableId, VersionSetId};
-use resolvo_pool::requirement::ConditionalRequirement;
-use resolvo_pool::want::R;
-use resolvo_store::literal::Literal;
+use resolvo_pool_core::id::{NameId, SolvableId, StringId, VariableId, VersionSetId};
+use resolvo_pool_core::requirement::ConditionalRequirement;
+use resolvo_pool_core::want::R;
+use resolvo_state::clause_kind::Stated;
+use resolvo_state::registry::Registry;
+use resolvo_state::solver_state::SolverState;
+use resolvo_store_core::literal::Literal;
 use std::alloc::Global;
 use std::test::Fail;
 
 /// Registers so many solvables of one package, each twice.
 fn register(
-    coding: &mut Coding<NameId, SolvableId>,
+    coding: &mut SolverState<NameId, SolvableId>,
     registry: &mut Registry<NameId>,
     count: u32,
 ) -> R<()>
@@ -32,8 +32,8 @@ fn register(
 }
 
 /// What comes once so many solvables of one package were registered, each twice.
-fn registered(alloc: Global, count: u32) -> R<Coding<NameId, SolvableId>> {
-    let mut coding: Coding<NameId, SolvableId> = Coding::begin(alloc)?;
+fn registered(alloc: Global, count: u32) -> R<SolverState<NameId, SolvableId>> {
+    let mut coding: SolverState<NameId, SolvableId> = SolverState::begin(alloc)?;
     register(&mut coding, &mut Registry::new(alloc), count)?;
     Ok(coding)
 }
@@ -89,13 +89,17 @@ fn each_place(rt: HostRuntime) -> Result<(), Fail> {
 
 /// The solvables that are chosen where one of two is needed, and the first is excluded.
 fn one_of_two(alloc: Global) -> R<Vec<SolvableId>> {
-    choose_one(alloc, &mut Coding::begin(alloc)?, &mut Registry::new(alloc))
+    choose_one(
+        alloc,
+        &mut SolverState::begin(alloc)?,
+        &mut Registry::new(alloc),
+    )
 }
 
 /// Registers two solvables, states that one is needed and the first excluded, and gives the chosen ones.
 fn choose_one(
     alloc: Global,
-    coding: &mut Coding<NameId, SolvableId>,
+    coding: &mut SolverState<NameId, SolvableId>,
     registry: &mut Registry<NameId>,
 ) -> R<Vec<SolvableId>>
     requires coding { IsCoding coding.old }
@@ -106,14 +110,14 @@ fn choose_one(
     let second = registry.register(coding, NameId::from_raw(7), SolvableId::from_raw(1))?;
     need_one(alloc, coding, first, second)?;
     exclude(alloc, coding, excluded, first)?;
-    coding.advance(alloc)?;
+    coding.propagate_and_learn(alloc)?;
     coding.chosen(alloc)
 }
 
 /// States that one of two solvables is needed.
 fn need_one(
     alloc: Global,
-    coding: &mut Coding<NameId, SolvableId>,
+    coding: &mut SolverState<NameId, SolvableId>,
     first: VariableId,
     second: VariableId,
 ) -> R<()>
@@ -139,7 +143,7 @@ fn need_one(
 /// States that a solvable is excluded.
 fn exclude(
     alloc: Global,
-    coding: &mut Coding<NameId, SolvableId>,
+    coding: &mut SolverState<NameId, SolvableId>,
     solvable: SolvableId,
     variable: VariableId,
 ) -> R<()>

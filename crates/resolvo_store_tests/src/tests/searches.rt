@@ -1,19 +1,19 @@
 //! The search on small sets of clauses.
 ghost use Rattle.std.specs.Prelude.{◌≡◌, ◌<◌, ◌≤◌, length, true, IfOk, IfSome, OnOk};
-ghost use Rattle.resolvo_store.specs.Clauses.{yes};
-ghost use Rattle.resolvo_search.specs.Known.{IsUndecided};
-ghost use Rattle.resolvo_search.specs.Entries.{made_true};
-ghost use Rattle.resolvo_search.specs.State.{IsState, count_of, history};
-ghost use Rattle.resolvo_search.specs.Steps.{AreInRange};
-ghost use Rattle.resolvo_search.specs.Propagation.{IsReady, AreCovered};
+ghost use Rattle.resolvo_store_core.specs.Clauses.{yes};
+ghost use Rattle.resolvo_sat.specs.Known.{IsUndecided};
+ghost use Rattle.resolvo_sat.specs.Entries.{made_true};
+ghost use Rattle.resolvo_sat.specs.State.{IsState, count_of, history};
+ghost use Rattle.resolvo_sat.specs.Steps.{AreInRange};
+ghost use Rattle.resolvo_sat.specs.Propagation.{IsReady, AreCovered};
 
-use resolvo_pool::id::{ClauseId, VariableId};
-use resolvo_pool::want::R;
-use resolvo_search::advancing::Progress;
-use resolvo_search::beginning::begin;
-use resolvo_search::state::{HeldClause, SearchState, VariableKind};
-use resolvo_search::watching::Watching;
-use resolvo_store::literal::Literal;
+use resolvo_pool_core::id::{ClauseId, VariableId};
+use resolvo_pool_core::want::R;
+use resolvo_sat::begin::begin;
+use resolvo_sat::propagate_and_learn::StepResult;
+use resolvo_sat::state::{SatClause, SatState, VariableKind};
+use resolvo_sat::watch_lists::WatchLists;
+use resolvo_store_core::literal::Literal;
 use std::alloc::Global;
 use std::test::Fail;
 
@@ -44,8 +44,8 @@ fn literals_of(alloc: Global, clause: &[Sign], count: usize) -> R<Vec<Literal>>
 /// Adds a rule, unless it has no literal.
 fn add_rule(
     alloc: Global,
-    state: &mut SearchState,
-    watching: &mut Watching,
+    state: &mut SatState,
+    watching: &mut WatchLists,
     clause: &[Sign],
 ) -> R<()>
     requires ready { IsReady state.old watching.old }
@@ -59,7 +59,7 @@ fn add_rule(
     }
     state.add_clause(
         watching,
-        HeldClause {
+        SatClause {
             literals,
             causes: Vec::new(alloc),
         },
@@ -68,7 +68,7 @@ fn add_rule(
 }
 
 /// A variable that has no value yet, below the count.
-fn undecided(state: &SearchState) -> Option<VariableId>
+fn undecided(state: &SatState) -> Option<VariableId>
     requires { IsState state.now }
     ensures { IfSome result (λ v. (v.0 < count_of state.now) × IsUndecided (made_true (history state.now)) (yes v)) }
 {
@@ -97,15 +97,15 @@ fn search(alloc: Global, count: u16, clauses: &[&[Sign]]) -> R<Option<Found>> {
     }
     let mut learnt: u32 = 0;
     for _ in 0..1000u32 {
-        match state.advance(alloc, &mut watching)? {
-            Progress::Refused(_) => {
+        match state.propagate_and_learn(alloc, &mut watching)? {
+            StepResult::Refused(_) => {
                 return Ok(Some(Found {
                     is_satisfiable: false,
                     learnt,
                 }));
             }
-            Progress::Learnt(_) => learnt = learnt.saturating_add(1),
-            Progress::Complete => match undecided(&state) {
+            StepResult::Learnt(_) => learnt = learnt.saturating_add(1),
+            StepResult::Complete => match undecided(&state) {
                 Some(variable) => state.choose(variable, ClauseId(0))?,
                 None => {
                     return Ok(Some(Found {

@@ -1,16 +1,16 @@
 //! What a slow store answers to calls, and what becomes of its lists.
 
 use crate::tests::slow_store::{Signed, SlowStore, Version, copied, signed};
-use resolvo_clause_store::store_call::{StoreAnswer, StoreCall};
-use resolvo_pool::id::{ClauseId, DisjunctionId, NameId, VariableId};
-use resolvo_pool::requirement::Requirement;
-use resolvo_pool::want::R;
-use resolvo_store::clause::Clause;
-use resolvo_store::decide_queue::NeedClause;
-use resolvo_store::decision::{Decision, Entry};
-use resolvo_store::decision_tracker::Set;
-use resolvo_store::literal::Literal;
-use resolvo_store::watched_literals::WatchedLiterals;
+use resolvo_pool_core::id::{ClauseId, DisjunctionId, NameId, VariableId};
+use resolvo_pool_core::requirement::Requirement;
+use resolvo_pool_core::want::R;
+use resolvo_store::store_call::{StoreAnswer, StoreCall};
+use resolvo_store_core::clause::Clause;
+use resolvo_store_core::decide_queue::NeedClause;
+use resolvo_store_core::decision::{Decision, Entry};
+use resolvo_store_core::decision_tracker::Set;
+use resolvo_store_core::literal::Literal;
+use resolvo_store_core::watched_literals::WatchedLiterals;
 use std::alloc::Global;
 
 impl SlowStore {

@@ -1,8 +1,8 @@
 //! What a slow store decides next: the registered need clauses one after another, each looked at anew.
 
 use crate::tests::slow_store::{SlowStore, Version};
-use resolvo_pool::id::{ClauseId, VariableId};
-use resolvo_store::decide_queue::{NeedClause, NextDecision};
+use resolvo_pool_core::id::{ClauseId, VariableId};
+use resolvo_store_core::decide_queue::{NeedClause, NextDecision};
 
 impl SlowStore {
     /// Whether the parent is true and the literals of the condition are all false.

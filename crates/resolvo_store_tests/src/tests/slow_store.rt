@@ -2,15 +2,17 @@
 //! It rests on no part of the store but the types of calls and answers. Whoever writes faster bodies
 //! for the store compares them with this.
 
-use resolvo_clause_store::store_call::StoreCall;
-use resolvo_pool::id::{ClauseId, DenseIndex, DisjunctionId, LearntClauseId, NameId, VariableId};
-use resolvo_pool::requirement::Requirement;
-use resolvo_pool::want::R;
-use resolvo_store::clause::Clause;
-use resolvo_store::decide_queue::NeedClause;
-use resolvo_store::decision::Entry;
-use resolvo_store::literal::Literal;
-use resolvo_store::watched_literals::WatchedLiterals;
+use resolvo_pool_core::id::{
+    ClauseId, DenseIndex, DisjunctionId, LearntClauseId, NameId, VariableId,
+};
+use resolvo_pool_core::requirement::Requirement;
+use resolvo_pool_core::want::R;
+use resolvo_store::store_call::StoreCall;
+use resolvo_store_core::clause::Clause;
+use resolvo_store_core::decide_queue::NeedClause;
+use resolvo_store_core::decision::Entry;
+use resolvo_store_core::literal::Literal;
+use resolvo_store_core::watched_literals::WatchedLiterals;
 use std::alloc::Global;
 
 /// A variable with a sign: the literal that it is true, or that it is false.

@@ -1,32 +1,32 @@
 //! Searches over a few rules, and the steps of their proofs.
 ghost use Rattle.std.specs.Prelude.{◌<◌, OnOk, IfOk, IsSome};
-ghost use Rattle.resolvo_search.specs.State.{count_of};
-ghost use Rattle.resolvo_search.specs.Steps.{AreInRange};
-ghost use Rattle.resolvo_coding.specs.Coding.{IsCoding};
-ghost use Rattle.resolvo_coding.specs.Statements.{rule_of};
+ghost use Rattle.resolvo_sat.specs.State.{count_of};
+ghost use Rattle.resolvo_sat.specs.Steps.{AreInRange};
+ghost use Rattle.resolvo_state.specs.Coding.{IsCoding};
+ghost use Rattle.resolvo_state.specs.Statements.{rule_of};
 
-use resolvo_coding::atom::ProofAtom;
-use resolvo_coding::coding::Coding;
-use resolvo_coding::stated::Stated;
-use resolvo_pool::id::{ClauseId, NameId, SolvableId, StringId, VariableId, VersionSetId};
-use resolvo_pool::requirement::{ConditionalRequirement, Requirement};
-use resolvo_pool::want::R;
+use resolvo_pool_core::id::{ClauseId, NameId, SolvableId, StringId, VariableId, VersionSetId};
+use resolvo_pool_core::requirement::{ConditionalRequirement, Requirement};
+use resolvo_pool_core::want::R;
 use resolvo_proof::proof::proof_of;
 use resolvo_proof::step::{ProofLiteral, ProofRule, ProofStep};
-use resolvo_proof::trimming::{Trimmed, trim, trim_to};
-use resolvo_search::advancing::Progress;
-use resolvo_search::state::SearchState;
-use resolvo_store::literal::Literal;
+use resolvo_proof::trim::{Trimmed, trim, trim_to};
+use resolvo_sat::propagate_and_learn::StepResult;
+use resolvo_sat::state::SatState;
+use resolvo_state::atom::ProofAtom;
+use resolvo_state::clause_kind::Stated;
+use resolvo_state::solver_state::SolverState;
+use resolvo_store_core::literal::Literal;
 use std::alloc::Global;
 use std::process::Abort;
 use std::test::Fail;
 
-type TestCoding = Coding<NameId, SolvableId>;
+type TestCoding = SolverState<NameId, SolvableId>;
 
 type TestStep = ProofStep<NameId, SolvableId>;
 
 /// The literals of the variables that are there.
-fn literals_of(alloc: Global, search: &SearchState, signs: &[(u32, bool)]) -> R<Vec<Literal>>
+fn literals_of(alloc: Global, search: &SatState, signs: &[(u32, bool)]) -> R<Vec<Literal>>
     ensures { IfOk result (λ v. AreInRange (count_of search.now) v.items) }
 {
     let mut literals = Vec::new(alloc);
@@ -61,7 +61,7 @@ fn state(
 fn solvables(alloc: Global, count: u32) -> R<TestCoding>
     ensures { IfOk result IsCoding }
 {
-    let mut coding: TestCoding = Coding::begin(alloc)?;
+    let mut coding: TestCoding = SolverState::begin(alloc)?;
     for number in 0..count {
         coding.variable(ProofAtom::Solvable(SolvableId::from_raw(number)))?;
     }
@@ -103,8 +103,8 @@ fn exclude(alloc: Global, coding: &mut TestCoding, number: u16) -> R<()>
 fn steps_of_next(alloc: Global, coding: &mut TestCoding) -> R<Vec<TestStep>>
     requires { IsCoding coding.old }
 {
-    match coding.advance(alloc)? {
-        Progress::Refused(refusal) => proof_of(alloc, coding, Some(&refusal)),
+    match coding.propagate_and_learn(alloc)? {
+        StepResult::Refused(refusal) => proof_of(alloc, coding, Some(&refusal)),
         _ => proof_of(alloc, coding, None),
     }
 }
@@ -123,7 +123,7 @@ fn learn(alloc: Global, coding: &mut TestCoding) -> R<Vec<TestStep>>
         barred: SolvableId::from_raw(1),
     };
     state(alloc, coding, limits, &[(1, false), (2, false)])?;
-    coding.advance(alloc)?;
+    coding.propagate_and_learn(alloc)?;
     choose_first(coding)?;
     steps_of_next(alloc, coding)
 }

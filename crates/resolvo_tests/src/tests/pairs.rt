@@ -1,9 +1,9 @@
 //! Generated catalogues and requests: what the solver chooses keeps all lines, and it refuses only where no set does.
 
 use super::{catalogue, chosen, request};
-use resolvo_catalogue::{Catalogue, Request, VersionNo};
-use resolvo_pool::want::R;
-use resolvo_provider::provider::Hint;
+use resolvo_catalogue::provider::Hint;
+use resolvo_catalogue_core::{Catalogue, Request, VersionNo};
+use resolvo_pool_core::want::R;
 use std::alloc::Global;
 use std::test::Fail;
 

@@ -7,9 +7,9 @@ mod keeping;
 mod pairs;
 mod requests;
 
-use resolvo_catalogue::{Catalogue, MemorySource, Request};
-use resolvo_pool::want::R;
-use resolvo_provider::provider::{CatalogueProvider, Hint};
+use resolvo_catalogue::provider::{CatalogueProvider, Hint};
+use resolvo_catalogue_core::{Catalogue, MemorySource, Request};
+use resolvo_pool_core::want::R;
 use std::alloc::Global;
 use std::test::Fail;
 

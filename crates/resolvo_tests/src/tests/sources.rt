@@ -2,20 +2,20 @@
 
 use super::{IF, MARKET, catalogue, request, solved_over};
 use resolvo::problem::Problem;
-use resolvo::proving::solve;
-use resolvo::search::Found;
+use resolvo::prove::solve;
+use resolvo::search::SearchResult;
 use resolvo::solver::{Solver, UnsolvableOrCancelled};
-use resolvo_answers::answers::Answers;
-use resolvo_cache::cache::CacheFault;
-use resolvo_catalogue::{Catalogue, Request, VersionNo};
-use resolvo_pool::id::{SolvableId, SparseId, VersionSetId};
-use resolvo_pool::requirement::ConditionalRequirement;
-use resolvo_pool::solver_id::SolverId;
-use resolvo_pool::want::{R, Want};
-use resolvo_provider::provider::{CatalogueProvider, Hint, RequestIds};
-use resolvo_sources::cancelling::Cancelling;
-use resolvo_sources::shelf::{Need, Package, Shelf, Span, Version};
-use resolvo_turn::deciding::Activity;
+use resolvo_catalogue::provider::{CatalogueProvider, Hint, RequestIds};
+use resolvo_catalogue_core::{Catalogue, Request, VersionNo};
+use resolvo_packages::cached_packages::CachedPackages;
+use resolvo_pool::cache::CacheFault;
+use resolvo_pool_core::id::{SolvableId, SparseId, VersionSetId};
+use resolvo_pool_core::requirement::ConditionalRequirement;
+use resolvo_pool_core::solver_id::SolverId;
+use resolvo_pool_core::want::{R, Want};
+use resolvo_test_providers::cancel_after::CancelAfter;
+use resolvo_test_providers::sparse_provider::{Need, Package, Span, SparseProvider, Version};
+use resolvo_turn::cdcl::Activity;
 use std::alloc::Global;
 use std::test::Fail;
 
@@ -30,7 +30,7 @@ enum Answer {
 /// What a solver says of the ids of a request.
 fn asked(
     alloc: Global,
-    solver: &mut Solver<Cancelling<CatalogueProvider>>,
+    solver: &mut Solver<CancelAfter<CatalogueProvider>>,
     root: &RequestIds,
 ) -> Result<Answer, Fail> {
     let problem = Problem::new(alloc)
@@ -57,7 +57,7 @@ fn numbers(alloc: Global, chosen: &[SolvableId]) -> R<Vec<u32>> {
 /// Whether a solver that was cancelled with 7 says this when it is asked again; none where it wasn't cancelled.
 fn says_after_cancel(
     alloc: Global,
-    solver: &mut Solver<Cancelling<CatalogueProvider>>,
+    solver: &mut Solver<CancelAfter<CatalogueProvider>>,
     root: &RequestIds,
     want: &Answer,
 ) -> Result<Option<bool>, Fail> {
@@ -78,7 +78,7 @@ fn right_by(
     passed: u32,
     want: &Answer,
 ) -> Result<Option<bool>, Fail> {
-    let mut solver = Solver::new(alloc, Cancelling::new(provider, passed, 7));
+    let mut solver = Solver::new(alloc, CancelAfter::new(provider, passed, 7));
     says_after_cancel(alloc, &mut solver, root, want)
 }
 
@@ -210,8 +210,8 @@ fn need(version: u32, set: u32) -> Need {
 }
 
 /// What `MARKET` says, on a shelf.
-fn shelf(alloc: Global) -> R<Shelf> {
-    Ok(Shelf {
+fn shelf(alloc: Global) -> R<SparseProvider> {
+    Ok(SparseProvider {
         versions: versions_of(alloc, &PLACES)?,
         sets: Vec::from_slice(alloc, &SETS)?,
         needs: Vec::from_slice(alloc, &[need(102, 1), need(202, 0)])?,
@@ -219,10 +219,10 @@ fn shelf(alloc: Global) -> R<Shelf> {
 }
 
 /// The numbers of what was found, if something was.
-fn shelved(alloc: Global, found: &Found<Version>) -> R<Option<Vec<u32>>> {
+fn shelved(alloc: Global, found: &SearchResult<Version>) -> R<Option<Vec<u32>>> {
     match found {
-        Found::Clash(_) => Ok(None),
-        Found::Chosen { solvables, .. } => {
+        SearchResult::Clash(_) => Ok(None),
+        SearchResult::Chosen { solvables, .. } => {
             let mut numbers = Vec::new(alloc);
             for one in solvables {
                 numbers.push(one.into_raw())?;
@@ -235,11 +235,11 @@ fn shelved(alloc: Global, found: &Found<Version>) -> R<Option<Vec<u32>>> {
 /// The numbers of the versions that are chosen from a shelf for these version sets and wishes, or none where there are none.
 fn chosen_from(
     alloc: Global,
-    answers: &mut Answers<Shelf>,
+    answers: &mut CachedPackages<SparseProvider>,
     needs: &[ConditionalRequirement],
     wishes: &[Version],
 ) -> Result<Option<Vec<u32>>, Fail> {
-    match solve::<Answers<Shelf>, <Package as SolverId>::Scores>(
+    match solve::<CachedPackages<SparseProvider>, <Package as SolverId>::Scores>(
         alloc,
         answers,
         Activity::standard(),
@@ -288,7 +288,7 @@ fn versions_of(alloc: Global, numbers: &[u32]) -> R<Vec<Version>> {
 fn shelf_gives(alloc: Global, sets: &[u32], wishes: &[u32]) -> Result<Option<Vec<u32>>, Fail> {
     let needs = needs_of(alloc, sets)?;
     let wishes = versions_of(alloc, wishes)?;
-    let mut answers = Answers::new(alloc, shelf(alloc)?);
+    let mut answers = CachedPackages::new(alloc, shelf(alloc)?);
     chosen_from(alloc, &mut answers, needs.as_slice(), wishes.as_slice())
 }
 

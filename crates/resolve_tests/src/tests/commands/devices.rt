@@ -1,8 +1,8 @@
 //! Readers and writers that fail, stop or are interrupted.
 
-use resolvo_catalogue::{MemorySink, MemorySource};
-use resolvo_commands::run::run;
-use resolvo_judging::outcome::{Outcome, RunFault};
+use resolve_check::outcome::{Outcome, RunFault};
+use resolve_run::run::run;
+use resolvo_catalogue_core::{MemorySink, MemorySource};
 use std::alloc::{AllocError, Global};
 use std::test::Fail;
 

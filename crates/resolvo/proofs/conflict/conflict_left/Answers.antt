@@ -1,15 +1,15 @@
 use Rattle.std.proofs.Common.{List, Some, refl, sym, ◌∙◌, subst}
 use Rattle.resolvo_proof.specs.declared.step.ProofStep.{ProofStep}
 use Rattle.resolvo.specs.Conflicts.{AreOffers, IsLeft}
-use Rattle.resolvo.specs.declared.search.Found.{Found}
+use Rattle.resolvo.specs.declared.search.SearchResult.{SearchResult}
 use Rattle.resolvo.proofs.conflict.conflict_left.Goals as goal
 
 pub returns-in_ok-clauses-in-Clash-clause-left : goal.returns-in_ok-clauses-in-Clash-clause-left
 returns-in_ok-clauses-in-Clash-clause-left g c =
     let same = g.A.SolvableId.PartialEq.eq in
-    let p = g.A.Answering.packages c.args.answers.now in
-    let orders = g.A.Answering.orders c.args.answers.now in
+    let p = g.A.PackageSource.packages c.args.answers.now in
+    let orders = g.A.PackageSource.orders c.args.answers.now in
     let steps = c.args.solved.now.proof.items in
     let offers = subst (λ (xs : List (ProofStep g.row.A-NameId.Denot g.row.A-SolvableId.Denot)). AreOffers same p orders xs c.in_ok-offers-in-Clash.offers) c.as_slice.ensures.value c.in_ok-offers-in-Clash.ensures.offers in
-    subst (λ (f : Found g.row.A-SolvableId.Denot). IsLeft same p orders f steps (Some (record { clauses = c.in_ok-clauses-in-Clash.clauses; offers = c.in_ok-offers-in-Clash.offers }))) (sym c.in-Clash.is)
+    subst (λ (f : SearchResult g.row.A-SolvableId.Denot). IsLeft same p orders f steps (Some (record { clauses = c.in_ok-clauses-in-Clash.clauses; offers = c.in_ok-offers-in-Clash.offers }))) (sym c.in-Clash.is)
     (_, refl, c.in_ok-clauses-in-Clash.ensures.items ∙ c.as_slice-in-Clash.ensures.value, offers)

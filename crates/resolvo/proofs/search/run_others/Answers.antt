@@ -1,13 +1,13 @@
 use Rattle.std.proofs.Common.{List, length, reverse, sym, ◌∙◌, ap}
-use Rattle.resolvo_rules.specs.Encoding.{IsExact}
+use Rattle.resolvo_soundness.specs.Encoding.{IsExact}
 use Rattle.resolvo.specs.Turns.{accepted_of}
 use Rattle.resolvo.specs.declared.turns.Turn.{Turn}
 use Rattle.resolvo.proofs.Found.{later_denial, later_listed, no_reasons, root_right, turns_found}
 use Rattle.resolvo.proofs.Trailing.{first_on_trail, listed_are_chosen}
 use Rattle.resolvo.proofs.search.run_others.Goals as goal
 
-pub run_wishes-requires-clause-at : goal.run_wishes-requires-clause-at
-run_wishes-requires-clause-at g c =
+pub run_soft_requirements-requires-clause-at : goal.run_soft_requirements-requires-clause-at
+run_soft_requirements-requires-clause-at g c =
     let same = g.A.SolvableId.PartialEq.eq in
     let exact : IsExact same = record { one = g.met.A.SolvableId.Exact.exact; own = g.met.A.SolvableId.Eq.laws.refl } in
     record {
@@ -20,17 +20,17 @@ returns-clause-found g c = λ root is candidates e.
     let same = g.A.SolvableId.PartialEq.eq in
     let exact : IsExact same = record { one = g.met.A.SolvableId.Exact.exact; own = g.met.A.SolvableId.Eq.laws.refl } in
     let names : IsExact g.A.NameId.PartialEq.eq = record { one = g.met.A.NameId.Exact.exact; own = g.met.A.NameId.Eq.laws.refl } in
-    let p = g.A.Answering.packages c.args.answers.now in
-    let orders = g.A.Answering.orders c.args.answers.now in
+    let p = g.A.PackageSource.packages c.args.answers.now in
+    let orders = g.A.PackageSource.orders c.args.answers.now in
     let none = ap (λ v. v.items) c.in_ok-list.ensures.turns ∙ c.new-turns.ensures.turns in
     let chosen = listed_are_chosen c.args.encoding.now c.list.new.self.chosen.keys (first_on_trail same exact c.args.encoding.now c.new-turns.result.chosen.keys c.list.new.self.chosen.keys c.requires.built.coding c.new-turns.ensures.chosen c.in_ok-list.ensures.in_order) in
-    let (right, preferred) = root_right g.A.NameId.PartialEq.eq names same exact p orders root (g.met.A.Answering.lawful c.args.answers.now) c.args.encoding.now e c.requires.first c.requires.ended c.list.new.self none chosen in
+    let (right, preferred) = root_right g.A.NameId.PartialEq.eq names same exact p orders root (g.met.A.PackageSource.lawful c.args.answers.now) c.args.encoding.now e c.requires.first c.requires.ended c.list.new.self none chosen in
     let (order, next) = c.in_ok-clash.ensures.right root (length c.list.new.self.chosen.keys) is candidates e right (no_reasons c.args.encoding.now.coding c.list.new.self none) in
-    let (found, at_first) = turns_found same p orders root c.args.wishes.now c.run_wishes.new.encoding c.list.new.self c.run_wishes.new.turns c.in_ok-clash.ensures.front preferred c.in_ok-clash.clash next c.in_ok-clash.ensures.stands c.in_ok-found.found c.in_ok-found.ensures in
+    let (found, at_first) = turns_found same p orders root c.args.wishes.now c.run_soft_requirements.new.encoding c.list.new.self c.run_soft_requirements.new.turns c.in_ok-clash.ensures.front preferred c.in_ok-clash.clash next c.in_ok-clash.ensures.stands c.in_ok-found.found c.in_ok-found.ensures in
     (order, found, at_first)
 
 pub returns-clause-denial : goal.returns-clause-denial
-returns-clause-denial g c = later_denial c.run_wishes.new.encoding c.run_wishes.new.turns c.in_ok-clash.clash c.in_ok-clash.ensures.stands c.in_ok-found.found c.in_ok-found.ensures
+returns-clause-denial g c = later_denial c.run_soft_requirements.new.encoding c.run_soft_requirements.new.turns c.in_ok-clash.clash c.in_ok-clash.ensures.stands c.in_ok-found.found c.in_ok-found.ensures
 
 pub returns-clause-listed : goal.returns-clause-listed
-returns-clause-listed g c = later_listed c.run_wishes.new.encoding c.run_wishes.new.turns c.in_ok-clash.clash c.in_ok-clash.ensures.built.coding c.in_ok-clash.ensures.stands c.in_ok-found.found c.in_ok-found.ensures
+returns-clause-listed g c = later_listed c.run_soft_requirements.new.encoding c.run_soft_requirements.new.turns c.in_ok-clash.clash c.in_ok-clash.ensures.built.coding c.in_ok-clash.ensures.stands c.in_ok-found.found c.in_ok-found.ensures

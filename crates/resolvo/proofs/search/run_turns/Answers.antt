@@ -1,8 +1,8 @@
 use Rattle.std.proofs.Common.{◌≡◌, Option, None, ◌∙◌, subst}
-use Rattle.resolvo_pool.specs.RuleKeeping.{Rules}
-use Rattle.resolvo_rules.specs.Encoding.{IsExact}
-use Rattle.resolvo_search.specs.declared.analysis.Refusal.{Refusal}
-use Rattle.resolvo_encoding.proofs.Building.{built_begun}
+use Rattle.resolvo_pool_core.specs.RuleKeeping.{Rules}
+use Rattle.resolvo_soundness.specs.Encoding.{IsExact}
+use Rattle.resolvo_sat.specs.declared.analyze.FinalConflict.{FinalConflict}
+use Rattle.resolvo_encoder.proofs.Building.{built_begun}
 use Rattle.resolvo_turn.specs.Turn.{IsTurn}
 use Rattle.resolvo_turn.specs.Encoder.{IsInOrder, IsRoot}
 use Rattle.resolvo.specs.Wished.{AreCandidates}
@@ -22,17 +22,17 @@ returns-in-Some-clause-found g c = λ root is candidates e.
     let exact : IsExact same = record { one = g.met.A.SolvableId.Exact.exact; own = g.met.A.SolvableId.Eq.laws.refl } in
     let names : IsExact g.A.NameId.PartialEq.eq = record { one = g.met.A.NameId.Exact.exact; own = g.met.A.NameId.Eq.laws.refl } in
     let holds = c.in_ok-turn.ensures.stays root is e in
-    let first : c.run_turn.new.encoding.coding.search.floor ≡ 1 = c.in_ok-turn.ensures.adds.grows.floor ∙ c.requires.coding.floor in
-    let refusal = subst (λ (t : Option Refusal). IsTurn same None c.run_turn.new.encoding t) c.in-Some.is c.in_ok-turn.ensures.ended in
-    (holds, (root_refused g.A.NameId.PartialEq.eq names same exact (g.A.Answering.packages c.args.answers.now) (g.A.Answering.orders c.args.answers.now) root (g.met.A.Answering.lawful c.args.answers.now) c.run_turn.new.encoding holds first c.in-Some.refusal refusal, refusal), tt)
+    let first : c.run_turn.new.encoding.coding.search.base_level ≡ 1 = c.in_ok-turn.ensures.adds.grows.base_level ∙ c.requires.coding.base_level in
+    let refusal = subst (λ (t : Option FinalConflict). IsTurn same None c.run_turn.new.encoding t) c.in-Some.is c.in_ok-turn.ensures.ended in
+    (holds, (root_refused g.A.NameId.PartialEq.eq names same exact (g.A.PackageSource.packages c.args.answers.now) (g.A.PackageSource.orders c.args.answers.now) root (g.met.A.PackageSource.lawful c.args.answers.now) c.run_turn.new.encoding holds first c.in-Some.refusal refusal, refusal), tt)
 
 pub returns-in-Some-clause-denial : goal.returns-in-Some-clause-denial
 returns-in-Some-clause-denial g c =
-    root_denial c.run_turn.new.encoding c.in_ok-turn.ensures.built.coding (c.in_ok-turn.ensures.adds.grows.floor ∙ c.requires.coding.floor) c.in-Some.refusal (subst (λ (t : Option Refusal). IsTurn g.A.SolvableId.PartialEq.eq None c.run_turn.new.encoding t) c.in-Some.is c.in_ok-turn.ensures.ended)
+    root_denial c.run_turn.new.encoding c.in_ok-turn.ensures.built.coding (c.in_ok-turn.ensures.adds.grows.base_level ∙ c.requires.coding.base_level) c.in-Some.refusal (subst (λ (t : Option FinalConflict). IsTurn g.A.SolvableId.PartialEq.eq None c.run_turn.new.encoding t) c.in-Some.is c.in_ok-turn.ensures.ended)
 
 pub returns-clause-found : goal.returns-clause-found
 returns-clause-found g c = λ root is candidates e.
-    (subst (λ (a : g.row.A.Denot). (root : Rules) → IsRoot c.args.requirements.now c.args.constraints.now root → AreCandidates g.A.SolvableId.PartialEq.eq (g.A.Answering.packages a) c.args.wishes.now
-    → IsInOrder g.A.SolvableId.PartialEq.eq (g.A.Answering.packages a) (g.A.Answering.orders a) root c.run_turn.new.encoding → IsInOrder g.A.SolvableId.PartialEq.eq (g.A.Answering.packages a) (g.A.Answering.orders a) root c.run_others.new.encoding
-    × IsFound g.A.SolvableId.PartialEq.eq (g.A.Answering.packages a) root c.args.wishes.now c.run_others.new.encoding c.in_ok-found.found × IsPreferred g.A.SolvableId.PartialEq.eq (g.A.Answering.packages a) (g.A.Answering.orders a) root c.in_ok-found.found)
+    (subst (λ (a : g.row.A.Denot). (root : Rules) → IsRoot c.args.requirements.now c.args.constraints.now root → AreCandidates g.A.SolvableId.PartialEq.eq (g.A.PackageSource.packages a) c.args.wishes.now
+    → IsInOrder g.A.SolvableId.PartialEq.eq (g.A.PackageSource.packages a) (g.A.PackageSource.orders a) root c.run_turn.new.encoding → IsInOrder g.A.SolvableId.PartialEq.eq (g.A.PackageSource.packages a) (g.A.PackageSource.orders a) root c.run_others.new.encoding
+    × IsFound g.A.SolvableId.PartialEq.eq (g.A.PackageSource.packages a) root c.args.wishes.now c.run_others.new.encoding c.in_ok-found.found × IsPreferred g.A.SolvableId.PartialEq.eq (g.A.PackageSource.packages a) (g.A.PackageSource.orders a) root c.in_ok-found.found)
     c.in_ok-turn.ensures.same c.in_ok-found.ensures.found) root is candidates (c.in_ok-turn.ensures.stays root is e)

@@ -3,7 +3,7 @@ use Rattle.resolvo.proofs.search.search.Goals as goal
 
 pub returns-clause-found : goal.returns-clause-found
 returns-clause-found g c = λ root is candidates encoded.
-    let begun = begun_in_order g.A.SolvableId.PartialEq.eq (g.A.Answering.packages c.args.answers.now) (g.A.Answering.orders c.args.answers.now) root c.args.encoding.now c.requires encoded in
+    let begun = begun_in_order g.A.SolvableId.PartialEq.eq (g.A.PackageSource.packages c.args.answers.now) (g.A.PackageSource.orders c.args.answers.now) root c.args.encoding.now c.requires encoded in
     let (holds, found, preferred) = c.in_ok-found.ensures.found root is candidates begun in
     record { encoding = holds.encoding; found = found; preferred = preferred }
 

@@ -1,7 +1,7 @@
 use Rattle.std.proofs.Common.{◌≡◌, ◌+◌, ◌++◌, ◌∷◌, [], List, take, refl, sym, ◌∙◌, ap, subst}
 use Rattle.std.proofs.lemmas.List.{take_more, take_all}
 use Rattle.indexmap.specs.IndexSet.{insert_all}
-use Rattle.resolvo_coding.proofs.Positions.{front_same, front_then}
+use Rattle.resolvo_state.proofs.Positions.{front_same, front_then}
 use Rattle.resolvo.proofs.Trailing.{inserted_more}
 use Rattle.resolvo.proofs.turns.list_each.Goals as goal
 

@@ -1,6 +1,6 @@
 use Rattle.std.proofs.Common.{◌≡◌, take}
 use Rattle.indexmap.specs.IndexSet.{insert_all}
-use Rattle.resolvo_store.specs.AtMostOne.{IsFrontOf}
+use Rattle.resolvo_store_core.specs.AtMostOne.{IsFrontOf}
 use Rattle.resolvo.proofs.turns.list_each.Given as goal
 
 -- the others stand in front, and the first ones came behind them

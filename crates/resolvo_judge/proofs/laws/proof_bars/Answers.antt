@@ -1,4 +1,4 @@
-use Rattle.resolvo_steps.proofs.ProofTrue.{proof_bars}
+use Rattle.resolvo_checker.proofs.ProofTrue.{proof_bars}
 use Rattle.resolvo_judge.proofs.laws.proof_bars.Goals as goal
 
 pub returns : goal.returns

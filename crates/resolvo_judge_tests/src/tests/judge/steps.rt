@@ -1,9 +1,9 @@
 //! Steps that are checked by themselves: over all lines, or over those that a report names.
 
 use super::{catalogue_of, request_of};
-use resolvo_catalogue::{Catalogue, MemorySource, Request, Version};
+use resolvo_catalogue_core::{Catalogue, MemorySource, Request, Version};
 use resolvo_judge::{
-    Scope, accepted_install_is_true, accepted_refusal_is_true, check_steps, count_causes,
+    Premises, accepted_install_is_true, accepted_refusal_is_true, check_steps, count_causes,
     places_are_one, proof_bars, proof_refutes, steps_are_true, upheld_texts_are_refused_nowhere,
 };
 use resolvo_report::{Atom, Literal, Report, Step};
@@ -17,7 +17,7 @@ type Found = (Option<usize>, u64, u64);
 fn found_of(
     alloc: Global,
     (catalogue, request): &(Catalogue, Request),
-    scope: &Scope,
+    scope: &Premises,
     steps: &[Step],
 ) -> Result<Option<Found>, AllocError> {
     if steps.len() > 1000 || count_causes(steps).is_none() {
@@ -56,14 +56,14 @@ fn steps_with_both(alloc: Global) -> Result<Vec<Step>, AllocError> {
 fn a_clause_with_both_literals(rt: HostRuntime) -> Result<(), Fail> {
     let texts = texts(rt.alloc(), "version b 1\nexclude b 1 broken\n", "")?;
     let steps = steps_with_both(rt.alloc())?;
-    let found = found_of(rt.alloc(), &texts, &Scope::All, &steps)?;
+    let found = found_of(rt.alloc(), &texts, &Premises::All, &steps)?;
     assert_eq!(rt; found, Some((None, 1, 1)));
     Ok(())
 }
 
 /// The lines of the catalogue that are named, and the first line of the request.
-fn named(alloc: Global, catalogue: &[bool]) -> Result<Scope, AllocError> {
-    Ok(Scope::Named {
+fn named(alloc: Global, catalogue: &[bool]) -> Result<Premises, AllocError> {
+    Ok(Premises::Named {
         catalogue: Vec::from_slice(alloc, catalogue)?,
         request: Vec::from_slice(alloc, &[false, true])?,
     })

@@ -2,12 +2,12 @@
 //! version needs.
 
 use super::provider_of;
-use resolvo_catalogue::VersionNo;
-use resolvo_pool::id::SolvableId;
-use resolvo_pool::provider::{Candidates, Dependencies, DependencyProvider, Interner};
-use resolvo_pool::solver_id::SolvableIdOrRoot;
-use resolvo_pool::want::R;
-use resolvo_provider::provider::CatalogueProvider;
+use resolvo_catalogue::provider::CatalogueProvider;
+use resolvo_catalogue_core::VersionNo;
+use resolvo_pool_core::id::SolvableId;
+use resolvo_pool_core::provider::{Candidates, Dependencies, DependencyProvider, Interner};
+use resolvo_pool_core::solver_id::SolvableIdOrRoot;
+use resolvo_pool_core::want::R;
 use std::alloc::Global;
 use std::process::Abort;
 use std::test::Fail;

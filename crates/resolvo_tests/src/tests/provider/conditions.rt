@@ -3,8 +3,8 @@
 
 use super::keeping::kept;
 use super::{catalogue, request};
-use resolvo_catalogue::{Catalogue, VersionNo};
-use resolvo_pool::want::R;
+use resolvo_catalogue_core::{Catalogue, VersionNo};
+use resolvo_pool_core::want::R;
 use std::alloc::Global;
 use std::process::Abort;
 use std::test::Fail;

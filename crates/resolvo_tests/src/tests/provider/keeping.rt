@@ -1,13 +1,13 @@
 //! Which sets keep the rules, by the lines and by the provider's answers.
 
 use super::provider;
-use resolvo_catalogue::{Catalogue, Request, VersionNo};
-use resolvo_pool::condition::{Condition, LogicalOperator};
-use resolvo_pool::id::{ConditionId, SolvableId, VersionSetId};
-use resolvo_pool::provider::{Candidates, Dependencies, DependencyProvider, Interner};
-use resolvo_pool::requirement::{ConditionalRequirement, Requirement};
-use resolvo_pool::want::R;
-use resolvo_provider::provider::{CatalogueProvider, RequestIds};
+use resolvo_catalogue::provider::{CatalogueProvider, RequestIds};
+use resolvo_catalogue_core::{Catalogue, Request, VersionNo};
+use resolvo_pool_core::condition::{Condition, LogicalOperator};
+use resolvo_pool_core::id::{ConditionId, SolvableId, VersionSetId};
+use resolvo_pool_core::provider::{Candidates, Dependencies, DependencyProvider, Interner};
+use resolvo_pool_core::requirement::{ConditionalRequirement, Requirement};
+use resolvo_pool_core::want::R;
 use std::alloc::Global;
 
 /// Whether some member matches the version set.

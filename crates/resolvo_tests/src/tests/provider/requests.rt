@@ -2,12 +2,12 @@
 //! their candidates are tried.
 
 use super::{catalogue, provider, request};
-use resolvo_cache::cache::SolverCache;
-use resolvo_catalogue::{Catalogue, Span, Spec};
-use resolvo_pool::id::SolvableId;
-use resolvo_pool::requirement::Requirement;
-use resolvo_pool::want::R;
-use resolvo_provider::provider::{CatalogueProvider, RequestIds};
+use resolvo_catalogue::provider::{CatalogueProvider, RequestIds};
+use resolvo_catalogue_core::{Catalogue, Span, Spec};
+use resolvo_pool::cache::SolverCache;
+use resolvo_pool_core::id::SolvableId;
+use resolvo_pool_core::requirement::Requirement;
+use resolvo_pool_core::want::R;
 use std::alloc::Global;
 use std::process::Abort;
 use std::test::Fail;

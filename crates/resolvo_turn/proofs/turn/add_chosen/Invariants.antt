@@ -1,7 +1,7 @@
 use Rattle.std.proofs.Common.{take}
 use Rattle.std.specs.Prelude.{Contains}
-use Rattle.resolvo_pool.specs.declared.solver_id.SolvableIdOrRoot.TheVariants as Place
-use Rattle.resolvo_encoding.specs.Steps.{AddsParent}
+use Rattle.resolvo_pool_core.specs.declared.solver_id.SolvableIdOrRoot.TheVariants as Place
+use Rattle.resolvo_encoder.specs.Steps.{AddsParent}
 use Rattle.resolvo_turn.proofs.turn.add_chosen.Given as goal
 
 -- the solvables so far are among the parents

@@ -1,7 +1,7 @@
 use Rattle.std.proofs.Common.{Option, subst}
-use Rattle.resolvo_search.specs.declared.analysis.Refusal.{Refusal}
-use Rattle.resolvo_encoding.proofs.Bases.{turn_has, turn_then}
-use Rattle.resolvo_encoding.proofs.Staying.{goes_then}
+use Rattle.resolvo_sat.specs.declared.analyze.FinalConflict.{FinalConflict}
+use Rattle.resolvo_encoder.proofs.Bases.{turn_has, turn_then}
+use Rattle.resolvo_encoder.proofs.Staying.{goes_then}
 use Rattle.resolvo_turn.specs.Turn.{HasWish, IsBegunBy}
 use Rattle.resolvo_turn.proofs.Adding.{goes_in_order}
 use Rattle.resolvo_turn.proofs.Ending.{begun_of, decided_of, decided_turn, wish_kept}
@@ -9,30 +9,30 @@ use Rattle.resolvo_turn.proofs.turn.choose_and_decide.Goals as goal
 
 pub returns-in-Some-clause-stays : goal.returns-in-Some-clause-stays
 returns-in-Some-clause-stays g c = λ root e.
-    goes_in_order g.A.SolvableId.PartialEq.eq (g.A.Answering.packages c.args.answers.now) (g.A.Answering.orders c.args.answers.now) root c.args.encoding.now c.choose_first.new.encoding c.in_ok-refusal.ensures.goes_on
-    (c.in_ok-refusal.ensures.stays (g.A.Answering.packages c.args.answers.now) root (g.met.A.Answering.lawful c.args.answers.now)) e
+    goes_in_order g.A.SolvableId.PartialEq.eq (g.A.PackageSource.packages c.args.answers.now) (g.A.PackageSource.orders c.args.answers.now) root c.args.encoding.now c.choose_first.new.encoding c.in_ok-refusal.ensures.goes_on
+    (c.in_ok-refusal.ensures.stays (g.A.PackageSource.packages c.args.answers.now) root (g.met.A.PackageSource.lawful c.args.answers.now)) e
 
 pub returns-in-Some-clause-decided : goal.returns-in-Some-clause-decided
 returns-in-Some-clause-decided g c =
-    begun_of c.args.wish c.choose_first.new.encoding c.in-Some.refusal (subst (λ (o : Option Refusal). IsBegunBy c.args.wish c.choose_first.new.encoding o) c.in-Some.is c.in_ok-refusal.ensures.begun)
+    begun_of c.args.wish c.choose_first.new.encoding c.in-Some.refusal (subst (λ (o : Option FinalConflict). IsBegunBy c.args.wish c.choose_first.new.encoding o) c.in-Some.is c.in_ok-refusal.ensures.begun)
 
 pub returns-clause-stays : goal.returns-clause-stays
 returns-clause-stays g c = λ root e.
     c.in_ok-refusal-2.ensures.stays root
-    (goes_in_order g.A.SolvableId.PartialEq.eq (g.A.Answering.packages c.args.answers.now) (g.A.Answering.orders c.args.answers.now) root c.args.encoding.now c.choose_first.new.encoding c.in_ok-refusal.ensures.goes_on
-    (c.in_ok-refusal.ensures.stays (g.A.Answering.packages c.args.answers.now) root (g.met.A.Answering.lawful c.args.answers.now)) e)
+    (goes_in_order g.A.SolvableId.PartialEq.eq (g.A.PackageSource.packages c.args.answers.now) (g.A.PackageSource.orders c.args.answers.now) root c.args.encoding.now c.choose_first.new.encoding c.in_ok-refusal.ensures.goes_on
+    (c.in_ok-refusal.ensures.stays (g.A.PackageSource.packages c.args.answers.now) root (g.met.A.PackageSource.lawful c.args.answers.now)) e)
 
 pub returns-clause-goes_on : goal.returns-clause-goes_on
 returns-clause-goes_on g c = goes_then c.args.encoding.now c.choose_first.new.encoding c.decide.new.encoding c.in_ok-refusal.ensures.goes_on c.in_ok-refusal-2.ensures.goes_on
 
 pub returns-clause-turn : goal.returns-clause-turn
 returns-clause-turn g c =
-    let has : HasWish c.args.wish c.choose_first.new.encoding = subst (λ (o : Option Refusal). IsBegunBy c.args.wish c.choose_first.new.encoding o) c.in_default.is c.in_ok-refusal.ensures.begun in
+    let has : HasWish c.args.wish c.choose_first.new.encoding = subst (λ (o : Option FinalConflict). IsBegunBy c.args.wish c.choose_first.new.encoding o) c.in_default.is c.in_ok-refusal.ensures.begun in
     turn_then c.args.wish c.args.encoding.now c.choose_first.new.encoding c.decide.new.encoding c.in_ok-refusal.ensures.turn
     (decided_turn c.args.wish c.choose_first.new.encoding c.decide.new.encoding c.in_ok-refusal-2.ensures.goes_on c.in_ok-refusal-2.ensures.first has)
 
 pub returns-clause-decided : goal.returns-clause-decided
 returns-clause-decided g c =
-    let has : HasWish c.args.wish c.choose_first.new.encoding = subst (λ (o : Option Refusal). IsBegunBy c.args.wish c.choose_first.new.encoding o) c.in_default.is c.in_ok-refusal.ensures.begun in
+    let has : HasWish c.args.wish c.choose_first.new.encoding = subst (λ (o : Option FinalConflict). IsBegunBy c.args.wish c.choose_first.new.encoding o) c.in_default.is c.in_ok-refusal.ensures.begun in
     let turn = turn_has c.args.wish c.args.encoding.now c.choose_first.new.encoding c.requires.turn c.in_ok-refusal.ensures.turn in
     decided_of c.args.wish c.decide.new.encoding c.in_ok-refusal-2.refusal c.in_ok-refusal-2.ensures.decided (wish_kept c.args.wish c.choose_first.new.encoding c.decide.new.encoding turn has c.in_ok-refusal-2.ensures.first)

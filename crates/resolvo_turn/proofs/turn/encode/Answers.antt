@@ -1,12 +1,12 @@
-use Rattle.resolvo_encoding.proofs.Bases.{turns_then}
+use Rattle.resolvo_encoder.proofs.Bases.{turns_then}
 use Rattle.resolvo_turn.proofs.Adding.{goes_in_order}
 use Rattle.resolvo_turn.proofs.Ending.{all_goes}
 use Rattle.resolvo_turn.proofs.turn.encode.Goals as goal
 
 pub returns-clause-encoded : goal.returns-clause-encoded
 returns-clause-encoded g c = λ root is e.
-    goes_in_order g.A.SolvableId.PartialEq.eq (g.A.Answering.packages c.args.answers.now) (g.A.Answering.orders c.args.answers.now) root c.encode_parents.new.encoding c.undo_broken.new.encoding c.undo_broken.ensures.goes_on
-    (c.undo_broken.ensures.stays (g.A.Answering.packages c.args.answers.now) root (g.met.A.Answering.lawful c.args.answers.now)) (c.in_ok-encode_parents.ensures.encoded root is e)
+    goes_in_order g.A.SolvableId.PartialEq.eq (g.A.PackageSource.packages c.args.answers.now) (g.A.PackageSource.orders c.args.answers.now) root c.encode_parents.new.encoding c.undo_broken.new.encoding c.undo_broken.ensures.goes_on
+    (c.undo_broken.ensures.stays (g.A.PackageSource.packages c.args.answers.now) root (g.met.A.PackageSource.lawful c.args.answers.now)) (c.in_ok-encode_parents.ensures.encoded root is e)
 
 pub returns-clause-all : goal.returns-clause-all
 returns-clause-all g c = all_goes c.args.encoding.now c.encode_parents.new.encoding c.undo_broken.new.encoding c.in_ok-encode_parents.ensures.all c.undo_broken.ensures.goes_on

@@ -6,8 +6,8 @@ returns-then-not-branch-clause-spent g c = λ none. c.in_ok-fire_cases.ensures.s
 
 pub returns-clause-stays : goal.returns-clause-stays
 returns-clause-stays g c = λ root e.
-    goes_in_order g.A.SolvableId.PartialEq.eq (g.A.Answering.packages c.args.answers.now) (g.A.Answering.orders c.args.answers.now) root c.fire_cases.new.encoding c.undo_broken.new.encoding c.undo_broken.ensures.goes_on
-    (c.undo_broken.ensures.stays (g.A.Answering.packages c.args.answers.now) root (g.met.A.Answering.lawful c.args.answers.now)) (c.in_ok-fire_cases.ensures.stays root e)
+    goes_in_order g.A.SolvableId.PartialEq.eq (g.A.PackageSource.packages c.args.answers.now) (g.A.PackageSource.orders c.args.answers.now) root c.fire_cases.new.encoding c.undo_broken.new.encoding c.undo_broken.ensures.goes_on
+    (c.undo_broken.ensures.stays (g.A.PackageSource.packages c.args.answers.now) root (g.met.A.PackageSource.lawful c.args.answers.now)) (c.in_ok-fire_cases.ensures.stays root e)
 
 pub returns-clause-adds : goal.returns-clause-adds
 returns-clause-adds g c = needs_then c.args.encoding.now c.fire_cases.new.encoding c.undo_broken.new.encoding c.in_ok-fire_cases.ensures.kept (goes_needs c.fire_cases.new.encoding c.undo_broken.new.encoding c.undo_broken.ensures.goes_on c.undo_broken.ensures.turn)

@@ -1,9 +1,9 @@
 use Rattle.std.proofs.Common.{Option, sym, ◌∙◌, ap, subst}
 use Rattle.std.specs.Prelude.{is_some}
-use Rattle.resolvo_search.specs.declared.analysis.Refusal.{Refusal}
-use Rattle.resolvo_pool.specs.RuleKeeping.{Rules}
-use Rattle.resolvo_encoding.proofs.Bases.{turn_then}
-use Rattle.resolvo_encoding.proofs.Building.{built_parents}
+use Rattle.resolvo_sat.specs.declared.analyze.FinalConflict.{FinalConflict}
+use Rattle.resolvo_pool_core.specs.RuleKeeping.{Rules}
+use Rattle.resolvo_encoder.proofs.Bases.{turn_then}
+use Rattle.resolvo_encoder.proofs.Building.{built_parents}
 use Rattle.resolvo_turn.specs.Encoder.{IsInOrder}
 use Rattle.resolvo_turn.specs.Turn.{IsDecisionOf}
 use Rattle.resolvo_turn.proofs.Adding.{parents_in_order, parents_needs, needs_parents, all_then}
@@ -12,7 +12,7 @@ use Rattle.resolvo_turn.proofs.turn.run_round.Goals as goal
 
 pub returns-then-is_some-clause-stays : goal.returns-then-is_some-clause-stays
 returns-then-is_some-clause-stays g c = λ root is e.
-    parents_in_order g.A.SolvableId.PartialEq.eq (g.A.Answering.packages c.args.answers.now) (g.A.Answering.orders c.args.answers.now) root c.encode_and_decide.new.encoding c.add_chosen.new.encoding (c.in_ok-decided.ensures.stays root is e) c.in_ok-add_chosen.ensures.added
+    parents_in_order g.A.SolvableId.PartialEq.eq (g.A.PackageSource.packages c.args.answers.now) (g.A.PackageSource.orders c.args.answers.now) root c.encode_and_decide.new.encoding c.add_chosen.new.encoding (c.in_ok-decided.ensures.stays root is e) c.in_ok-add_chosen.ensures.added
 
 pub returns-then-is_some-clause-round : goal.returns-then-is_some-clause-round
 returns-then-is_some-clause-round g c =
@@ -33,8 +33,8 @@ returns-then-branch-clause-stays g c = λ root is e.
     let same = g.A.SolvableId.PartialEq.eq in
     let old = c.add_chosen.new.encoding in
     let new = c.fire.new.encoding in
-    (subst (λ (a : g.row.A.Denot). (root : Rules) → IsInOrder same (g.A.Answering.packages a) (g.A.Answering.orders a) root old → IsInOrder same (g.A.Answering.packages a) (g.A.Answering.orders a) root new) c.in_ok-decided.ensures.same c.in_ok-fire.ensures.stays) root
-    (parents_in_order same (g.A.Answering.packages c.args.answers.now) (g.A.Answering.orders c.args.answers.now) root c.encode_and_decide.new.encoding old (c.in_ok-decided.ensures.stays root is e) c.in_ok-add_chosen.ensures.added)
+    (subst (λ (a : g.row.A.Denot). (root : Rules) → IsInOrder same (g.A.PackageSource.packages a) (g.A.PackageSource.orders a) root old → IsInOrder same (g.A.PackageSource.packages a) (g.A.PackageSource.orders a) root new) c.in_ok-decided.ensures.same c.in_ok-fire.ensures.stays) root
+    (parents_in_order same (g.A.PackageSource.packages c.args.answers.now) (g.A.PackageSource.orders c.args.answers.now) root c.encode_and_decide.new.encoding old (c.in_ok-decided.ensures.stays root is e) c.in_ok-add_chosen.ensures.added)
 
 pub returns-then-branch-clause-round : goal.returns-then-branch-clause-round
 returns-then-branch-clause-round g c =
@@ -51,8 +51,8 @@ returns-else-branch-clause-stays g c = λ root is e.
     let same = g.A.SolvableId.PartialEq.eq in
     let old = c.add_chosen.new.encoding in
     let new = c.fire.new.encoding in
-    (subst (λ (a : g.row.A.Denot). (root : Rules) → IsInOrder same (g.A.Answering.packages a) (g.A.Answering.orders a) root old → IsInOrder same (g.A.Answering.packages a) (g.A.Answering.orders a) root new) c.in_ok-decided.ensures.same c.in_ok-fire.ensures.stays) root
-    (parents_in_order same (g.A.Answering.packages c.args.answers.now) (g.A.Answering.orders c.args.answers.now) root c.encode_and_decide.new.encoding old (c.in_ok-decided.ensures.stays root is e) c.in_ok-add_chosen.ensures.added)
+    (subst (λ (a : g.row.A.Denot). (root : Rules) → IsInOrder same (g.A.PackageSource.packages a) (g.A.PackageSource.orders a) root old → IsInOrder same (g.A.PackageSource.packages a) (g.A.PackageSource.orders a) root new) c.in_ok-decided.ensures.same c.in_ok-fire.ensures.stays) root
+    (parents_in_order same (g.A.PackageSource.packages c.args.answers.now) (g.A.PackageSource.orders c.args.answers.now) root c.encode_and_decide.new.encoding old (c.in_ok-decided.ensures.stays root is e) c.in_ok-add_chosen.ensures.added)
 
 pub returns-else-branch-clause-round : goal.returns-else-branch-clause-round
 returns-else-branch-clause-round g c =
@@ -60,7 +60,7 @@ returns-else-branch-clause-round g c =
     let (stays, spent) = c.in_ok-fire.ensures.spent c.if-branch.false in
     ended_same same c.args.wish c.add_chosen.new.encoding c.fire.new.encoding stays spent (λ none. (
     round_whole same c.args.encoding.now c.encode_and_decide.new.encoding c.add_chosen.new.encoding c.requires.rooted c.in_ok-decided.ensures.all c.in_ok-add_chosen.ensures c.args.wish
-    (subst (λ (o : Option Refusal). IsDecisionOf c.args.wish c.encode_and_decide.new.encoding o) c.in_default.is c.in_ok-decided.ensures.decided) (sym (ap is_some c.next_parent.ensures.parent) ∙ sym c.if-is_some.ensures) none))
+    (subst (λ (o : Option FinalConflict). IsDecisionOf c.args.wish c.encode_and_decide.new.encoding o) c.in_default.is c.in_ok-decided.ensures.decided) (sym (ap is_some c.next_parent.ensures.parent) ∙ sym c.if-is_some.ensures) none))
 
 pub returns-else-branch-clause-adds : goal.returns-else-branch-clause-adds
 returns-else-branch-clause-adds g c =
@@ -99,7 +99,7 @@ pub returns-in-Some-clause-built : goal.returns-in-Some-clause-built
 returns-in-Some-clause-built g c = c.in_ok-decided.ensures.built
 
 pub returns-in-Some-clause-round : goal.returns-in-Some-clause-round
-returns-in-Some-clause-round g c = subst (λ (o : Option Refusal). IsDecisionOf c.args.wish c.encode_and_decide.new.encoding o) c.in-Some.is c.in_ok-decided.ensures.decided
+returns-in-Some-clause-round g c = subst (λ (o : Option FinalConflict). IsDecisionOf c.args.wish c.encode_and_decide.new.encoding o) c.in-Some.is c.in_ok-decided.ensures.decided
 
 pub returns-then-is_some-clause-same : goal.returns-then-is_some-clause-same
 returns-then-is_some-clause-same g c = c.in_ok-decided.ensures.same

@@ -1,6 +1,6 @@
 use Rattle.std.proofs.Common.{refl, ◌∙◌, subst}
-use Rattle.resolvo_pool.specs.RuleKeeping.{Rules}
-use Rattle.resolvo_encoding.proofs.Bases.{turn_has, turn_same, turn_then}
+use Rattle.resolvo_pool_core.specs.RuleKeeping.{Rules}
+use Rattle.resolvo_encoder.proofs.Bases.{turn_has, turn_same, turn_then}
 use Rattle.resolvo_turn.specs.Encoder.{IsInOrder, IsRoot}
 use Rattle.resolvo_turn.specs.declared.turn.Round.{Round}
 use Rattle.resolvo_turn.specs.Turn.{IsRound}
@@ -25,8 +25,8 @@ pub loop-refusal-preserved : goal.loop-refusal-preserved
 loop-refusal-preserved g c =
     let same = g.A.SolvableId.PartialEq.eq in
     let before = c.loop-refusal.invariant in
-    let stays = subst (λ (a : g.row.A.Denot). (root : Rules) → IsRoot c.args.requirements.now c.args.constraints.now root → IsInOrder same (g.A.Answering.packages a) (g.A.Answering.orders a) root c.loop-refusal.encoding
-    → IsInOrder same (g.A.Answering.packages a) (g.A.Answering.orders a) root c.run_round.new.encoding) before.same c.in_ok-run_round.ensures.stays in
+    let stays = subst (λ (a : g.row.A.Denot). (root : Rules) → IsRoot c.args.requirements.now c.args.constraints.now root → IsInOrder same (g.A.PackageSource.packages a) (g.A.PackageSource.orders a) root c.loop-refusal.encoding
+    → IsInOrder same (g.A.PackageSource.packages a) (g.A.PackageSource.orders a) root c.run_round.new.encoding) before.same c.in_ok-run_round.ensures.stays in
     record {
       same = c.in_ok-run_round.ensures.same ∙ before.same;
       stays = λ root is e. stays root is (before.stays root is e);
@@ -39,8 +39,8 @@ loop-refusal-preserved g c =
 pub returns-in-Whole-clause-stays : goal.returns-in-Whole-clause-stays
 returns-in-Whole-clause-stays g c = λ root is e.
     let same = g.A.SolvableId.PartialEq.eq in
-    (subst (λ (a : g.row.A.Denot). (root : Rules) → IsRoot c.args.requirements.now c.args.constraints.now root → IsInOrder same (g.A.Answering.packages a) (g.A.Answering.orders a) root c.loop-refusal.encoding
-    → IsInOrder same (g.A.Answering.packages a) (g.A.Answering.orders a) root c.run_round.new.encoding) c.loop-refusal.invariant.same c.in_ok-run_round.ensures.stays) root is (c.loop-refusal.invariant.stays root is e)
+    (subst (λ (a : g.row.A.Denot). (root : Rules) → IsRoot c.args.requirements.now c.args.constraints.now root → IsInOrder same (g.A.PackageSource.packages a) (g.A.PackageSource.orders a) root c.loop-refusal.encoding
+    → IsInOrder same (g.A.PackageSource.packages a) (g.A.PackageSource.orders a) root c.run_round.new.encoding) c.loop-refusal.invariant.same c.in_ok-run_round.ensures.stays) root is (c.loop-refusal.invariant.stays root is e)
 
 pub returns-in-Whole-clause-same : goal.returns-in-Whole-clause-same
 returns-in-Whole-clause-same g c = c.in_ok-run_round.ensures.same ∙ c.loop-refusal.invariant.same
@@ -54,8 +54,8 @@ returns-in-Whole-clause-ended g c = subst (λ (r : Round). IsRound g.A.SolvableI
 pub returns-in-Refused-clause-stays : goal.returns-in-Refused-clause-stays
 returns-in-Refused-clause-stays g c = λ root is e.
     let same = g.A.SolvableId.PartialEq.eq in
-    (subst (λ (a : g.row.A.Denot). (root : Rules) → IsRoot c.args.requirements.now c.args.constraints.now root → IsInOrder same (g.A.Answering.packages a) (g.A.Answering.orders a) root c.loop-refusal.encoding
-    → IsInOrder same (g.A.Answering.packages a) (g.A.Answering.orders a) root c.run_round.new.encoding) c.loop-refusal.invariant.same c.in_ok-run_round.ensures.stays) root is (c.loop-refusal.invariant.stays root is e)
+    (subst (λ (a : g.row.A.Denot). (root : Rules) → IsRoot c.args.requirements.now c.args.constraints.now root → IsInOrder same (g.A.PackageSource.packages a) (g.A.PackageSource.orders a) root c.loop-refusal.encoding
+    → IsInOrder same (g.A.PackageSource.packages a) (g.A.PackageSource.orders a) root c.run_round.new.encoding) c.loop-refusal.invariant.same c.in_ok-run_round.ensures.stays) root is (c.loop-refusal.invariant.stays root is e)
 
 pub returns-in-Refused-clause-same : goal.returns-in-Refused-clause-same
 returns-in-Refused-clause-same g c = c.in_ok-run_round.ensures.same ∙ c.loop-refusal.invariant.same

@@ -1,7 +1,7 @@
 use Rattle.std.proofs.Common.{◌≡◌}
-use Rattle.resolvo_pool.specs.RuleKeeping.{Rules}
-use Rattle.resolvo_encoding.specs.Base.{KeepsTurn}
-use Rattle.resolvo_encoding.specs.Steps.{IsBuilt}
+use Rattle.resolvo_pool_core.specs.RuleKeeping.{Rules}
+use Rattle.resolvo_encoder.specs.Base.{KeepsTurn}
+use Rattle.resolvo_encoder.specs.Steps.{IsBuilt}
 use Rattle.resolvo_turn.specs.Encoder.{IsInOrder, IsRoot, AddsParents}
 use Rattle.resolvo_turn.specs.Turn.{IsRooted, rounds_left}
 use Rattle.resolvo_turn.proofs.turn.run_turn.Given as goal
@@ -10,8 +10,8 @@ use Rattle.resolvo_turn.proofs.turn.run_turn.Given as goal
 abbrev pub invariant-loop-refusal : goal.invariant-loop-refusal
 invariant-loop-refusal g l = record {
   same : l.answers ≡ l.initial.answers;
-  stays : (root : Rules) → IsRoot l.requirements l.constraints root → IsInOrder g.A.SolvableId.PartialEq.eq (g.A.Answering.packages l.initial.answers) (g.A.Answering.orders l.initial.answers) root l.initial.encoding
-      → IsInOrder g.A.SolvableId.PartialEq.eq (g.A.Answering.packages l.initial.answers) (g.A.Answering.orders l.initial.answers) root l.encoding;
+  stays : (root : Rules) → IsRoot l.requirements l.constraints root → IsInOrder g.A.SolvableId.PartialEq.eq (g.A.PackageSource.packages l.initial.answers) (g.A.PackageSource.orders l.initial.answers) root l.initial.encoding
+      → IsInOrder g.A.SolvableId.PartialEq.eq (g.A.PackageSource.packages l.initial.answers) (g.A.PackageSource.orders l.initial.answers) root l.encoding;
   adds : AddsParents l.initial.encoding l.encoding;
   built : IsBuilt l.encoding;
   turn : KeepsTurn l.fn.wish l.initial.encoding l.encoding;

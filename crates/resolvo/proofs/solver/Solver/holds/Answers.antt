@@ -3,7 +3,7 @@ use Rattle.std.specs.Bool.{Decides}
 use Rattle.std.specs.Option.{option_map}
 use Rattle.std.proofs.lemmas.Option.{same_Some}
 use Rattle.std.proofs.lemmas.Slice.Eq.{slice_eq-Decides}
-use Rattle.resolvo_pool.specs.declared.id.ClauseId.{ClauseId}
+use Rattle.resolvo_pool_core.specs.declared.id.ClauseId.{ClauseId}
 use Rattle.resolvo.specs.Conflicts.{Left, left_of}
 use Rattle.resolvo.proofs.solver.Solver.holds.Goals as goal
 

@@ -1,4 +1,4 @@
-use Rattle.resolvo_pool.proofs.Texts.{wrote_nothing}
+use Rattle.resolvo_pool_core.proofs.Texts.{wrote_nothing}
 use Rattle.resolvo_graph.proofs.display_unsat.DisplayUnsatDisplay.fmt.Goals as goal
 
 pub loop-line-init : goal.loop-line-init

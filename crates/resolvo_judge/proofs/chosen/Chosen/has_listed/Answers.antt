@@ -1,6 +1,6 @@
 use Rattle.std.proofs.Common.{◌≡◌, ◌∙◌, Some, None, List, ℕ, sym, ap}
 use Rattle.resolvo_text.specs.View.{spec_of}
-use Rattle.resolvo_catalogue.specs.Listed.{pair_version}
+use Rattle.resolvo_catalogue_core.specs.Listed.{pair_version}
 use Rattle.resolvo_judge.specs.Chosen.{number_for}
 use Rattle.resolvo_judge.proofs.ChosenLemmas.{has_by, within_by, lock_by}
 use Rattle.resolvo_judge.proofs.chosen.Chosen.has_listed.Goals as goal

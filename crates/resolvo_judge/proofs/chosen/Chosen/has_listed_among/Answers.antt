@@ -1,6 +1,6 @@
 use Rattle.std.proofs.Common.{◌≡◌, ◌∙◌, ◌&&◌, Some, None, Bool, List, ℕ, sym, ap}
 use Rattle.std.specs.Prelude.{nat_lt}
-use Rattle.resolvo_catalogue.specs.Listed.{pair_version}
+use Rattle.resolvo_catalogue_core.specs.Listed.{pair_version}
 use Rattle.resolvo_judge.specs.Chosen.{number_for, pick_from}
 use Rattle.resolvo_judge.proofs.ChosenLemmas.{among_by, among_yes, among_no}
 use Rattle.resolvo_judge.proofs.chosen.Chosen.has_listed_among.Goals as goal

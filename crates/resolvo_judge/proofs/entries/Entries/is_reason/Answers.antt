@@ -1,9 +1,9 @@
 use Rattle.std.proofs.Common.{◌≡◌, ◌&&◌, Bool, Option, sym, ◌∙◌, ap}
 use Rattle.resolvo_text.specs.Line.{Line}
 use Rattle.resolvo_text.specs.View.{version_of}
-use Rattle.resolvo_catalogue.specs.Listed.{listed}
+use Rattle.resolvo_catalogue_core.specs.Listed.{listed}
 use Rattle.resolvo_report.specs.View.{place_of}
-use Rattle.resolvo_steps.specs.StepClauses.{line_of}
+use Rattle.resolvo_checker.specs.StepClauses.{line_of}
 use Rattle.resolvo_judge.specs.Entries.{entries_of, gives}
 use Rattle.resolvo_judge.proofs.EntryLemmas.{gives_owned}
 use Rattle.resolvo_judge.proofs.entries.Entries.is_reason.Goals as goal

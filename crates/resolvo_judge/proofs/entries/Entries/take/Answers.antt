@@ -1,4 +1,4 @@
-use Rattle.resolvo_catalogue.proofs.CatalogueFacts.{ok_map}
+use Rattle.resolvo_catalogue_core.proofs.CatalogueFacts.{ok_map}
 use Rattle.resolvo_judge.proofs.entries.Entries.take.Goals as goal
 
 pub returns-in-LeftOut-clause-fits : goal.returns-in-LeftOut-clause-fits

@@ -1,4 +1,4 @@
-use Rattle.resolvo_needs.specs.Needs.{literals_in}
+use Rattle.resolvo_decide.specs.Needs.{literals_in}
 use Rattle.resolvo_store_tests.proofs.tests.known.next_after.Goals as goal
 
 pub next_decision-requires-clause-fits : goal.next_decision-requires-clause-fits

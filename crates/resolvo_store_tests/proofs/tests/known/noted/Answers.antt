@@ -1,6 +1,6 @@
 use Rattle.std.proofs.Common.{subst}
 use Rattle.std.proofs.lemmas.List.{take_all}
-use Rattle.resolvo_needs.specs.Needs.{Fits}
+use Rattle.resolvo_decide.specs.Needs.{Fits}
 use Rattle.resolvo_store_tests.proofs.Noting.{noted_more}
 use Rattle.resolvo_store_tests.proofs.tests.known.noted.Goals as goal
 

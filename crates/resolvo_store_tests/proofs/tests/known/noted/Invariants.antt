@@ -1,7 +1,7 @@
 use Rattle.std.proofs.Common.{List, take}
-use Rattle.resolvo_pool.specs.declared.requirement.Requirement.{Requirement}
-use Rattle.resolvo_store.specs.Signed.{Signed}
-use Rattle.resolvo_needs.specs.Needs.{Fits}
+use Rattle.resolvo_pool_core.specs.declared.requirement.Requirement.{Requirement}
+use Rattle.resolvo_store_core.specs.Signed.{Signed}
+use Rattle.resolvo_decide.specs.Needs.{Fits}
 use Rattle.resolvo_store_tests.proofs.tests.known.noted.Given as goal
 
 -- the clauses so far are noted

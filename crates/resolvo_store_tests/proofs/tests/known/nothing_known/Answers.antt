@@ -1,5 +1,5 @@
 use Rattle.std.proofs.Common.{subst}
-use Rattle.resolvo_needs.specs.Needs.{Fits, literals_in}
+use Rattle.resolvo_decide.specs.Needs.{Fits, literals_in}
 use Rattle.resolvo_store_tests.proofs.tests.known.nothing_known.Goals as goal
 
 pub returns : goal.returns

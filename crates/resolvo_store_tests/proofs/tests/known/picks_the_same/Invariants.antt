@@ -1,4 +1,4 @@
-use Rattle.resolvo_needs.specs.Needs.{Fits, literals_in}
+use Rattle.resolvo_decide.specs.Needs.{Fits, literals_in}
 use Rattle.resolvo_store_tests.proofs.tests.known.picks_the_same.Given as goal
 
 -- what is known is so

@@ -1,5 +1,5 @@
-use Rattle.resolvo_coding.specs.declared.atom.ProofAtom.TheVariants.{Solvable}
-use Rattle.resolvo_coding.proofs.Growth.{stands_in_range, stands_grow}
+use Rattle.resolvo_state.specs.declared.atom.ProofAtom.TheVariants.{Solvable}
+use Rattle.resolvo_state.proofs.Growth.{stands_in_range, stands_grow}
 use Rattle.resolvo_store_tests.proofs.tests.registry.choose_one.Goals as goal
 
 pub need_one-requires-clause-first : goal.need_one-requires-clause-first

@@ -1,5 +1,5 @@
-use Rattle.resolvo_coding.specs.Coding.{IsCoding}
-use Rattle.resolvo_coding.specs.Registered.{AreTied}
+use Rattle.resolvo_state.specs.Coding.{IsCoding}
+use Rattle.resolvo_state.specs.Registered.{AreTied}
 use Rattle.resolvo_store_tests.proofs.tests.registry.register.Given as goal
 
 abbrev pub invariant-loop-number : goal.invariant-loop-number

@@ -1,4 +1,4 @@
-use Rattle.resolvo_search.specs.Propagation.{IsReady, AreCovered}
+use Rattle.resolvo_sat.specs.Propagation.{IsReady, AreCovered}
 use Rattle.resolvo_store_tests.proofs.tests.searches.search.Given as goal
 
 abbrev pub invariant-loop : goal.invariant-loop

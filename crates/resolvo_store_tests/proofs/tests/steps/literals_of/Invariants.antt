@@ -1,5 +1,5 @@
-use Rattle.resolvo_search.specs.State.{count_of}
-use Rattle.resolvo_search.specs.Steps.{AreInRange}
+use Rattle.resolvo_sat.specs.State.{count_of}
+use Rattle.resolvo_sat.specs.Steps.{AreInRange}
 use Rattle.resolvo_store_tests.proofs.tests.steps.literals_of.Given as goal
 
 abbrev pub invariant-loop-variable : goal.invariant-loop-variable

@@ -1,4 +1,4 @@
-use Rattle.resolvo_pool.proofs.Texts.{wrote_nothing}
+use Rattle.resolvo_pool_core.proofs.Texts.{wrote_nothing}
 use Rattle.resolvo_graph_tests.proofs.tests.sample.SampleInterner.display_merged_solvables.Goals as goal
 
 pub loop-other-init : goal.loop-other-init

@@ -1,0 +1,248 @@
+-- What the solver found, told as a report that the judge says yes to.
+use Rattle.std.proofs.Common.{◌≡◌, Bor, ℕ, Bool, List, [], ◌∷◌, map, length, None, Result, Ok, Err, Vec, Global, refl, sym, subst, arith}
+use Rattle.std.specs.Prelude.{Contains, IfOk}
+use Rattle.std.specs.List.{AllByRecursion, AllZip}
+use Rattle.resolvo_text.specs.Line.{Line}
+use Rattle.resolvo_catalogue_core.specs.Grammar.{AreRequestLines}
+use Rattle.resolvo_catalogue_core.specs.Listed.{listed, members}
+use Rattle.resolvo_catalogue_core.specs.Questions.{Said, AreAll, IsWish, LineIs}
+use Rattle.resolvo_catalogue_core.specs.declared.rule.VersionNo.{VersionNo}
+use Rattle.resolvo_catalogue_core.specs.Answers.{Answer}
+use Rattle.resolve_order.specs.Order.{AreTurns}
+use Rattle.resolve_order.specs.View.{turns_of}
+use Rattle.resolvo_judge.specs.Refusal.{answer_of}
+use Rattle.resolve_order.specs.declared.entry.Turn.{Turn}
+use Rattle.resolve_order.specs.declared.entry.Turn.TheVariants.{Chose}
+use Rattle.resolvo_sat.specs.declared.analyze.FinalConflict.{FinalConflict}
+use Rattle.resolvo_pool_core.specs.declared.id.VersionSetId.{VersionSetId}
+use Rattle.resolvo_pool_core.specs.declared.requirement.ConditionalRequirement.{ConditionalRequirement}
+use Rattle.resolvo_pool_core.specs.RuleKeeping.{Rules}
+use Rattle.resolvo_soundness.specs.Encoding.{IsExact}
+use Rattle.resolvo_catalogue.specs.Ids.{Ids, NameId, SolvableId}
+use Rattle.resolvo_catalogue.specs.Keeping.{root_of}
+use Rattle.resolvo_catalogue.specs.Provider.{Provider, packages_of}
+use Rattle.resolvo_catalogue.specs.Over.{IsOver, AreAsked}
+use Rattle.resolvo_catalogue.specs.declared.provider.RequestIds.{RequestIds}
+use Rattle.resolvo_proof.specs.Trimmed as trimming
+use Rattle.resolvo_proof.specs.Trimmed.{Names, IsLast, IsTrimmed, IsTrimmedTo, IsTrimmedWith, StaysProof}
+use Rattle.resolvo_proof.specs.Proof.{EndsEmpty}
+use Rattle.resolvo_proof.specs.Drawn.{HaveOneSigns}
+use Rattle.resolvo_proof.specs.Places.{HaveOnePlace}
+use Rattle.resolvo_proof.specs.declared.step.ProofStep.{ProofStep}
+use Rattle.resolvo_report.specs.Value.{Step, Message, Refused, Report}
+use Rattle.resolvo_report.specs.Text.{HasText, report_lines, report_text}
+use Rattle.resolvo_report.specs.Grammar.{IsReport}
+use Rattle.resolvo_judge.specs.Refusal.{IsAccepted}
+use Rattle.resolvo_judge.specs.Judgement.{IsUpheld, IsClaimTrue}
+use Rattle.resolvo_judge.proofs.MessageLaws.{upheld_with}
+use Rattle.resolvo_conflict.specs.Offered.{offered_by}
+use Rattle.resolvo_conflict.specs.declared.offers.Offers.{Offers}
+use Rattle.resolvo.specs.Conflicts.{AreOffers}
+use Rattle.resolve_install.specs.Numbers.{numbers_of}
+use Rattle.resolve_install.specs.Install.{AreWishes, Serve, IsInstallOf}
+use Rattle.resolve_refusal.specs.Refusal.{IsProofOver, IsToldBy, Refutes, IsRefusalOf}
+use Rattle.resolve_refusal.specs.Installing.{AreInstallSteps}
+use Rattle.resolvo.specs.declared.prove.Solved.{Solved}
+use Rattle.resolvo.specs.declared.search.SearchResult.{SearchResult}
+use Rattle.resolvo.specs.declared.search.SearchResult.TheVariants.{Chosen, Clash}
+use Rattle.resolvo_turn.specs.Encoder.{IsRoot}
+use Rattle.resolvo.specs.Solving.{HaveProofs, Holds, IsPreferred, IsSolved, EndsSo}
+use Rattle.resolvo.specs.Wished.{AreCandidates}
+use Rattle.resolvo.specs.declared.turns.Turn as Solver
+use Rattle.resolvo.proofs.Forward.{one_each}
+use Rattle.resolvo.specs.Turns.{first_of}
+use Rattle.resolve_answer.specs.Wishes.{AreWishesAt, AreWishesOf, free_of}
+use Rattle.resolve_answer.specs.Turning.{AreTold, AreWanted, IsFirstTurn}
+use Rattle.resolve_answer.specs.declared.wishes.Wish.{Wish}
+use Rattle.resolve_answer.specs.First.{orders_of, AreFirstChosen}
+use Rattle.resolve_answer.specs.Message.{IsMessageOf, IsPlain, IsTextOf, with_message}
+use Rattle.resolve_answer.specs.Solved.{IsInstalledOver, IsRefutedOver, IsSolvedOver}
+use Rattle.resolve_answer.specs.Reported.{AreNamed, AreUsed, AreWishTurns, IsAnswer, IsReportOf}
+use Rattle.resolve_answer.proofs.Atoms.{same_atom, exact_atom}
+use Rattle.resolve_answer.proofs.Knowing.{known_kept}
+use Rattle.resolve_answer.proofs.Serving.{AreSteps, first_entries, free_candidates, one_step_more, refused_bars, serve_is, steps_hold, written_steps}
+use Rattle.resolve_answer.proofs.Using.{told_later, wish_turns, steps_used, zip_length}
+use Rattle.resolve_answer.proofs.Telling.{steps_front}
+
+pub if_ok : {A E : Type 0} {P Q : A → Type 0} (r : Result A E) → ((a : A) → P a → Q a) → IfOk r P → IfOk r Q
+if_ok (Ok a) f h = f a h
+if_ok (Err e) f h = tt
+
+-- the install report of the turns of a search
+pub install_reported : (catalogue request : List Line) (part : Bor (List VersionNo)) (rest : List Turn) (steps : List Step) (r : Report) → IsInstallOf catalogue request (Chose None part ∷ rest) steps r → AreWishTurns request (turns_of (listed catalogue) rest) → AreFirstChosen catalogue request (members (listed catalogue) part.now)
+    → ((answers : List Answer) → AreTurns catalogue request [] [] (turns_of (listed catalogue) (Chose None part ∷ rest)) answers → AreUsed answers steps) → IsReportOf catalogue request r
+install_reported catalogue request part rest steps r i wished first used = record {
+  upheld = record { report = i.report; is = refl; accepted = i.accepted };
+  claim = i.claim;
+  answer = subst (λ (x : Report). IsAnswer catalogue request x) (sym i.installs) (record { chosen = members (listed catalogue) part.now; later = turns_of (listed catalogue) rest; wished = wished; order = i.order; all = i.entries; first = first }, used (map answer_of i.lines) i.order);
+}
+
+-- ---- refusals
+
+-- steps that are told lead to the last one where those of the proof do
+told_named : (catalogue request : List Line) (ids : Ids) (steps : List (ProofStep NameId SolvableId)) (written : List Step) → AllZip (IsToldBy catalogue ids request) steps written → trimming.AreNamed steps → AreNamed written
+told_named catalogue request ids steps written each named k below =
+    let long : length written ≡ length steps = zip_length (IsToldBy catalogue ids request) steps written each in
+    told_later catalogue request ids steps written each k (named k (omega (arith, below, long)))
+
+-- a line without a newline has a text
+plain_texts : (message : List (List ℕ)) → AllByRecursion IsPlain message → AllByRecursion HasText (map Message message)
+plain_texts [] plain = tt
+plain_texts (line ∷ message) plain = (plain.0, plain_texts message plain.1)
+
+-- the refused report of a proof whose steps lead to the last one, with the message of their conflict
+pub refusal_reported : (catalogue request : List Line) (ids : Ids) (steps : List (ProofStep NameId SolvableId)) (r : Report) (message : List (List ℕ)) → IsRefusalOf catalogue request ids steps r → trimming.AreNamed steps → AllByRecursion IsPlain message
+    → ((written : List Step) → AllZip (IsToldBy catalogue ids request) steps written → IsMessageOf catalogue request written message) → IsReportOf catalogue request (with_message message r)
+refusal_reported catalogue request ids steps r message i named plain tells =
+    let bare : Report = Refused i.in_catalogue i.in_request i.written [] in
+    let upheld : IsUpheld catalogue request (report_text bare) bare = record {
+      report = subst IsReport i.refuses i.report;
+      is = refl;
+      accepted = subst (λ (x : Report). IsAccepted catalogue request (report_lines x)) i.refuses i.accepted;
+    } in
+    subst (λ (x : Report). IsReportOf catalogue request (with_message message x)) (sym i.refuses) (record {
+      upheld = upheld_with i.in_catalogue i.in_request i.written catalogue request [] message (plain_texts message plain) upheld;
+      claim = subst (λ (x : Report). IsClaimTrue catalogue request x) i.refuses i.claim;
+      answer = (told_named catalogue request ids steps i.written i.each named, tells i.written i.each);
+    })
+
+-- ---- what was found
+
+module _ (catalogue : List Line) (said : Said) (provider : Provider) (wishes : List Wish) (asks_rightly : AreRequestLines catalogue said.lines) where
+  module _ (chosen : List SolvableId) (turns : List (Solver.Turn SolvableId)) (proof : List (ProofStep NameId SolvableId)) (is : IsInstalledOver catalogue said provider wishes chosen turns proof) where
+    -- the steps that are kept of the proof are one
+    kept_proof : (Wanted : ℕ → Type 0) (kept : List (ProofStep NameId SolvableId)) → IsTrimmedTo Wanted proof kept → StaysProof proof kept → (HaveOnePlace proof → HaveOnePlace kept) → (HaveOneSigns proof → HaveOneSigns kept) → IsProofOver catalogue said provider kept
+    kept_proof Wanted kept trimmed stays places signs =
+        let proved = is.proved same_atom exact_atom in
+        record {
+          over = is.over;
+          ids = is.ids;
+          asked = is.asked;
+          same_atom = same_atom;
+          exact_atom = exact_atom;
+          same = is.same;
+          exact = is.exact;
+          proof = stays same_atom is.same (packages_of provider) (root_of is.ids) proved;
+          known = known_kept catalogue said provider is.over asks_rightly is.ids is.asked is.same is.exact same_atom proof proved is.drawn Wanted kept trimmed;
+          one_sign = signs is.signs;
+          one_place = places is.one_place;
+        }
+
+    -- the install report of what was chosen
+    pub installed_reported : (wanted : List ℕ) → AreWanted turns wanted → (kept : List (ProofStep NameId SolvableId)) (places : List ℕ) → IsTrimmedWith (Contains wanted) proof kept places → StaysProof proof kept
+        → (HaveOnePlace proof → HaveOnePlace kept) → (HaveOneSigns proof → HaveOneSigns kept) → (written : List Step) → (IsProofOver catalogue said provider kept → AreInstallSteps catalogue said.lines provider.ids kept written) → (numbers : List VersionNo) → numbers ≡ numbers_of chosen
+        → (t : Turn) (rest : List Turn) (after : List Step) → IsFirstTurn numbers turns t → AreTold numbers turns places wishes 0 written rest after → (r : Report) → (Serve catalogue said.lines (t ∷ rest) after → IsInstallOf catalogue said.lines (t ∷ rest) after r)
+        → IsReportOf catalogue said.lines r
+    installed_reported wanted are_wanted kept places numbered stays one_place signs written writes numbers numbers_are t rest after first_turn told r reports =
+        let install = writes (kept_proof (Contains wanted) kept numbered.trimmed stays one_place signs) in
+        let (others, whole) = steps_front numbers turns places wishes 0 written rest after told in
+        let refuses = refused_bars catalogue said provider is.over is.ids is.asked asks_rightly is.same is.exact is.are_wishes wishes is.told chosen turns is.wished proof kept wanted places is.proofs are_wanted numbered written others after install whole in
+        let steps : AreSteps catalogue said.lines after = steps_hold catalogue (AreSteps catalogue said.lines) (one_step_more catalogue said.lines) numbers turns places wishes 0 written rest after is.told.bars (written_steps catalogue said.lines provider.ids kept written install) told in
+        let serve = serve_is catalogue said provider is.over is.ids is.asked asks_rightly is.same is.exact is.are_wishes wishes is.told chosen turns is.wished numbers numbers_are places after written t rest first_turn told refuses steps in
+        let (part, is_first, between) = first_turn in
+        install_reported catalogue said.lines part rest after r (subst (λ (u : Turn). IsInstallOf catalogue said.lines (u ∷ rest) after r) is_first (reports serve)) (wish_turns catalogue said.lines t rest after serve)
+        (first_entries catalogue said provider is.over is.ids is.asked asks_rightly is.same is.exact is.are_wishes wishes is.told chosen turns is.wished numbers numbers_are part between is.preferred)
+        (steps_used catalogue said.lines provider.ids turns chosen proof kept wanted places are_wanted numbered is.proofs written install.each numbers wishes (Chose None part) rest after told (one_each is.same (packages_of provider) (root_of is.ids) chosen (first_of chosen turns) (free_of wishes) turns is.wished))
+
+  module _ (solved : Solved NameId SolvableId) (is : IsSolvedOver catalogue said provider wishes solved) where
+    -- what was chosen
+    pub solved_installed : (chosen : Vec SolvableId Global) (turns : Vec (Solver.Turn SolvableId) Global) → solved.found ≡ Chosen chosen turns → IsInstalledOver catalogue said provider wishes chosen.items turns.items solved.proof.items
+    solved_installed chosen turns found =
+        let all = is.solves in
+        record {
+          over = is.over;
+          ids = is.ids;
+          asked = is.asked;
+          same = is.same;
+          exact = is.exact;
+          are_wishes = is.are_wishes;
+          told = is.told;
+          wished = subst (λ (f : SearchResult SolvableId). Holds is.same (packages_of provider) (root_of is.ids) (free_of wishes) f) found all.found;
+          preferred = subst (λ (f : SearchResult SolvableId). IsPreferred is.same (packages_of provider) (orders_of is.same provider) (root_of is.ids) f) found all.preferred;
+          proved = all.proof;
+          drawn = all.drawn;
+          signs = all.signs;
+          one_place = all.one_place;
+          proofs = subst (λ (f : SearchResult SolvableId). HaveProofs solved.proof.items f) found all.proofs;
+        }
+
+    -- that there is no solution
+    pub solved_refuted : (clash : FinalConflict) → solved.found ≡ Clash clash → IsRefutedOver catalogue said provider solved.proof.items
+    solved_refuted clash found =
+        let all = is.solves in
+        record {
+          over = is.over;
+          ids = is.ids;
+          asked = is.asked;
+          same = is.same;
+          exact = is.exact;
+          proved = all.proof;
+          drawn = all.drawn;
+          signs = all.signs;
+          one_place = all.one_place;
+          ends = subst (λ (f : SearchResult SolvableId). EndsSo f solved.proof.items) found is.ends;
+        }
+
+  module _ (proof : List (ProofStep NameId SolvableId)) (is : IsRefutedOver catalogue said provider proof) where
+    -- the steps that lead to the end of a proof that there is no solution are one
+    kept_refutes : (kept : List (ProofStep NameId SolvableId)) → IsTrimmed proof kept → StaysProof proof kept → (EndsEmpty proof → EndsEmpty kept) → (HaveOnePlace proof → HaveOnePlace kept) → (HaveOneSigns proof → HaveOneSigns kept) → Refutes catalogue said provider kept
+    kept_refutes kept trimmed stays ends places signs =
+        let proved = is.proved same_atom exact_atom in
+        record {
+          proves = record {
+            over = is.over;
+            ids = is.ids;
+            asked = is.asked;
+            same_atom = same_atom;
+            exact_atom = exact_atom;
+            same = is.same;
+            exact = is.exact;
+            proof = stays same_atom is.same (packages_of provider) (root_of is.ids) proved;
+            known = known_kept catalogue said provider is.over asks_rightly is.ids is.asked is.same is.exact same_atom proof proved is.drawn (IsLast proof) kept trimmed;
+            one_sign = signs is.signs;
+            one_place = places is.one_place;
+          };
+          empty = ends is.ends;
+        }
+
+    -- its report, with the message of the conflict
+    pub clash_reported : (kept : List (ProofStep NameId SolvableId)) → IsTrimmed proof kept → trimming.AreNamed kept → StaysProof proof kept → (EndsEmpty proof → EndsEmpty kept)
+        → (HaveOnePlace proof → HaveOnePlace kept) → (HaveOneSigns proof → HaveOneSigns kept) → (r : Report) → (Refutes catalogue said provider kept → IsRefusalOf catalogue said.lines provider.ids kept r)
+        → (same_name : NameId → NameId → Bool) → IsExact same_name → (same : SolvableId → SolvableId → Bool) → IsExact same → (offers : Offers SolvableId) → AreOffers same (packages_of provider) (orders_of same provider) kept offers
+        → (message : List (List ℕ)) → IsTextOf same_name same provider (offered_by offers) kept message → IsReportOf catalogue said.lines (with_message message r)
+    clash_reported kept trimmed named stays ends places signs r reports same_name one_name same exact offers offered message text =
+        let refutes = kept_refutes kept trimmed stays ends places signs in
+        refusal_reported catalogue said.lines provider.ids kept r message (reports refutes) named text.plain (λ written told. record {
+          said = said;
+          asks = refl;
+          provider = provider;
+          proof = kept;
+          proves = refutes.proves;
+          told = told;
+          same_name = same_name;
+          one_name = one_name;
+          same = same;
+          exact = exact;
+          offers = offers;
+          offered = offered;
+          text = text;
+        })
+
+-- a search over a provider of the catalogue, which interned the request
+pub solved_over : (catalogue : List Line) (said : Said) (wishes : List Wish) (kept provider : Provider) (ids : RequestIds) (requirements : List ConditionalRequirement) (constraints : List VersionSetId) (free : List SolvableId) (same : SolvableId → SolvableId → Bool) (solved : Solved NameId SolvableId)
+    → AreRequestLines catalogue said.lines → AreAll (map (λ f. f.0) said.wishes) (λ n. LineIs said.lines n IsWish) → AreWishesAt catalogue said → AreWishesOf catalogue said.wishes wishes → free ≡ free_of wishes → provider ≡ kept → IsOver catalogue kept → AreAsked kept.ids said ids → requirements ≡ ids.requirements.items → constraints ≡ ids.constraints.items → IsExact same
+    → ((root : Rules) → IsRoot requirements constraints root → AreCandidates same (packages_of kept) free → IsSolved same (packages_of kept) (orders_of same kept) root free solved) → EndsSo solved.found solved.proof.items → IsSolvedOver catalogue said provider wishes solved
+solved_over catalogue said wishes kept provider ids requirements constraints free same solved asks_rightly lines versions told free_is stays over asked needs limits exact solves ends =
+    let are_wishes : AreWishes catalogue said.lines said.wishes = record { lines = lines; versions = versions } in
+    let candidates = subst (λ (xs : List SolvableId). AreCandidates same (packages_of kept) xs) (sym free_is) (free_candidates catalogue said kept over ids asked asks_rightly same exact are_wishes wishes told) in
+    subst (λ (q : Provider). IsSolvedOver catalogue said q wishes solved) (sym stays) (record {
+      over = over;
+      ids = ids;
+      asked = asked;
+      same = same;
+      exact = exact;
+      solves = subst (λ (xs : List SolvableId). IsSolved same (packages_of kept) (orders_of same kept) (root_of ids) xs solved) free_is (solves (root_of ids) (sym needs, sym limits) candidates);
+      ends = ends;
+      are_wishes = are_wishes;
+      told = told;
+    })

@@ -1,0 +1,13 @@
+use Rattle.std.proofs.Common.{◌∙◌, ap}
+use Rattle.resolvo_conflict.specs.Offered.{offered_by}
+use Rattle.resolvo_graph.specs.Message.{text_of}
+use Rattle.resolvo_report.specs.View.{messages_of}
+use Rattle.resolve_answer.specs.Message.{meaning_of}
+use Rattle.resolve_answer.proofs.Messaging.{text_told}
+use Rattle.resolve_answer.proofs.Upheld.{if_ok}
+use Rattle.resolve_answer.proofs.message.message_of.Goals as goal
+
+pub returns : goal.returns
+returns c = if_ok c.lines_of.result (λ v are. text_told _ _ c.args.provider.now (offered_by c.args.offers.now) c.args.steps.now c.in_ok-graph.graph c.in_ok-display.display.lines.items c.as_bytes.result.now (messages_of v.items)
+    c.in_ok-graph.ensures.graph c.in_ok-display.ensures.lines (c.as_bytes.ensures.value ∙ (c.in_ok-text.ensures.ok ∙ ap (λ p. text_of (meaning_of p) c.in_ok-display.display.lines.items) c.in_ok-display.ensures.interner)) are)
+    c.lines_of.ensures

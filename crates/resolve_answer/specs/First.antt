@@ -1,0 +1,111 @@
+-- Which versions are chosen: for each need the first match; and of flat texts the newest versions that fit.
+use Rattle.std.specs.Prelude.{◌≡◌, ◌↔◌, ◌⊎◌, ℕ, ◌≤◌, IsTrue, Bool, true, false, not, ◌&&◌, ◌||◌, is_some, List, [], ◌∷◌, Option, Some, None, Contains}
+use Rattle.resolvo_text.specs.Line.{Version, Spec, Cond, Line, Listed, Needs, Favour}
+use Rattle.resolvo_text.specs.Matching.{Set, matches, condition_holds}
+use Rattle.resolvo_catalogue_core.specs.Grammar.{line_at, owner_of}
+use Rattle.resolvo_catalogue_core.specs.Questions.{is_rule}
+use Rattle.resolvo_catalogue_core.specs.Rules.{binds}
+use Rattle.resolvo_catalogue_core.specs.Sets.{IsRuleKeeping}
+use Rattle.resolvo_pool_core.specs.declared.requirement.Requirement.{Requirement}
+use Rattle.resolvo_pool_core.specs.Provider.{IsTriedFor, tried_first}
+use Rattle.resolvo_pool_core.specs.Text.{alternatives_of}
+use Rattle.resolvo_catalogue.specs.Ids.{SolvableId}
+use Rattle.resolvo_catalogue.specs.Known.{set_at, members_of}
+use Rattle.resolvo_catalogue.specs.Provider.{Provider, candidates_of, IsSorted}
+use Rattle.resolvo_catalogue.specs.Trying.{matching}
+use Rattle.resolve_answer.specs.Flat.{AllLines, wishes_nothing}
+
+-- ---- the first match of a SPEC
+
+-- A line favours the version.
+abbrev pub IsFavoured : List Line → Version → Type 0
+IsFavoured catalogue v = Contains catalogue (Favour v)
+
+-- a listed version that the SPEC matches
+abbrev pub IsMatch : List Line → Spec → Version → Type 0
+IsMatch catalogue s v = Contains catalogue (Listed v) × IsTrue (matches s v)
+
+-- No match is favoured, and none is newer.
+pub record IsNewestMatch (catalogue : List Line) (s : Spec) (v : Version) : Type 0 where
+  pub unfavoured : (w : Version) → IsMatch catalogue s w → IsFavoured catalogue w → ⊥
+  pub newest : (w : Version) → IsMatch catalogue s w → w.number ≤ v.number
+
+-- The match that is tried before every other: it is favoured, or no match is and it is the newest.
+abbrev pub IsFirstMatch : List Line → Spec → Version → Type 0
+IsFirstMatch catalogue s v = IsMatch catalogue s v × (IsFavoured catalogue v ⊎ IsNewestMatch catalogue s v)
+
+-- The first match of alternatives: that of the first one that has a match.
+abbrev pub IsFirstMatchOf : List Line → List Spec → Version → Type 0
+IsFirstMatchOf catalogue [] v = ⊥
+IsFirstMatchOf catalogue (s ∷ ss) v = IsFirstMatch catalogue s v ⊎ (((w : Version) → IsMatch catalogue s w → ⊥) × IsFirstMatchOf catalogue ss v)
+
+-- ---- the first choices
+
+-- A line of the request, or one that belongs to the version.
+abbrev pub IsLineOf : List Line → List Line → Option Version → Line → Type 0
+IsLineOf catalogue request None line = Contains request line
+IsLineOf catalogue request (Some v) line = (n : ℕ) × (line_at catalogue n ≡ Some line) × (owner_of catalogue n ≡ Some v)
+
+-- A line of the request, or of a member of the set, needs one of these; its condition holds in the set.
+pub record IsNeeded (catalogue request : List Line) (set : Set) (alternatives : List Spec) : Type 0 where
+  pub owner : Option Version
+  pub condition : Option Cond
+  pub line : IsLineOf catalogue request owner (Needs alternatives condition)
+  pub member : IsTrue (binds owner set)
+  pub holds : IsTrue (condition_holds condition set)
+
+-- The set holds the first match of each such line.
+abbrev pub HoldsFirst : List Line → List Line → Set → Type 0
+HoldsFirst catalogue request set = (alternatives : List Spec) (v : Version) → IsNeeded catalogue request set alternatives → IsFirstMatchOf catalogue alternatives v → Contains set v
+
+-- The first choices: the least such set. It keeps the rules, and none of its lines has alternatives.
+pub record IsFirstChoices (catalogue request : List Line) (first : Set) : Type 0 where
+  pub holds : HoldsFirst catalogue request first
+  pub least : (set : Set) → HoldsFirst catalogue request set → (v : Version) → Contains first v → Contains set v
+  pub keeping : IsRuleKeeping catalogue request first
+  pub alone : (alternatives : List Spec) → IsNeeded catalogue request first alternatives → (s : Spec) × (alternatives ≡ s ∷ [])
+
+-- ---- flat texts
+
+-- the SPEC of a line that needs one SPEC, under no condition
+abbrev pub flat_need : Line → Option Spec
+flat_need (Needs (s ∷ []) None) = Some s
+flat_need _ = None
+
+abbrev pub favours_nothing : Line → Bool
+favours_nothing (Favour v) = false
+favours_nothing _ = true
+
+-- The line states no rule and favours no version.
+abbrev pub is_flat_listing : Line → Bool
+is_flat_listing line = not (is_rule line) && favours_nothing line
+
+-- The line states no rule but a need of one SPEC under no condition, and wishes no version.
+abbrev pub is_flat_need : Line → Bool
+is_flat_need line = (not (is_rule line) || is_some (flat_need line)) && wishes_nothing line
+
+-- Line m of the request needs the SPEC.
+abbrev pub NeedsAt : List Line → ℕ → Spec → Type 0
+NeedsAt request m s = line_at request m ≡ Some (Needs (s ∷ []) None)
+
+-- Each line of the request that needs a version of its package matches it.
+abbrev pub FitsRequest : List Line → Version → Type 0
+FitsRequest request v = (m : ℕ) (s : Spec) → NeedsAt request m s → s.name ≡ v.name → IsTrue (matches s v)
+
+-- Each entry is the newest listed version of its package that fits the request.
+abbrev pub AreNewest : List Line → List Line → Set → Type 0
+AreNewest catalogue request entries = (v : Version) → Contains entries v → (w : Version) → Contains catalogue (Listed w) → w.name ≡ v.name → FitsRequest request w → w.number ≤ v.number
+
+-- ---- what a report's entries are
+
+pub record AreFirstChosen (catalogue request : List Line) (entries : Set) : Type 0 where
+  -- where there are first choices, they are the entries
+  pub first : (set : Set) → IsFirstChoices catalogue request set → (v : Version) → Contains entries v ↔ Contains set v
+  -- of flat texts the entries are the newest versions that fit
+  pub newest : AllLines is_flat_listing catalogue → AllLines is_flat_need request → AreNewest catalogue request entries
+
+-- ---- over a provider
+
+-- The orders in which a catalogue's provider lets the candidates of a requirement be tried.
+abbrev pub orders_of : (SolvableId → SolvableId → Bool) → Provider → Requirement → List SolvableId → Type 0
+orders_of same p r list = IsTriedFor (IsSorted p) same (tried_first (λ v. (set_at p.ids v).0) (candidates_of p)) (matching p) (alternatives_of (members_of p.ids) r) list

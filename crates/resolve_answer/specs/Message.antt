@@ -1,0 +1,81 @@
+-- The message of a refused report.
+use Rattle.std.specs.Prelude.{◌≡◌, ℕ, Bool, not, IsTrue, List, ◌++◌, codes}
+use Rattle.std.specs.List.{AllByRecursion, AllZip, list_all, flat_map}
+use Rattle.resolvo_text.specs.Line.{Line}
+use Rattle.resolvo_text.specs.Lines.{is_newline}
+use Rattle.resolvo_catalogue_core.specs.Questions.{Said}
+use Rattle.resolvo_graph.specs.Message.{IsMessage, text_of}
+use Rattle.resolvo_graph.specs.Wording.{Meaning}
+use Rattle.resolvo_graph.specs.declared.line.MessageLine.{MessageLine}
+use Rattle.resolvo_pool_core.specs.declared.requirement.Requirement.{Requirement}
+use Rattle.resolvo_soundness.specs.Encoding.{IsExact}
+use Rattle.resolvo_proof.specs.declared.step.ProofStep.{ProofStep}
+use Rattle.resolvo_catalogue.specs.Ids.{NameId, SolvableId}
+use Rattle.resolvo_catalogue.specs.Known as shows
+use Rattle.resolvo_catalogue.specs.Known.{name_of, set_at, members_of}
+use Rattle.resolvo_catalogue.specs.Provider.{Provider, packages_of}
+use Rattle.resolvo_report.specs.Value.{Report, Step, Install, Refused}
+use Rattle.resolve_refusal.specs.Refusal.{IsProofOver, IsToldBy}
+use Rattle.resolvo_conflict.specs.Drawing.{conflict_drawing}
+use Rattle.resolvo_conflict.specs.Order.{conflict_rules}
+use Rattle.resolvo_conflict.specs.Offered.{offered_by}
+use Rattle.resolvo_conflict.specs.declared.offers.Offers.{Offers}
+use Rattle.resolvo.specs.Conflicts.{AreOffers}
+use Rattle.resolve_answer.specs.First.{orders_of}
+
+-- the line has no newline
+abbrev pub IsPlain : List ℕ → Type 0
+IsPlain line = IsTrue (list_all (λ b. not (is_newline b)) line)
+
+-- the text of these lines, each with its newline
+abbrev pub joined : List (List ℕ) → List ℕ
+joined lines = flat_map (λ line. line ++ codes "\n") lines
+
+-- These are the lines of the text, up to its last newline; none has a newline, and neither has what is left.
+pub record AreLinesOf (text : List ℕ) (lines : List (List ℕ)) : Type 0 where
+  pub rest : List ℕ
+  pub parts : text ≡ joined lines ++ rest
+  pub plain : AllByRecursion IsPlain lines
+  pub left : IsPlain rest
+
+-- the report with these lines of message, if it is refused
+abbrev pub with_message : List (List ℕ) → Report → Report
+with_message message (Install lines steps) = Install lines steps
+with_message message (Refused catalogue request steps old) = Refused catalogue request steps message
+
+-- how a catalogue's provider writes what a message names
+abbrev pub meaning_of : Provider → Meaning NameId SolvableId
+meaning_of p = record {
+  name_of = λ v. (set_at p.ids v).0;
+  members_of = members_of p.ids;
+  name_text = shows.name_text p.ids;
+  version_set_text = λ v. shows.span_text (set_at p.ids v).1.0;
+  versions_text = shows.merged_text p.ids;
+  word_text = shows.word_text p.ids;
+}
+
+module _ (same_name : NameId → NameId → Bool) (same : SolvableId → SolvableId → Bool) where
+  -- The lines are the text of the graph that is drawn of the rules which the end of these steps rests on, with what was offered.
+  pub record IsTextOf (p : Provider) (offered : Requirement → List SolvableId) (steps : List (ProofStep NameId SolvableId)) (message : List (List ℕ)) : Type 0 where
+    pub lines : List (MessageLine SolvableId)
+    pub tells : IsMessage same_name same (name_of p.ids) (conflict_drawing same_name same (name_of p.ids) offered (conflict_rules steps)) lines
+    pub text : joined message ≡ text_of (meaning_of p) lines
+    pub plain : AllByRecursion IsPlain message
+
+-- The message is that of the steps' conflict: over a provider of the catalogue with what the request asks, the steps tell a proof,
+-- the candidates of the requirements that its rules name are those that are offered, and the message is the text of its graph.
+pub record IsMessageOf (catalogue request : List Line) (steps : List Step) (message : List (List ℕ)) : Type 0 where
+  pub said : Said
+  pub asks : said.lines ≡ request
+  pub provider : Provider
+  pub proof : List (ProofStep NameId SolvableId)
+  pub proves : IsProofOver catalogue said provider proof
+  pub told : AllZip (IsToldBy catalogue provider.ids request) proof steps
+  -- exact tests of whether two packages, or two solvables, are the same
+  pub same_name : NameId → NameId → Bool
+  pub one_name : IsExact same_name
+  pub same : SolvableId → SolvableId → Bool
+  pub exact : IsExact same
+  pub offers : Offers SolvableId
+  pub offered : AreOffers same (packages_of provider) (orders_of same provider) proof offers
+  pub text : IsTextOf same_name same provider (offered_by offers) proof message

@@ -1,0 +1,44 @@
+-- What a solver answers over the provider of a catalogue for what a request asks, and its verdict.
+use Rattle.std.specs.Prelude.{◌≡◌, Bool, List, Result, Ok, Err}
+use Rattle.std.specs.Global.{Vec}
+use Rattle.resolvo_text.specs.Line.{Line}
+use Rattle.resolvo_catalogue_core.specs.Grammar.{AreRequestLines}
+use Rattle.resolvo_catalogue_core.specs.Questions.{Said}
+use Rattle.resolvo_soundness.specs.Encoding.{IsExact}
+use Rattle.resolvo_catalogue.specs.Ids.{NameId, SolvableId}
+use Rattle.resolvo_catalogue.specs.Provider.{Provider, packages_of}
+use Rattle.resolvo_catalogue.specs.Over.{IsOver, AreAsked}
+use Rattle.resolvo_catalogue.specs.Keeping.{root_of}
+use Rattle.resolvo_catalogue.specs.declared.impls.Never.{Never}
+use Rattle.resolvo_catalogue.specs.declared.provider.RequestIds.{RequestIds}
+use Rattle.resolvo.specs.Solver.{IsAnswer, Kept}
+use Rattle.resolvo.specs.declared.conflict.Conflict.{Conflict}
+use Rattle.resolvo.specs.declared.solver.UnsolvableOrCancelled.{UnsolvableOrCancelled}
+use Rattle.resolvo.specs.declared.solver.UnsolvableOrCancelled.TheVariants.{Unsolvable}
+use Rattle.resolve_answer.specs.First.{orders_of}
+
+-- What a call of a solver over a catalogue's provider gives. It is never cancelled.
+abbrev pub Verdict : Type 0
+Verdict = Result (Vec SolvableId) (UnsolvableOrCancelled Never)
+
+-- A solver over the provider, which was made of the catalogue, gives this for what a request over the catalogue asks. Which
+-- dependencies the provider says are at hand isn't asked.
+pub record IsGivenOver (catalogue : List Line) (said : Said) (provider : Provider) (verdict : Verdict) : Type 0 where
+  pub over : IsOver catalogue provider
+  pub asks : AreRequestLines catalogue said.lines
+  pub ids : RequestIds
+  pub asked : AreAsked provider.ids said ids
+  -- an exact test of whether two solvables are the same
+  pub same : SolvableId → SolvableId → Bool
+  pub exact : IsExact same
+  pub wishes : List SolvableId
+  pub kept : Kept Provider NameId SolvableId
+  pub answer : IsAnswer same (packages_of provider) (root_of ids) (orders_of same provider) wishes verdict kept
+
+-- solvables were chosen
+abbrev pub IsChosen : Verdict → Type 0
+IsChosen verdict = (v : Vec SolvableId) × (verdict ≡ Ok v)
+
+-- there is no solution
+abbrev pub IsRefused : Verdict → Type 0
+IsRefused verdict = (conflict : Conflict) × (verdict ≡ Err (Unsolvable conflict))

@@ -1,0 +1,35 @@
+-- The wishes of a request, and those that a search is asked for.
+use Rattle.std.specs.Prelude.{◌≡◌, ℕ, List, [], ◌∷◌, map, Option, Some, None, Contains, slice_get}
+use Rattle.std.specs.List.{flat_map}
+use Rattle.std.specs.Option.{option_map}
+use Rattle.resolvo_text.specs.Line.{Line}
+use Rattle.resolvo_catalogue_core.specs.Listed.{listed}
+use Rattle.resolvo_catalogue_core.specs.Questions.{Said, WishesAt}
+use Rattle.resolvo_catalogue_core.specs.declared.rule.VersionNo.{VersionNo}
+use Rattle.resolvo_catalogue.specs.Ids.{SolvableId, solvable_id}
+use Rattle.resolvo_report.specs.View.{step_of}
+use Rattle.resolvo_report.specs.declared.step.Step.{Step}
+use Rattle.resolve_refusal.specs.Installing.{IsBarringStepOf}
+use Rattle.resolve_answer.specs.declared.wishes.Wish.{Wish}
+
+-- a wish, by its line and its version
+abbrev pub asked_by : Wish → ℕ × VersionNo
+asked_by w = (w.line, w.version)
+
+-- the wishes of a request have the versions of their lines
+abbrev pub AreWishesAt : List Line → Said → Type 0
+AreWishesAt catalogue said = (i : ℕ) (f : ℕ × VersionNo) → slice_get said.wishes i ≡ Some f → WishesAt (listed catalogue) said.lines f
+
+-- The wishes are these, and each is barred by its step, or no lock and no exclusion bars it.
+pub record AreWishesOf (catalogue : List Line) (wishes : List (ℕ × VersionNo)) (items : List Wish) : Type 0 where
+  pub are : map asked_by items ≡ wishes
+  pub bars : (w : Wish) → Contains items w → IsBarringStepOf catalogue w.version.0 (option_map step_of w.bar)
+
+-- the solvable, where no step bars it
+abbrev pub unless_barred : Option Step → SolvableId → List SolvableId
+unless_barred None s = s ∷ []
+unless_barred (Some step) s = []
+
+-- the solvables of the wishes that no step bars
+abbrev pub free_of : List Wish → List SolvableId
+free_of items = flat_map (λ w. unless_barred w.bar (solvable_id w.version.0)) items

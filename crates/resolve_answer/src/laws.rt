@@ -1,0 +1,21 @@
+//! What a solver's verdict over the provider of a catalogue shows, for those who rest on it. Each is a function that does nothing.
+ghost use Rattle.std.specs.Prelude.{List};
+ghost use Rattle.resolvo_text.specs.Line.{Line};
+ghost use Rattle.resolvo_text.specs.Matching.{Set};
+ghost use Rattle.resolvo_catalogue_core.specs.Questions.{Said};
+ghost use Rattle.resolvo_catalogue_core.specs.Sets.{IsRuleKeeping};
+ghost use Rattle.resolvo_catalogue.specs.Provider.{Provider};
+ghost use Rattle.resolve_answer.specs.Verdict.{IsChosen, IsGivenOver, IsRefused, Verdict};
+
+/// A solver over the provider of a catalogue chooses only where some set of versions keeps the rules of both texts, and refuses
+/// only where none does.
+pub fn a_verdict_is_that_of_the_texts()
+    ensures chosen { (catalogue : List Line) (said : Said) (provider : Provider) (verdict : Verdict) → IsGivenOver catalogue said provider verdict → IsChosen verdict → (set : Set) × IsRuleKeeping catalogue said.lines set }
+    ensures refused { (catalogue : List Line) (said : Said) (provider : Provider) (verdict : Verdict) → IsGivenOver catalogue said provider verdict → IsRefused verdict → (set : Set) → IsRuleKeeping catalogue said.lines set → ⊥ }
+{}
+
+/// Two providers of one catalogue, whatever each says of dependencies that are at hand, come to one verdict for what one request
+/// asks: where solvables are chosen over one, the other isn't refused.
+pub fn either_hint_gives_one_verdict()
+    ensures { (catalogue : List Line) (said : Said) (one other : Provider) (verdict another : Verdict) → IsGivenOver catalogue said one verdict → IsGivenOver catalogue said other another → IsChosen verdict → IsRefused another → ⊥ }
+{}

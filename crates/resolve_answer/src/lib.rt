@@ -1,0 +1,8 @@
+//! From a catalogue and a request to the report of the solver's answer: the turns of a search as those of a report.
+#![tactic(auto)]
+
+pub mod answer;
+pub mod laws;
+mod message;
+pub mod turns;
+pub mod wishes;

@@ -1,0 +1,152 @@
+//! The turns of a report: what the solver chose in each, and the wishes that are left out, each by its step.
+
+ghost use Rattle.std.specs.Prelude.{◌≡◌, ◌<◌, ◌++◌, ◌∷◌, [], length, slice_get, IfOk, OnOk};
+ghost use Rattle.resolvo_report.specs.View.{steps_of};
+ghost use Rattle.resolve_answer.specs.Turning.{number_at, AreReportTurns, AreWanted, IsBetween, IsFirstTurn, IsWishedTurn, Wants};
+
+use crate::wishes::Wish;
+use resolve_order as report;
+use resolvo::turns::Turn;
+use resolvo_catalogue_core::VersionNo;
+use resolvo_pool_core::id::SolvableId;
+use resolvo_pool_core::want::{R, Want};
+use resolvo_report::Step;
+use std::alloc::Global;
+
+/// What the solver found: the numbers of the chosen versions, its turns, and for each step of its proof the place that the step
+/// has among those that are written.
+#[derive(Clone, Copy)]
+pub struct Outcome<'a> {
+    pub chosen: &'a [VersionNo],
+    pub turns: &'a [Turn<SolvableId>],
+    pub places: &'a [usize],
+}
+
+/// The steps of the turns, for those that have one. `Memory` where they find no room.
+pub fn wanted_steps(alloc: Global, turns: &[Turn<SolvableId>]) -> R<Vec<usize>>
+    ensures { IfOk result (λ v. AreWanted turns.now v.items) }
+{
+    let mut wanted = Vec::new(alloc);
+    for turn in turns {
+        want(&mut wanted, turn.step)?;
+    }
+    Ok(wanted)
+}
+
+/// Wants a step, if it is one.
+fn want(wanted: &mut Vec<usize>, step: Option<usize>) -> R<()>
+    ensures { OnOk result (Wants step wanted.old.items wanted.new.items) }
+{
+    if let Some(step) = step {
+        wanted.push(step)?;
+    }
+    Ok(())
+}
+
+impl<'a> Outcome<'a> {
+    /// What was chosen from one count of versions to another.
+    fn between(self, begin: usize, end: usize) -> &'a [VersionNo]
+        ensures { IsBetween self.entry.chosen.now begin end result.now }
+    {
+        match self.chosen.get(begin..end) {
+            Some(part) => part,
+            None => &[],
+        }
+    }
+
+    /// The turn of the request's needs.
+    fn first(self) -> report::Turn<'a>
+        ensures { IsFirstTurn self.entry.chosen.now self.entry.turns.now result }
+    {
+        let end = match self.turns.first() {
+            Some(turn) => turn.begin,
+            None => self.chosen.len(),
+        };
+        report::Turn::Chose {
+            wish: None,
+            chosen: self.between(0, end),
+        }
+    }
+
+    /// The number of a turn's step among those that are written; 0 stands for none. `Ids` where it is too great.
+    fn number_of(self, turn: &Turn<SolvableId>) -> R<u32>
+        ensures { IfOk result (λ n. n ≡ number_at self.entry.places.now turn.now.step) }
+    {
+        let Some(step) = turn.step else {
+            return Ok(0);
+        };
+        let Some(place) = self.places.get(step) else {
+            return Ok(0);
+        };
+        if *place >= 4_294_967_295 {
+            return Err(Want::Ids);
+        }
+        Ok(*place as u32 + 1)
+    }
+
+    /// The turn of a wish that the solver was asked for, by the place of its turn there.
+    fn wished(self, wish: (u32, VersionNo), place: usize) -> R<report::Turn<'a>>
+        ensures { IfOk result (λ t. IsWishedTurn self.entry.chosen.now self.entry.places.now wish (slice_get self.entry.turns.now place) t) }
+    {
+        match self.turns.get(place) {
+            Some(turn) => {
+                if turn.accepted {
+                    return Ok(report::Turn::Chose {
+                        wish: Some(wish),
+                        chosen: self.between(turn.begin, turn.end),
+                    });
+                }
+                Ok(report::Turn::LeftOut {
+                    wish,
+                    step: self.number_of(turn)?,
+                })
+            }
+            None => Ok(report::Turn::LeftOut { wish, step: 0 }),
+        }
+    }
+}
+
+/// Puts a step behind the others, and gives its number. `Ids` where there are too many.
+fn push_step(steps: &mut Vec<Step>, step: Step) -> R<u32>
+    ensures pushed { OnOk result (steps.new.items ≡ steps.old.items ++ step ∷ []) }
+    ensures number { IfOk result (λ n. n ≡ length steps.new.items) }
+    ensures bound { OnOk result (length steps.new.items < 4294967296) }
+{
+    if steps.len() >= 4_294_967_295 {
+        return Err(Want::Ids);
+    }
+    steps.push(step)?;
+    Ok(steps.len() as u32)
+}
+
+/// The turns of the report: that of the needs, then one for each wish. The steps that bar wishes without a search come behind the
+/// others. `Memory` where they find no room; `Ids` where a step's number is too great for a report.
+pub fn report_turns<'a>(
+    alloc: Global,
+    outcome: Outcome<'a>,
+    wishes: Vec<Wish>,
+    steps: &mut Vec<Step>,
+) -> R<Vec<report::Turn<'a>>>
+    ensures { IfOk result (λ v. AreReportTurns outcome.entry wishes.items (steps_of steps.old.items) v.items (steps_of steps.new.items)) }
+{
+    let mut told = Vec::new(alloc);
+    told.push(outcome.first())?;
+    let mut next: usize = 0;
+    for wish in wishes {
+        let Wish { line, version, bar } = wish;
+        match bar {
+            Some(step) => {
+                let step = push_step(steps, step)?;
+                told.push(report::Turn::LeftOut {
+                    wish: (line, version),
+                    step,
+                })?;
+            }
+            None => {
+                told.push(outcome.wished((line, version), next)?)?;
+                next += 1;
+            }
+        }
+    }
+    Ok(told)
+}

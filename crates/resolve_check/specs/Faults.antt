@@ -1,0 +1,24 @@
+-- What is told of a text that was not read, and what a fault is called.
+use Rattle.std.specs.Prelude.{◌≡◌, ℕ, List, Result, Err, IfOk, IfErr}
+use Rattle.resolvo_text.specs.declared.lines.ReadFault.{ReadFault}
+use Rattle.resolvo_text.specs.declared.lines.ReadFault.TheVariants as read
+use Rattle.resolvo_pool_core.specs.declared.want.Want.{Want}
+use Rattle.resolvo_pool_core.specs.declared.want.Want.TheVariants as want
+use Rattle.resolve_check.specs.declared.outcome.Outcome.TheVariants as outcome
+use Rattle.resolve_check.specs.declared.outcome.RunFault.{RunFault}
+use Rattle.resolve_check.specs.declared.outcome.RunFault.TheVariants.{Reader, TooLong, Memory, Ids}
+use Rattle.resolve_check.specs.declared.written.Written.{Written}
+use Rattle.resolve_check.specs.Texts.{fault_text}
+
+-- the fault by the name of what was lacking
+abbrev pub fault_of : Want → RunFault
+fault_of want.Memory = Memory
+fault_of want.Ids = Ids
+
+-- A faulty line is told; every other fault is the run's, by its own name.
+abbrev pub TellsFault : ReadFault → List ℕ → Result Written RunFault → Type 0
+TellsFault (read.Fault n) which told = IfOk told (λ answer. (answer.outcome ≡ outcome.Faulty) × (answer.text.items ≡ fault_text which n)) × IfErr told (λ e. e ≡ Memory)
+TellsFault read.Reader which told = told ≡ Err Reader
+TellsFault read.TooLong which told = told ≡ Err TooLong
+TellsFault read.Memory which told = told ≡ Err Memory
+TellsFault read.Ids which told = told ≡ Err Ids

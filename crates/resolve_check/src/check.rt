@@ -1,0 +1,99 @@
+//! From the bytes of a catalogue, a request and a report to whether the report holds. `main` and the tests call `check`.
+
+ghost use Rattle.std.specs.Prelude.{◌≡◌, IfOk, IfErr};
+ghost use Rattle.resolvo_text.specs.Device.{DeviceFailed, WriterFailed};
+ghost use Rattle.resolve_check.specs.Devices.{reader_of, writer_of};
+ghost use Rattle.resolve_check.specs.Check.{TellsVerdict, TellsFaulty, ChecksTexts, StopsBeforeCheck, StopsCheck, WritesCheck};
+
+use crate::outcome::{Checked, RunFault};
+use crate::written::not_read;
+use resolvo_catalogue_core::{Catalogue, ReadFault, Request, Sink, Source, write_all};
+use resolvo_judge::{JudgeFault, Verdict, judge};
+use std::alloc::Global;
+
+/// What is written: how the check ends, and the text.
+#[derive(Drop)]
+struct Told {
+    checked: Checked,
+    text: Vec<u8>,
+}
+
+/// The line that tells a verdict.
+fn verdict_told(alloc: Global, verdict: Verdict) -> Result<Told, RunFault>
+    ensures ok { IfOk result (λ told. TellsVerdict verdict told.checked told.text.items) }
+    ensures err { IfErr result (λ e. e ≡ RunFault.Memory) }
+{
+    match verdict {
+        Verdict::Yes => Ok(Told {
+            checked: Checked::Yes,
+            text: Vec::from_slice(alloc, b"yes\n")?,
+        }),
+        Verdict::No(line) => {
+            let text = format!(in alloc; "no line {line}\n")?;
+            Ok(Told {
+                checked: Checked::No,
+                text: Vec::from_slice(alloc, text.as_bytes())?,
+            })
+        }
+    }
+}
+
+/// What is written where a text was not read: its faulty line, or nothing.
+fn fault_told(alloc: Global, which: &str, fault: ReadFault) -> Result<Told, RunFault>
+    ensures { TellsFaulty fault which.now result }
+{
+    match not_read(alloc, which, fault) {
+        Ok(written) => Ok(Told {
+            checked: Checked::Faulty,
+            text: written.text,
+        }),
+        Err(fault) => Err(fault),
+    }
+}
+
+/// What is written for three texts, which are read in this order.
+fn answer<C: Source, R: Source, P: Source>(
+    alloc: Global,
+    catalogue: &mut C,
+    request: &mut R,
+    report: &mut P,
+) -> Result<Told, RunFault>
+    ensures ok { IfOk result (λ told. ChecksTexts (C.left catalogue.old) (R.left request.old) (P.left report.old) told.checked told.text.items) }
+    ensures err { IfErr result (λ e. StopsBeforeCheck e (reader_of (C.left catalogue.old) (C.left catalogue.new) (DeviceFailed (C.failures catalogue.old) (C.failures catalogue.new) (C.interruptions catalogue.new))) (reader_of (R.left request.old) (R.left request.new) (DeviceFailed (R.failures request.old) (R.failures request.new) (R.interruptions request.new))) (reader_of (P.left report.old) (P.left report.new) (DeviceFailed (P.failures report.old) (P.failures report.new) (P.interruptions report.new)))) }
+{
+    let catalogue = match Catalogue::read(alloc, catalogue) {
+        Ok(catalogue) => catalogue,
+        Err(fault) => return fault_told(alloc, "catalogue", fault),
+    };
+    let request = match Request::read(alloc, request, &catalogue) {
+        Ok(request) => request,
+        Err(fault) => return fault_told(alloc, "request", fault),
+    };
+    match judge(alloc, &catalogue, &request, report) {
+        Ok(verdict) => verdict_told(alloc, verdict),
+        Err(JudgeFault::Reader) => Err(RunFault::Reader),
+        Err(JudgeFault::TooLong) => Err(RunFault::TooLong),
+        Err(JudgeFault::Memory) => Err(RunFault::Memory),
+    }
+}
+
+/// Reads the catalogue to its end, then the request, judges the report, and writes `yes`, or the line from which it
+/// doesn't hold, or the first faulty line of the texts before it.
+pub fn check<C: Source, R: Source, P: Source, W: Sink>(
+    alloc: Global,
+    catalogue: &mut C,
+    request: &mut R,
+    report: &mut P,
+    writer: &mut W,
+) -> Result<Checked, RunFault>
+    ensures written { IfOk result (λ checked. WritesCheck (reader_of (C.left catalogue.old) (C.left catalogue.new) (DeviceFailed (C.failures catalogue.old) (C.failures catalogue.new) (C.interruptions catalogue.new))) (reader_of (R.left request.old) (R.left request.new) (DeviceFailed (R.failures request.old) (R.failures request.new) (R.interruptions request.new))) (reader_of (P.left report.old) (P.left report.new) (DeviceFailed (P.failures report.old) (P.failures report.new) (P.interruptions report.new))) (writer_of (W.contents writer.old) (W.contents writer.new) (WriterFailed (W.failures writer.old) (W.failures writer.new) (W.interruptions writer.new) (W.empty_writes writer.old) (W.empty_writes writer.new))) checked) }
+    ensures stopped { IfErr result (λ e. StopsCheck e (reader_of (C.left catalogue.old) (C.left catalogue.new) (DeviceFailed (C.failures catalogue.old) (C.failures catalogue.new) (C.interruptions catalogue.new))) (reader_of (R.left request.old) (R.left request.new) (DeviceFailed (R.failures request.old) (R.failures request.new) (R.interruptions request.new))) (reader_of (P.left report.old) (P.left report.new) (DeviceFailed (P.failures report.old) (P.failures report.new) (P.interruptions report.new))) (writer_of (W.contents writer.old) (W.contents writer.new) (WriterFailed (W.failures writer.old) (W.failures writer.new) (W.interruptions writer.new) (W.empty_writes writer.old) (W.empty_writes writer.new)))) }
+{
+    match answer(alloc, catalogue, request, report) {
+        Ok(told) => match write_all(writer, told.text.as_slice()) {
+            Ok(()) => Ok(told.checked),
+            Err(_) => Err(RunFault::Writer),
+        },
+        Err(fault) => Err(fault),
+    }
+}

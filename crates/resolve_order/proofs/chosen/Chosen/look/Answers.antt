@@ -1,0 +1,14 @@
+use Rattle.std.proofs.Common.{sym, subst}
+use Rattle.std.specs.Option.{option_copied}
+use Rattle.resolvo_catalogue_core.specs.Listed.{listed}
+use Rattle.resolve_order.specs.Kept.{IsRuleAt, IsLook}
+use Rattle.resolve_order.proofs.Picking.{no_rule}
+use Rattle.resolve_order.proofs.chosen.Chosen.look.Goals as goal
+
+pub returns-in-Some-clause-looked : goal.returns-in-Some-clause-looked
+returns-in-Some-clause-looked c = λ chosen entries line h at.
+    let is = subst (λ r. IsRuleAt line (option_copied r)) c.in-Some.is at in
+    subst (λ l. IsLook (listed c.args.catalogue.now) chosen entries l c.look_at_rule.result) (sym is.1) (c.look_at_rule.ensures.looked chosen entries is.2.0 is.2.1 is.0 h is.2.2)
+
+pub returns-in-None-clause-looked : goal.returns-in-None-clause-looked
+returns-in-None-clause-looked c = λ chosen entries line h at. no_rule chosen entries line (subst (λ r. IsRuleAt line (option_copied r)) c.in-None.is at)

@@ -1,0 +1,43 @@
+use Rattle.std.proofs.Common.{subst, arith}
+use Rattle.std.specs.Prelude.{IfSome}
+use Rattle.resolvo_catalogue_core.specs.Listed.{listed}
+use Rattle.resolvo_catalogue_core.specs.Table.{nth}
+use Rattle.resolve_order.specs.Kept.{IsLeft, IsFound}
+use Rattle.resolve_order.proofs.Finishing.{extends_none, all_left, number_at, extends_more}
+use Rattle.resolve_order.proofs.Giving.{entries_more}
+use Rattle.resolve_order.proofs.Looking.{left_more}
+use Rattle.resolve_order.proofs.install_order.Listing.finish.Goals as goal
+
+pub loop-places-init : goal.loop-places-init
+loop-places-init c = λ chosen h.
+    let catalogue = c.args.catalogue.now in
+    let request = c.args.request.now.lines in
+    let x = c.args.self.now in
+    (extends_none catalogue request chosen x h, all_left catalogue request chosen x c.new-places.result c.new-places.ensures.waiting c.new-places.ensures.again c.new-places.ensures.below)
+
+pub loop-places-preserved : goal.loop-places-preserved
+loop-places-preserved c = λ chosen h.
+    let catalogue = c.args.catalogue.now in
+    let request = c.args.request.now.lines in
+    let x = c.loop-places.self in
+    let e = c.in-Some.entry in
+    let v = nth (listed catalogue) e.version in
+    let before = c.loop-places.invariant chosen h in
+    let found = subst (IsFound catalogue request x chosen) c.in-Some.is (c.in_ok-entry.ensures.found chosen before.0.listing before.1) in
+    let left = subst (λ o. IfSome o (λ y. IsLeft catalogue request x chosen c.next.new.places)) c.in-Some.is (c.in_ok-entry.ensures.left chosen before.0.listing before.1) in
+    let at = number_at catalogue e.version found.0 in
+    let given = c.in_ok-give.ensures in (
+      extends_more catalogue request chosen c.args.self.now x c.give.new.self e before.0 found given.answers (given.listing request chosen v at found.1.gives.is_chosen before.0.listing),
+      left_more catalogue request x c.give.new.self chosen v given.lines.0 c.next.new.places (entries_more catalogue x c.give.new.self e v at given.answers) given.lines.1 left,
+    )
+
+pub loop-places-smaller : goal.loop-places-smaller
+loop-places-smaller c = let fewer = c.in_ok-give.ensures.fewer in omega (arith, fewer)
+
+pub returns-clause-listed : goal.returns-clause-listed
+returns-clause-listed c = λ chosen h. (c.loop-places.invariant chosen h).0
+
+pub returns-clause-complete : goal.returns-clause-complete
+returns-clause-complete c = λ chosen h.
+    let before = c.loop-places.invariant chosen h in
+    subst (IsFound c.args.catalogue.now c.args.request.now.lines c.loop-places.self chosen) c.in_default.is (c.in_ok-entry.ensures.found chosen before.0.listing before.1)

@@ -1,0 +1,236 @@
+//! Lists the chosen versions in the order of the lines that ask for them, and the wishes that are left out in their turns.
+//!
+//! A turn looks at the lines in their order, and lists what a line gives before it goes on. Lines that wait for their
+//! condition are looked at again after each entry. Called by who writes the report of a search.
+
+ghost use Rattle.std.specs.Prelude.{◌≡◌, ◌↔◌, ◌++◌, ◌∷◌, [], ◌+◌, ◌<◌, length, true, List, Option, Contains, map, slice_get, Some, IfOk, IfSome, OnOk};
+ghost use Rattle.std.specs.Option.{option_copied, option_map};
+ghost use Rattle.resolvo_text.specs.Line as says;
+ghost use Rattle.resolvo_text.specs.Matching.{Set};
+ghost use Rattle.resolvo_catalogue_core.specs.Answers.{IsReasoned, entries_of};
+ghost use Rattle.resolvo_catalogue_core.specs.Listed.{listed, members};
+ghost use Rattle.resolvo_catalogue_core.specs.Table.{nth};
+ghost use Rattle.resolve_order.specs.Order.{line_named, wish_entry, IsComplete, Chose, LeavesOut, AreTurns, AreReached, chosen_by, chosen_in, wishes_in};
+ghost use Rattle.resolve_order.specs.declared.entry.Answer.TheVariants as answer;
+ghost use Rattle.resolve_order.specs.View.{reason_of, answers_of, wish_at, turn_of, turns_of, IsAccepted, IsWishOf, AreNumbered, AreTurnsOf};
+ghost use Rattle.resolve_order.specs.Kept.{IsListing, IsLeft, IsFound, IsRuleAt, Extends, TakesTurn, AreOneEach, is_unlisted, unlisted, lines_to, lines_for, answers_in, entries_in};
+
+use crate::chosen::{Chosen, Look};
+use crate::entry::{Answer, Entry, Reason, Turn};
+use crate::open_lines::Places;
+use resolvo_catalogue_core::{Catalogue, Request, Rule, VersionNo};
+use std::alloc::{AllocError, Global};
+
+/// The answers so far, and the lines that ask for more.
+#[derive(Drop)]
+pub struct Listing {
+    chosen: Chosen,
+    /// The lines of the request, then those of the entries.
+    lines: Vec<Reason>,
+    answers: Vec<Answer>,
+}
+
+/// The lines of a request with so many.
+fn request_lines(alloc: Global, count: u32) -> Result<Vec<Reason>, AllocError>
+    ensures { IfOk result (λ lines. lines.items ≡ lines_to count) }
+{
+    let mut lines = Vec::new(alloc);
+    for index in 0..count {
+        lines.push(Reason::ForRequest { line: index + 1 })?;
+    }
+    Ok(lines)
+}
+
+/// Adds these lines of a version.
+fn push_lines(
+    lines: &mut Vec<Reason>,
+    version: VersionNo,
+    numbers: &[u32],
+) -> Result<(), AllocError>
+    ensures { OnOk result (lines.new.items ≡ lines.old.items ++ lines_for version numbers.now) }
+{
+    for line in numbers {
+        lines.push(Reason::ForVersion {
+            version,
+            line: *line,
+        })?;
+    }
+    Ok(())
+}
+
+/// What the line states, if it states a rule.
+fn rule_at<'a>(catalogue: &'a Catalogue, request: &'a Request, reason: Reason) -> Option<&'a Rule>
+    ensures { IsRuleAt (line_named catalogue.now request.now.lines (reason_of (listed catalogue.now) reason)) (option_copied result) }
+{
+    match reason {
+        Reason::ForRequest { line } => request.rule(line),
+        Reason::ForVersion { line, .. } => catalogue.rule(line),
+        Reason::Wished { .. } => None,
+    }
+}
+
+impl Listing {
+    /// No entry yet, and no version chosen.
+    fn new(alloc: Global, catalogue: &Catalogue, request: &Request) -> Result<Listing, AllocError>
+        ensures none { IfOk result (λ x. x.answers.items ≡ []) }
+        ensures listing { IfOk result (λ x. IsListing catalogue.now request.now.lines x []) }
+    {
+        Ok(Listing {
+            chosen: Chosen::new(alloc, catalogue)?,
+            lines: request_lines(alloc, request.line_count())?,
+            answers: Vec::new(alloc),
+        })
+    }
+
+    /// Lists a version.
+    fn give(&mut self, catalogue: &Catalogue, entry: Entry) -> Result<(), AllocError>
+        requires { is_unlisted self.old.chosen.listed.items entry.version.0 ≡ true }
+        ensures fewer { OnOk result (unlisted self.new.chosen.listed.items + 1 ≡ unlisted self.old.chosen.listed.items) }
+        ensures answers { OnOk result (self.new.answers.items ≡ self.old.answers.items ++ answer.Entry entry ∷ []) }
+        ensures lines { OnOk result ((more : List Reason) × (self.new.lines.items ≡ self.old.lines.items ++ more)) }
+        ensures listing { OnOk result ((request : List says.Line) (chosen : Set) (v : says.Version) → slice_get (listed catalogue.now) entry.version.0 ≡ Some v → Contains chosen v → IsListing catalogue.now request self.old chosen → IsListing catalogue.now request self.new chosen) }
+    {
+        self.chosen.mark(entry.version);
+        self.answers.push(Answer::Entry(entry))?;
+        push_lines(
+            &mut self.lines,
+            entry.version,
+            catalogue.lines_of(entry.version),
+        )?;
+        Ok(())
+    }
+
+    /// The next entry: what the first line that may give a version gives.
+    fn next(
+        &self,
+        catalogue: &Catalogue,
+        request: &Request,
+        places: &mut Places,
+    ) -> Result<Option<Entry>, AllocError>
+        ensures unlisted { IfOk result (λ found. IfSome found (λ e. is_unlisted self.now.chosen.listed.items e.version.0 ≡ true)) }
+        ensures found { IfOk result (λ found. (chosen : Set) → IsListing catalogue.now request.now.lines self.now chosen → IsLeft catalogue.now request.now.lines self.now chosen places.old → IsFound catalogue.now request.now.lines self.now chosen found) }
+        ensures left { IfOk result (λ found. (chosen : Set) → IsListing catalogue.now request.now.lines self.now chosen → IsLeft catalogue.now request.now.lines self.now chosen places.old → IfSome found (λ e. IsLeft catalogue.now request.now.lines self.now chosen places.new)) }
+    {
+        while let Some(reason) = places.take(&self.lines) {
+            match self
+                .chosen
+                .look(catalogue, rule_at(catalogue, request, reason))
+            {
+                Look::Spent => {}
+                Look::Waiting => places.wait(reason)?,
+                Look::Gives(version) => {
+                    places.rewind(reason)?;
+                    return Ok(Some(Entry { version, reason }));
+                }
+            }
+        }
+        Ok(None)
+    }
+
+    /// Lists one version after the other, until no line gives anything more.
+    fn finish(
+        &mut self,
+        alloc: Global,
+        catalogue: &Catalogue,
+        request: &Request,
+    ) -> Result<(), AllocError>
+        ensures listed { OnOk result ((chosen : Set) → IsListing catalogue.now request.now.lines self.old chosen → Extends catalogue.now request.now.lines chosen self.old self.new) }
+        ensures complete { OnOk result ((chosen : Set) → IsListing catalogue.now request.now.lines self.old chosen → IsComplete catalogue.now request.now.lines chosen (entries_in catalogue.now self.new)) }
+    {
+        let mut places = Places::new(alloc);
+        while let Some(entry) = self.next(catalogue, request, &mut places)? {
+            self.give(catalogue, entry)?;
+        }
+        Ok(())
+    }
+
+    /// Lists the wish of a turn, unless it is an entry.
+    fn begin(
+        &mut self,
+        catalogue: &Catalogue,
+        wish: Option<(u32, VersionNo)>,
+    ) -> Result<(), AllocError>
+        ensures listing { OnOk result ((request : List says.Line) (chosen : Set) → IsListing catalogue.now request self.old chosen → IsAccepted (listed catalogue.now) request chosen wish → IsListing catalogue.now request self.new chosen) }
+        ensures listed { OnOk result ((request : List says.Line) (chosen : Set) → IsListing catalogue.now request self.old chosen → IsAccepted (listed catalogue.now) request chosen wish → answers_in catalogue.now self.new ≡ answers_in catalogue.now self.old ++ wish_entry (option_map (wish_at (listed catalogue.now)) wish) (entries_in catalogue.now self.old)) }
+    {
+        if let Some((line, version)) = wish {
+            if self.chosen.is_unlisted(version) {
+                self.give(
+                    catalogue,
+                    Entry {
+                        version,
+                        reason: Reason::Wished { line },
+                    },
+                )?;
+            }
+        }
+        Ok(())
+    }
+
+    /// Tells that a wish is left out.
+    fn leave_out(&mut self, wish: (u32, VersionNo), step: u32) -> Result<(), AllocError>
+        ensures { OnOk result ((catalogue request : List says.Line) (chosen : Set) → IsListing catalogue request self.old chosen → wish.1.0 < length (listed catalogue) → TakesTurn catalogue request chosen (LeavesOut (wish_at (listed catalogue) wish) step) self.old self.new) }
+    {
+        self.answers.push(Answer::LeftOut {
+            version: wish.1,
+            line: wish.0,
+            step,
+        })?;
+        Ok(())
+    }
+
+    /// Lists what was chosen in a turn, its accepted wish first.
+    fn take_chosen(
+        &mut self,
+        alloc: Global,
+        catalogue: &Catalogue,
+        request: &Request,
+        wish: Option<(u32, VersionNo)>,
+        versions: &[VersionNo],
+    ) -> Result<(), AllocError>
+        ensures { OnOk result ((before chosen : Set) → chosen ≡ before ++ members (listed catalogue.now) versions.now → IsListing catalogue.now request.now.lines self.old before → AreOneEach chosen → IsAccepted (listed catalogue.now) request.now.lines chosen wish → TakesTurn catalogue.now request.now.lines chosen (Chose (option_map (wish_at (listed catalogue.now)) wish) (members (listed catalogue.now) versions.now)) self.old self.new) }
+    {
+        self.chosen.add_all(catalogue, versions)?;
+        self.begin(catalogue, wish)?;
+        self.finish(alloc, catalogue, request)?;
+        Ok(())
+    }
+
+    /// Lists what a turn lists.
+    fn take_turn(
+        &mut self,
+        alloc: Global,
+        catalogue: &Catalogue,
+        request: &Request,
+        turn: &Turn<'_>,
+    ) -> Result<(), AllocError>
+        ensures { OnOk result ((before chosen : Set) → chosen ≡ before ++ chosen_by (turn_of (listed catalogue.now) turn.now) → IsListing catalogue.now request.now.lines self.old before → AreOneEach chosen → IsWishOf (listed catalogue.now) request.now.lines chosen turn.now → TakesTurn catalogue.now request.now.lines chosen (turn_of (listed catalogue.now) turn.now) self.old self.new) }
+    {
+        match *turn {
+            Turn::Chose { wish, chosen } => self.take_chosen(
+                alloc, catalogue, request, wish, chosen,
+            )?,
+            Turn::LeftOut { wish, step } => self.leave_out(wish, step)?,
+        }
+        Ok(())
+    }
+}
+
+/// What the turns of a search list, in order: the entries, and the wishes that are left out.
+pub fn list(
+    alloc: Global,
+    catalogue: &Catalogue,
+    request: &Request,
+    turns: &[Turn<'_>],
+) -> Result<Vec<Answer>, AllocError>
+    ensures order { IfOk result (λ answers. AreTurnsOf catalogue.now request.now.lines turns.now → AreTurns catalogue.now request.now.lines [] [] (turns_of (listed catalogue.now) turns.now) (answers_of (listed catalogue.now) answers.items)) }
+    ensures reasoned { IfOk result (λ answers. AreTurnsOf catalogue.now request.now.lines turns.now → IsReasoned catalogue.now request.now.lines [] (answers_of (listed catalogue.now) answers.items)) }
+    ensures reached { IfOk result (λ answers. AreTurnsOf catalogue.now request.now.lines turns.now → AreReached catalogue.now request.now.lines (chosen_in (turns_of (listed catalogue.now) turns.now)) (wishes_in (turns_of (listed catalogue.now) turns.now)) → (v : says.Version) → Contains (chosen_in (turns_of (listed catalogue.now) turns.now)) v ↔ Contains (entries_of (answers_of (listed catalogue.now) answers.items)) v) }
+    ensures numbered { IfOk result (λ answers. AreTurnsOf catalogue.now request.now.lines turns.now → AreNumbered (listed catalogue.now) answers.items) }
+{
+    let mut listing = Listing::new(alloc, catalogue, request)?;
+    for turn in turns {
+        listing.take_turn(alloc, catalogue, request, turn)?;
+    }
+    Ok(listing.answers)
+}

@@ -1,0 +1,10 @@
+//! The order in which chosen versions are listed in a report, each with the line that asked for it.
+#![tactic(auto)]
+
+mod chosen;
+mod entry;
+mod install_order;
+mod open_lines;
+
+pub use entry::{Answer, Entry, Reason, Turn};
+pub use install_order::list;

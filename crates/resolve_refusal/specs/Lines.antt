@@ -1,0 +1,132 @@
+-- The line of a place by which a need or a limit is told, and the line by which a version is barred.
+use Rattle.std.specs.Prelude.{◌≡◌, ◌<◌, ◌≤◌, ◌+◌, ℕ, Bool, true, false, List, length, slice_index_or, slice_get, Option, None, Some, Contains}
+use Rattle.resolvo_text.specs.Line.{Version, Spec, Cond, Line, Skipped, Listed, Needs, Limits, Unknown, Lock, Favour, Exclude, Wish}
+use Rattle.resolvo_text.specs.Cases.{condition_cases}
+use Rattle.resolvo_catalogue_core.specs.Grammar.{line_at}
+use Rattle.resolvo_catalogue_core.specs.Listed.{listed}
+use Rattle.resolvo_catalogue_core.specs.Questions.{SaysOf, BelongsTo, LineIs, LocksAnother, Excludes, MarksUnknownOf, Bars}
+use Rattle.resolvo_catalogue_core.specs.declared.rule.VersionNo.{VersionNo}
+use Rattle.resolvo_checker.specs.StepClauses.{case_at}
+use Rattle.resolve_refusal.specs.declared.lines.PlaceLines.{PlaceLines}
+use Rattle.resolve_refusal.specs.declared.lines.PlaceLines.TheVariants as of_place
+use Rattle.resolve_refusal.specs.declared.lines.NeedLine.{NeedLine}
+use Rattle.resolve_refusal.specs.declared.lines.BarringLine.{BarringLine}
+use Rattle.resolve_refusal.specs.declared.lines.BarringLine.TheVariants as barring
+
+-- how many lines the place has
+abbrev pub count_of : PlaceLines → ℕ
+count_of (of_place.UpTo last) = last
+count_of (of_place.These lines) = length lines.now
+
+-- the number of its line at this place, from 0
+abbrev pub number_at : PlaceLines → ℕ → ℕ
+number_at (of_place.UpTo last) place = place + 1
+number_at (of_place.These lines) place = slice_index_or lines.now place 0
+
+-- The lines are those of which P is true, rising.
+pub record AreLines (lines : PlaceLines) (P : ℕ → Type 0) : Type 0 where
+  pub rising : (i j : ℕ) → i < j → j < count_of lines → number_at lines i < number_at lines j
+  pub only : (i : ℕ) → i < count_of lines → P (number_at lines i)
+  pub all : (n : ℕ) → P n → (i : ℕ) × (i < count_of lines) × (number_at lines i ≡ n)
+
+-- The number is the least of which P is true, or there is none.
+abbrev pub IsLeast : Option ℕ → (ℕ → Type 0) → Type 0
+IsLeast None P = (n : ℕ) → P n → ⊥
+IsLeast (Some n) P = P n × ((m : ℕ) → m < n → P m → ⊥)
+
+-- the text that a place stands in: a version stands in the catalogue, and no version is the request
+abbrev pub text_of : List Line → List Line → Option VersionNo → List Line
+text_of catalogue request None = request
+text_of catalogue request (Some v) = catalogue
+
+-- Line n is one of the request, or one that belongs to the version.
+abbrev pub IsLineOf : List Line → List Line → Option VersionNo → ℕ → Type 0
+IsLineOf catalogue request None n = (1 ≤ n) × (n ≤ length request)
+IsLineOf catalogue request (Some v) n = SaysOf (listed catalogue) catalogue v.0 BelongsTo n
+
+-- Line n of a text says this.
+abbrev pub SaysAt : List Line → Line → ℕ → Type 0
+SaysAt lines line n = line_at lines n ≡ Some line
+
+-- Line n of a text has the property.
+abbrev pub IsAt : List Line → (Line → Type 0) → ℕ → Type 0
+IsAt lines P n = (l : Line) × SaysAt lines l n × P l
+
+-- The line needs these alternatives, and this is one of its cases. A line without condition has one case, which is empty;
+-- no case of a condition is.
+abbrev pub NeedsIn : List Spec → List Spec → Line → Type 0
+NeedsIn alternatives case line = (condition : Option Cond) × (line ≡ Needs alternatives condition) × Contains (condition_cases condition) case
+
+-- The line needs these alternatives, and k is the number of the first of its cases, from 1, that is this one.
+abbrev pub NeedsAs : List Spec → List Spec → ℕ → Line → Type 0
+NeedsAs alternatives case k line = (condition : Option Cond) × (line ≡ Needs alternatives condition) × IsLeast (Some k) (λ j. case_at condition j ≡ Some case)
+
+-- It is the number of the first case of the line that is this one; or there is no such case, or the line doesn't need these alternatives.
+abbrev pub IsCaseOf : List Spec → List Spec → Line → Option ℕ → Type 0
+IsCaseOf alternatives case line None = NeedsIn alternatives case line → ⊥
+IsCaseOf alternatives case line (Some k) = NeedsAs alternatives case k line
+
+-- The same of line n of a text.
+abbrev pub IsCaseAt : List Line → List Spec → List Spec → ℕ → Option ℕ → Type 0
+IsCaseAt lines alternatives case n None = IsAt lines (NeedsIn alternatives case) n → ⊥
+IsCaseAt lines alternatives case n (Some k) = IsAt lines (NeedsAs alternatives case k) n
+
+-- It is the first of these lines of the text that needs the alternatives in this case, with the number of its first such
+-- case; or none does.
+abbrev pub IsNeedLine : (ℕ → Type 0) → List Line → List Spec → List Spec → Option NeedLine → Type 0
+IsNeedLine Among lines alternatives case None = (n : ℕ) → Among n → IsAt lines (NeedsIn alternatives case) n → ⊥
+IsNeedLine Among lines alternatives case (Some found) = Among found.line × IsAt lines (NeedsAs alternatives case found.case) found.line × ((m : ℕ) → m < found.line → Among m → IsAt lines (NeedsIn alternatives case) m → ⊥)
+
+-- the line locks a version
+abbrev pub locks : Line → Bool
+locks (Lock v) = true
+locks Skipped = false
+locks (Listed v) = false
+locks (Needs alternatives condition) = false
+locks (Limits s) = false
+locks (Unknown reason) = false
+locks (Favour v) = false
+locks (Exclude v reason) = false
+locks (Wish v) = false
+
+-- the line says that the needs of its owner are unknown
+abbrev pub marks_unknown : Line → Bool
+marks_unknown (Unknown reason) = true
+marks_unknown Skipped = false
+marks_unknown (Listed v) = false
+marks_unknown (Needs alternatives condition) = false
+marks_unknown (Limits s) = false
+marks_unknown (Lock v) = false
+marks_unknown (Favour v) = false
+marks_unknown (Exclude v reason) = false
+marks_unknown (Wish v) = false
+
+-- The line says that the needs of the version are unknown; or none does.
+abbrev pub IsUnknownLine : List Line → Version → Option ℕ → Type 0
+IsUnknownLine catalogue v None = (m : ℕ) → LineIs catalogue m (MarksUnknownOf v) → ⊥
+IsUnknownLine catalogue v (Some n) = LineIs catalogue n (MarksUnknownOf v)
+
+-- Nothing locks another version of the package, or excludes the version.
+abbrev pub IsFree : List Line → Version → Type 0
+IsFree catalogue v = (m : ℕ) → Bars catalogue v m → ⊥
+
+-- The line bars the version before a search: one that locks another version of its package, else one that excludes it;
+-- or none does.
+abbrev pub IsBarredLine : List Line → Version → Option BarringLine → Type 0
+IsBarredLine catalogue v (Some (barring.Lock n)) = LineIs catalogue n (LocksAnother v)
+IsBarredLine catalogue v (Some (barring.Exclude n)) = ((m : ℕ) → LineIs catalogue m (LocksAnother v) → ⊥) × LineIs catalogue n (Excludes v)
+IsBarredLine catalogue v (Some (barring.Unknown n)) = ⊥
+IsBarredLine catalogue v None = IsFree catalogue v
+
+-- The version of this number is listed, and the line bars it so; or it isn't listed, or no line bars it so.
+abbrev pub IsBarredLineOf : List Line → ℕ → Option BarringLine → Type 0
+IsBarredLineOf catalogue number None = (v : Version) → slice_get (listed catalogue) number ≡ Some v → IsBarredLine catalogue v None
+IsBarredLineOf catalogue number (Some line) = (v : Version) × (slice_get (listed catalogue) number ≡ Some v) × IsBarredLine catalogue v (Some line)
+
+-- The line bars the version: one that locks another version of its package, else one that excludes it, else one that
+-- says that its needs are unknown; or none does.
+abbrev pub IsBarringLine : List Line → Version → Option BarringLine → Type 0
+IsBarringLine catalogue v (Some (barring.Lock n)) = IsBarredLine catalogue v (Some (barring.Lock n))
+IsBarringLine catalogue v (Some (barring.Exclude n)) = IsBarredLine catalogue v (Some (barring.Exclude n))
+IsBarringLine catalogue v (Some (barring.Unknown n)) = IsFree catalogue v × LineIs catalogue n (MarksUnknownOf v)
+IsBarringLine catalogue v None = IsFree catalogue v × IsUnknownLine catalogue v None

@@ -1,0 +1,183 @@
+-- What the refused report of a proof over the provider of a catalogue is.
+use Rattle.std.specs.Prelude.{◌≡◌, ◌↔◌, ◌⊎◌, ℕ, suc, Bool, ◌<◌, ⊤, IsTrue, List, [], map, None, Some, Contains, slice_get}
+use Rattle.std.specs.List.{AllZip}
+use Rattle.std.proofs.Common.{Vec, Global}
+use Rattle.resolvo_text.specs.Line.{Version, Spec, Line, Needs, Limits}
+use Rattle.resolvo_text.specs.Spelling.{is_name}
+use Rattle.resolvo_text.specs.Spelling as form
+use Rattle.resolvo_catalogue_core.specs.Listed.{listed}
+use Rattle.resolvo_catalogue_core.specs.Questions.{Said, LineIs, LocksAnother, Excludes, MarksUnknownOf, Bars}
+use Rattle.resolvo_pool_core.specs.declared.id.VersionSetId.{VersionSetId}
+use Rattle.resolvo_pool_core.specs.declared.requirement.Requirement.{Requirement}
+use Rattle.resolvo_soundness.specs.Encoding.{Atom, IsExact}
+use Rattle.resolvo_state.specs.declared.atom.ProofAtom.{ProofAtom}
+use Rattle.resolvo_state.specs.declared.atom.ProofAtom.TheVariants as atom
+use Rattle.resolvo_proof.specs.declared.step.ProofLiteral.{ProofLiteral}
+use Rattle.resolvo_proof.specs.declared.step.ProofStep.{ProofStep}
+use Rattle.resolvo_proof.specs.declared.step.ProofStep.TheVariants.{Rule, Derived}
+use Rattle.resolvo_proof.specs.declared.step.ProofRule.TheVariants.{Needs as NeedsRule, GateOf, Shared, Limit, Outside, Locked, Excluded, Digit, AtLeastOne}
+use Rattle.resolvo_proof.specs.Proof.{IsProof, EndsEmpty}
+use Rattle.resolvo_proof.specs.Steps.{literal_in}
+use Rattle.resolvo_proof.specs.Members.{HaveOneSign}
+use Rattle.resolvo_proof.specs.Places.{HaveOnePlace}
+use Rattle.resolvo_catalogue.specs.Ids.{Ids, NameId, SolvableId, IsPackage, IsSpec, AreAlternatives}
+use Rattle.resolvo_catalogue.specs.Known.{name_text, spec_at, alternatives_at}
+use Rattle.resolvo_catalogue.specs.Provider.{Provider, packages_of}
+use Rattle.resolvo_catalogue.specs.Over.{IsOver, AreAsked}
+use Rattle.resolvo_catalogue.specs.Keeping.{root_of}
+use Rattle.resolvo_catalogue.specs.declared.provider.RequestIds.{RequestIds}
+use Rattle.resolvo_report.specs.Value.{Place, OfVersion, Literal, Step, Report, Refused}
+use Rattle.resolvo_report.specs.Value as told
+use Rattle.resolvo_report.specs.Text.{report_lines, IsAtom}
+use Rattle.resolvo_report.specs.Text as form_of
+use Rattle.resolvo_report.specs.Grammar.{IsReport}
+use Rattle.resolvo_checker.specs.StepClauses.{line_of}
+use Rattle.resolvo_judge.specs.Judgement.{IsClaimTrue}
+use Rattle.resolvo_judge.specs.Refusal.{IsAccepted}
+use Rattle.resolve_refusal.specs.Writing.{version_at, place_at}
+use Rattle.resolve_refusal.specs.Lines.{NeedsIn, NeedsAs}
+
+-- ---- ids that the provider knows
+
+module _ (catalogue : List Line) (ids : Ids) where
+  abbrev pub IsVersion : SolvableId → Type 0
+  IsVersion s = (v : Version) × (slice_get (listed catalogue) s.raw ≡ Some v)
+
+  abbrev pub IsRequirement : Requirement → Type 0
+  IsRequirement r = (alternatives : List Spec) × AreAlternatives ids r alternatives
+
+  abbrev pub IsName : NameId → Type 0
+  IsName n = (name : List ℕ) × IsPackage ids n name
+
+  -- The id stands for a name, a SPEC or alternatives that a line can spell.
+  abbrev pub IsSpelledName : NameId → Type 0
+  IsSpelledName n = (name : List ℕ) × IsPackage ids n name × IsTrue (is_name name)
+
+  abbrev pub IsSpelledSet : VersionSetId → Type 0
+  IsSpelledSet v = (s : Spec) × IsSpec ids v s × form.IsSpec s
+
+  abbrev pub IsSpelledRequirement : Requirement → Type 0
+  IsSpelledRequirement r = (alternatives : List Spec) × AreAlternatives ids r alternatives × form_of.AreAlternatives alternatives
+
+  -- what the atom is about is the catalogue's, and a digit is one of the first 32
+  abbrev pub IsKnownAtom : ProofAtom NameId SolvableId → Type 0
+  IsKnownAtom (atom.Solvable s) = IsVersion s
+  IsKnownAtom (atom.AtLeastOne n) = IsSpelledName n
+  IsKnownAtom (atom.Gate r) = IsSpelledRequirement r
+  IsKnownAtom (atom.Outside v) = IsSpelledSet v
+  IsKnownAtom (atom.Bit n bit) = IsSpelledName n × (bit < 32)
+
+  -- The step's SPEC can be spelled, and so can the atoms of its literals. What other steps name is told by the rules.
+  abbrev pub IsKnownStep : ProofStep NameId SolvableId → Type 0
+  IsKnownStep (Rule (NeedsRule parent r case)) = ⊤
+  IsKnownStep (Rule (GateOf s r)) = ⊤
+  IsKnownStep (Rule (Shared r)) = ⊤
+  IsKnownStep (Rule (Limit parent v barred)) = ⊤
+  IsKnownStep (Rule (Outside v s)) = IsSpelledSet v
+  IsKnownStep (Rule (Locked locked s)) = ⊤
+  IsKnownStep (Rule (Excluded s reason)) = ⊤
+  IsKnownStep (Rule (Digit s place bit)) = ⊤
+  IsKnownStep (Rule (AtLeastOne n s)) = ⊤
+  IsKnownStep (Derived literals causes) = (l : ProofLiteral NameId SolvableId) → Contains literals.items l → IsKnownAtom l.atom
+
+-- ---- how steps are told
+
+-- The step bars the version by this line, which locks another version of its package.
+abbrev pub IsLockStep : List Line → Version → Step → ℕ → Type 0
+IsLockStep catalogue v step line = (step ≡ told.Lock line v) × LineIs catalogue line (LocksAnother v)
+
+-- It does by this line, which excludes the version, and no line locks another one.
+abbrev pub IsExclusionStep : List Line → Version → Step → ℕ → Type 0
+IsExclusionStep catalogue v step line = (step ≡ told.Exclude line) × ((m : ℕ) → LineIs catalogue m (LocksAnother v) → ⊥) × LineIs catalogue line (Excludes v)
+
+-- The step bars the version: by a line that locks another version of its package, else by one that excludes it, else by
+-- one that says that its needs are unknown.
+abbrev pub IsBarredBy : List Line → Version → Step → Type 0
+IsBarredBy catalogue v step = (line : ℕ) × (IsLockStep catalogue v step line ⊎ (IsExclusionStep catalogue v step line ⊎ ((step ≡ told.Unknown line) × ((m : ℕ) → Bars catalogue v m → ⊥) × LineIs catalogue line (MarksUnknownOf v))))
+
+module _ (catalogue : List Line) (ids : Ids) where
+  -- the atom in the words of a report
+  abbrev pub atom_at : ProofAtom NameId SolvableId → told.Atom
+  atom_at (atom.Solvable s) = told.Chosen (version_at catalogue s)
+  atom_at (atom.AtLeastOne n) = told.AnyOf (name_text ids n)
+  atom_at (atom.Gate r) = told.SharedBy (alternatives_at ids r)
+  atom_at (atom.Outside v) = told.OutsideOf (spec_at ids v)
+  atom_at (atom.Bit n bit) = told.BitOf bit (name_text ids n)
+
+  abbrev pub literal_at : ProofLiteral NameId SolvableId → Literal
+  literal_at l = record { atom = atom_at l.atom; positive = l.positive }
+
+  -- Each literal's atom has a text.
+  abbrev pub HaveForm : List (ProofLiteral NameId SolvableId) → Type 0
+  HaveForm literals = (l : ProofLiteral NameId SolvableId) → Contains literals l → IsAtom (atom_at l.atom)
+
+  -- the same literals, in any order and number
+  abbrev pub AreLiterals : List (ProofLiteral NameId SolvableId) → List Literal → Type 0
+  AreLiterals literals written = (l : Literal) → Contains written l ↔ ((k : ProofLiteral NameId SolvableId) × Contains literals k × (l ≡ literal_at k))
+
+  -- line n of the place says this
+  abbrev pub PlaceSays : List Line → Place → Line → ℕ → Type 0
+  PlaceSays request place said n = line_of catalogue request place n ≡ Some said
+
+  -- The line says it, and none of the place before it does.
+  pub record IsFirst (request : List Line) (place : Place) (said : Line) (n : ℕ) : Type 0 where
+    pub says : PlaceSays request place said n
+    pub first : (m : ℕ) → m < n → PlaceSays request place said m → ⊥
+
+  -- line n of the place has the property
+  abbrev pub IsOfPlace : List Line → Place → (Line → Type 0) → ℕ → Type 0
+  IsOfPlace request place P n = (l : Line) × PlaceSays request place l n × P l
+
+  -- The line needs these alternatives in this case, which is its case k and none before; and no line of the place before
+  -- it does.
+  pub record IsFirstNeed (request : List Line) (place : Place) (alternatives case : List Spec) (n k : ℕ) : Type 0 where
+    pub says : IsOfPlace request place (NeedsAs alternatives case k) n
+    pub first : (m : ℕ) → m < n → IsOfPlace request place (NeedsIn alternatives case) m → ⊥
+
+  -- The step tells the proof's step: a need or a limit by the first line that states it, a need by its first such case too,
+  -- what bars a version by a line that does, a derived clause by its literals and the numbers of its causes.
+  abbrev pub IsToldBy : List Line → ProofStep NameId SolvableId → Step → Type 0
+  IsToldBy request (Rule (NeedsRule parent r case)) step = (line k : ℕ) × (step ≡ told.Need (place_at catalogue parent) line k) × IsFirstNeed request (place_at catalogue parent) (alternatives_at ids r) (map (spec_at ids) case.items) line k
+  IsToldBy request (Rule (GateOf s r)) step = (line : ℕ) × (step ≡ told.Gate (version_at catalogue s) line) × IsFirst request (OfVersion (version_at catalogue s)) (Needs (alternatives_at ids r) None) line
+  IsToldBy request (Rule (Shared r)) step = step ≡ told.Shared (alternatives_at ids r)
+  IsToldBy request (Rule (Limit parent v None)) step = (line : ℕ) × (step ≡ told.Limit (place_at catalogue parent) line) × IsFirst request (place_at catalogue parent) (Limits (spec_at ids v)) line
+  IsToldBy request (Rule (Limit parent v (Some s))) step = (line : ℕ) × (step ≡ told.LimitBars (place_at catalogue parent) line (version_at catalogue s)) × IsFirst request (place_at catalogue parent) (Limits (spec_at ids v)) line
+  IsToldBy request (Rule (Outside v s)) step = step ≡ told.Outside (spec_at ids v) (version_at catalogue s)
+  IsToldBy request (Rule (Locked locked s)) step = IsBarredBy catalogue (version_at catalogue s) step
+  IsToldBy request (Rule (Excluded s reason)) step = IsBarredBy catalogue (version_at catalogue s) step
+  IsToldBy request (Rule (Digit s place bit)) step = step ≡ told.Digit (version_at catalogue s) place bit
+  IsToldBy request (Rule (AtLeastOne n s)) step = step ≡ told.Any (version_at catalogue s)
+  IsToldBy request (Derived literals causes) step = (written : List Literal) × (step ≡ told.Derive written (map suc causes.items)) × AreLiterals literals.items written
+
+-- ---- reports
+
+-- Over a provider of the catalogue, with what a request asks, the steps are a proof whose ids have texts.
+pub record IsProofOver (catalogue : List Line) (said : Said) (provider : Provider) (steps : List (ProofStep NameId SolvableId)) : Type 0 where
+  pub over : IsOver catalogue provider
+  pub ids : RequestIds
+  pub asked : AreAsked provider.ids said ids
+  pub same_atom : Atom NameId SolvableId → Atom NameId SolvableId → Bool
+  pub exact_atom : IsExact same_atom
+  pub same : SolvableId → SolvableId → Bool
+  pub exact : IsExact same
+  pub proof : IsProof same_atom same (packages_of provider) (root_of ids) steps
+  pub known : (n : ℕ) (s : ProofStep NameId SolvableId) → slice_get steps n ≡ Some s → IsKnownStep catalogue provider.ids s
+  -- no derived clause has a literal beside its opposite, and no solvable has two places
+  pub one_sign : (n : ℕ) (literals : Vec (ProofLiteral NameId SolvableId) Global) (causes : Vec ℕ Global) → slice_get steps n ≡ Some (Derived literals causes) → HaveOneSign (map literal_in literals.items)
+  pub one_place : HaveOnePlace steps
+
+-- They are a proof, and end with the empty clause.
+pub record Refutes (catalogue : List Line) (said : Said) (provider : Provider) (steps : List (ProofStep NameId SolvableId)) : Type 0 where
+  pub proves : IsProofOver catalogue said provider steps
+  pub empty : EndsEmpty steps
+
+-- The report is a refusal of these steps that the judge accepts, so what it claims is true.
+pub record IsRefusalOf (catalogue request : List Line) (ids : Ids) (steps : List (ProofStep NameId SolvableId)) (r : Report) : Type 0 where
+  pub in_catalogue : List ℕ
+  pub in_request : List ℕ
+  pub written : List Step
+  pub refuses : r ≡ Refused in_catalogue in_request written []
+  pub each : AllZip (IsToldBy catalogue ids request) steps written
+  pub report : IsReport r
+  pub accepted : IsAccepted catalogue request (report_lines r)
+  pub claim : IsClaimTrue catalogue request r

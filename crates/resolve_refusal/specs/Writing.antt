@@ -1,0 +1,57 @@
+-- How the steps of a proof over a provider's ids are told in a report.
+use Rattle.std.specs.Prelude.{◌≡◌, ℕ, ◌+◌, ◌⊎◌, nat_lt, if◌then◌else◌, List, [], map, length, slice_index_or, Option, Some, None}
+use Rattle.std.specs.List.{AllZip}
+use Rattle.resolvo_text.specs.Line.{Version, Line}
+use Rattle.resolvo_catalogue_core.specs.Listed.{listed}
+use Rattle.resolvo_catalogue_core.specs.Questions.{AreAll}
+use Rattle.resolvo_catalogue.specs.Ids.{Ids, NameId, SolvableId}
+use Rattle.resolvo_catalogue.specs.Known.{spec_at, alternatives_at}
+use Rattle.resolvo_proof.specs.declared.step.ProofStep.{ProofStep}
+use Rattle.resolvo_proof.specs.declared.step.ProofStep.TheVariants.{Rule, Derived}
+use Rattle.resolvo_proof.specs.declared.step.ProofRule.TheVariants.{Needs, GateOf, Shared, Limit, Outside, Locked, Excluded, Digit, AtLeastOne}
+use Rattle.resolvo_report.specs.Value.{Place, OfRequest, OfVersion, Literal, Step, Report, Refused}
+use Rattle.resolvo_report.specs.Value as told
+use Rattle.resolve_refusal.specs.declared.named.Text.TheVariants as text
+use Rattle.resolve_refusal.specs.Named.{IsNamedBy}
+
+-- the listed version of a solvable; one of no name where there is none
+abbrev pub version_at : List Line → SolvableId → Version
+version_at catalogue s = slice_index_or (listed catalogue) s.raw (record { name = []; number = 0 })
+
+-- the place of a parent; that of the root is the request
+abbrev pub place_at : List Line → Option SolvableId → Place
+place_at catalogue None = OfRequest
+place_at catalogue (Some s) = OfVersion (version_at catalogue s)
+
+-- the number of the step at this place, or the greatest number where there are too many
+abbrev pub number_of : ℕ → ℕ
+number_of place = if nat_lt place 4294967295 then place + 1 else 4294967295
+
+-- The step bars the version by a lock, an exclusion or its unknown needs.
+abbrev pub IsBar : Version → Step → Type 0
+IsBar v step = (line : ℕ) × ((step ≡ told.Lock line v) ⊎ ((step ≡ told.Exclude line) ⊎ (step ≡ told.Unknown line)))
+
+-- The step tells what the proof's step does, by the versions, SPECs and places of its ids, and a rule by some line.
+abbrev pub IsWritten : List Line → Ids → ProofStep NameId SolvableId → Step → Type 0
+IsWritten catalogue ids (Rule (Needs parent r case)) step = (line k : ℕ) × (step ≡ told.Need (place_at catalogue parent) line k)
+IsWritten catalogue ids (Rule (GateOf s r)) step = (line : ℕ) × (step ≡ told.Gate (version_at catalogue s) line)
+IsWritten catalogue ids (Rule (Shared r)) step = step ≡ told.Shared (alternatives_at ids r)
+IsWritten catalogue ids (Rule (Limit parent v None)) step = (line : ℕ) × (step ≡ told.Limit (place_at catalogue parent) line)
+IsWritten catalogue ids (Rule (Limit parent v (Some s))) step = (line : ℕ) × (step ≡ told.LimitBars (place_at catalogue parent) line (version_at catalogue s))
+IsWritten catalogue ids (Rule (Outside v s)) step = step ≡ told.Outside (spec_at ids v) (version_at catalogue s)
+IsWritten catalogue ids (Rule (Locked locked s)) step = IsBar (version_at catalogue s) step
+IsWritten catalogue ids (Rule (Excluded s reason)) step = IsBar (version_at catalogue s) step
+IsWritten catalogue ids (Rule (Digit s place bit)) step = step ≡ told.Digit (version_at catalogue s) place bit
+IsWritten catalogue ids (Rule (AtLeastOne n s)) step = step ≡ told.Any (version_at catalogue s)
+IsWritten catalogue ids (Derived literals causes) step = (written : List Literal) × (step ≡ told.Derive written (map number_of causes.items))
+
+-- The report is refused, has a step for each of the proof's, in order, names the lines of both texts that its steps rest on,
+-- and has no message.
+pub record IsRefusedBy (catalogue request : List Line) (ids : Ids) (steps : List (ProofStep NameId SolvableId)) (r : Report) : Type 0 where
+  pub in_catalogue : List ℕ
+  pub in_request : List ℕ
+  pub written : List Step
+  pub is : r ≡ Refused in_catalogue in_request written []
+  pub each : AllZip (IsWritten catalogue ids) steps written
+  pub named : AreAll in_catalogue (IsNamedBy text.Catalogue (length catalogue) written)
+  pub asked : AreAll in_request (IsNamedBy text.Request (length request) written)

@@ -1,0 +1,59 @@
+//! Steps of an install report: those of a proof by which wishes are left out, and the step by which a wish is barred
+//! without a search.
+
+ghost use Rattle.std.specs.Prelude.{IfOk};
+ghost use Rattle.std.specs.Option.{option_map};
+ghost use Rattle.resolvo_report.specs.View.{step_of, steps_of};
+ghost use Rattle.resolve_refusal.specs.Refusal.{IsProofOver};
+ghost use Rattle.resolve_refusal.specs.Installing.{AreInstallSteps, IsBarringStepOf};
+
+use crate::lines::{BarringLine, Texts, barred_line};
+use crate::literals::version_of;
+use crate::report::write_steps;
+use resolvo_catalogue::provider::CatalogueProvider;
+use resolvo_catalogue_core::{Catalogue, Request, VersionNo};
+use resolvo_pool_core::id::{NameId, SolvableId};
+use resolvo_pool_core::want::{R, Want};
+use resolvo_proof::step::ProofStep;
+use resolvo_report::Step;
+use std::alloc::Global;
+
+/// The steps of a proof as they stand in an install report: each rule by the first line that states it, a need also by
+/// the first of its cases. `Ids` where there are more steps, or more cases of a line, than numbers.
+pub fn install_steps(
+    alloc: Global,
+    catalogue: &Catalogue,
+    request: &Request,
+    provider: &CatalogueProvider,
+    steps: &[ProofStep<NameId, SolvableId>],
+) -> R<Vec<Step>>
+    ensures { IfOk result (λ v. IsProofOver catalogue.now request.now provider.now steps.now → AreInstallSteps catalogue.now request.now.lines provider.now.ids steps.now (steps_of v.items)) }
+{
+    if steps.len() > 4_294_967_295 {
+        return Err(Want::Ids);
+    }
+    // Lines are counted in 32 bits, so each that a step rests on has a number with a text.
+    let _lines = catalogue.line_count();
+    let _asked = request.line_count();
+    let texts = Texts { catalogue, request };
+    write_steps(alloc, texts, provider, steps)
+}
+
+/// The step by which a version is barred before a search: by the lock of another version of its package, else by its
+/// exclusion. None where neither is there.
+pub fn barring_step(alloc: Global, catalogue: &Catalogue, version: VersionNo) -> R<Option<Step>>
+    ensures { IfOk result (λ found. IsBarringStepOf catalogue.now version.0 (option_map step_of found)) }
+{
+    // What holds of each catalogue: its versions have texts, and its lines are counted in 32 bits.
+    catalogue.lines_are_in_place();
+    let _lines = catalogue.line_count();
+    match barred_line(catalogue, version) {
+        Some(BarringLine::Lock(line)) => Ok(Some(Step::Lock {
+            line,
+            version: version_of(alloc, catalogue, SolvableId::from_raw(version.0))?,
+        })),
+        Some(BarringLine::Exclude(line)) => Ok(Some(Step::Exclude { line })),
+        Some(BarringLine::Unknown(_)) => Ok(None),
+        None => Ok(None),
+    }
+}

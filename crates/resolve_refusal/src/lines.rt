@@ -1,0 +1,350 @@
+//! The first line of a text that states a rule. The lines of a place are looked through in order, those of the request
+//! or those of a version; where several state the rule, the first one is found.
+
+ghost use Rattle.std.specs.Prelude.{◌≡◌, ◌<◌, ℕ, List, IfOk, IfSome, IfNone, Option, Some, None, true, false, Contains, slice_get};
+ghost use Rattle.std.specs.Bool.{Decides};
+ghost use Rattle.resolvo_text.specs.Line as says;
+ghost use Rattle.resolvo_text.specs.View.{spec_of, specs_of, cases_of};
+ghost use Rattle.resolvo_catalogue_core.specs.Grammar.{line_at};
+ghost use Rattle.resolvo_catalogue_core.specs.Listed.{listed};
+ghost use Rattle.resolvo_catalogue_core.specs.Questions.{States, is_rule};
+ghost use Rattle.resolve_refusal.specs.Lines.{count_of, number_at, AreLines, IsLeast, text_of, IsLineOf, SaysAt, IsCaseOf, IsCaseAt, IsNeedLine, locks, marks_unknown, IsUnknownLine, IsBarredLineOf, IsBarringLine};
+
+use resolvo_catalogue_core::{Catalogue, Request, Rule, Spec, VersionNo};
+use resolvo_pool_core::want::{R, Want};
+use std::alloc::Global;
+
+/// A catalogue, and a request over it.
+#[derive(Clone, Copy)]
+pub(crate) struct Texts<'a> {
+    pub catalogue: &'a Catalogue,
+    pub request: &'a Request,
+}
+
+/// A line `needs`, and one of the cases of its condition, from 1.
+#[derive(Clone, Copy, Debug)]
+pub(crate) struct NeedLine {
+    pub line: u32,
+    pub case: u32,
+}
+
+/// A line by which a version is barred.
+#[derive(Clone, Copy, Debug)]
+pub(crate) enum BarringLine {
+    Lock(u32),
+    Exclude(u32),
+    Unknown(u32),
+}
+
+/// The numbers of the lines of a place, rising: all up to this one, or these.
+#[derive(Clone, Copy)]
+enum PlaceLines<'a> {
+    UpTo(u32),
+    These(&'a [u32]),
+}
+
+impl PlaceLines<'_> {
+    fn count(self) -> usize
+        ensures { result ≡ count_of self.entry }
+    {
+        match self {
+            PlaceLines::UpTo(last) => last as usize,
+            PlaceLines::These(lines) => lines.len(),
+        }
+    }
+
+    /// The number of the line at this place, from 0.
+    fn number(self, place: usize) -> u32
+        requires { place < count_of self }
+        ensures { result ≡ number_at self.entry place }
+    {
+        match self {
+            PlaceLines::UpTo(_) => place as u32 + 1,
+            PlaceLines::These(lines) => lines[place],
+        }
+    }
+}
+
+impl<'a> Texts<'a> {
+    /// What line `line` of a place states, if it states a rule. The place is a version, or none for the request.
+    fn rule(self, place: Option<VersionNo>, line: u32) -> Option<&'a Rule>
+        ensures stated { IfSome result (λ r. (l : says.Line) × (versions : List says.Version) × (owner : Option says.Version) × (line_at (text_of self.entry.catalogue.now self.entry.request.now.lines place) line ≡ Some l) × States versions r.now owner l) }
+        ensures none { IfNone result ((l : says.Line) → line_at (text_of self.entry.catalogue.now self.entry.request.now.lines place) line ≡ Some l → is_rule l ≡ false) }
+    {
+        match place {
+            None => self.request.rule(line),
+            Some(_) => self.catalogue.rule(line),
+        }
+    }
+
+    /// The lines of a place.
+    fn lines_of(self, place: Option<VersionNo>) -> PlaceLines<'a>
+        ensures { AreLines result (IsLineOf self.entry.catalogue.now self.entry.request.now.lines place) }
+    {
+        match place {
+            None => PlaceLines::UpTo(self.request.line_count()),
+            Some(version) => PlaceLines::These(self.catalogue.lines_of(version)),
+        }
+    }
+
+    /// The first line of a place that needs these alternatives without a condition.
+    pub fn plain_need_line(self, place: Option<VersionNo>, alternatives: &[Spec]) -> Option<u32>
+        ensures { IsLeast result (λ n. IsLineOf self.entry.catalogue.now self.entry.request.now.lines place n × SaysAt (text_of self.entry.catalogue.now self.entry.request.now.lines place) (says.Needs (specs_of alternatives.now) None) n) }
+    {
+        let lines = self.lines_of(place);
+        for at in 0..lines.count() {
+            let line = lines.number(at);
+            if self.needs_plainly(place, line, alternatives) {
+                return Some(line);
+            }
+        }
+        None
+    }
+
+    /// Whether line `line` of a place needs these alternatives without a condition.
+    fn needs_plainly(self, place: Option<VersionNo>, line: u32, alternatives: &[Spec]) -> bool
+        ensures { Decides result (SaysAt (text_of self.entry.catalogue.now self.entry.request.now.lines place) (says.Needs (specs_of alternatives.now) None) line) }
+    {
+        match self.rule(place, line) {
+            Some(rule) => is_plain_need(rule, alternatives),
+            None => false,
+        }
+    }
+
+    /// The first line of a place that needs these alternatives in this case, and the first such case of it.
+    pub fn need_line(
+        self,
+        alloc: Global,
+        place: Option<VersionNo>,
+        alternatives: &[Spec],
+        case: &[Spec],
+    ) -> R<Option<NeedLine>>
+        ensures { IfOk result (IsNeedLine (IsLineOf self.entry.catalogue.now self.entry.request.now.lines place) (text_of self.entry.catalogue.now self.entry.request.now.lines place) (specs_of alternatives.now) (specs_of case.now)) }
+    {
+        let lines = self.lines_of(place);
+        for at in 0..lines.count() {
+            let line = lines.number(at);
+            if let Some(case) = self.case_number(alloc, place, line, alternatives, case)? {
+                return Ok(Some(NeedLine { line, case }));
+            }
+        }
+        Ok(None)
+    }
+
+    /// The number of the first case of line `line` of a place that is this one, if the line needs these alternatives.
+    fn case_number(
+        self,
+        alloc: Global,
+        place: Option<VersionNo>,
+        line: u32,
+        alternatives: &[Spec],
+        case: &[Spec],
+    ) -> R<Option<u32>>
+        ensures { IfOk result (IsCaseAt (text_of self.entry.catalogue.now self.entry.request.now.lines place) (specs_of alternatives.now) (specs_of case.now) line) }
+    {
+        match self.rule(place, line) {
+            Some(rule) => need_case(alloc, rule, alternatives, case),
+            None => Ok(None),
+        }
+    }
+
+    /// The first line of a place that limits its set to this SPEC.
+    pub fn limit_line(self, place: Option<VersionNo>, spec: &Spec) -> Option<u32>
+        ensures { IsLeast result (λ n. IsLineOf self.entry.catalogue.now self.entry.request.now.lines place n × SaysAt (text_of self.entry.catalogue.now self.entry.request.now.lines place) (says.Limits (spec_of spec.now)) n) }
+    {
+        let lines = self.lines_of(place);
+        for at in 0..lines.count() {
+            let line = lines.number(at);
+            if self.limits_to(place, line, spec) {
+                return Some(line);
+            }
+        }
+        None
+    }
+
+    /// Whether line `line` of a place limits its set to this SPEC.
+    fn limits_to(self, place: Option<VersionNo>, line: u32, spec: &Spec) -> bool
+        ensures { Decides result (SaysAt (text_of self.entry.catalogue.now self.entry.request.now.lines place) (says.Limits (spec_of spec.now)) line) }
+    {
+        match self.rule(place, line) {
+            Some(rule) => is_limit(rule, spec),
+            None => false,
+        }
+    }
+
+    /// The line that bars the version: one that locks another version of its package, else one that excludes it, else
+    /// one that says that its needs are unknown.
+    pub fn barring_line(self, version: VersionNo) -> Option<BarringLine>
+        ensures { (v : says.Version) → slice_get (listed self.entry.catalogue.now) version.0 ≡ Some v → IsBarringLine self.entry.catalogue.now v result }
+    {
+        match barred_line(self.catalogue, version) {
+            Some(line) => Some(line),
+            None => {
+                let line = self.unknown_line(version)?;
+                Some(BarringLine::Unknown(line))
+            }
+        }
+    }
+
+    /// The line that says that the version's needs are unknown.
+    fn unknown_line(self, version: VersionNo) -> Option<u32>
+        ensures { (v : says.Version) → slice_get (listed self.entry.catalogue.now) version.0 ≡ Some v → IsUnknownLine self.entry.catalogue.now v result }
+    {
+        self.first_unknown(self.catalogue.lines_of(version))
+    }
+
+    /// The first of these lines of the catalogue that says that something's needs are unknown.
+    fn first_unknown(self, lines: &[u32]) -> Option<u32>
+        ensures some { IfSome result (λ n. Contains lines.now n × ((l : says.Line) → line_at self.entry.catalogue.now n ≡ Some l → marks_unknown l ≡ true)) }
+        ensures none { IfNone result ((n : ℕ) → Contains lines.now n → (l : says.Line) → line_at self.entry.catalogue.now n ≡ Some l → marks_unknown l ≡ false) }
+    {
+        for line in lines {
+            if self.is_unknown(*line) {
+                return Some(*line);
+            }
+        }
+        None
+    }
+
+    /// Whether this line of the catalogue says that something's needs are unknown.
+    fn is_unknown(self, line: u32) -> bool
+        ensures { (l : says.Line) → line_at self.entry.catalogue.now line ≡ Some l → result ≡ marks_unknown l }
+    {
+        match self.catalogue.rule(line) {
+            Some(rule) => marks_unknown(rule),
+            None => false,
+        }
+    }
+}
+
+/// The line that bars the version before a search: one that locks another version of its package, else one that
+/// excludes it.
+pub(crate) fn barred_line(catalogue: &Catalogue, version: VersionNo) -> Option<BarringLine>
+    ensures { IsBarredLineOf catalogue.now version.0 result }
+{
+    let line = catalogue.barred(version)?;
+    if is_lock(catalogue, line) {
+        Some(BarringLine::Lock(line))
+    } else {
+        Some(BarringLine::Exclude(line))
+    }
+}
+
+/// Whether this line of a catalogue locks a version.
+fn is_lock(catalogue: &Catalogue, line: u32) -> bool
+    ensures { (l : says.Line) → line_at catalogue.now line ≡ Some l → result ≡ locks l }
+{
+    match catalogue.rule(line) {
+        Some(rule) => locks(rule),
+        None => false,
+    }
+}
+
+/// The number of the first case of a need, from 1, that is this one, if the need has these alternatives. `Ids` where there
+/// are more cases than numbers.
+fn need_case(alloc: Global, rule: &Rule, alternatives: &[Spec], case: &[Spec]) -> R<Option<u32>>
+    ensures { IfOk result (λ found. (versions : List says.Version) (owner : Option says.Version) (line : says.Line) → States versions rule.now owner line → IsCaseOf (specs_of alternatives.now) (specs_of case.now) line found) }
+{
+    if !needs(rule, alternatives) {
+        return Ok(None);
+    }
+    let cases = rule.cases(alloc)?;
+    let Some(place) = place_of(cases.as_slice(), case) else {
+        return Ok(None);
+    };
+    if place >= 4_294_967_295 {
+        return Err(Want::Ids);
+    }
+    Ok(Some(place as u32 + 1))
+}
+
+/// The place of the first of these cases that is this one.
+fn place_of(cases: &[Vec<Spec>], case: &[Spec]) -> Option<usize>
+    ensures { IsLeast result (λ k. slice_get (cases_of cases.now) k ≡ Some (specs_of case.now)) }
+{
+    for (place, one) in cases.iter().enumerate() {
+        if same_specs(one.as_slice(), case) {
+            return Some(place);
+        }
+    }
+    None
+}
+
+/// Whether the rule needs these alternatives without a condition.
+fn is_plain_need(rule: &Rule, alternatives: &[Spec]) -> bool
+    ensures { (versions : List says.Version) (owner : Option says.Version) (line : says.Line) → States versions rule.now owner line → Decides result (line ≡ says.Needs (specs_of alternatives.now) None) }
+{
+    match rule {
+        Rule::Needs {
+            alternatives: stated,
+            condition: None,
+            ..
+        } => same_specs(stated.as_slice(), alternatives),
+        _ => false,
+    }
+}
+
+/// Whether the rule limits its set to this SPEC.
+fn is_limit(rule: &Rule, spec: &Spec) -> bool
+    ensures { (versions : List says.Version) (owner : Option says.Version) (line : says.Line) → States versions rule.now owner line → Decides result (line ≡ says.Limits (spec_of spec.now)) }
+{
+    match rule {
+        Rule::Limits { spec: stated, .. } => same_spec(stated, spec),
+        _ => false,
+    }
+}
+
+/// Whether the rule locks a version.
+fn locks(rule: &Rule) -> bool
+    ensures { (versions : List says.Version) (owner : Option says.Version) (line : says.Line) → States versions rule.now owner line → result ≡ locks line }
+{
+    match rule {
+        Rule::Lock { .. } => true,
+        _ => false,
+    }
+}
+
+/// Whether the rule says that a version's needs are unknown.
+fn marks_unknown(rule: &Rule) -> bool
+    ensures { (versions : List says.Version) (owner : Option says.Version) (line : says.Line) → States versions rule.now owner line → result ≡ marks_unknown line }
+{
+    match rule {
+        Rule::Unknown { .. } => true,
+        _ => false,
+    }
+}
+
+/// Whether the rule needs these alternatives, under whatever condition.
+fn needs(rule: &Rule, alternatives: &[Spec]) -> bool
+    ensures { (versions : List says.Version) (owner : Option says.Version) (line : says.Line) → States versions rule.now owner line → Decides result ((condition : Option says.Cond) × (line ≡ says.Needs (specs_of alternatives.now) condition)) }
+{
+    match rule {
+        Rule::Needs {
+            alternatives: stated,
+            ..
+        } => same_specs(stated.as_slice(), alternatives),
+        _ => false,
+    }
+}
+
+/// Whether two SPECs ask for the same versions of one package.
+pub(crate) fn same_spec(one: &Spec, other: &Spec) -> bool
+    ensures { Decides result (spec_of one.now ≡ spec_of other.now) }
+{
+    one.name == other.name && one.span == other.span
+}
+
+/// Whether these are the same SPECs in the same order.
+pub(crate) fn same_specs(some: &[Spec], others: &[Spec]) -> bool
+    ensures { Decides result (specs_of some.now ≡ specs_of others.now) }
+{
+    if some.len() != others.len() {
+        return false;
+    }
+    for (place, one) in some.iter().enumerate() {
+        if !same_spec(one, &others[place]) {
+            return false;
+        }
+    }
+    true
+}

@@ -1,0 +1,90 @@
+//! Atoms by their texts, and the literals of a derived clause as they stand in a report: in the order of their texts,
+//! each once.
+
+ghost use Rattle.std.specs.Prelude.{◌≡◌, IfOk, IsTrue, map};
+ghost use Rattle.resolvo_text.specs.View.{version_of};
+ghost use Rattle.resolvo_report.specs.View.{atom_of, literals_of};
+ghost use Rattle.resolvo_report.specs.Text.{are_rising, literal_text};
+ghost use Rattle.resolve_refusal.specs.Writing.{version_at};
+ghost use Rattle.resolve_refusal.specs.Refusal.{atom_at, AreLiterals, HaveForm};
+
+use resolvo_catalogue::provider::CatalogueProvider;
+use resolvo_catalogue_core::{Catalogue, Version};
+use resolvo_pool_core::id::{NameId, SolvableId};
+use resolvo_pool_core::want::R;
+use resolvo_proof::step::ProofLiteral;
+use resolvo_report::{Atom, Literal};
+use resolvo_state::atom::ProofAtom;
+use std::alloc::Global;
+use std::collections::BTreeMap;
+
+/// The literals of a clause, sorted by their texts, each once.
+pub(crate) fn sorted_literals(
+    alloc: Global,
+    catalogue: &Catalogue,
+    provider: &CatalogueProvider,
+    literals: &[ProofLiteral<NameId, SolvableId>],
+) -> R<Vec<Literal>>
+    ensures same { IfOk result (λ v. HaveForm catalogue.now provider.now.ids literals.now → AreLiterals catalogue.now provider.now.ids literals.now (literals_of v.items)) }
+    ensures rising { IfOk result (λ v. IsTrue (are_rising (map literal_text (literals_of v.items)))) }
+{
+    let mut by_text: BTreeMap<String, Literal> = BTreeMap::new(alloc);
+    for literal in literals {
+        let written = Literal {
+            atom: atom_of(alloc, catalogue, provider, literal.atom)?,
+            positive: literal.positive,
+        };
+        let text = format!(in alloc; "{written}")?;
+        by_text.insert(text, written)?;
+    }
+    let mut sorted = Vec::new(alloc);
+    for (_, literal) in by_text {
+        sorted.push(literal)?;
+    }
+    Ok(sorted)
+}
+
+/// What an atom is about, in the words of a report.
+fn atom_of(
+    alloc: Global,
+    catalogue: &Catalogue,
+    provider: &CatalogueProvider,
+    atom: ProofAtom<NameId, SolvableId>,
+) -> R<Atom>
+    ensures { IfOk result (λ a. atom_of a ≡ atom_at catalogue.now provider.now.ids atom) }
+{
+    match atom {
+        ProofAtom::Solvable(solvable) => {
+            Ok(Atom::Version(version_of(alloc, catalogue, solvable)?))
+        }
+        ProofAtom::AtLeastOne(name) => Ok(Atom::Any {
+            name: String::from_str(alloc, provider.name_of(name))?,
+        }),
+        ProofAtom::Gate(requirement) => Ok(Atom::Shared {
+            alternatives: provider.alternatives_of(requirement)?,
+        }),
+        ProofAtom::Outside(version_set) => Ok(Atom::Outside {
+            spec: provider.spec_of(version_set)?,
+        }),
+        ProofAtom::Bit(name, bit) => Ok(Atom::Bit {
+            bit,
+            name: String::from_str(alloc, provider.name_of(name))?,
+        }),
+    }
+}
+
+/// The version of a solvable; one of no name where the catalogue lists none.
+pub(crate) fn version_of(alloc: Global, catalogue: &Catalogue, solvable: SolvableId) -> R<Version>
+    ensures { IfOk result (λ v. version_of v ≡ version_at catalogue.now solvable) }
+{
+    match catalogue.versions().get(solvable.into_raw() as usize) {
+        Some((name, number)) => Ok(Version {
+            name: String::from_str(alloc, name.as_str())?,
+            number: *number,
+        }),
+        None => Ok(Version {
+            name: String::new(alloc),
+            number: 0,
+        }),
+    }
+}

@@ -1,0 +1,78 @@
+//! The report: the steps one by one, and the lines that they rest on.
+
+ghost use Rattle.std.specs.Prelude.{IfOk};
+ghost use Rattle.std.specs.List.{AllZip};
+ghost use Rattle.resolvo_report.specs.View.{report_of, steps_of};
+ghost use Rattle.resolve_refusal.specs.Writing.{IsWritten, IsRefusedBy};
+ghost use Rattle.resolve_refusal.specs.Telling.{Tells};
+ghost use Rattle.resolve_refusal.specs.Refusal.{Refutes, IsRefusalOf};
+
+use crate::lines::Texts;
+use crate::named::{Text, named_lines};
+use crate::steps::Writing;
+use resolvo_catalogue::provider::CatalogueProvider;
+use resolvo_catalogue_core::{Catalogue, Request};
+use resolvo_pool_core::id::{NameId, SolvableId};
+use resolvo_pool_core::want::{R, Want};
+use resolvo_proof::step::ProofStep;
+use resolvo_report::{Report, Step};
+use std::alloc::Global;
+
+/// The report of a proof over the provider of a catalogue: each rule by the first line that states it, a need also by the
+/// first of its cases. `Ids` where there are more steps, or more cases of a line, than numbers.
+pub fn refused_report(
+    alloc: Global,
+    catalogue: &Catalogue,
+    request: &Request,
+    provider: &CatalogueProvider,
+    steps: &[ProofStep<NameId, SolvableId>],
+) -> R<Report>
+    ensures refusal { IfOk result (λ r. Refutes catalogue.now request.now provider.now steps.now → IsRefusalOf catalogue.now request.now.lines provider.now.ids steps.now (report_of r)) }
+    ensures refused { IfOk result (λ r. IsRefusedBy catalogue.now request.now.lines provider.now.ids steps.now (report_of r)) }
+{
+    if steps.len() > 4_294_967_295 {
+        return Err(Want::Ids);
+    }
+    let texts = Texts { catalogue, request };
+    let written = write_steps(alloc, texts, provider, steps)?;
+    let in_catalogue = named_lines(
+        alloc,
+        Text::Catalogue,
+        catalogue.line_count(),
+        written.as_slice(),
+    )?;
+    let in_request = named_lines(
+        alloc,
+        Text::Request,
+        request.line_count(),
+        written.as_slice(),
+    )?;
+    Ok(Report::Refused {
+        catalogue: in_catalogue,
+        request: in_request,
+        steps: written,
+        message: Vec::new(alloc),
+    })
+}
+
+/// The steps as they stand in a report.
+pub(crate) fn write_steps(
+    alloc: Global,
+    texts: Texts,
+    provider: &CatalogueProvider,
+    steps: &[ProofStep<NameId, SolvableId>],
+) -> R<Vec<Step>>
+    ensures tells { IfOk result (λ v. AllZip (Tells texts.entry.catalogue.now texts.entry.request.now.lines provider.now.ids) steps.now (steps_of v.items)) }
+    ensures written { IfOk result (λ v. AllZip (IsWritten texts.entry.catalogue.now provider.now.ids) steps.now (steps_of v.items)) }
+{
+    let writing = Writing {
+        alloc,
+        texts,
+        provider,
+    };
+    let mut written = Vec::new(alloc);
+    for step in steps {
+        written.push(writing.step(step)?)?;
+    }
+    Ok(written)
+}

@@ -1,0 +1,274 @@
+//! Steps of a proof, written as those of a report.
+
+ghost use Rattle.std.specs.Prelude.{◌≡◌, ℕ, [], Some, None, IfOk, map};
+ghost use Rattle.std.specs.Option.{option_map};
+ghost use Rattle.resolvo_text.specs.Line as says;
+ghost use Rattle.resolvo_text.specs.View.{version_of, specs_of};
+ghost use Rattle.resolvo_report.specs.Value as told;
+ghost use Rattle.resolvo_report.specs.View.{step_of, place_of};
+ghost use Rattle.resolvo_proof.specs.declared.step.ProofStep.TheVariants.{Rule as RuleStep};
+ghost use Rattle.resolvo_proof.specs.declared.step.ProofRule.TheVariants.{Limit};
+ghost use Rattle.resolvo_catalogue.specs.Known.{spec_at, alternatives_at};
+ghost use Rattle.resolve_refusal.specs.Writing.{version_at, place_at, number_of, IsBar, IsWritten};
+ghost use Rattle.resolve_refusal.specs.Lines.{IsLeast, text_of, IsLineOf, SaysAt};
+ghost use Rattle.resolve_refusal.specs.Telling.{version_no, IsFirstLine, IsNeedLineOf, TellsNeed, TellsBar, Tells};
+
+use crate::lines::{BarringLine, NeedLine, Texts};
+use crate::literals::{sorted_literals, version_of};
+use resolvo_catalogue::provider::CatalogueProvider;
+use resolvo_catalogue_core::{Spec, Version, VersionNo};
+use resolvo_pool_core::id::{NameId, SolvableId, VersionSetId};
+use resolvo_pool_core::requirement::Requirement;
+use resolvo_pool_core::want::R;
+use resolvo_proof::step::{ProofRule, ProofStep};
+use resolvo_report::{Place, Step};
+use std::alloc::Global;
+
+/// What steps are written with: the two texts, and the provider of their ids. A rule that no line states is written with
+/// line 0, which no text has.
+#[derive(Clone, Copy)]
+pub(crate) struct Writing<'a> {
+    pub alloc: Global,
+    pub texts: Texts<'a>,
+    pub provider: &'a CatalogueProvider,
+}
+
+impl Writing<'_> {
+    /// The step as it stands in a report.
+    pub fn step(self, step: &ProofStep<NameId, SolvableId>) -> R<Step>
+        ensures tells { IfOk result (λ w. Tells self.entry.texts.catalogue.now self.entry.texts.request.now.lines self.entry.provider.now.ids step.now (step_of w)) }
+        ensures written { IfOk result (λ w. IsWritten self.entry.texts.catalogue.now self.entry.provider.now.ids step.now (step_of w)) }
+    {
+        match step {
+            ProofStep::Rule(rule) => self.rule(rule),
+            ProofStep::Derived { literals, causes } => Ok(Step::Derive {
+                literals: sorted_literals(
+                    self.alloc,
+                    self.texts.catalogue,
+                    self.provider,
+                    literals.as_slice(),
+                )?,
+                causes: numbers_of(self.alloc, causes.as_slice())?,
+            }),
+        }
+    }
+
+    /// The step of a rule.
+    fn rule(self, rule: &ProofRule<NameId, SolvableId>) -> R<Step>
+        ensures tells { IfOk result (λ w. Tells self.entry.texts.catalogue.now self.entry.texts.request.now.lines self.entry.provider.now.ids (RuleStep rule.now) (step_of w)) }
+        ensures written { IfOk result (λ w. IsWritten self.entry.texts.catalogue.now self.entry.provider.now.ids (RuleStep rule.now) (step_of w)) }
+    {
+        match rule {
+            ProofRule::Needs {
+                parent,
+                requirement,
+                case,
+            } => self.need(*parent, *requirement, case.as_slice()),
+            ProofRule::GateOf {
+                parent,
+                requirement,
+            } => self.gate(*parent, *requirement),
+            ProofRule::Shared { requirement } => Ok(Step::Shared {
+                alternatives: self.provider.alternatives_of(*requirement)?,
+            }),
+            ProofRule::Limit {
+                parent,
+                version_set,
+                barred,
+            } => self.limit(*parent, *version_set, *barred),
+            ProofRule::Outside {
+                version_set,
+                solvable,
+            } => Ok(Step::Outside {
+                spec: self.provider.spec_of(*version_set)?,
+                version: self.version(*solvable)?,
+            }),
+            ProofRule::Locked { barred, .. } => self.bar(*barred),
+            ProofRule::Excluded { solvable, .. } => self.bar(*solvable),
+            ProofRule::Digit {
+                solvable,
+                place,
+                bit,
+            } => Ok(Step::Digit {
+                version: self.version(*solvable)?,
+                place: *place,
+                bit: *bit,
+            }),
+            ProofRule::AtLeastOne { solvable, .. } => Ok(Step::Any {
+                version: self.version(*solvable)?,
+            }),
+        }
+    }
+
+    /// The step of a need, by the first line that states it, and its first such case.
+    fn need(
+        self,
+        parent: Option<SolvableId>,
+        requirement: Requirement,
+        case: &[VersionSetId],
+    ) -> R<Step>
+        ensures tells { IfOk result (λ w. TellsNeed self.entry.texts.catalogue.now self.entry.texts.request.now.lines self.entry.provider.now.ids parent requirement case.now (step_of w)) }
+        ensures written { IfOk result (λ w. (line k : ℕ) × (step_of w ≡ told.Need (place_at self.entry.texts.catalogue.now parent) line k)) }
+    {
+        let found = if case.is_empty() {
+            self.plain_need(parent, requirement)?
+        } else {
+            self.need_in_case(parent, requirement, case)?
+        };
+        let NeedLine { line, case } = found.unwrap_or(NeedLine { line: 0, case: 0 });
+        Ok(Step::Need {
+            place: self.place(parent)?,
+            line,
+            case,
+        })
+    }
+
+    /// The first line of a parent that needs the requirement without a condition, and its one case.
+    fn plain_need(self, parent: Option<SolvableId>, requirement: Requirement) -> R<Option<NeedLine>>
+        ensures { IfOk result (IsNeedLineOf self.entry.texts.catalogue.now self.entry.texts.request.now.lines self.entry.provider.now.ids parent requirement []) }
+    {
+        let Some(line) = self.plain_line(parent, requirement)? else {
+            return Ok(None);
+        };
+        Ok(Some(NeedLine { line, case: 1 }))
+    }
+
+    /// The first line of a parent that needs the requirement in this case, and the first such case of it.
+    fn need_in_case(
+        self,
+        parent: Option<SolvableId>,
+        requirement: Requirement,
+        case: &[VersionSetId],
+    ) -> R<Option<NeedLine>>
+        ensures { IfOk result (IsNeedLineOf self.entry.texts.catalogue.now self.entry.texts.request.now.lines self.entry.provider.now.ids parent requirement case.now) }
+    {
+        let alternatives = self.provider.alternatives_of(requirement)?;
+        let case = self.specs(case)?;
+        let place = self.place_number(parent);
+        self.texts.need_line(self.alloc, place, alternatives.as_slice(), case.as_slice())
+    }
+
+    /// The first line of a parent that needs the requirement without a condition.
+    fn plain_line(self, parent: Option<SolvableId>, requirement: Requirement) -> R<Option<u32>>
+        ensures { IfOk result (λ found. IsLeast found (λ n. IsLineOf self.entry.texts.catalogue.now self.entry.texts.request.now.lines (option_map version_no parent) n × SaysAt (text_of self.entry.texts.catalogue.now self.entry.texts.request.now.lines (option_map version_no parent)) (says.Needs (alternatives_at self.entry.provider.now.ids requirement) None) n)) }
+    {
+        let alternatives = self.provider.alternatives_of(requirement)?;
+        let place = self.place_number(parent);
+        Ok(self.texts.plain_need_line(place, alternatives.as_slice()))
+    }
+
+    /// The step of a gate, by the first line that states the need without condition.
+    fn gate(self, parent: SolvableId, requirement: Requirement) -> R<Step>
+        ensures { IfOk result (λ w. (line : ℕ) × (step_of w ≡ told.Gate (version_at self.entry.texts.catalogue.now parent) line) × IsFirstLine self.entry.texts.catalogue.now self.entry.texts.request.now.lines (Some (version_no parent)) (says.Needs (alternatives_at self.entry.provider.now.ids requirement) None) line) }
+    {
+        let line = self.plain_line(Some(parent), requirement)?.unwrap_or(0);
+        Ok(Step::Gate {
+            version: self.version(parent)?,
+            line,
+        })
+    }
+
+    /// The step of a limit, by the first line that states it.
+    fn limit(
+        self,
+        parent: Option<SolvableId>,
+        version_set: VersionSetId,
+        barred: Option<SolvableId>,
+    ) -> R<Step>
+        ensures tells { IfOk result (λ w. Tells self.entry.texts.catalogue.now self.entry.texts.request.now.lines self.entry.provider.now.ids (RuleStep (Limit parent version_set barred)) (step_of w)) }
+        ensures written { IfOk result (λ w. IsWritten self.entry.texts.catalogue.now self.entry.provider.now.ids (RuleStep (Limit parent version_set barred)) (step_of w)) }
+    {
+        let line = self.limit_line(parent, version_set)?;
+        let place = self.place(parent)?;
+        match barred {
+            None => Ok(Step::Limit { place, line }),
+            Some(barred) => Ok(Step::LimitBars {
+                place,
+                line,
+                version: self.version(barred)?,
+            }),
+        }
+    }
+
+    /// The first line of a parent that limits its set to the version set's SPEC.
+    fn limit_line(self, parent: Option<SolvableId>, version_set: VersionSetId) -> R<u32>
+        ensures { IfOk result (λ line. IsFirstLine self.entry.texts.catalogue.now self.entry.texts.request.now.lines (option_map version_no parent) (says.Limits (spec_at self.entry.provider.now.ids version_set)) line) }
+    {
+        let spec = self.provider.spec_of(version_set)?;
+        let place = self.place_number(parent);
+        Ok(self.texts.limit_line(place, &spec).unwrap_or(0))
+    }
+
+    /// The step that bars a version: by a line that locks another version of its package, else by one that excludes it,
+    /// else by one that says that its needs are unknown.
+    fn bar(self, solvable: SolvableId) -> R<Step>
+        ensures tells { IfOk result (λ w. TellsBar self.entry.texts.catalogue.now solvable (step_of w)) }
+        ensures written { IfOk result (λ w. IsBar (version_at self.entry.texts.catalogue.now solvable) (step_of w)) }
+    {
+        let version = self.version(solvable)?;
+        let number = self.provider.version_of(solvable);
+        match self.texts.barring_line(number) {
+            Some(BarringLine::Lock(line)) => Ok(Step::Lock { line, version }),
+            Some(BarringLine::Exclude(line)) => Ok(Step::Exclude { line }),
+            Some(BarringLine::Unknown(line)) => Ok(Step::Unknown { line }),
+            None => Ok(Step::Exclude { line: 0 }),
+        }
+    }
+
+    /// The number of a parent's version; the root has none.
+    fn place_number(self, parent: Option<SolvableId>) -> Option<VersionNo>
+        ensures { result ≡ option_map version_no parent }
+    {
+        let parent = parent?;
+        Some(self.provider.version_of(parent))
+    }
+
+    /// The place of a parent, in the words of a report.
+    fn place(self, parent: Option<SolvableId>) -> R<Place>
+        ensures { IfOk result (λ p. place_of p ≡ place_at self.entry.texts.catalogue.now parent) }
+    {
+        match parent {
+            None => Ok(Place::Request),
+            Some(parent) => Ok(Place::Version(self.version(parent)?)),
+        }
+    }
+
+    fn version(self, solvable: SolvableId) -> R<Version>
+        ensures { IfOk result (λ v. version_of v ≡ version_at self.entry.texts.catalogue.now solvable) }
+    {
+        version_of(self.alloc, self.texts.catalogue, solvable)
+    }
+
+    /// The SPECs of version sets, in order.
+    fn specs(self, version_sets: &[VersionSetId]) -> R<Vec<Spec>>
+        ensures { IfOk result (λ v. specs_of v.items ≡ map (spec_at self.entry.provider.now.ids) version_sets.now) }
+    {
+        let mut specs = Vec::new(self.alloc);
+        for version_set in version_sets {
+            specs.push(self.provider.spec_of(*version_set)?)?;
+        }
+        Ok(specs)
+    }
+}
+
+/// The numbers of steps, from 1, by their places, from 0.
+fn numbers_of(alloc: Global, places: &[usize]) -> R<Vec<u32>>
+    ensures { IfOk result (λ v. v.items ≡ map number_of places.now) }
+{
+    let mut numbers = Vec::new(alloc);
+    for place in places {
+        numbers.push(number_of(*place))?;
+    }
+    Ok(numbers)
+}
+
+/// The number of the step at this place. There are fewer than 2^32 steps.
+fn number_of(place: usize) -> u32
+    ensures { result ≡ number_of place }
+{
+    if place < 4_294_967_295 {
+        place as u32 + 1
+    } else {
+        4_294_967_295
+    }
+}

@@ -1,0 +1,26 @@
+use Rattle.std.proofs.Common.{refl, subst, List, ℕ}
+use Rattle.std.specs.Io.KnownBytes.{Appends}
+use Rattle.resolvo_text.specs.Device.{TakesFront}
+use Rattle.resolve_run.proofs.Reports.{nothing_written}
+use Rattle.resolve_run.proofs.run.run.Goals as goal
+
+pub returns-in-Ok-write_all-clause-written : goal.returns-in-Ok-write_all-clause-written
+returns-in-Ok-write_all-clause-written g c = (
+  c.in-Ok.answer.text.items,
+  c.in-Ok.ensures.ok,
+  subst (λ (xs : List ℕ). Appends (g.W.Sink.contents c.args.writer.now) (g.W.Sink.contents c.write_all.new.sink) xs) c.as_slice.ensures.value c.in-Ok-write_all.ensures.whole,
+)
+
+pub returns-in-Ok-clause-stopped : goal.returns-in-Ok-clause-stopped
+returns-in-Ok-clause-stopped g c = (
+  c.in-Err-write_all.ensures.fault,
+  (
+    c.in-Ok.answer.outcome,
+    c.in-Ok.answer.text.items,
+    c.in-Ok.ensures.ok,
+    subst (λ (xs : List ℕ). TakesFront (g.W.Sink.contents c.args.writer.now) (g.W.Sink.contents c.write_all.new.sink) xs) c.as_slice.ensures.value c.in-Err-write_all.ensures.front,
+  ),
+)
+
+pub returns-clause-stopped : goal.returns-clause-stopped
+returns-clause-stopped g c = nothing_written c.in-Err.fault _ _ _ c.in-Err.ensures.err refl

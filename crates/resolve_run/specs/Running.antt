@@ -1,0 +1,47 @@
+-- What a run does to its devices: a text is written, or a front of one, or nothing, and why.
+use Rattle.std.specs.Prelude.{◌≡◌, ℕ, List, Option}
+use Rattle.std.specs.Io.KnownBytes.{Appends}
+use Rattle.resolvo_text.specs.Device.{IfKnown, TakesFront}
+use Rattle.resolvo_text.specs.Line.{Line}
+use Rattle.resolvo_text.specs.Texts.{IsGrammatical}
+use Rattle.resolvo_text.specs.declared.lines.ReadFault.TheVariants as read
+use Rattle.resolvo_catalogue_core.specs.Grammar.{IsCatalogueLine, IsRequestLine}
+use Rattle.resolve_check.specs.declared.outcome.Outcome.{Outcome}
+use Rattle.resolve_check.specs.declared.outcome.RunFault.{RunFault}
+use Rattle.resolve_check.specs.declared.outcome.RunFault.TheVariants.{Reader, TooLong, Memory, Ids, Writer}
+use Rattle.resolve_check.specs.Devices.{Device, StopsReading}
+use Rattle.resolve_run.specs.Answer.{IsAnswer}
+
+-- An answer of the two texts, where both are known.
+abbrev pub AnswersTexts : Option (List ℕ) → Option (List ℕ) → Outcome → List ℕ → Type 0
+AnswersTexts catalogue request outcome output = IfKnown catalogue (λ c. IfKnown request (λ r. IsAnswer c r outcome output))
+
+-- The writer took an answer of the two texts, and nothing else.
+abbrev pub Writes : Device → Device → Device → Outcome → Type 0
+Writes catalogue request writer outcome = (output : List ℕ) × AnswersTexts catalogue.before request.before outcome output × Appends writer.before writer.after output
+
+-- Both texts were read to their ends, and have no faulty line.
+pub record AreRead (catalogue request : Device) : Type 0 where
+  pub catalogue_lines : List Line
+  pub request_lines : List Line
+  pub catalogue_read : IfKnown catalogue.before (λ text. IsGrammatical IsCatalogueLine text catalogue_lines)
+  pub request_read : IfKnown request.before (λ text. IsGrammatical (IsRequestLine catalogue_lines) text request_lines)
+
+-- What a search over texts that were read may lack.
+abbrev pub IsLack : RunFault → Type 0
+IsLack Memory = Unit {0}
+IsLack Ids = Unit {0}
+IsLack _ = ⊥
+
+-- Why nothing is written: neither text's fault nor its line is told here.
+abbrev pub StopsBefore : RunFault → Device → Device → Type 0
+StopsBefore Reader catalogue request = StopsReading read.Reader catalogue request
+StopsBefore TooLong catalogue request = StopsReading read.TooLong catalogue request
+StopsBefore Memory catalogue request = Unit {0}
+StopsBefore Ids catalogue request = AreRead catalogue request
+StopsBefore Writer catalogue request = ⊥
+
+-- Why a run ends without its whole text, and what went out: nothing, or after a failed write a front of an answer.
+abbrev pub StopsRun : RunFault → Device → Device → Device → Type 0
+StopsRun Writer catalogue request writer = writer.Failed × ((outcome : Outcome) × (output : List ℕ) × AnswersTexts catalogue.before request.before outcome output × TakesFront writer.before writer.after output)
+StopsRun e catalogue request writer = StopsBefore e catalogue request × (writer.after ≡ writer.before)

@@ -1,0 +1,80 @@
+//! From the bytes of a catalogue and a request to the bytes of a report. `main` and the tests call `run`.
+
+ghost use Rattle.std.specs.Prelude.{◌≡◌, IfOk, IfErr};
+ghost use Rattle.resolvo_text.specs.Device.{DeviceFailed, WriterFailed};
+ghost use Rattle.resolvo_catalogue_core.specs.Grammar.{AreRequestLines};
+ghost use Rattle.resolvo_report.specs.View.{report_of};
+ghost use Rattle.resolve_answer.specs.Wishes.{AreWishesAt};
+ghost use Rattle.resolve_run.specs.Answer.{IsAnswerOfLines, outcome_of};
+ghost use Rattle.resolve_run.specs.Running.{AnswersTexts, IsLack, StopsBefore, StopsRun, Writes};
+ghost use Rattle.resolve_check.specs.Devices.{reader_of, writer_of};
+
+use crate::report::report_text;
+use resolve_answer::answer::report_for;
+use resolve_check::outcome::{Outcome, RunFault};
+use resolve_check::written::{Written, not_read};
+use resolvo_catalogue_core::{Catalogue, Request, Sink, Source, write_all};
+use resolvo_report::Report;
+use std::alloc::Global;
+
+/// How a run ends that writes this report.
+fn outcome_of(report: &Report) -> Outcome
+    ensures { result ≡ outcome_of (report_of report.now) }
+{
+    match report {
+        Report::Install { .. } => Outcome::Installed,
+        Report::Refused { .. } => Outcome::Refused,
+    }
+}
+
+/// The report of grammatical texts.
+fn report(alloc: Global, catalogue: &Catalogue, request: &Request) -> Result<Written, RunFault>
+    ensures ok { IfOk result (λ answer. AreRequestLines catalogue.now request.now.lines → AreWishesAt catalogue.now request.now → IsAnswerOfLines catalogue.now request.now.lines answer.outcome answer.text.items) }
+    ensures err { IfErr result IsLack }
+{
+    let report = report_for(alloc, catalogue, request)?;
+    Ok(Written {
+        outcome: outcome_of(&report),
+        text: report_text(alloc, &report)?,
+    })
+}
+
+/// What is written for two texts. The catalogue is read to its end first; where it is refused the request isn't read.
+fn answer<C: Source, R: Source>(
+    alloc: Global,
+    catalogue: &mut C,
+    request: &mut R,
+) -> Result<Written, RunFault>
+    ensures ok { IfOk result (λ answer. AnswersTexts (C.left catalogue.old) (R.left request.old) answer.outcome answer.text.items) }
+    ensures err { IfErr result (λ e. StopsBefore e (reader_of (C.left catalogue.old) (C.left catalogue.new) (DeviceFailed (C.failures catalogue.old) (C.failures catalogue.new) (C.interruptions catalogue.new))) (reader_of (R.left request.old) (R.left request.new) (DeviceFailed (R.failures request.old) (R.failures request.new) (R.interruptions request.new)))) }
+{
+    let catalogue = match Catalogue::read(alloc, catalogue) {
+        Ok(catalogue) => catalogue,
+        Err(fault) => return not_read(alloc, "catalogue", fault),
+    };
+    let request = match Request::read(alloc, request, &catalogue) {
+        Ok(request) => request,
+        Err(fault) => return not_read(alloc, "request", fault),
+    };
+    report(alloc, &catalogue, &request)
+}
+
+/// Reads the catalogue to its end, then the request, and writes the report, or the first faulty line. The text is whole
+/// before its first byte is written.
+pub fn run<C: Source, R: Source, W: Sink>(
+    alloc: Global,
+    catalogue: &mut C,
+    request: &mut R,
+    writer: &mut W,
+) -> Result<Outcome, RunFault>
+    ensures written { IfOk result (λ outcome. Writes (reader_of (C.left catalogue.old) (C.left catalogue.new) (DeviceFailed (C.failures catalogue.old) (C.failures catalogue.new) (C.interruptions catalogue.new))) (reader_of (R.left request.old) (R.left request.new) (DeviceFailed (R.failures request.old) (R.failures request.new) (R.interruptions request.new))) (writer_of (W.contents writer.old) (W.contents writer.new) (WriterFailed (W.failures writer.old) (W.failures writer.new) (W.interruptions writer.new) (W.empty_writes writer.old) (W.empty_writes writer.new))) outcome) }
+    ensures stopped { IfErr result (λ e. StopsRun e (reader_of (C.left catalogue.old) (C.left catalogue.new) (DeviceFailed (C.failures catalogue.old) (C.failures catalogue.new) (C.interruptions catalogue.new))) (reader_of (R.left request.old) (R.left request.new) (DeviceFailed (R.failures request.old) (R.failures request.new) (R.interruptions request.new))) (writer_of (W.contents writer.old) (W.contents writer.new) (WriterFailed (W.failures writer.old) (W.failures writer.new) (W.interruptions writer.new) (W.empty_writes writer.old) (W.empty_writes writer.new)))) }
+{
+    match answer(alloc, catalogue, request) {
+        Ok(answer) => match write_all(writer, answer.text.as_slice()) {
+            Ok(()) => Ok(answer.outcome),
+            Err(_) => Err(RunFault::Writer),
+        },
+        Err(fault) => Err(fault),
+    }
+}

@@ -1,0 +1,153 @@
+//! A search with its proof. `Solver` keeps what `solve` gives; a program that needs no solver may call it itself.
+ghost use Rattle.std.specs.Prelude.{◌≡◌, Bool, length, IfOk, IfErr};
+ghost use Rattle.resolvo_pool.specs.Cached.{IsCancelledBy};
+ghost use Rattle.resolvo_pool_core.specs.RuleKeeping.{Packages, Rules};
+ghost use Rattle.resolvo_state.specs.declared.registry.Registry.{Registry};
+ghost use Rattle.resolvo_state.specs.Coding.{IsCoding};
+ghost use Rattle.resolvo_state.specs.Registered.{AreTied};
+ghost use Rattle.resolvo_state.specs.Spelled.{Spelled};
+ghost use Rattle.resolvo_encoder.specs.Casing.{waiting_count};
+ghost use Rattle.resolvo_encoder.specs.Encoded.{IsEncoding};
+ghost use Rattle.resolvo_encoder.specs.Steps.{IsBegunEncoding};
+ghost use Rattle.resolvo_proof.specs.Drawn.{AreDrawn, HaveOneSigns};
+ghost use Rattle.resolvo_proof.specs.Places.{HaveOnePlace, AreNamedBy};
+ghost use Rattle.resolvo_proof.specs.Proof.{Proves};
+ghost use Rattle.resolvo_turn.specs.Encoder.{IsRoot};
+ghost use Rattle.resolvo.specs.Wished.{AreCandidates};
+ghost use Rattle.resolvo.specs.Solving.{IsDenial, IsProvable, IsSolved, EndsSo, Counts, HasSteps};
+
+use crate::search::{SearchResult, search};
+use resolvo_encoder::encoder::Encoder;
+use resolvo_packages::package_source::PackageSource;
+use resolvo_pool::cache::CacheFault;
+use resolvo_pool_core::id::{Exact, VersionSetId};
+use resolvo_pool_core::id_map::ScoreMap;
+use resolvo_pool_core::requirement::ConditionalRequirement;
+use resolvo_pool_core::want::R;
+use resolvo_proof::proof::proof_of;
+use resolvo_proof::step::ProofStep;
+use resolvo_state::solver_state::SolverState;
+use resolvo_turn::cdcl::Activity;
+use std::alloc::Global;
+use std::fmt::Debug;
+use std::hash::Hash;
+
+/// What was found, of how many clauses, with how many cases left waiting, and the steps that prove it.
+#[derive(Drop)]
+pub struct Solved<N, S> {
+    pub found: SearchResult<S>,
+    pub clause_count: usize,
+    /// How many cases of conditions still wait.
+    pub deferred_count: usize,
+    pub proof: Vec<ProofStep<N, S>>,
+}
+
+/// The steps of the clauses, and of a clash.
+fn steps_of<N: Copy + Exact + Hash + Debug, S: Copy + Exact + Hash + Debug>(
+    alloc: Global,
+    coding: &SolverState<N, S>,
+    found: &SearchResult<S>,
+) -> R<Vec<ProofStep<N, S>>>
+    requires coding { IsCoding coding.now }
+    requires denial { IsDenial coding.now found.now }
+    ensures proof { IfOk result (λ v. Proves coding.now v.items) }
+    ensures drawn { IfOk result (λ v. (same : S → S → Bool) (p : Packages N S) → Spelled same p coding.now → AreDrawn same p v.items) }
+    ensures signs { IfOk result (λ v. HaveOneSigns v.items) }
+    ensures places { IfOk result (λ v. (r : Registry N) (package_of : S → N) → AreTied r coding.now → AreNamedBy r coding.now package_of → HaveOnePlace v.items) }
+    ensures ends { IfOk result (λ v. EndsSo found.now v.items) }
+    ensures count { IfOk result (λ v. Counts found.now (length coding.now.search.clauses) (length v.items)) }
+    ensures clauses { IfOk result (λ v. HasSteps coding.now found.now v.items) }
+{
+    match found {
+        SearchResult::Chosen { .. } => proof_of(alloc, coding, None),
+        SearchResult::Clash(refusal) => proof_of(alloc, coding, Some(refusal)),
+    }
+}
+
+/// Writes the proof of what was found.
+fn prove<N: Copy + Exact + Hash + Debug + Drop, S: Copy + Exact + Hash + Debug>(
+    alloc: Global,
+    encoding: &Encoder<N, S>,
+    found: SearchResult<S>,
+) -> R<Solved<N, S>>
+    requires { IsProvable encoding.now found }
+    ensures found { IfOk result (λ s. s.found ≡ found) }
+    ensures count { IfOk result (λ s. Counts s.found s.clause_count (length s.proof.items)) }
+    ensures deferred { IfOk result (λ s. s.deferred_count ≡ waiting_count encoding.now) }
+    ensures proof { IfOk result (λ s. Proves encoding.now.coding s.proof.items) }
+    ensures drawn { IfOk result (λ s. (same : S → S → Bool) (p : Packages N S) → Spelled same p encoding.now.coding → AreDrawn same p s.proof.items) }
+    ensures signs { IfOk result (λ s. HaveOneSigns s.proof.items) }
+    ensures places { IfOk result (λ s. (r : Registry N) (package_of : S → N) → AreTied r encoding.now.coding → AreNamedBy r encoding.now.coding package_of → HaveOnePlace s.proof.items) }
+    ensures ends { IfOk result (λ s. EndsSo s.found s.proof.items) }
+    ensures clauses { IfOk result (λ s. HasSteps encoding.now.coding found s.proof.items) }
+{
+    let proof = steps_of(alloc, &encoding.coding, &found)?;
+    Ok(Solved {
+        found,
+        clause_count: encoding.coding.search.clauses.len(),
+        deferred_count: encoding.deferred_count(),
+        proof,
+    })
+}
+
+/// Searches over an encoding that has just begun, and writes the proof.
+fn solve_in<A: PackageSource, C: ScoreMap<A::NameId> + Drop>(
+    alloc: Global,
+    answers: &mut A,
+    encoding: &mut Encoder<A::NameId, A::SolvableId>,
+    activity: Activity,
+    requirements: &[ConditionalRequirement],
+    constraints: &[VersionSetId],
+    wishes: &[A::SolvableId],
+) -> Result<Solved<A::NameId, A::SolvableId>, CacheFault<A::Cancel>>
+    requires { IsBegunEncoding encoding.old }
+    ensures same { answers.new ≡ answers.old }
+    ensures solved { IfOk result (λ s. (root : Rules) → IsRoot requirements.now constraints.now root → AreCandidates A.SolvableId.eq (A.packages answers.old) wishes.now → IsEncoding A.SolvableId.eq (A.packages answers.old) root encoding.old → IsSolved A.SolvableId.eq (A.packages answers.old) (A.orders answers.old) root wishes.now s) }
+    ensures ends { IfOk result (λ s. EndsSo s.found s.proof.items) }
+    ensures count { IfOk result (λ s. Counts s.found s.clause_count (length s.proof.items)) }
+    ensures cancelled { IfErr result (IsCancelledBy (A.may_cancel answers.old)) }
+{
+    match search::<A, C>(
+        alloc,
+        answers,
+        encoding,
+        activity,
+        requirements,
+        constraints,
+        wishes,
+    ) {
+        Ok(found) => {
+            let solved = prove(alloc, encoding, found)?;
+            Ok(solved)
+        }
+        Err(fault) => Err(fault),
+    }
+}
+
+/// Searches for solvables that keep the rules of a root with these requirements and constraints, and of each other, then for the
+/// wishes, in their order, and writes the proof. It stops with `Memory`, `Ids`, or a value with which the answers are cancelled.
+pub fn solve<A: PackageSource, C: ScoreMap<A::NameId> + Drop>(
+    alloc: Global,
+    answers: &mut A,
+    activity: Activity,
+    requirements: &[ConditionalRequirement],
+    constraints: &[VersionSetId],
+    wishes: &[A::SolvableId],
+) -> Result<Solved<A::NameId, A::SolvableId>, CacheFault<A::Cancel>>
+    ensures same { answers.new ≡ answers.old }
+    ensures solved { IfOk result (λ s. (root : Rules) → IsRoot requirements.now constraints.now root → AreCandidates A.SolvableId.eq (A.packages answers.old) wishes.now → IsSolved A.SolvableId.eq (A.packages answers.old) (A.orders answers.old) root wishes.now s) }
+    ensures ends { IfOk result (λ s. EndsSo s.found s.proof.items) }
+    ensures count { IfOk result (λ s. Counts s.found s.clause_count (length s.proof.items)) }
+    ensures cancelled { IfErr result (IsCancelledBy (A.may_cancel answers.old)) }
+{
+    let mut encoding = Encoder::begin(alloc)?;
+    solve_in::<A, C>(
+        alloc,
+        answers,
+        &mut encoding,
+        activity,
+        requirements,
+        constraints,
+        wishes,
+    )
+}

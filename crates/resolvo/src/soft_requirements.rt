@@ -1,0 +1,271 @@
+//! The turns of wishes. Each wish is registered and noted; unless it is chosen already, it is chosen at the first level of its
+//! turn. Where it can't stand beside what was chosen before, a clause tells why, and what was chosen before stands as it did.
+ghost use Rattle.std.specs.Prelude.{◌≡◌, ◌<◌, ◌++◌, ◌∷◌, ℕ, List, [], false, length, Some, IfOk, IfErr, OnOk};
+ghost use Rattle.resolvo_pool.specs.Cached.{IsCancelledBy};
+ghost use Rattle.resolvo_pool_core.specs.RuleKeeping.{Packages, Rules, IsLawful};
+ghost use Rattle.resolvo_store_core.specs.AtMostOne.{IsFrontOf};
+ghost use Rattle.resolvo_store_core.specs.Clauses.{yes};
+ghost use Rattle.resolvo_store_core.specs.Signed.{has};
+ghost use Rattle.resolvo_sat.specs.Entries.{made_true};
+ghost use Rattle.resolvo_sat.specs.State.{history};
+ghost use Rattle.resolvo_encoder.specs.Base.{base_of, IsOpen};
+ghost use Rattle.resolvo_encoder.specs.Encoded.{IsEncoding};
+ghost use Rattle.resolvo_encoder.specs.Steps.{IsBuilt};
+ghost use Rattle.resolvo_encoder.specs.Wishing.{turn_of, IsWish};
+ghost use Rattle.resolvo_turn.specs.Encoder.{IsInOrder, IsRoot, AddsParents};
+ghost use Rattle.resolvo_turn.specs.Turn.{IsRooted, IsTurn};
+ghost use Rattle.resolvo.specs.Turns.{AreAt, AreRight, HaveReasons, IsNextRight, StandSo};
+ghost use Rattle.resolvo.specs.Wished.{AreCandidates, IsCandidate, IsOutcome, IsRefusable, IsTold, IsTurnedDown, KeepsRest, KeepsTrail};
+ghost use Rattle.resolvo.specs.declared.soft_requirements.SoftOutcome.TheVariants.{Refused};
+
+use crate::turns::Turns;
+use resolvo_encoder::encoder::Encoder;
+use resolvo_packages::package_source::{Offered, PackageSource};
+use resolvo_pool::cache::CacheFault;
+use resolvo_pool_core::id::{ClauseId, Exact, VariableId, VersionSetId};
+use resolvo_pool_core::id_map::ScoreMap;
+use resolvo_pool_core::requirement::ConditionalRequirement;
+use resolvo_pool_core::want::R;
+use resolvo_sat::analyze::FinalConflict;
+use resolvo_store_core::literal::Literal;
+use resolvo_turn::cdcl::Activity;
+use resolvo_turn::turn::run_turn;
+use std::alloc::Global;
+use std::fmt::Debug;
+use std::hash::Hash;
+
+/// What the turn of a wish came to.
+#[derive(Debug, Drop)]
+pub enum SoftOutcome {
+    /// It was chosen already.
+    Stood,
+    /// It was chosen, with what it needs.
+    Chosen,
+    /// It can't be chosen beside what was chosen before: this clause tells why.
+    Refused(ClauseId),
+    /// No solvables keep all rules.
+    Clash(FinalConflict),
+}
+
+/// The turn of a noted wish that isn't chosen. What stood before it stands.
+fn run_open<A: PackageSource, C: ScoreMap<A::NameId>>(
+    alloc: Global,
+    answers: &mut A,
+    encoding: &mut Encoder<A::NameId, A::SolvableId>,
+    scores: &mut C,
+    activity: Activity,
+    requirements: &[ConditionalRequirement],
+    constraints: &[VersionSetId],
+    wish: A::SolvableId,
+    variable: VariableId,
+) -> Result<Option<FinalConflict>, CacheFault<A::Cancel>>
+    requires built { IsBuilt encoding.old }
+    requires rooted { IsRooted encoding.old }
+    requires wish { IsWish encoding.old variable }
+    requires open { has (made_true (history encoding.old.coding.search)) (yes variable) ≡ false }
+    ensures same { answers.new ≡ answers.old }
+    ensures stays { OnOk result ((root : Rules) → IsRoot requirements.now constraints.now root → IsInOrder A.SolvableId.eq (A.packages answers.old) (A.orders answers.old) root encoding.old → IsInOrder A.SolvableId.eq (A.packages answers.old) (A.orders answers.old) root encoding.new) }
+    ensures adds { OnOk result (AddsParents (turn_of encoding.old) encoding.new) }
+    ensures turn { OnOk result (IsOpen encoding.new variable × (base_of encoding.new ≡ history encoding.old.coding.search)) }
+    ensures ended { IfOk result (IsTurn A.SolvableId.eq (Some variable) encoding.new) }
+    ensures built { OnOk result (IsBuilt encoding.new) }
+    ensures cancelled { IfErr result (IsCancelledBy (A.may_cancel answers.old)) }
+{
+    encoding.begin_turn();
+    encoding.add_parent(wish)?;
+    let refusal = run_turn(
+        alloc,
+        answers,
+        encoding,
+        scores,
+        activity,
+        requirements,
+        constraints,
+        Some(variable),
+    )?;
+    Ok(refusal)
+}
+
+/// Takes the refused turn of the last wish back, and adds the clause that tells why.
+fn refuse<N: Copy + Exact + Hash + Debug, S: Copy + Exact + Hash + Debug>(
+    encoding: &mut Encoder<N, S>,
+    refusal: FinalConflict,
+) -> R<ClauseId>
+    requires built { IsBuilt encoding.old }
+    requires refused { IsRefusable encoding.old refusal }
+    requires some { 0 < length refusal.literals.items }
+    ensures stays { OnOk result ((p : Packages N S) (root : Rules) → IsLawful p → IsEncoding S.eq p root encoding.old → IsEncoding S.eq p root encoding.new) }
+    ensures rest { OnOk result (KeepsRest encoding.old encoding.new) }
+    ensures refused { IfOk result (λ clause. IsTurnedDown refusal encoding.old encoding.new (Refused clause)) }
+    ensures built { OnOk result (IsBuilt encoding.new) }
+{
+    encoding.undo_turn();
+    let clause = encoding.learn_refusal(refusal)?;
+    encoding.drop_soft();
+    Ok(clause)
+}
+
+/// What the refused turn of the last wish came to: without literals the refusal is one of the whole problem.
+fn refuse_turn<N: Copy + Exact + Hash + Debug, S: Copy + Exact + Hash + Debug>(
+    encoding: &mut Encoder<N, S>,
+    refusal: FinalConflict,
+) -> R<SoftOutcome>
+    requires built { IsBuilt encoding.old }
+    requires refused { IsRefusable encoding.old refusal }
+    ensures stays { OnOk result ((p : Packages N S) (root : Rules) → IsLawful p → IsEncoding S.eq p root encoding.old → IsEncoding S.eq p root encoding.new) }
+    ensures rest { OnOk result (KeepsRest encoding.old encoding.new) }
+    ensures turned { IfOk result (IsTurnedDown refusal encoding.old encoding.new) }
+    ensures built { OnOk result (IsBuilt encoding.new) }
+{
+    if refusal.literals.is_empty() {
+        return Ok(SoftOutcome::Clash(refusal));
+    }
+    let clause = refuse(encoding, refusal)?;
+    Ok(SoftOutcome::Refused(clause))
+}
+
+/// The turn of a wish.
+pub fn run_soft_requirement<A: PackageSource, C: ScoreMap<A::NameId>>(
+    alloc: Global,
+    answers: &mut A,
+    encoding: &mut Encoder<A::NameId, A::SolvableId>,
+    scores: &mut C,
+    activity: Activity,
+    requirements: &[ConditionalRequirement],
+    constraints: &[VersionSetId],
+    wish: A::SolvableId,
+) -> Result<SoftOutcome, CacheFault<A::Cancel>>
+    requires built { IsBuilt encoding.old }
+    requires rooted { IsRooted encoding.old }
+    ensures same { answers.new ≡ answers.old }
+    ensures stays { IfOk result (λ w. (root : Rules) → IsRoot requirements.now constraints.now root → IsCandidate A.SolvableId.eq (A.packages answers.old) wish → IsInOrder A.SolvableId.eq (A.packages answers.old) (A.orders answers.old) root encoding.old → IsInOrder A.SolvableId.eq (A.packages answers.old) (A.orders answers.old) root encoding.new × IsTold A.SolvableId.eq (A.packages answers.old) root encoding.old encoding.new wish w) }
+    ensures outcome { IfOk result (IsOutcome A.SolvableId.eq wish encoding.old encoding.new) }
+    ensures keeps { OnOk result (KeepsTrail encoding.old encoding.new) }
+    ensures built { OnOk result (IsBuilt encoding.new) }
+    ensures cancelled { IfErr result (IsCancelledBy (A.may_cancel answers.old)) }
+{
+    let name = answers.package(wish);
+    let offered = Offered {
+        solvable: wish,
+        name,
+    };
+    let variable = encoding.note_soft(alloc, offered)?;
+    if encoding
+        .coding
+        .search
+        .is_true(Literal::new(variable, false))
+    {
+        return Ok(SoftOutcome::Stood);
+    }
+    let turn = run_open(
+        alloc,
+        answers,
+        encoding,
+        scores,
+        activity,
+        requirements,
+        constraints,
+        wish,
+        variable,
+    )?;
+    match turn {
+        None => Ok(SoftOutcome::Chosen),
+        Some(refusal) => {
+            let wished = refuse_turn(encoding, refusal)?;
+            Ok(wished)
+        }
+    }
+}
+
+/// The turn of the next wish, which is noted with what was chosen in it; or why no solvables keep all rules.
+fn run_next<A: PackageSource, C: ScoreMap<A::NameId>>(
+    alloc: Global,
+    answers: &mut A,
+    encoding: &mut Encoder<A::NameId, A::SolvableId>,
+    scores: &mut C,
+    activity: Activity,
+    requirements: &[ConditionalRequirement],
+    constraints: &[VersionSetId],
+    wish: A::SolvableId,
+    turns: &mut Turns<A::SolvableId>,
+) -> Result<Option<FinalConflict>, CacheFault<A::Cancel>>
+    requires built { IsBuilt encoding.old }
+    requires rooted { IsRooted encoding.old }
+    requires at { AreAt encoding.old turns.old }
+    ensures same { answers.new ≡ answers.old }
+    ensures right { IfOk result (λ o. (root : Rules) (first : ℕ) (done : List A.SolvableId) → IsRoot requirements.now constraints.now root → IsCandidate A.SolvableId.eq (A.packages answers.old) wish → IsInOrder A.SolvableId.eq (A.packages answers.old) (A.orders answers.old) root encoding.old → AreRight A.SolvableId.eq (A.packages answers.old) root first done turns.old → HaveReasons encoding.old.coding turns.old → IsInOrder A.SolvableId.eq (A.packages answers.old) (A.orders answers.old) root encoding.new × IsNextRight A.SolvableId.eq (A.packages answers.old) root first (done ++ wish ∷ []) encoding.new turns.new o) }
+    ensures stands { IfOk result (StandSo encoding.new turns.new) }
+    ensures front { OnOk result (IsFrontOf turns.old.chosen.keys turns.new.chosen.keys) }
+    ensures rooted { OnOk result (IsRooted encoding.new) }
+    ensures built { OnOk result (IsBuilt encoding.new) }
+    ensures cancelled { IfErr result (IsCancelledBy (A.may_cancel answers.old)) }
+{
+    let begin = turns.chosen.len();
+    let wished = run_soft_requirement(
+        alloc,
+        answers,
+        encoding,
+        scores,
+        activity,
+        requirements,
+        constraints,
+        wish,
+    )?;
+    match wished {
+        SoftOutcome::Clash(refusal) => Ok(Some(refusal)),
+        SoftOutcome::Stood => {
+            turns.record(wish, begin, SoftOutcome::Stood)?;
+            Ok(None)
+        }
+        SoftOutcome::Refused(clause) => {
+            turns.record(wish, begin, SoftOutcome::Refused(clause))?;
+            Ok(None)
+        }
+        SoftOutcome::Chosen => {
+            turns.list(alloc, encoding)?;
+            turns.record(wish, begin, SoftOutcome::Chosen)?;
+            Ok(None)
+        }
+    }
+}
+
+/// The turns of these wishes, one after another; or why no solvables keep all rules.
+pub fn run_soft_requirements<A: PackageSource, C: ScoreMap<A::NameId>>(
+    alloc: Global,
+    answers: &mut A,
+    encoding: &mut Encoder<A::NameId, A::SolvableId>,
+    scores: &mut C,
+    activity: Activity,
+    requirements: &[ConditionalRequirement],
+    constraints: &[VersionSetId],
+    wishes: &[A::SolvableId],
+    turns: &mut Turns<A::SolvableId>,
+) -> Result<Option<FinalConflict>, CacheFault<A::Cancel>>
+    requires built { IsBuilt encoding.old }
+    requires rooted { IsRooted encoding.old }
+    requires at { AreAt encoding.old turns.old }
+    ensures same { answers.new ≡ answers.old }
+    ensures right { IfOk result (λ o. (root : Rules) (first : ℕ) → IsRoot requirements.now constraints.now root → AreCandidates A.SolvableId.eq (A.packages answers.old) wishes.now → IsInOrder A.SolvableId.eq (A.packages answers.old) (A.orders answers.old) root encoding.old → AreRight A.SolvableId.eq (A.packages answers.old) root first [] turns.old → HaveReasons encoding.old.coding turns.old → IsInOrder A.SolvableId.eq (A.packages answers.old) (A.orders answers.old) root encoding.new × IsNextRight A.SolvableId.eq (A.packages answers.old) root first wishes.now encoding.new turns.new o) }
+    ensures stands { IfOk result (StandSo encoding.new turns.new) }
+    ensures front { OnOk result (IsFrontOf turns.old.chosen.keys turns.new.chosen.keys) }
+    ensures built { OnOk result (IsBuilt encoding.new) }
+    ensures cancelled { IfErr result (IsCancelledBy (A.may_cancel answers.old)) }
+{
+    for wish in wishes {
+        let clash = run_next(
+            alloc,
+            answers,
+            encoding,
+            scores,
+            activity,
+            requirements,
+            constraints,
+            *wish,
+            turns,
+        )?;
+        if let Some(refusal) = clash {
+            return Ok(Some(refusal));
+        }
+    }
+    Ok(None)
+}

@@ -1,7 +1,0 @@
-use Rattle.std.proofs.Common.{◌≡◌, ◌++◌, take, map}
-use Rattle.resolvo_answers.specs.Barring.{excluded_by}
-use Rattle.resolvo_answers.proofs.answers.add_excluded.Given as goal
-
--- what is excluded, so far, stands behind the others
-abbrev pub invariant-loop-one : goal.invariant-loop-one
-invariant-loop-one g l = l.barred.items ≡ l.initial.barred.items ++ map excluded_by (take l.one-index l.excluded)

@@ -1,3 +1,0 @@
-pub mod Favoured
-pub mod HintedLemmas
-pub mod KeptLemmas

@@ -1,6 +1,0 @@
-use Rattle.std.proofs.Common.{◌∙◌, sym}
-use Rattle.resolvo_cache.proofs.KeptLemmas.{among-lookup}
-use Rattle.resolvo_cache.proofs.cache.SolverCache.has_dependencies.Goals as goal
-
-pub returns : goal.returns
-returns g c = rw (← c.self.view_is) (c.contains_key.ensures ∙ sym (among-lookup g.D.SolvableId.PartialEq.eq c.self.inside.dependencies.entries c.args.solvable))

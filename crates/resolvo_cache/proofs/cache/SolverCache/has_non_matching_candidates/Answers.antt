@@ -1,7 +1,0 @@
-use Rattle.std.proofs.Common.{◌∙◌, sym}
-use Rattle.resolvo_cache.proofs.KeptLemmas.{among-lookup}
-use Rattle.resolvo_cache.specs.Cached.{same_set}
-use Rattle.resolvo_cache.proofs.cache.SolverCache.has_non_matching_candidates.Goals as goal
-
-pub returns : goal.returns
-returns g c = rw (← c.self.view_is) (c.contains_key.ensures ∙ sym (among-lookup same_set c.self.inside.non_matching.entries c.args.version_set))

@@ -1,4 +1,0 @@
-pub mod Cached
-pub mod Fault
-pub mod Hinted
-pub mod Keyed

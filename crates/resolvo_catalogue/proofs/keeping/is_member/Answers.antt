@@ -1,6 +1,0 @@
-use Rattle.std.proofs.Common.{◌∙◌}
-use Rattle.resolvo_catalogue.proofs.Members.{is_told}
-use Rattle.resolvo_catalogue.proofs.keeping.is_member.Goals as goal
-
-pub returns : goal.returns
-returns c = λ versions v distinct at. c.is_told.ensures ∙ is_told versions distinct c.args.number.0 v at c.args.set.now

@@ -1,5 +1,0 @@
-use Rattle.resolvo_catalogue.proofs.GrammarLaws as laws
-use Rattle.resolvo_catalogue.proofs.laws.catalogue_has_no_fault.Goals as goal
-
-pub returns : goal.returns
-returns c = laws.catalogue_fault

@@ -1,5 +1,0 @@
-use Rattle.resolvo_catalogue.proofs.GrammarLaws as laws
-use Rattle.resolvo_catalogue.proofs.laws.text_is_one_request.Goals as goal
-
-pub returns : goal.returns
-returns c = laws.one_request

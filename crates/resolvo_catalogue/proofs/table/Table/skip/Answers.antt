@@ -1,5 +1,0 @@
-use Rattle.resolvo_catalogue.proofs.TableSteps.{skip}
-use Rattle.resolvo_catalogue.proofs.table.Table.skip.Goals as goal
-
-pub returns-clause-ok : goal.returns-clause-ok
-returns-clause-ok c = skip c.args.self.now (record c.args.self.now { said = c.push.new.self }) c.requires.table c.in_ok-push.ensures

@@ -1,0 +1,159 @@
+-- The ids of packages, SPECs, lists of alternatives, conditions and words, and which text an id stands for.
+use Rattle.std.specs.Prelude.{◌≡◌, ◌⊎◌, ◌<◌, ◌+◌, ℕ, suc, ◌==◌, if◌then◌else◌, ⊤, length, slice_index_or, Bool, List, [], ◌∷◌, map, Option, Some, None, slice_get}
+use Rattle.resolvo_text.specs.Line.{Version, Spec, Cond, Is, And, Or}
+use Rattle.resolvo_pool_core.specs.declared.id.DenseId.{DenseId}
+use Rattle.resolvo_pool_core.specs.declared.id.NameTag.{NameTag}
+use Rattle.resolvo_pool_core.specs.declared.id.SolvableTag.{SolvableTag}
+use Rattle.resolvo_pool_core.specs.declared.id.StringId.{StringId}
+use Rattle.resolvo_pool_core.specs.declared.id.VersionSetId.{VersionSetId}
+use Rattle.resolvo_pool_core.specs.declared.id.ConditionId.{ConditionId}
+use Rattle.resolvo_pool_core.specs.declared.pool.Solvable.{Solvable}
+use Rattle.resolvo_pool_core.specs.declared.condition.Condition.{Condition}
+use Rattle.resolvo_pool_core.specs.declared.condition.Condition.TheVariants.{Binary, Requirement}
+use Rattle.resolvo_pool_core.specs.declared.condition.LogicalOperator.TheVariants as joins
+use Rattle.resolvo_pool_core.specs.declared.requirement.Requirement as needs
+use Rattle.resolvo_pool_core.specs.declared.requirement.Requirement.TheVariants.{Single, Union}
+use Rattle.resolvo_pool_core.specs.declared.requirement.ConditionalRequirement.{ConditionalRequirement}
+use Rattle.resolvo_catalogue.specs.declared.id_table.Numbers.{Numbers}
+use Rattle.resolvo_pool_core.specs.Interning.{Interned, AreBelow}
+use Rattle.std.specs.Global.{Global, Vec}
+use Rattle.std.specs.String.{string_bytes}
+use Rattle.std.specs.declared.string.String.{String}
+
+abbrev pub NameId : Type 0
+NameId = DenseId NameTag ℕ
+
+abbrev pub SolvableId : Type 0
+SolvableId = DenseId SolvableTag ℕ
+
+abbrev pub solvable_id : ℕ → SolvableId
+solvable_id n = record { raw = n; tag = record {} }
+
+-- What was interned: a value's place is the number of its id.
+pub record Ids : Type 0 where
+  pub names : List (List ℕ)
+  pub words : List (List ℕ)
+  pub solvables : List (Solvable ℕ)
+  pub version_sets : List (NameId × Numbers)
+  pub unions : List (List VersionSetId)
+  pub conditions : List Condition
+
+-- the ids of a pool and of lists of version sets
+abbrev pub ids_of : Interned ℕ Numbers (String Global) → List (Vec VersionSetId) → Ids
+ids_of pool unions = record {
+  names = map string_bytes pool.names;
+  words = pool.strings;
+  solvables = pool.solvables;
+  version_sets = pool.version_sets;
+  unions = map (λ u. u.items) unions;
+  conditions = pool.conditions;
+}
+
+-- Two lists have the same length, and each element of the first stands for that of the second at its place.
+abbrev pub AreEach : {X Y : Type 0} → (X → Y → Type 0) → List X → List Y → Type 0
+AreEach R [] [] = ⊤
+AreEach R [] (y ∷ ys) = ⊥
+AreEach R (x ∷ xs) [] = ⊥
+AreEach R (x ∷ xs) (y ∷ ys) = R x y × AreEach R xs ys
+
+-- ---- which text an id stands for
+
+module _ (ids : Ids) where
+  abbrev pub IsPackage : NameId → List ℕ → Type 0
+  IsPackage n name = slice_get ids.names n.raw ≡ Some name
+
+  abbrev pub IsWord : StringId → List ℕ → Type 0
+  IsWord w word = slice_get ids.words w.0 ≡ Some word
+
+  -- The id is of the SPEC's package with its span.
+  abbrev pub IsSpec : VersionSetId → Spec → Type 0
+  IsSpec v s = (n : NameId) × (slice_get ids.version_sets v.0 ≡ Some (n, record { 0 = s.span })) × IsPackage n s.name
+
+  -- One SPEC is an id of its own, a list of them a union.
+  abbrev pub AreAlternatives : needs.Requirement → List Spec → Type 0
+  AreAlternatives (Single v) alternatives = AreEach IsSpec (v ∷ []) alternatives
+  AreAlternatives (Union u) alternatives = (vs : List VersionSetId) × (slice_get ids.unions u.0 ≡ Some vs) × AreEach IsSpec vs alternatives
+
+  abbrev pub IsCondition : ConditionId → Cond → Type 0
+  IsCondition c (Is s) = (v : VersionSetId) × (slice_get ids.conditions c.0 ≡ Some (Requirement v)) × IsSpec v s
+  IsCondition c (And a b) = (i j : ConditionId) × (slice_get ids.conditions c.0 ≡ Some (Binary joins.And i j)) × IsCondition i a × IsCondition j b
+  IsCondition c (Or a b) = (i j : ConditionId) × (slice_get ids.conditions c.0 ≡ Some (Binary joins.Or i j)) × IsCondition i a × IsCondition j b
+
+  abbrev pub IsConditionOf : Option ConditionId → Option Cond → Type 0
+  IsConditionOf None None = ⊤
+  IsConditionOf None (Some condition) = ⊥
+  IsConditionOf (Some c) None = ⊥
+  IsConditionOf (Some c) (Some condition) = IsCondition c condition
+
+  -- The requirement is that of a need with these alternatives under this condition.
+  abbrev pub IsNeed : ConditionalRequirement → List Spec × Option Cond → Type 0
+  IsNeed need said = AreAlternatives need.requirement said.0 × IsConditionOf need.condition said.1
+
+-- ---- more is interned
+
+-- What stands in the first list stands in the second at its place.
+abbrev pub Extends : {X : Type 0} → List X → List X → Type 0
+Extends {X} xs ys = (k : ℕ) (x : X) → slice_get xs k ≡ Some x → slice_get ys k ≡ Some x
+
+-- No earlier id has changed.
+pub record Grows (old new : Ids) : Type 0 where
+  pub names : Extends old.names new.names
+  pub words : Extends old.words new.words
+  pub solvables : Extends old.solvables new.solvables
+  pub version_sets : Extends old.version_sets new.version_sets
+  pub unions : Extends old.unions new.unions
+  pub conditions : Extends old.conditions new.conditions
+
+-- No earlier id has changed, and there is no other solvable.
+pub record Interns (old new : Ids) : Type 0 where
+  pub grows : Grows old new
+  pub same : new.solvables ≡ old.solvables
+
+-- The place was there, and there are as many now; or it is the end, and there is one more.
+abbrev pub IsPlaced : {X : Type 0} → List X → List X → ℕ → Type 0
+IsPlaced old new place = ((place < length old) × (length new ≡ length old)) ⊎ ((place ≡ length old) × (length new ≡ length old + 1))
+
+-- No value has two ids.
+abbrev pub AreOnce : {X : Type 0} → List X → Type 0
+AreOnce {X} xs = (i j : ℕ) (x : X) → slice_get xs i ≡ Some x → slice_get xs j ≡ Some x → i ≡ j
+
+-- No list has one element alone.
+abbrev pub AreSeveral : {X : Type 0} → List (List X) → Type 0
+AreSeveral {X} lists = (k : ℕ) (x : X) → slice_get lists k ≡ Some (x ∷ []) → ⊥
+
+-- No value has two ids, no union is of one version set, and the operands of a condition have smaller ids than it.
+pub record AreSound (ids : Ids) : Type 0 where
+  pub below : AreBelow ids.conditions
+  pub names : AreOnce ids.names
+  pub version_sets : AreOnce ids.version_sets
+  pub unions : AreOnce ids.unions
+  pub several : AreSeveral ids.unions
+
+-- ---- the versions
+
+-- The solvable is this version.
+abbrev pub IsSolvable : Ids → Solvable ℕ → Version → Type 0
+IsSolvable ids s v = (s.version ≡ v.number) × IsPackage ids s.name v.name
+
+-- The solvables are these versions, in order.
+abbrev pub AreVersions : Ids → List Version → Type 0
+AreVersions ids versions = AreEach (IsSolvable ids) ids.solvables versions
+
+-- the list of a number, if there is one
+abbrev pub list_at : {X : Type 0} → List (Vec X) → ℕ → List X
+list_at lists n = slice_index_or (map (λ v. v.items) lists) n []
+
+-- ---- the solvables of a package
+
+-- the places of the elements that pass the test, the first of them being the given one
+abbrev pub places_from : {X : Type 0} → (X → Bool) → ℕ → List X → List ℕ
+places_from test at [] = []
+places_from test at (x ∷ xs) = if test x then at ∷ places_from test (suc at) xs else places_from test (suc at) xs
+
+-- the solvables of a package, in the order of their ids
+abbrev pub solvables_of : Ids → ℕ → List SolvableId
+solvables_of ids name = map solvable_id (places_from (λ x. x.name.raw == name) 0 ids.solvables)
+
+-- The lists are the solvables of each package.
+abbrev pub AreByPackage : Ids → List (Vec SolvableId) → Type 0
+AreByPackage ids lists = (name : ℕ) → list_at lists name ≡ solvables_of ids name

@@ -1,0 +1,22 @@
+-- What lines say of a version, but for its needs and limits: whether it is locked, favoured, excluded.
+use Rattle.std.specs.Prelude.{◌≡◌, ℕ, List, Option, Some, None, Contains, slice_get, length}
+use Rattle.std.specs.Bool.{Decides}
+use Rattle.resolvo_text.specs.Line.{Version, Line, Lock, Favour, Exclude}
+use Rattle.resolvo_pool_core.specs.declared.id.StringId.{StringId}
+use Rattle.resolvo_catalogue.specs.Ids.{Ids, IsWord}
+use Rattle.resolvo_catalogue.specs.declared.candidate_flags.CandidateFlags.{CandidateFlags}
+
+-- The word is that of a line that excludes the version, or there is no such line.
+abbrev pub IsExclusion : Ids → List Line → Version → Option StringId → Type 0
+IsExclusion ids lines v None = (word : List ℕ) → Contains lines (Exclude v word) → ⊥
+IsExclusion ids lines v (Some w) = (word : List ℕ) × Contains lines (Exclude v word) × IsWord ids w word
+
+-- The marks of a version are those that these lines give it, favours being among lines of their own.
+pub record IsMarked (ids : Ids) (lines favours : List Line) (v : Version) (m : CandidateFlags) : Type 0 where
+  pub locked : Decides m.locked (Contains lines (Lock v))
+  pub favored : Decides m.favored (Contains favours (Favour v))
+  pub excluded : IsExclusion ids lines v m.excluded
+
+pub record AreMarked (ids : Ids) (lines favours : List Line) (versions : List Version) (marks : List CandidateFlags) : Type 0 where
+  pub as_many : length marks ≡ length versions
+  pub each : (k : ℕ) (m : CandidateFlags) (v : Version) → slice_get marks k ≡ Some m → slice_get versions k ≡ Some v → IsMarked ids lines favours v m

@@ -1,0 +1,101 @@
+-- What a provider over a catalogue answers.
+use Rattle.std.specs.Prelude.{◌-◌, ◌==◌, ◌&&◌, ℕ, Bool, false, List, [], ◌∷◌, Option, Some, None, slice_index_or, option_map, option_to_list}
+use Rattle.std.specs.List.{find, flat_map}
+use Rattle.std.specs.List.Sorted.{IsPermutation, IsNonDecreasingBy}
+use Rattle.resolvo_text.specs.Matching.{is_in_span}
+use Rattle.resolvo_pool_core.specs.declared.id.VersionSetId.{VersionSetId}
+use Rattle.resolvo_pool_core.specs.declared.id.StringId.{StringId}
+use Rattle.resolvo_pool_core.specs.Provider.{Listing, Hint, none, all, Needs, known, unknown}
+use Rattle.resolvo_pool_core.specs.RuleKeeping.{Packages}
+use Rattle.resolvo_catalogue.specs.Ids.{Ids, NameId, SolvableId, solvables_of}
+use Rattle.resolvo_catalogue.specs.Known.{solvable_at, name_of, set_at, members_of, condition_at}
+use Rattle.resolvo_catalogue.specs.Told.{VersionDependencies}
+use Rattle.resolvo_catalogue.specs.declared.candidate_flags.CandidateFlags.{CandidateFlags}
+use Rattle.resolvo_catalogue.specs.declared.provider.Hint as hints
+use Rattle.resolvo_catalogue.specs.declared.provider.Hint.TheVariants as hint
+
+-- What a provider keeps: what was interned, and of each version what its lines need and which marks it has.
+pub record Provider : Type 0 where
+  pub ids : Ids
+  pub told : List VersionDependencies
+  pub marks : List CandidateFlags
+  pub hint : hints.Hint
+
+-- ---- matching
+
+-- The solvable is of the version set's package, and its number lies in the span.
+abbrev pub matches : Provider → VersionSetId → SolvableId → Bool
+matches p v s = (name_of p.ids s).raw == (set_at p.ids v).0.raw && is_in_span (set_at p.ids v).1.0 (solvable_at p.ids s).version
+
+-- ---- candidates
+
+abbrev pub no_marks : CandidateFlags
+no_marks = record { locked = false; favored = false; excluded = None }
+
+abbrev pub marks_at : Provider → SolvableId → CandidateFlags
+marks_at p s = slice_index_or p.marks s.raw no_marks
+
+abbrev pub hint_of : {S : Type 0} → hints.Hint → Hint S
+hint_of hint.None = none
+hint_of hint.All = all
+
+-- the solvable with its reason, if it is excluded
+abbrev pub exclusion_of : Provider → SolvableId → List (SolvableId × StringId)
+exclusion_of p s = option_to_list (option_map (λ w. (s, w)) (marks_at p s).excluded)
+
+abbrev pub listing_of : Provider → List SolvableId → Listing SolvableId
+listing_of p candidates = record {
+  candidates = candidates;
+  favored = find (λ s. (marks_at p s).favored) candidates;
+  locked = find (λ s. (marks_at p s).locked) candidates;
+  hint = hint_of p.hint;
+  excluded = flat_map (exclusion_of p) candidates;
+}
+
+-- There are no candidates of a package without a version.
+abbrev pub listing_if_any : Provider → List SolvableId → Option (Listing SolvableId)
+listing_if_any p [] = None
+listing_if_any p (s ∷ ss) = Some (listing_of p (s ∷ ss))
+
+abbrev pub candidates_of : Provider → NameId → Option (Listing SolvableId)
+candidates_of p n = listing_if_any p (solvables_of p.ids n.raw)
+
+-- ---- dependencies
+
+-- an unknown version's needs aren't handed out
+abbrev pub needs_of : VersionDependencies → Option StringId → Needs
+needs_of told (Some why) = unknown why
+needs_of told None = known told.requirements told.constrains
+
+abbrev pub no_lines : VersionDependencies
+no_lines = record { requirements = []; constrains = []; unknown = None }
+
+abbrev pub told_at : Provider → SolvableId → VersionDependencies
+told_at p s = slice_index_or p.told s.raw no_lines
+
+abbrev pub dependencies_of : Provider → SolvableId → Needs
+dependencies_of p s = needs_of (told_at p s) (told_at p s).unknown
+
+-- ---- sorting
+
+-- how far a version is below the newest that there may be
+abbrev pub age_of : Provider → SolvableId → ℕ
+age_of p s = 4294967295 - (solvable_at p.ids s).version
+
+-- The second list is the first with the newest in front.
+pub record IsSorted (p : Provider) (xs ys : List SolvableId) : Type 0 where
+  pub permutation : IsPermutation xs ys
+  pub newest_first : IsNonDecreasingBy (age_of p) ys
+
+-- ---- its ghost members in one record
+
+abbrev pub packages_of : Provider → Packages NameId SolvableId
+packages_of p = record {
+  package_of = name_of p.ids;
+  set_package = λ v. (set_at p.ids v).0;
+  members_of = members_of p.ids;
+  condition_of = condition_at p.ids;
+  candidates_of = candidates_of p;
+  matches = matches p;
+  dependencies_of = dependencies_of p;
+}

@@ -1,0 +1,91 @@
+//! What the lines of a catalogue say of each version, but for its needs and limits: whether it is locked,
+//! favoured, or excluded.
+
+ghost use Rattle.std.specs.Prelude.{◌≡◌, ◌<◌, ◌++◌, ◌∷◌, [], IfOk, OnOk, List, Option, Some, length, slice_get};
+ghost use Rattle.resolvo_text.specs.Line.{Version, Line, Favour};
+ghost use Rattle.resolvo_catalogue_core.specs.Questions.{States};
+ghost use Rattle.resolvo_catalogue_core.specs.Listed.{listed, AreDistinct};
+ghost use Rattle.resolvo_catalogue.specs.Ids.{Ids, Interns};
+ghost use Rattle.resolvo_catalogue.specs.Marked.{AreMarked};
+
+use crate::id_table::IdTable;
+use resolvo_catalogue_core::{Catalogue, Rule, VersionNo};
+use resolvo_pool_core::id::StringId;
+use resolvo_pool_core::want::R;
+use std::alloc::Global;
+
+/// What lines say of one version.
+#[derive(Clone, Copy, Debug)]
+pub struct CandidateFlags {
+    pub locked: bool,
+    pub favored: bool,
+    /// The reason why it is excluded.
+    pub excluded: Option<StringId>,
+}
+
+const UNMARKED: CandidateFlags = CandidateFlags {
+    locked: false,
+    favored: false,
+    excluded: None,
+};
+
+/// The marks of each version, by its number.
+pub fn marks_of(alloc: Global, ids: &mut IdTable, catalogue: &Catalogue) -> R<Vec<CandidateFlags>>
+    ensures marked { IfOk result (λ marks. AreMarked ids.new catalogue.now catalogue.now (listed catalogue.now) marks.items) }
+    ensures interns { Interns ids.old ids.new }
+{
+    let mut marks = unmarked(alloc, catalogue.versions().len())?;
+    for line in 0..catalogue.line_count() {
+        if let Some(rule) = catalogue.rule(line + 1) {
+            mark(ids, &mut marks, rule)?;
+        }
+    }
+    for (_, version) in catalogue.favours() {
+        favour(&mut marks, *version);
+    }
+    Ok(marks)
+}
+
+/// No marks of so many versions.
+fn unmarked(alloc: Global, count: usize) -> R<Vec<CandidateFlags>>
+    ensures { IfOk result (λ marks. (ids : Ids) (versions : List Version) → length versions ≡ count → AreMarked ids [] [] versions marks.items) }
+{
+    let mut marks = Vec::new(alloc);
+    for _ in 0..count {
+        marks.push(UNMARKED)?;
+    }
+    Ok(marks)
+}
+
+/// Adds what a rule says of a version that it names. A need, a limit and an unknown mark name none.
+fn mark(ids: &mut IdTable, marks: &mut Vec<CandidateFlags>, rule: &Rule) -> R<()>
+    ensures marked { OnOk result ((versions : List Version) (owner : Option Version) (line : Line) (lines favours : List Line) → AreDistinct versions → States versions rule.now owner line → AreMarked ids.old lines favours versions marks.old.items → AreMarked ids.new (lines ++ line ∷ []) favours versions marks.new.items) }
+    ensures interns { Interns ids.old ids.new }
+{
+    match rule {
+        Rule::Lock { version } => {
+            if let Some(found) = marks.get_mut(version.0 as usize) {
+                found.locked = true;
+            }
+        }
+        Rule::Exclude { version, word } => {
+            let word = ids.word(word)?;
+            if let Some(found) = marks.get_mut(version.0 as usize) {
+                found.excluded = Some(word);
+            }
+        }
+        Rule::Needs { .. } => {}
+        Rule::Limits { .. } => {}
+        Rule::Unknown { .. } => {}
+    }
+    Ok(())
+}
+
+/// Marks a version as favoured.
+fn favour(marks: &mut Vec<CandidateFlags>, version: VersionNo)
+    ensures { (ids : Ids) (versions : List Version) (lines favours : List Line) (v : Version) → AreDistinct versions → slice_get versions version.0 ≡ Some v → AreMarked ids lines favours versions marks.old.items → AreMarked ids lines (favours ++ Favour v ∷ []) versions marks.new.items }
+{
+    if let Some(found) = marks.get_mut(version.0 as usize) {
+        found.favored = true;
+    }
+}

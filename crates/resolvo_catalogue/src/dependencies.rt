@@ -1,0 +1,96 @@
+//! What lines need and limit, as ids. The lines of a version are told so, and those of a request.
+
+ghost use Rattle.std.specs.Prelude.{◌≡◌, ◌++◌, ◌∷◌, [], IfOk, OnOk, List, Option};
+
+use crate::id_table::IdTable;
+use resolvo_catalogue_core::{Catalogue, Request, Rule};
+use resolvo_pool_core::id::{StringId, VersionSetId};
+use resolvo_pool_core::requirement::ConditionalRequirement;
+use resolvo_pool_core::want::R;
+use std::alloc::Global;
+
+/// What lines need and limit, in their order.
+#[derive(Drop)]
+pub struct VersionDependencies {
+    pub requirements: Vec<ConditionalRequirement>,
+    pub constrains: Vec<VersionSetId>,
+    /// Why it is unknown.
+    pub unknown: Option<StringId>,
+}
+
+impl VersionDependencies {
+    ghost use Rattle.resolvo_text.specs.Line.{Version, Line};
+    ghost use Rattle.resolvo_catalogue_core.specs.Questions.{States};
+    ghost use Rattle.resolvo_catalogue.specs.Ids.{Interns};
+    ghost use Rattle.resolvo_catalogue.specs.Told.{Tells, told_of, lines_at};
+
+    fn new(alloc: Global) -> VersionDependencies
+        ensures { told_of result ≡ record { requirements = []; constrains = []; unknown = None } }
+    {
+        VersionDependencies {
+            requirements: Vec::new(alloc),
+            constrains: Vec::new(alloc),
+            unknown: None,
+        }
+    }
+
+    /// Adds what a rule says. A lock and an exclusion say nothing here.
+    fn add(&mut self, ids: &mut IdTable, rule: &Rule) -> R<()>
+        ensures tells { OnOk result ((versions : List Version) (owner : Option Version) (line : Line) (lines : List Line) → States versions rule.now owner line → Tells ids.old lines (told_of self.old) → Tells ids.new (lines ++ line ∷ []) (told_of self.new)) }
+        ensures interns { Interns ids.old ids.new }
+    {
+        match rule {
+            Rule::Needs {
+                alternatives,
+                condition,
+                ..
+            } => {
+                let need = ids.need(alternatives, condition.as_ref())?;
+                self.requirements.push(need)?;
+            }
+            Rule::Limits { spec, .. } => {
+                let version_set = ids.spec(spec)?;
+                self.constrains.push(version_set)?;
+            }
+            Rule::Unknown { word, .. } => {
+                let word = ids.word(word)?;
+                self.unknown = Some(word);
+            }
+            Rule::Lock { .. } | Rule::Exclude { .. } => {}
+        }
+        Ok(())
+    }
+
+    /// What these lines of a catalogue say.
+    pub fn of_lines(
+        alloc: Global,
+        ids: &mut IdTable,
+        catalogue: &Catalogue,
+        lines: &[u32],
+    ) -> R<VersionDependencies>
+        ensures tells { IfOk result (λ told. Tells ids.new (lines_at catalogue.now lines.now) (told_of told)) }
+        ensures interns { Interns ids.old ids.new }
+    {
+        let mut told = VersionDependencies::new(alloc);
+        for line in lines {
+            if let Some(rule) = catalogue.rule(*line) {
+                told.add(ids, rule)?;
+            }
+        }
+        Ok(told)
+    }
+
+    /// What a request says.
+    pub fn of_request(alloc: Global, ids: &mut IdTable, request: &Request) -> R<VersionDependencies>
+        ensures tells { IfOk result (λ told. Tells ids.new request.now.lines (told_of told)) }
+        ensures interns { Interns ids.old ids.new }
+    {
+        let mut told = VersionDependencies::new(alloc);
+        for line in 0..request.line_count() {
+            if let Some(rule) = request.rule(line + 1) {
+                told.add(ids, rule)?;
+            }
+        }
+        Ok(told)
+    }
+}

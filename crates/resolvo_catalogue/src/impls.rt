@@ -1,0 +1,285 @@
+//! What the solver asks of the provider, and the laws that it rests on.
+
+ghost use Rattle.std.specs.Prelude.{◌≡◌, ◌==◌, IfOk, option_copied};
+ghost use Rattle.std.specs.List.{find, flat_map};
+ghost use Rattle.resolvo_catalogue.specs.Laws.{operands_below, candidates_named};
+ghost use Rattle.resolvo_catalogue.specs.Ids.{solvables_of};
+ghost use Rattle.resolvo_catalogue.specs.Provider.{matches, marks_at, exclusion_of};
+ghost use Rattle.resolvo_catalogue.specs.Known.{solvable_at, name_of, set_at, members_of, condition_at, name_text, solvable_text, merged_text, span_text, word_text};
+
+use crate::provider::{CatalogueProvider, Hint};
+use resolvo_catalogue_core::{Span, is_in_span};
+use resolvo_pool_core::condition::Condition;
+use resolvo_pool_core::id::{
+    ConditionId, DenseIndex, NameId, SolvableId, StringId, VersionSetId, VersionSetUnionId,
+};
+use resolvo_pool_core::provider::{
+    Candidates, Dependencies, DependencyProvider, HintDependenciesAvailable, Interner,
+    KnownDependencies,
+};
+use resolvo_pool_core::want::R;
+use std::alloc::Global;
+use std::fmt;
+
+/// What a provider over a catalogue cancels with: nothing, since it never does.
+#[derive(Clone, Copy)]
+pub enum Never {}
+
+impl Interner for CatalogueProvider {
+    type NameId = NameId;
+
+    type SolvableId = SolvableId;
+
+    ghost name_of_solvable = { λ p s. name_of p.ids s };
+
+    ghost name_of_version_set = { λ p v. (set_at p.ids v).0 };
+
+    ghost members_of = { λ p u. members_of p.ids u };
+
+    ghost condition_of = { λ p c. condition_at p.ids c };
+
+    ghost solvable_text = { λ p s. solvable_text p.ids s };
+
+    ghost solvable_name_text = { λ p s. name_text p.ids (name_of p.ids s) };
+
+    ghost merged_text = { λ p xs. merged_text p.ids xs };
+
+    ghost name_text = { λ p n. name_text p.ids n };
+
+    ghost version_set_text = { λ p v. span_text (set_at p.ids v).1.0 };
+
+    ghost string_text = { λ p w. word_text p.ids w };
+
+    ghost operands_below = { λ p c. operands_below p.ids c };
+
+    fn display_solvable<W: fmt::Write>(
+        &self,
+        solvable: SolvableId,
+        f: &mut fmt::Formatter<W>,
+    ) -> fmt::Result {
+        let name = self.ids.name(self.ids.package_of(solvable));
+        let number = self.ids.number_of(solvable);
+        write!(f, "{name} {number}")
+    }
+
+    fn display_solvable_name<W: fmt::Write>(
+        &self,
+        solvable: SolvableId,
+        f: &mut fmt::Formatter<W>,
+    ) -> fmt::Result {
+        f.write_str(self.ids.name(self.ids.package_of(solvable)))
+    }
+
+    fn display_merged_solvables<W: fmt::Write>(
+        &self,
+        solvables: &[SolvableId],
+        f: &mut fmt::Formatter<W>,
+    ) -> fmt::Result {
+        let Some((first, others)) = solvables.split_first() else {
+            return Ok(());
+        };
+        self.display_solvable(*first, f)?;
+        for other in others {
+            let number = self.ids.number_of(*other);
+            write!(f, " | {number}")?;
+        }
+        Ok(())
+    }
+
+    fn display_name<W: fmt::Write>(&self, name: NameId, f: &mut fmt::Formatter<W>) -> fmt::Result {
+        f.write_str(self.ids.name(name))
+    }
+
+    fn display_version_set<W: fmt::Write>(
+        &self,
+        version_set: VersionSetId,
+        f: &mut fmt::Formatter<W>,
+    ) -> fmt::Result {
+        match self.ids.span(version_set) {
+            Span::Any => f.write_str("*"),
+            Span::One(number) => write!(f, "{number}"),
+            Span::Range(low, high) => write!(f, "{low}..{high}"),
+        }
+    }
+
+    fn display_string<W: fmt::Write>(
+        &self,
+        string: StringId,
+        f: &mut fmt::Formatter<W>,
+    ) -> fmt::Result {
+        f.write_str(self.ids.text(string))
+    }
+
+    fn version_set_name(&self, version_set: VersionSetId) -> NameId {
+        self.ids.set_package(version_set)
+    }
+
+    fn solvable_name(&self, solvable: SolvableId) -> NameId {
+        self.ids.package_of(solvable)
+    }
+
+    fn version_sets_in_union(&self, union: VersionSetUnionId) -> &[VersionSetId] {
+        self.ids.members(union)
+    }
+
+    fn resolve_condition(&self, condition: ConditionId) -> Condition {
+        self.ids.meaning(condition)
+    }
+}
+
+impl DependencyProvider for CatalogueProvider {
+    ghost use Rattle.std.specs.Prelude.{⊤};
+    ghost use Rattle.resolvo_catalogue.specs.Provider.{candidates_of, dependencies_of, IsSorted};
+
+    type Cancel = Never;
+
+    ghost matches = { λ p v s. matches p v s };
+
+    ghost candidates_of = { λ p n. candidates_of p n };
+
+    ghost dependencies_of = { λ p s. dependencies_of p s };
+
+    ghost sorts = { λ p xs ys. IsSorted p xs ys };
+
+    ghost may_cancel = { λ p c. ⊥ };
+
+    ghost sorts_permute = { λ p xs ys h. h.permutation };
+
+    ghost candidates_named = { λ p n. candidates_named p n };
+
+    fn filter_candidates(
+        &self,
+        alloc: Global,
+        candidates: &[SolvableId],
+        version_set: VersionSetId,
+        inverse: bool,
+    ) -> R<Vec<SolvableId>> {
+        let mut found = Vec::new(alloc);
+        for candidate in candidates {
+            if self.matches(version_set, *candidate) != inverse {
+                found.push(*candidate)?;
+            }
+        }
+        Ok(found)
+    }
+
+    fn get_candidates(&self, alloc: Global, name: NameId) -> R<Option<Candidates<SolvableId>>> {
+        let versions = self.versions_of(name);
+        if versions.is_empty() {
+            return Ok(None);
+        }
+        Ok(Some(Candidates {
+            candidates: Vec::from_slice(alloc, versions)?,
+            favored: self.favored_of(versions),
+            locked: self.locked_of(versions),
+            hint_dependencies_available: match self.hint {
+                Hint::None => HintDependenciesAvailable::None,
+                Hint::All => HintDependenciesAvailable::All,
+            },
+            excluded: self.excluded_of(alloc, versions)?,
+        }))
+    }
+
+    fn sort_candidates(&self, alloc: Global, candidates: &mut [SolvableId]) -> R<()> {
+        candidates.sort_by_key(alloc, |s| u32::MAX - self.ids.number_of(*s))?;
+        Ok(())
+    }
+
+    fn get_dependencies(&self, alloc: Global, solvable: SolvableId) -> R<Dependencies> {
+        let Some(told) = self.told.get(solvable.to_index()) else {
+            return Ok(Dependencies::Known(KnownDependencies {
+                requirements: Vec::new(alloc),
+                constrains: Vec::new(alloc),
+            }));
+        };
+        match told.unknown {
+            Some(why) => Ok(Dependencies::Unknown(why)),
+            None => Ok(Dependencies::Known(KnownDependencies {
+                requirements: Vec::from_slice(alloc, told.requirements.as_slice())?,
+                constrains: Vec::from_slice(alloc, told.constrains.as_slice())?,
+            })),
+        }
+    }
+}
+
+impl CatalogueProvider {
+    /// Whether the solvable is of the version set's package, and its number lies in the span.
+    fn matches(&self, version_set: VersionSetId, solvable: SolvableId) -> bool
+        ensures { result ≡ matches self.now version_set solvable }
+    {
+        self.ids.package_of(solvable) == self.ids.set_package(version_set)
+            && is_in_span(self.ids.span(version_set), self.ids.number_of(solvable))
+    }
+
+    /// The versions of a package, in the order of their lines.
+    fn versions_of(&self, name: NameId) -> &[SolvableId]
+        ensures { result.now ≡ solvables_of self.now.ids name.raw }
+    {
+        match self.packages.get(name.to_index()) {
+            Some(versions) => versions.as_slice(),
+            None => &[],
+        }
+    }
+
+    fn favored_of(&self, versions: &[SolvableId]) -> Option<SolvableId>
+        ensures { result ≡ find (λ s. (marks_at self.now s).favored) versions.now }
+    {
+        for version in versions {
+            if self.is_favored(*version) {
+                return Some(*version);
+            }
+        }
+        None
+    }
+
+    fn locked_of(&self, versions: &[SolvableId]) -> Option<SolvableId>
+        ensures { result ≡ find (λ s. (marks_at self.now s).locked) versions.now }
+    {
+        for version in versions {
+            if self.is_locked(*version) {
+                return Some(*version);
+            }
+        }
+        None
+    }
+
+    fn is_favored(&self, solvable: SolvableId) -> bool
+        ensures { result ≡ (marks_at self.now solvable).favored }
+    {
+        match self.marks.get(solvable.to_index()) {
+            Some(marks) => marks.favored,
+            None => false,
+        }
+    }
+
+    fn is_locked(&self, solvable: SolvableId) -> bool
+        ensures { result ≡ (marks_at self.now solvable).locked }
+    {
+        match self.marks.get(solvable.to_index()) {
+            Some(marks) => marks.locked,
+            None => false,
+        }
+    }
+
+    fn exclusion(&self, solvable: SolvableId) -> Option<StringId>
+        ensures { result ≡ (marks_at self.now solvable).excluded }
+    {
+        match self.marks.get(solvable.to_index()) {
+            Some(marks) => marks.excluded,
+            None => None,
+        }
+    }
+
+    /// Those that are excluded, each with the reason.
+    fn excluded_of(&self, alloc: Global, versions: &[SolvableId]) -> R<Vec<(SolvableId, StringId)>>
+        ensures { IfOk result (λ v. v.items ≡ flat_map (exclusion_of self.now) versions.now) }
+    {
+        let mut excluded = Vec::new(alloc);
+        for version in versions {
+            if let Some(why) = self.exclusion(*version) {
+                excluded.push((*version, why))?;
+            }
+        }
+        Ok(excluded)
+    }
+}

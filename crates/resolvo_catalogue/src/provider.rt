@@ -1,0 +1,247 @@
+//! The provider over a catalogue: made once from the lines, then asked by the solver.
+//! Its model is what was interned and what the lines say of each version (`specs/Provider.antt`).
+
+ghost use Rattle.std.specs.Prelude.{◌≡◌, [], map, IfOk, IsOkUnless};
+ghost use Rattle.resolvo_pool_core.specs.declared.want.Want.TheVariants.{Memory};
+ghost use Rattle.resolvo_catalogue.specs.declared.provider.Hint.{Hint};
+ghost use Rattle.resolvo_catalogue.specs.Ids.{AreByPackage, Interns};
+ghost use Rattle.resolvo_catalogue.specs.Told.{told_of};
+ghost use Rattle.resolvo_catalogue.specs.Over.{AreTold, IsOver};
+
+use crate::candidate_flags::{CandidateFlags, marks_of};
+use crate::dependencies::VersionDependencies;
+use crate::id_table::IdTable;
+use crate::versions::list_versions;
+use resolvo_catalogue_core::{Catalogue, Request, Spec, VersionNo};
+use resolvo_pool_core::id::{NameId, SolvableId, StringId, VersionSetId};
+use resolvo_pool_core::requirement::{ConditionalRequirement, Requirement};
+use resolvo_pool_core::want::{R, Want};
+use std::alloc::Global;
+use std::marker::Model;
+
+/// For which candidates of a package the dependencies are said to be at hand.
+#[derive(Clone, Copy, Debug, PartialEq, Eq)]
+pub enum Hint {
+    None,
+    All,
+}
+
+/// A catalogue as a provider.
+pub struct CatalogueProvider {
+    pub(crate) ids: IdTable,
+    /// The versions of each package, by its id, in the order of their lines.
+    pub(crate) packages: Vec<Vec<SolvableId>>,
+    pub(crate) told: Vec<VersionDependencies>,
+    pub(crate) marks: Vec<CandidateFlags>,
+    pub(crate) hint: Hint,
+    alloc: Global,
+}
+
+// split for the prover: what owns one calls this drop, and doesn't drop each field at each exit
+impl Drop for CatalogueProvider {
+    fn drop(self) {
+        let CatalogueProvider {
+            ids: _,
+            packages: _,
+            told: _,
+            marks: _,
+            hint: _,
+            alloc: _,
+        } = self;
+    }
+}
+
+impl Model for CatalogueProvider {
+    ghost use Rattle.std.specs.Prelude.{map};
+    ghost use Rattle.resolvo_catalogue.specs.Told.{told_of};
+    ghost use Rattle.resolvo_catalogue.specs.Ids.{AreByPackage};
+    ghost use Rattle.resolvo_catalogue.specs.Provider.{Provider};
+
+    ghost Value = { Provider };
+
+    ghost view = { λ p. record { ids = p.ids; told = map told_of p.told.items; marks = p.marks.items; hint = p.hint } };
+
+    ghost invariant = { λ p. AreByPackage p.ids p.packages.items };
+}
+
+/// What a catalogue says of its versions, as ids.
+#[derive(Drop)]
+struct Tables {
+    packages: Vec<Vec<SolvableId>>,
+    told: Vec<VersionDependencies>,
+    marks: Vec<CandidateFlags>,
+}
+
+/// What a request says, as ids of a provider.
+#[derive(Drop)]
+pub struct RequestIds {
+    pub requirements: Vec<ConditionalRequirement>,
+    pub constraints: Vec<VersionSetId>,
+    /// The wished versions, in the order of their lines.
+    pub wishes: Vec<SolvableId>,
+}
+
+impl CatalogueProvider {
+    ghost use Rattle.std.specs.Prelude.{List};
+    ghost use Rattle.resolvo_text.specs.Line as says;
+    ghost use Rattle.resolvo_text.specs.View.{spec_of, specs_of};
+    ghost use Rattle.resolvo_catalogue.specs.Ids.{IsSpec, AreAlternatives, solvable_id};
+    ghost use Rattle.resolvo_catalogue.specs.Known.{spec_at, alternatives_at, name_text, word_text};
+    ghost use Rattle.resolvo_catalogue.specs.Over.{AreAsked, ChangesIds};
+    ghost use Rattle.resolvo_catalogue.specs.Keeping.{KeepsAlike, KeepsAlikeExempt, root_of};
+    ghost use Rattle.resolvo_catalogue_core.specs.Grammar.{AreRequestLines};
+
+    /// The provider of a catalogue.
+    pub fn new(alloc: Global, catalogue: &Catalogue, hint: Hint) -> R<CatalogueProvider>
+        ensures over { IfOk result (λ p. IsOver catalogue.now p) }
+        ensures hint { IfOk result (λ p. p.hint ≡ hint) }
+    {
+        let mut ids = IdTable::new(alloc);
+        let Tables {
+            packages,
+            told,
+            marks,
+        } = tables_of(alloc, &mut ids, catalogue)?;
+        Ok(CatalogueProvider {
+            ids,
+            packages,
+            told,
+            marks,
+            hint,
+            alloc,
+        })
+    }
+
+    /// What a request over the catalogue says, as ids. Where it is refused, more may be interned.
+    /// A set keeps the rules of the provider and of these ids exactly if it keeps those of the two texts.
+    pub fn intern_request(&mut self, request: &Request) -> R<RequestIds>
+        ensures asked { IfOk result (λ asked. AreAsked self.new.ids request.now asked) }
+        ensures interns { ChangesIds self.old self.new }
+        ensures over { (catalogue : List says.Line) → IsOver catalogue self.old → IsOver catalogue self.new }
+        ensures rules { IfOk result (λ asked. (catalogue : List says.Line) → IsOver catalogue self.old → AreRequestLines catalogue request.now.lines → KeepsAlike catalogue request.now.lines self.new (root_of asked)) }
+        ensures exempt { IfOk result (λ asked. (catalogue : List says.Line) → IsOver catalogue self.old → AreRequestLines catalogue request.now.lines → KeepsAlikeExempt catalogue request.now.lines self.new (root_of asked) asked.wishes.items) }
+    {
+        let told = VersionDependencies::of_request(self.alloc, &mut self.ids, request);
+        self.ids.ids_are_once();
+        let told = told?;
+        let mut wishes = Vec::new(self.alloc);
+        for (_, version) in request.wishes() {
+            wishes.push(SolvableId::from_raw(version.0))?;
+        }
+        let VersionDependencies {
+            requirements,
+            constrains,
+            ..
+        } = told;
+        Ok(RequestIds {
+            requirements,
+            constraints: constrains,
+            wishes,
+        })
+    }
+
+    /// The number in the catalogue of a solvable's version.
+    pub fn version_of(&self, solvable: SolvableId) -> VersionNo
+        ensures { result.0 ≡ solvable.raw }
+    {
+        VersionNo(solvable.into_raw())
+    }
+
+    /// The solvable of a version, by its number in the catalogue.
+    pub fn solvable_of(&self, version: VersionNo) -> SolvableId
+        ensures { result ≡ solvable_id version.0 }
+    {
+        SolvableId::from_raw(version.0)
+    }
+
+    /// The SPEC of a version set.
+    #[tactic(auto, using(crate::proofs::Covering::spec_stands))]
+    pub fn spec_of(&self, version_set: VersionSetId) -> R<Spec>
+        ensures spec { IfOk result (λ found. spec_of found ≡ spec_at self.now.ids version_set) }
+        ensures stands { (s : says.Spec) → IsSpec self.now.ids version_set s → spec_at self.now.ids version_set ≡ s }
+        ensures refusal { IsOkUnless result Memory }
+    {
+        let name = self.ids.name(self.ids.set_package(version_set));
+        Ok(Spec {
+            name: String::from_str(self.alloc, name)?,
+            span: self.ids.span(version_set),
+        })
+    }
+
+    /// The alternatives of a requirement, in order.
+    #[tactic(auto, using(crate::proofs::Covering::alternatives_stand))]
+    pub fn alternatives_of(&self, requirement: Requirement) -> R<Vec<Spec>>
+        ensures specs { IfOk result (λ found. specs_of found.items ≡ alternatives_at self.now.ids requirement) }
+        ensures stands { (ss : List says.Spec) → AreAlternatives self.now.ids requirement ss → alternatives_at self.now.ids requirement ≡ ss }
+        ensures refusal { IsOkUnless result Memory }
+    {
+        match requirement {
+            Requirement::Single(version_set) => self.specs_of(&[version_set]),
+            Requirement::Union(union) => self.specs_of(self.ids.members(union)),
+        }
+    }
+
+    /// The name of a package.
+    pub fn name_of(&self, name: NameId) -> &str
+        ensures { result.now ≡ name_text self.now.ids name }
+    {
+        self.ids.name(name)
+    }
+
+    /// The word of a reason.
+    pub fn word_of(&self, word: StringId) -> &str
+        ensures { result.now ≡ word_text self.now.ids word }
+    {
+        self.ids.text(word)
+    }
+
+    fn specs_of(&self, version_sets: &[VersionSetId]) -> R<Vec<Spec>>
+        ensures specs { IfOk result (λ found. specs_of found.items ≡ map (spec_at self.now.ids) version_sets.now) }
+        ensures refusal { IsOkUnless result Memory }
+    {
+        let mut specs = Vec::new(self.alloc);
+        for version_set in version_sets {
+            specs.push(self.spec_of(*version_set)?)?;
+        }
+        Ok(specs)
+    }
+}
+
+/// Interns all that a catalogue says, where no name and no version was interned yet.
+fn tables_of(alloc: Global, ids: &mut IdTable, catalogue: &Catalogue) -> R<Tables>
+    requires names { ids.old.names ≡ [] }
+    requires none { ids.old.solvables ≡ [] }
+    ensures over { IfOk result (λ t. (hint : Hint) → IsOver catalogue.now (record { ids = ids.new; told = map told_of t.told.items; marks = t.marks.items; hint = hint })) }
+    ensures packages { IfOk result (λ t. AreByPackage ids.new t.packages.items) }
+{
+    catalogue.lines_are_in_place();
+    let packages = list_versions(alloc, ids, catalogue.versions())?;
+    let told = lines_told(alloc, ids, catalogue)?;
+    let marks = marks_of(alloc, ids, catalogue)?;
+    ids.ids_are_once();
+    Ok(Tables {
+        packages,
+        told,
+        marks,
+    })
+}
+
+/// What the lines of each version say, by its number.
+fn lines_told(
+    alloc: Global,
+    ids: &mut IdTable,
+    catalogue: &Catalogue,
+) -> R<Vec<VersionDependencies>>
+    ensures told { IfOk result (λ told. AreTold ids.new catalogue.now (map told_of told.items)) }
+    ensures interns { Interns ids.old ids.new }
+{
+    let mut told = Vec::new(alloc);
+    let Ok(count) = u32::try_from(catalogue.versions().len()) else {
+        return Err(Want::Ids);
+    };
+    for number in 0..count {
+        let lines = catalogue.lines_of(VersionNo(number));
+        told.push(VersionDependencies::of_lines(alloc, ids, catalogue, lines)?)?;
+    }
+    Ok(told)
+}

@@ -1,0 +1,153 @@
+-- What a table tells of the lines that it keeps.
+use Rattle.std.proofs.Common.{◌≡◌, inl, inr, ℕ, zero, suc, true, false, List, [], ◌∷◌, ◌++◌, take, Option, Some, None, refl, sym, ap, subst, ◌∙◌, option_map, arith}
+use Rattle.std.specs.Prelude.{slice_get, option_and_then, IfSome, IfNone, IfOk, Result, Ok, Err}
+use Rattle.std.specs.Option.{option_map_or}
+use Rattle.std.proofs.lemmas.Option.{slice_get-get_or, slice_get-map, slice_get_within}
+use Rattle.std.proofs.lemmas.List.{take-append-le}
+use Rattle.std.proofs.Math.Seq.{take-append_seam}
+use Rattle.resolvo_catalogue_core.proofs.Pushed.{get_push}
+use Rattle.resolvo_text.specs.Matching.{Set}
+use Rattle.resolvo_text.specs.Line.{Version, Line, Skipped, Listed, Needs, Limits, Unknown, Lock, Favour, Exclude, Wish}
+use Rattle.resolvo_catalogue_core.specs.Grammar.{line_at, owner_of, IsCatalogueLine, AreCatalogueLines}
+use Rattle.resolvo_catalogue_core.specs.Rules.{obeys, keeps, keeps_in_request}
+use Rattle.resolvo_catalogue_core.specs.Listed.{listed, AreDistinct}
+use Rattle.resolvo_catalogue_core.specs.Questions.{States, is_rule, cases_of_line}
+use Rattle.resolvo_catalogue_core.specs.Table.{nth, nowhere, told, rule_line, IsRuleOf, Keeps, IsTable, lines_in, versions_in, saids_in}
+use Rattle.resolvo_catalogue_core.specs.declared.rule.Rule.{Rule}
+use Rattle.resolvo_catalogue_core.specs.declared.rule.Rule.TheVariants as rule
+use Rattle.resolvo_catalogue_core.specs.Held.{said_at, rule_of}
+use Rattle.resolvo_catalogue_core.specs.declared.line_table.LineKind.{LineKind}
+use Rattle.resolvo_catalogue_core.specs.declared.line_table.LineKind.TheVariants as said
+use Rattle.resolvo_catalogue_core.specs.declared.table.Table.{Table}
+use Rattle.resolvo_catalogue_core.proofs.TableSteps.{one_number}
+
+-- the table's facts, of the lines by another name
+pub kept : (t : Table) (lines : List Line) → lines_in t ≡ lines → IsTable t → Keeps t (listed lines) lines
+kept t lines is keeps = subst (λ (ls : List Line). Keeps t (listed ls) ls) is (subst (λ (vs : List Version). Keeps t vs (lines_in t)) (sym keeps.listing) keeps)
+
+pub distinct : (t : Table) → IsTable t → AreDistinct (versions_in t)
+distinct t keeps v j k = one_number t (versions_in t) (lines_in t) keeps v j k
+
+-- ---- rules
+
+states_line : (vs : List Version) (owner : Option Version) (r : Rule) → IsRuleOf vs owner r → States vs r owner (rule_line vs r)
+states_line vs owner (rule.Needs of ss c) h = (refl, h)
+states_line vs owner (rule.Limits of s) h = (refl, h)
+states_line vs owner (rule.Unknown of w) h = (refl, h)
+states_line vs owner (rule.Lock k) h = (nth vs k, slice_get-get_or vs k.0 nowhere h, refl)
+states_line vs owner (rule.Exclude k w) h = (nth vs k, slice_get-get_or vs k.0 nowhere h, refl)
+
+-- where a rule is kept of a line, the line states it
+rule_stated : (t : Table) → IsTable t → (n : ℕ) (r : Rule) → said_at (saids_in t) n ≡ Some (said.Rule r) → (l : Line) × (line_at (lines_in t) n ≡ Some l) × States (versions_in t) r (owner_of (lines_in t) n) l
+rule_stated t keeps zero r at = absurd cc
+rule_stated t keeps (suc n) r at =
+    let vs = versions_in t in
+    (rule_line vs r, slice_get-map (told vs) (saids_in t) n ∙ ap (λ (o : Option LineKind). option_map (told vs) o) at, states_line vs (owner_of (lines_in t) (suc n)) r (keeps.saids n (said.Rule r) at))
+
+stated_by : (o : Option LineKind) (r : Rule) → option_and_then rule_of o ≡ Some r → o ≡ Some (said.Rule r)
+stated_by None r e = absurd cc
+stated_by (Some (said.Rule x)) r e = cc
+stated_by (Some said.Nothing) r e = absurd cc
+stated_by (Some (said.Listed v)) r e = absurd cc
+stated_by (Some (said.Favour v)) r e = absurd cc
+
+pub rule_states : (t : Table) (lines : List Line) → lines_in t ≡ lines → IsTable t → (n : ℕ) (r : Rule) → option_and_then rule_of (said_at (saids_in t) n) ≡ Some r → (l : Line) × (line_at lines n ≡ Some l) × States (listed lines) r (owner_of lines n) l
+rule_states t lines is keeps n r e =
+    let h = rule_stated t keeps n r (stated_by (said_at (saids_in t) n) r e) in
+    subst (λ (ls : List Line). (l : Line) × (line_at ls n ≡ Some l) × States (listed ls) r (owner_of ls n) l) is (subst (λ (vs : List Version). (l : Line) × (line_at (lines_in t) n ≡ Some l) × States vs r (owner_of (lines_in t) n) l) (sym keeps.listing) h)
+
+no_rule_line : (vs : List Version) (s : LineKind) → rule_of s ≡ None → is_rule (told vs s) ≡ false
+no_rule_line vs said.Nothing e = refl
+no_rule_line vs (said.Listed v) e = refl
+no_rule_line vs (said.Favour v) e = refl
+no_rule_line vs (said.Rule r) e = absurd cc
+
+-- where no rule is kept of a line, the line states none
+pub no_rule : (t : Table) (lines : List Line) → lines_in t ≡ lines → (n : ℕ) → option_and_then rule_of (said_at (saids_in t) n) ≡ None → (l : Line) → line_at lines n ≡ Some l → is_rule l ≡ false
+no_rule t lines is zero e l at = absurd cc
+no_rule t lines is (suc n) e l at = from_said (slice_get (saids_in t) n) e (sym (slice_get-map (told (versions_in t)) (saids_in t) n) ∙ ap (λ (ls : List Line). slice_get ls n) is ∙ at)
+  where
+    from_said : (o : Option LineKind) → option_and_then rule_of o ≡ None → option_map (told (versions_in t)) o ≡ Some l → is_rule l ≡ false
+    from_said None e at = absurd cc
+    from_said (Some s) e at = let same : told (versions_in t) s ≡ l = cc in subst (λ (x : Line). is_rule x ≡ false) same (no_rule_line (versions_in t) s e)
+
+-- ---- a set that keeps a line
+
+obeys_no_rule : (owner : Option Version) (l : Line) (set : Set) → is_rule l ≡ false → obeys owner l set ≡ true
+obeys_no_rule owner Skipped set e = refl
+obeys_no_rule owner (Listed v) set e = refl
+obeys_no_rule owner (Favour v) set e = refl
+obeys_no_rule owner (Wish v) set e = refl
+obeys_no_rule owner (Needs ss c) set e = absurd cc
+obeys_no_rule owner (Limits s) set e = absurd cc
+obeys_no_rule owner (Unknown r) set e = absurd cc
+obeys_no_rule owner (Lock v) set e = absurd cc
+obeys_no_rule owner (Exclude v r) set e = absurd cc
+
+pub keeps_no_rule : (lines : List Line) (n : ℕ) (set : Set) → ((l : Line) → line_at lines n ≡ Some l → is_rule l ≡ false) → true ≡ keeps lines n set
+keeps_no_rule lines n set not = from_line (line_at lines n) not
+  where
+    from_line : (o : Option Line) → ((l : Line) → o ≡ Some l → is_rule l ≡ false) → true ≡ option_map_or (λ l. obeys (owner_of lines n) l set) o true
+    from_line None not = refl
+    from_line (Some l) not = sym (obeys_no_rule (owner_of lines n) l set (not l refl))
+
+pub keeps_rule : (lines : List Line) (n : ℕ) (set : Set) (l : Line) → line_at lines n ≡ Some l → obeys (owner_of lines n) l set ≡ keeps lines n set
+keeps_rule lines n set l at = rw at refl
+
+-- ---- options
+
+pub some_then : {X : Type 0} {P : X → Type 0} (o : Option X) → ((x : X) → o ≡ Some x → P x) → IfSome o P
+some_then None h = tt
+some_then (Some x) h = h x refl
+
+pub none_then : {X : Type 0} {P : Type 0} (o : Option X) → (o ≡ None → P) → IfNone o P
+none_then None h = h refl
+none_then (Some x) h = tt
+
+pub distinct_listed : (t : Table) (lines : List Line) → lines_in t ≡ lines → IsTable t → AreDistinct (listed lines)
+distinct_listed t lines is keeps = subst (λ (ls : List Line). AreDistinct (listed ls)) is (subst (λ (vs : List Version). AreDistinct vs) (sym keeps.listing) (distinct t keeps))
+
+-- ---- cases
+
+pub no_cases : (lines : List Line) (n : ℕ) → ((l : Line) → line_at lines n ≡ Some l → is_rule l ≡ false) → [] ≡ cases_of_line (line_at lines n)
+no_cases lines n not = from_line (line_at lines n) not
+  where
+    from_line : (o : Option Line) → ((l : Line) → o ≡ Some l → is_rule l ≡ false) → [] ≡ cases_of_line o
+    from_line None not = refl
+    from_line (Some Skipped) not = refl
+    from_line (Some (Listed v)) not = refl
+    from_line (Some (Limits s)) not = refl
+    from_line (Some (Unknown r)) not = refl
+    from_line (Some (Lock v)) not = refl
+    from_line (Some (Favour v)) not = refl
+    from_line (Some (Exclude v r)) not = refl
+    from_line (Some (Wish v)) not = refl
+    from_line (Some (Needs ss c)) not = let rule = not (Needs ss c) refl in absurd cc
+
+-- ---- the lines that were read
+
+pub no_lines : (lines : List Line) → lines ≡ [] → AreCatalogueLines lines
+no_lines lines none = rw none (λ n l at. absurd (not_there n l at))
+  where
+    not_there : (n : ℕ) (l : Line) → slice_get [] n ≡ Some l → ⊥
+    not_there n l e = cc
+
+pub lines_push : (lines more : List Line) (text : List ℕ) (line : Line) → AreCatalogueLines lines → IsCatalogueLine lines text line → more ≡ lines ++ line ∷ [] → AreCatalogueLines more
+lines_push lines more text line are new is = rw is (λ n l at.
+    elim (get_push lines line l n at) [
+      | inl old ↦ subst (λ (ls : List Line). (text : List ℕ) × IsCatalogueLine ls text l) (sym (take-append-le n lines (line ∷ []) (omega (arith, slice_get_within lines n l old)))) (are n l old)
+      | inr here ↦
+          let above : take n (lines ++ line ∷ []) ≡ lines = rw here.0 (take-append_seam lines (line ∷ [])) in
+          subst (λ (ls : List Line). (text : List ℕ) × IsCatalogueLine ls text l) (sym above) (text, subst (λ (x : Line). IsCatalogueLine lines text x) here.1 new)
+    ])
+
+pub request_keeps_no_rule : (lines : List Line) (n : ℕ) (set : Set) → ((l : Line) → line_at lines n ≡ Some l → is_rule l ≡ false) → true ≡ keeps_in_request lines n set
+request_keeps_no_rule lines n set not = from_line (line_at lines n) not
+  where
+    from_line : (o : Option Line) → ((l : Line) → o ≡ Some l → is_rule l ≡ false) → true ≡ option_map_or (λ l. obeys None l set) o true
+    from_line None not = refl
+    from_line (Some l) not = sym (obeys_no_rule None l set (not l refl))
+
+pub ok_map : {X E : Type 0} {P Q : X → Type 0} (r : Result X E) → IfOk r P → ((x : X) → P x → Q x) → IfOk r Q
+ok_map (Ok x) h f = f x h
+ok_map (Err e) h f = tt

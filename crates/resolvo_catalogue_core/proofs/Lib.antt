@@ -1,0 +1,12 @@
+pub mod Pushed
+pub mod BelongingLemmas
+pub mod HeldLemmas
+pub mod NumberedLemmas
+pub mod TableLemmas
+pub mod TableSteps
+pub mod Placing
+pub mod Members
+pub mod CatalogueFacts
+pub mod Barring
+pub mod AskSteps
+pub mod GrammarLaws

@@ -1,0 +1,187 @@
+-- A table's lines and versions: what they say of one another, and one more line.
+use Rattle.std.proofs.Common.{◌≡◌, inl, inr, ℕ, zero, suc, ◌-◌, ◌≤◌, List, [], ◌∷◌, ◌++◌, map, length, take, drop, Option, Some, None, refl, sym, ap, subst, ◌∙◌, arith, option_map}
+use Rattle.std.specs.Prelude.{Contains, slice_get, string_bytes}
+use Rattle.std.specs.List.{cons_option}
+use Rattle.std.proofs.lemmas.List.{append-nil, length-append, take-append-le, take-append-drop}
+use Rattle.std.proofs.Math.ListN.{get_or-append}
+use Rattle.std.proofs.Math.Seq.{take-append_seam}
+use Rattle.std.proofs.lemmas.List.Elements.{filter_map-append, Contains-append_left}
+use Rattle.std.proofs.lemmas.Option.{slice_get_within, slice_get-get_or, slice_get-map}
+use Rattle.resolvo_text.specs.Line.{Version, Line, Skipped, Listed, Needs, Limits, Unknown, Lock, Favour, Exclude, Wish}
+use Rattle.resolvo_catalogue_core.specs.Grammar.{owner_of, owner_below, later, version_of}
+use Rattle.resolvo_catalogue_core.specs.Listed.{listed}
+use Rattle.resolvo_catalogue_core.specs.Questions.{LineIs, BelongsTo, MarksUnknownOf, IsOwner}
+use Rattle.resolvo_catalogue_core.specs.Table.{nowhere, told, IsSaid, AreSaid}
+use Rattle.resolvo_catalogue_core.specs.Questions.{FavoursAt}
+use Rattle.resolvo_catalogue_core.specs.declared.rule.VersionNo.{VersionNo}
+use Rattle.resolvo_catalogue_core.specs.declared.rule.Rule.TheVariants as rule
+use Rattle.resolvo_catalogue_core.specs.declared.line_table.LineKind.{LineKind}
+use Rattle.resolvo_catalogue_core.specs.declared.line_table.LineKind.TheVariants as said
+use Rattle.resolvo_catalogue_core.proofs.Pushed.{get_kept, get_push, at_kept}
+
+-- ---- listed versions
+
+-- a listed version is that of a line, and the other way round
+pub listed_has : (lines : List Line) (v : Version) → Contains lines (Listed v) → (k : ℕ) × (slice_get (listed lines) k ≡ Some v)
+listed_has [] v (k, lt, at) = absurd (omega arith)
+listed_has (line ∷ lines) v (zero, lt, at) = rw at (0, refl)
+listed_has (line ∷ lines) v (suc k, lt, at) = later_has (version_of line) (listed_has lines v (k, omega arith, at))
+  where
+    later_has : (o : Option Version) → (k : ℕ) × (slice_get (listed lines) k ≡ Some v) → (k : ℕ) × (slice_get (cons_option o (listed lines)) k ≡ Some v)
+    later_has None h = h
+    later_has (Some w) h = (suc h.0, h.1)
+
+pub listed_from : (lines : List Line) (v : Version) (k : ℕ) → slice_get (listed lines) k ≡ Some v → Contains lines (Listed v)
+listed_from [] v k e = absurd cc
+listed_from (line ∷ lines) v k e = from_line line v lines (λ j h. listed_from lines v j h) k e
+  where
+    further : (line : Line) (v : Version) (lines : List Line) → Contains lines (Listed v) → Contains (line ∷ lines) (Listed v)
+    further line v lines h = (suc h.0, omega (arith, h.1), h.2)
+
+    from_line : (l : Line) (v : Version) (lines : List Line) → ((j : ℕ) → slice_get (listed lines) j ≡ Some v → Contains lines (Listed v)) → (k : ℕ) → slice_get (cons_option (version_of l) (listed lines)) k ≡ Some v → Contains (l ∷ lines) (Listed v)
+    from_line (Listed w) v lines below zero e = (0, omega arith, cc)
+    from_line (Listed w) v lines below (suc k) e = further (Listed w) v lines (below k e)
+    from_line Skipped v lines below k e = further Skipped v lines (below k e)
+    from_line (Needs ss c) v lines below k e = further (Needs ss c) v lines (below k e)
+    from_line (Limits s) v lines below k e = further (Limits s) v lines (below k e)
+    from_line (Unknown r) v lines below k e = further (Unknown r) v lines (below k e)
+    from_line (Lock w) v lines below k e = further (Lock w) v lines (below k e)
+    from_line (Favour w) v lines below k e = further (Favour w) v lines (below k e)
+    from_line (Exclude w r) v lines below k e = further (Exclude w r) v lines (below k e)
+    from_line (Wish w) v lines below k e = further (Wish w) v lines (below k e)
+
+-- the owner of a line below is the last listed version
+pub owner_is_last : (lines : List Line) → owner_below lines ≡ slice_get (listed lines) (length (listed lines) - 1)
+owner_is_last [] = refl
+owner_is_last (line ∷ lines) = rw (owner_is_last lines) (last_of (version_of line) (listed lines))
+  where
+    later_none : (o : Option Version) → later None o ≡ o
+    later_none None = refl
+    later_none (Some v) = refl
+
+    last_of : (o : Option Version) (vs : List Version) → later o (slice_get vs (length vs - 1)) ≡ slice_get (cons_option o vs) (length (cons_option o vs) - 1)
+    last_of None vs = later_none (slice_get vs (length vs - 1))
+    last_of (Some w) [] = refl
+    last_of (Some w) (v ∷ vs) =
+        let here : suc (length vs) - 1 ≡ length vs = omega arith in
+        let there : suc (suc (length vs)) - 1 ≡ suc (length vs) = omega arith in
+        let has = slice_get-get_or (v ∷ vs) (length vs) v (omega arith) in
+        rw (here, there, has) refl
+
+pub fewer_listed : (lines : List Line) → length (listed lines) ≤ length lines
+fewer_listed [] = omega arith
+fewer_listed (line ∷ lines) = fewer (version_of line) (fewer_listed lines)
+  where
+    fewer : (o : Option Version) → length (listed lines) ≤ length lines → length (cons_option o (listed lines)) ≤ suc (length lines)
+    fewer None h = omega arith
+    fewer (Some v) h = omega arith
+
+-- a line that lists no version
+pub listed_same : (lines : List Line) (l : Line) → version_of l ≡ None → listed (lines ++ l ∷ []) ≡ listed lines
+listed_same lines l none = filter_map-append version_of lines (l ∷ []) ∙ rw none (append-nil (listed lines))
+
+pub listed_more : (lines : List Line) (v : Version) → listed (lines ++ Listed v ∷ []) ≡ listed lines ++ v ∷ []
+listed_more lines v = filter_map-append version_of lines (Listed v ∷ [])
+
+-- ---- lines
+
+pub told_more : (vs : List Version) (w : Version) (above : Option Version) (s : LineKind) → IsSaid vs above s → told (vs ++ w ∷ []) s ≡ told vs s
+told_more vs w above said.Nothing h = refl
+told_more vs w above (said.Listed v) h = ap (λ (x : Version). Listed x) (get_or-append vs (w ∷ []) nowhere v.0 h)
+told_more vs w above (said.Favour v) h = ap (λ (x : Version). Favour x) (get_or-append vs (w ∷ []) nowhere v.0 h)
+told_more vs w above (said.Rule (rule.Needs of ss c)) h = refl
+told_more vs w above (said.Rule (rule.Limits of s)) h = refl
+told_more vs w above (said.Rule (rule.Unknown of r)) h = refl
+told_more vs w above (said.Rule (rule.Lock v)) h = ap (λ (x : Version). Lock x) (get_or-append vs (w ∷ []) nowhere v.0 h)
+told_more vs w above (said.Rule (rule.Exclude v r)) h = ap (λ (x : Version). Exclude x (string_bytes r)) (get_or-append vs (w ∷ []) nowhere v.0 h)
+
+pub all_told_more : (vs : List Version) (w : Version) (saids : List LineKind) → ((n : ℕ) (s : LineKind) → slice_get saids n ≡ Some s → (above : Option Version) × IsSaid vs above s) → map (told (vs ++ w ∷ [])) saids ≡ map (told vs) saids
+all_told_more vs w [] h = refl
+all_told_more vs w (s ∷ saids) h =
+    let first = h 0 s refl in
+    rw (told_more vs w first.0 s first.1, all_told_more vs w saids (λ n x e. h (suc n) x e)) refl
+
+is_owner_more : (vs : List Version) (w : Version) (of : Option VersionNo) (above : Option Version) → IsOwner vs of above → IsOwner (vs ++ w ∷ []) of above
+is_owner_more vs w None above h = h
+is_owner_more vs w (Some n) above h = (h.0, get_kept vs w h.0 n.0 h.1, h.2)
+
+is_said_more : (vs : List Version) (w : Version) (above : Option Version) (s : LineKind) → IsSaid vs above s → IsSaid (vs ++ w ∷ []) above s
+is_said_more vs w above said.Nothing h = h
+is_said_more vs w above (said.Listed v) h = omega (arith, length-append vs (w ∷ []), h)
+is_said_more vs w above (said.Favour v) h = omega (arith, length-append vs (w ∷ []), h)
+is_said_more vs w above (said.Rule (rule.Needs of ss c)) h = is_owner_more vs w of above h
+is_said_more vs w above (said.Rule (rule.Limits of s)) h = is_owner_more vs w of above h
+is_said_more vs w above (said.Rule (rule.Unknown of r)) h = is_owner_more vs w (Some of) above h
+is_said_more vs w above (said.Rule (rule.Lock v)) h = omega (arith, length-append vs (w ∷ []), h)
+is_said_more vs w above (said.Rule (rule.Exclude v r)) h = omega (arith, length-append vs (w ∷ []), h)
+
+pub are_said_more : (vs : List Version) (w : Version) (lines : List Line) (saids : List LineKind) → AreSaid vs lines saids → AreSaid (vs ++ w ∷ []) lines saids
+are_said_more vs w lines saids h = λ n s at. is_said_more vs w (owner_below (take n lines)) s (h n s at)
+
+pub are_said_push : (vs : List Version) (lines : List Line) (saids : List LineKind) (l : Line) (s : LineKind) → length saids ≡ length lines → AreSaid vs lines saids → IsSaid vs (owner_below lines) s → AreSaid vs (lines ++ l ∷ []) (saids ++ s ∷ [])
+are_said_push vs lines saids l s same h new = λ n x at.
+    elim (get_push saids s x n at) [
+      | inl old ↦ subst (λ (ls : List Line). IsSaid vs (owner_below ls) x) (sym (take-append-le n lines (l ∷ []) (omega (arith, slice_get_within saids n x old)))) (h n x old)
+      | inr here ↦
+          let above : take n (lines ++ l ∷ []) ≡ lines = rw (here.0, same) (take-append_seam lines (l ∷ [])) in
+          subst (λ (ls : List Line). IsSaid vs (owner_below ls) x) (sym above) (subst (λ (y : LineKind). IsSaid vs (owner_below lines) y) here.1 new)
+    ]
+
+pub favours_kept : (vs : List Version) (lines : List Line) (l : Line) (f : ℕ × VersionNo) → FavoursAt vs lines f → FavoursAt vs (lines ++ l ∷ []) f
+favours_kept vs lines l f h = (h.0, h.1, at_kept lines l f.0 (Favour h.0) h.2)
+
+pub favours_more : (vs : List Version) (w : Version) (lines : List Line) (f : ℕ × VersionNo) → FavoursAt vs lines f → FavoursAt (vs ++ w ∷ []) lines f
+favours_more vs w lines f h = (h.0, get_kept vs w h.0 f.1.0 h.1, h.2)
+
+-- ---- owners
+
+contains_taken : (n : ℕ) (xs : List Line) (x : Line) → Contains (take n xs) x → Contains xs x
+contains_taken n xs x has = subst (λ (ys : List Line). Contains ys x) (take-append-drop n xs) (Contains-append_left (take n xs) (drop n xs) x has)
+
+-- the owner of a line is listed above it
+pub owner_listed : (lines : List Line) (n : ℕ) (v : Version) → owner_of lines n ≡ Some v → Contains lines (Listed v)
+owner_listed lines zero v is = absurd cc
+owner_listed lines (suc n) v is = contains_taken n lines (Listed v) (listed_from (take n lines) v (length (listed (take n lines)) - 1) (sym (owner_is_last (take n lines)) ∙ is))
+
+pub belongs_owner : (v : Version) (lines : List Line) (n : ℕ) → LineIs lines n (BelongsTo v) → owner_of lines n ≡ Some v
+belongs_owner v lines n (Needs ss c, at, is) = is
+belongs_owner v lines n (Limits s, at, is) = is
+belongs_owner v lines n (Unknown r, at, is) = is
+belongs_owner v lines n (Skipped, at, is) = absurd is
+belongs_owner v lines n (Listed w, at, is) = absurd is
+belongs_owner v lines n (Lock w, at, is) = absurd is
+belongs_owner v lines n (Favour w, at, is) = absurd is
+belongs_owner v lines n (Exclude w r, at, is) = absurd is
+belongs_owner v lines n (Wish w, at, is) = absurd is
+
+pub marks_owner : (v : Version) (lines : List Line) (n : ℕ) → LineIs lines n (MarksUnknownOf v) → owner_of lines n ≡ Some v
+marks_owner v lines n (Unknown r, at, is) = is
+marks_owner v lines n (Needs ss c, at, is) = absurd is
+marks_owner v lines n (Limits s, at, is) = absurd is
+marks_owner v lines n (Skipped, at, is) = absurd is
+marks_owner v lines n (Listed w, at, is) = absurd is
+marks_owner v lines n (Lock w, at, is) = absurd is
+marks_owner v lines n (Favour w, at, is) = absurd is
+marks_owner v lines n (Exclude w r, at, is) = absurd is
+marks_owner v lines n (Wish w, at, is) = absurd is
+
+-- ---- what is said at a line
+
+some_mapped : {X Y : Type 0} (f : X → Y) (o : Option X) (y : Y) → option_map f o ≡ Some y → (x : X) × (o ≡ Some x) × (f x ≡ y)
+some_mapped f None y e = absurd cc
+some_mapped f (Some x) y e = (x, refl, cc)
+
+-- what is kept of a line, and what the line says then
+pub said_at : (vs : List Version) (saids : List LineKind) (n : ℕ) (l : Line) → slice_get (map (told vs) saids) n ≡ Some l → (s : LineKind) × (slice_get saids n ≡ Some s) × (told vs s ≡ l)
+said_at vs saids n l at = some_mapped (told vs) (slice_get saids n) l (sym (slice_get-map (told vs) saids n) ∙ at)
+
+-- a version that a line excludes has a number
+pub excluded_at : (vs : List Version) (above : Option Version) (s : LineKind) (v : Version) (word : List ℕ) → IsSaid vs above s → told vs s ≡ Exclude v word → (k : ℕ) × (slice_get vs k ≡ Some v)
+excluded_at vs above (said.Rule (rule.Exclude k r)) v word is e = (k.0, slice_get-get_or vs k.0 nowhere is ∙ cc)
+excluded_at vs above said.Nothing v word is e = absurd cc
+excluded_at vs above (said.Listed k) v word is e = absurd cc
+excluded_at vs above (said.Favour k) v word is e = absurd cc
+excluded_at vs above (said.Rule (rule.Needs of ss c)) v word is e = absurd cc
+excluded_at vs above (said.Rule (rule.Limits of s)) v word is e = absurd cc
+excluded_at vs above (said.Rule (rule.Unknown of r)) v word is e = absurd cc
+excluded_at vs above (said.Rule (rule.Lock k)) v word is e = absurd cc

@@ -1,0 +1,12 @@
+pub mod Grammar
+pub mod Held
+pub mod Rules
+pub mod Sets
+pub mod Answers
+pub mod Listed
+pub mod Numbered
+pub mod Questions
+pub mod Codes
+pub mod Belonging
+pub mod Table
+pub mod Asks

@@ -1,0 +1,29 @@
+-- Versions beside their numbers.
+use Rattle.std.specs.Prelude.{◌≡◌, ℕ, ◌<◌, ◌==◌, if◌then◌else◌, nat_eq, List, [], ◌∷◌, length, Option, Some, None, slice_index_or}
+use Rattle.std.specs.HashMap.{HashMap, get}
+use Rattle.resolvo_catalogue_core.specs.declared.rule.VersionNo.{VersionNo}
+use Rattle.resolvo_catalogue_core.specs.declared.package.Package.{Package}
+
+-- the version beside the first number that is this one
+abbrev pub beside : List ℕ → List VersionNo → ℕ → Option VersionNo
+beside [] vs k = None
+beside (n ∷ ns) [] k = None
+beside (n ∷ ns) (v ∷ vs) k = if n == k then Some v else beside ns vs k
+
+-- each number is above those before it
+abbrev pub AreRising : List ℕ → Type 0
+AreRising ns = (i j : ℕ) → i < j → j < length ns → slice_index_or ns i 0 < slice_index_or ns j 0
+
+-- the number is above these
+abbrev pub IsAbove : ℕ → List ℕ → Type 0
+IsAbove n ns = (j : ℕ) → j < length ns → slice_index_or ns j 0 < n
+
+-- the numbers rise, or a map finds the versions by them
+abbrev pub IsSought : {S : Type 0} → Option (HashMap ℕ VersionNo S) → List ℕ → List VersionNo → Type 0
+IsSought None ns vs = AreRising ns
+IsSought (Some m) ns vs = (k : ℕ) → get nat_eq m k ≡ beside ns vs k
+
+-- each version stands beside its number, and is found by it
+pub record IsNumbered (p : Package) : Type 0 where
+  pub paired : length p.numbers.items ≡ length p.versions.items
+  pub sought : IsSought p.by_number p.numbers.items p.versions.items

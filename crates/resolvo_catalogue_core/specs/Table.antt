@@ -1,0 +1,125 @@
+-- A catalogue's lines as the code keeps them, and what its maps must have.
+use Rattle.std.specs.Prelude.{◌≡◌, ℕ, ◌<◌, ◌==◌, if◌then◌else◌, bytes_eq, Bool, false, not, ⊤, List, [], ◌++◌, ◌∷◌, map, length, take, Option, Some, None, slice_get, slice_index_or, string_bytes, option_map, nat_eq}
+use Rattle.std.specs.HashMap.{get, get_by_text}
+use Rattle.resolvo_text.specs.Line as says
+use Rattle.resolvo_text.specs.Line.{Version, Line}
+use Rattle.resolvo_text.specs.View.{spec_of, specs_of, condition_of}
+use Rattle.resolvo_catalogue_core.specs.Grammar.{owner_below}
+use Rattle.resolvo_catalogue_core.specs.Listed.{listed, pair_versions}
+use Rattle.resolvo_catalogue_core.specs.Questions.{IsOnly, AreAll, LineIs, BelongsTo, MarksUnknownOf, Locks, Favours, Excludes, IsFavour, IsOwner, IsOfPackage, SaysOf, FavoursAt, number_of}
+use Rattle.resolvo_catalogue_core.specs.Belonging.{kept_of}
+use Rattle.resolvo_catalogue_core.specs.declared.rule.VersionNo.{VersionNo}
+use Rattle.resolvo_catalogue_core.specs.declared.rule.Rule.{Rule}
+use Rattle.resolvo_catalogue_core.specs.declared.rule.Rule.TheVariants as rule
+use Rattle.resolvo_catalogue_core.specs.declared.line_table.LineKind.{LineKind}
+use Rattle.resolvo_catalogue_core.specs.declared.line_table.LineKind.TheVariants as said
+use Rattle.resolvo_catalogue_core.specs.Held.{said_list}
+use Rattle.resolvo_catalogue_core.specs.declared.package.Package.{Package}
+use Rattle.resolvo_catalogue_core.specs.Numbered.{beside, IsNumbered}
+use Rattle.resolvo_catalogue_core.specs.declared.table.Table.{Table}
+
+-- ---- the lines
+
+abbrev pub nowhere : Version
+nowhere = record { name = []; number = 0 }
+
+-- the version of a number that is in range
+abbrev pub nth : List Version → VersionNo → Version
+nth versions n = slice_index_or versions n.0 nowhere
+
+abbrev pub rule_line : List Version → Rule → Line
+rule_line versions (rule.Needs of alternatives condition) = says.Needs (specs_of alternatives.items) (condition_of condition)
+rule_line versions (rule.Limits of spec) = says.Limits (spec_of spec)
+rule_line versions (rule.Unknown of word) = says.Unknown (string_bytes word)
+rule_line versions (rule.Lock locked) = says.Lock (nth versions locked)
+rule_line versions (rule.Exclude excluded word) = says.Exclude (nth versions excluded) (string_bytes word)
+
+abbrev pub told : List Version → LineKind → Line
+told versions said.Nothing = says.Skipped
+told versions (said.Listed v) = says.Listed (nth versions v)
+told versions (said.Favour v) = says.Favour (nth versions v)
+told versions (said.Rule r) = rule_line versions r
+
+abbrev pub versions_in : Table → List Version
+versions_in t = pair_versions t.versions.items
+
+abbrev pub saids_in : Table → List LineKind
+saids_in t = said_list t.said.rules.items t.said.held.items
+
+abbrev pub lines_in : Table → List Line
+lines_in t = map (told (versions_in t)) (saids_in t)
+
+-- ---- what is kept of them
+
+-- The numbers that the rule names are listed, and the owner's is that of the version above.
+abbrev pub IsRuleOf : List Version → Option Version → Rule → Type 0
+IsRuleOf versions owner (rule.Needs of alternatives condition) = IsOwner versions of owner
+IsRuleOf versions owner (rule.Limits of spec) = IsOwner versions of owner
+IsRuleOf versions owner (rule.Unknown of word) = IsOwner versions (Some of) owner
+IsRuleOf versions owner (rule.Lock locked) = locked.0 < length versions
+IsRuleOf versions owner (rule.Exclude excluded word) = excluded.0 < length versions
+
+abbrev pub IsSaid : List Version → Option Version → LineKind → Type 0
+IsSaid versions owner said.Nothing = ⊤
+IsSaid versions owner (said.Listed v) = v.0 < length versions
+IsSaid versions owner (said.Favour v) = v.0 < length versions
+IsSaid versions owner (said.Rule r) = IsRuleOf versions owner r
+
+abbrev pub AreSaid : List Version → List Line → List LineKind → Type 0
+AreSaid versions lines saids = (n : ℕ) (s : LineKind) → slice_get saids n ≡ Some s → IsSaid versions (owner_below (take n lines)) s
+
+-- a lock of another version than this one
+abbrev pub is_lock_of_another : Rule → ℕ → Bool
+is_lock_of_another (rule.Lock locked) n = not (locked.0 == n)
+is_lock_of_another (rule.Needs of alternatives condition) n = false
+is_lock_of_another (rule.Limits of spec) n = false
+is_lock_of_another (rule.Unknown of word) n = false
+is_lock_of_another (rule.Exclude excluded word) n = false
+
+-- ---- the maps
+
+-- the number of the package's version
+abbrev pub number_in : Option Package → ℕ → Option ℕ
+number_in None k = None
+number_in (Some p) k = option_map number_of (beside p.numbers.items p.versions.items k)
+
+abbrev pub numbers_in : Option Package → List ℕ
+numbers_in None = []
+numbers_in (Some p) = map number_of p.versions.items
+
+pub record IsPackage (versions : List Version) (name : List ℕ) (found : Option Package) : Type 0 where
+  pub kept : (p : Package) → found ≡ Some p → IsNumbered p
+  pub numbers : (k : ℕ) → IsOnly (number_in found k) (λ n. slice_get versions n ≡ Some (record { name = name; number = k }))
+  pub all : AreAll (numbers_in found) (IsOfPackage versions name)
+
+-- The package has this version besides those that it had.
+pub record AddsNumber (before : Option Package) (number : ℕ) (version : VersionNo) (after : Package) : Type 0 where
+  pub kept : IsNumbered after
+  pub numbers : (k : ℕ) → number_in (Some after) k ≡ (if number == k then Some version.0 else number_in before k)
+  pub all : numbers_in (Some after) ≡ numbers_in before ++ version.0 ∷ []
+
+-- The version's package has this version besides those that it had, and no other package is changed.
+pub record AddsVersion (before : List ℕ → Option Package) (version : Version) (number : VersionNo) (after : List ℕ → Option Package) : Type 0 where
+  pub added : (p : Package) × (after version.name ≡ Some p) × AddsNumber (before version.name) version.number number p
+  pub others : (name : List ℕ) → bytes_eq version.name name ≡ false → after name ≡ before name
+
+-- The table keeps these lines, of which these versions are listed.
+pub record Keeps (t : Table) (versions : List Version) (lines : List Line) : Type 0 where
+  pub listing : listed lines ≡ versions
+  pub saids : AreSaid versions lines (saids_in t)
+  pub packages : (name : List ℕ) → IsPackage versions name (get_by_text t.packages name)
+  pub locks : (name : List ℕ) → IsOnly (get_by_text t.locks name) (λ n. LineIs lines n (Locks name))
+  pub favoured : (name : List ℕ) → IsOnly (get_by_text t.favoured name) (λ n. LineIs lines n (Favours name))
+  pub excluded : (k : ℕ) → IsOnly (get nat_eq t.excluded k) (SaysOf versions lines k Excludes)
+  pub unknown : (k : ℕ) → IsOnly (get nat_eq t.unknown k) (SaysOf versions lines k MarksUnknownOf)
+  pub belonging : (k : ℕ) → AreAll (kept_of t.belonging k) (SaysOf versions lines k BelongsTo)
+  pub as_many : length t.belonging ≡ length versions
+  pub favour_lines : AreAll (map (λ f. f.0) t.favours.items) (λ n. LineIs lines n IsFavour)
+  pub favour_versions : (i : ℕ) (f : ℕ × VersionNo) → slice_get t.favours.items i ≡ Some f → FavoursAt versions lines f
+
+abbrev pub IsTable : Table → Type 0
+IsTable t = Keeps t (versions_in t) (lines_in t)
+
+-- The second table keeps the line below those of the first.
+abbrev pub Adds : Table → Line → Table → Type 0
+Adds before line after = IsTable after × (lines_in after ≡ lines_in before ++ line ∷ [])

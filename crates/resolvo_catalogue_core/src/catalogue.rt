@@ -1,0 +1,177 @@
+//! A catalogue: the versions that its lines list, and the rules that they state.
+//! Its model is the list of what its lines say. Read once, then asked by the resolver and the judge.
+
+ghost use Rattle.std.specs.Prelude.{◌≡◌};
+
+use crate::obey;
+use crate::rule::{Rule, VersionNo};
+use crate::table::Table;
+use resolvo_text::{LineFault, LineReader, ReadFault, Source, Spec, Version};
+use std::alloc::{AllocError, Global};
+use std::marker::Model;
+
+/// The most bytes of the text of a catalogue or a request.
+pub const MOST_BYTES: u32 = 16_777_216;
+
+/// A catalogue that was read. Lines are numbered from 1, versions from 0 in line order.
+pub struct Catalogue {
+    table: Table,
+}
+
+// split for the prover: what owns one calls this drop, and doesn't drop each field at each exit
+impl Drop for Catalogue {
+    fn drop(self) {
+        let Catalogue { table: _ } = self;
+    }
+}
+
+impl Model for Catalogue {
+    ghost use Rattle.std.specs.Prelude.{ℕ, ◌≤◌, List, length};
+    ghost use Rattle.resolvo_text.specs.Line.{Line};
+
+    ghost Value = { List Line };
+
+    ghost use Rattle.resolvo_catalogue_core.specs.Codes.{lines_code};
+
+    ghost coded = { lines_code };
+
+    ghost use Rattle.resolvo_catalogue_core.specs.Table.{IsTable, lines_in};
+    ghost use Rattle.resolvo_catalogue_core.specs.Grammar.{AreCatalogueLines};
+
+    ghost view = { λ c. lines_in c.table };
+
+    ghost invariant = { λ c. IsTable c.table × AreCatalogueLines (lines_in c.table) × (length (lines_in c.table) ≤ 16777216) };
+}
+
+impl Catalogue {
+    ghost use Rattle.std.specs.Prelude.{◌≡◌, ℕ, false, List, map, option_map, slice_get, Some, None, length, IfOk, IfSome, IfNone, OnErr, Contains, IfErr};
+    ghost use Rattle.resolvo_text.specs.Line as says;
+    ghost use Rattle.resolvo_text.specs.View.{version_of, spec_of, cases_of};
+    ghost use Rattle.resolvo_catalogue_core.specs.Grammar.{line_at, owner_of, IsCatalogueLine, AreCatalogueLines};
+    ghost use Rattle.resolvo_text.specs.Device.{IfKnown, DeviceFailed};
+    ghost use Rattle.resolvo_text.specs.Texts.{IsGrammatical, IsTextFault};
+    ghost use Rattle.resolvo_catalogue_core.specs.Rules.{keeps};
+    ghost use Rattle.resolvo_catalogue_core.specs.Listed.{listed, version_at, members, is_match, pair_versions, AreDistinct};
+    ghost use Rattle.resolvo_catalogue_core.specs.Questions.{IsOnly, AreAll, IsOfPackage, SaysOf, BelongsTo, States, LineIs, IsFavour, FavoursAt, Bars, is_rule, cases_of_line, number_of};
+
+    /// What holds of the lines of each catalogue. It does nothing.
+    pub fn lines_are_in_place(&self)
+        ensures { AreCatalogueLines self.now }
+    {
+        let _table = &self.table;
+    }
+
+    /// The listed versions in line order. The place of a version is its number.
+    pub fn versions(&self) -> &[(String, u32)]
+        ensures listed { pair_versions result.now ≡ listed self.now }
+        ensures distinct { AreDistinct (listed self.now) }
+    {
+        &self.table.versions
+    }
+
+    /// The number of a version, if it is listed.
+    pub fn find(&self, name: &str, number: u32) -> Option<VersionNo>
+        ensures { IsOnly (option_map number_of result) (λ n. version_at self.now n ≡ Some (record { name = name.now; number = number })) }
+    {
+        self.table.find(name, number)
+    }
+
+    /// The number of a version that must be listed.
+    pub(crate) fn listed(&self, version: &Version) -> Result<VersionNo, LineFault>
+        ensures found { IfOk result (λ n. version_at self.now n.0 ≡ Some (version_of version.now)) }
+        ensures distinct { AreDistinct (listed self.now) }
+        ensures absent { OnErr result (Contains self.now (says.Listed (version_of version.now)) → ⊥) }
+    {
+        self.table.listed(version)
+    }
+
+    /// The versions of a package. There are none of a package that isn't listed.
+    pub fn versions_of(&self, name: &str) -> &[VersionNo]
+        ensures { AreAll (map number_of result.now) (IsOfPackage (listed self.now) name.now) }
+    {
+        self.table.versions_of(name)
+    }
+
+    /// Whether the SPEC matches the version. A number that no version has is not matched.
+    pub fn match_of(&self, spec: &Spec, version: VersionNo) -> bool
+        ensures { result ≡ is_match (listed self.now) (spec_of spec.now) version.0 }
+    {
+        obey::is_match(spec, &self.table.versions, version)
+    }
+
+    /// The `needs`, `limits` and `unknown` lines of a version.
+    pub fn lines_of(&self, version: VersionNo) -> &[u32]
+        ensures { AreAll result.now (SaysOf (listed self.now) self.now version.0 BelongsTo) }
+    {
+        self.table.lines_of(version)
+    }
+
+    /// The line that bars the version: one that locks another version of its package, or else its `exclude` line.
+    pub fn barred(&self, version: VersionNo) -> Option<u32>
+        ensures { IsOnly result (λ n. (v : says.Version) × (version_at self.now version.0 ≡ Some v) × Bars self.now v n) }
+    {
+        self.table.barred(version)
+    }
+
+    pub fn line_count(&self) -> u32
+        ensures { result ≡ length self.now }
+    {
+        self.table.said.len() as u32
+    }
+
+    /// What the line states, if it states a rule.
+    pub fn rule(&self, line: u32) -> Option<&Rule>
+        ensures stated { IfSome result (λ r. (l : says.Line) × (line_at self.now line ≡ Some l) × States (listed self.now) r.now (owner_of self.now line) l) }
+        ensures none { IfNone result ((l : says.Line) → line_at self.now line ≡ Some l → is_rule l ≡ false) }
+    {
+        self.table.rule(line)
+    }
+
+    /// Whether the set of these versions obeys the line. A line that states no rule is obeyed.
+    pub fn keeps(&self, line: u32, set: &[VersionNo]) -> bool
+        ensures { result ≡ keeps self.now line (members (listed self.now) set.now) }
+    {
+        match self.rule(line) {
+            Some(rule) => obey::obeys(rule, self.versions(), set),
+            None => true,
+        }
+    }
+
+    /// The cases of a `needs` line; a line without condition has one, which is empty. Other lines have none.
+    pub fn cases(&self, alloc: Global, line: u32) -> Result<Vec<Vec<Spec>>, AllocError>
+        ensures { IfOk result (λ v. cases_of v.items ≡ cases_of_line (line_at self.now line)) }
+    {
+        match self.rule(line) {
+            Some(rule) => rule.cases(alloc),
+            None => Ok(Vec::new(alloc)),
+        }
+    }
+
+    /// The lines that favour a version, rising.
+    pub fn favours(&self) -> &[(u32, VersionNo)]
+        ensures lines { AreAll (map (λ f. f.0) result.now) (λ n. LineIs self.now n IsFavour) }
+        ensures versions { (i : ℕ) (f : ℕ × VersionNo) → slice_get result.now i ≡ Some f → FavoursAt (listed self.now) self.now f }
+    {
+        &self.table.favours
+    }
+
+    /// Reads a catalogue. There is none where its text has a faulty line, or where the device fails.
+    pub fn read<S: Source>(alloc: Global, source: &mut S) -> Result<Self, ReadFault>
+        ensures ok { IfOk result (λ catalogue. IfKnown (S.left source.old) (λ text. IsGrammatical IsCatalogueLine text catalogue)) }
+        ensures lines { IfOk result AreCatalogueLines }
+        ensures fault { IfErr result (λ e. IsTextFault IsCatalogueLine e (S.left source.old) (S.left source.new) 16777216 (DeviceFailed (S.failures source.old) (S.failures source.new) (S.interruptions source.new))) }
+    {
+        let mut table = Table::new(alloc);
+        let mut reader = LineReader::new(alloc, MOST_BYTES)?;
+        let mut number: u32 = 0;
+        while reader.next_line(source)? {
+            number += 1;
+            match table.read_line(alloc, number, reader.line()) {
+                Ok(()) => {}
+                Err(LineFault::Fault) => return Err(ReadFault::Fault(number)),
+                Err(LineFault::Memory) => return Err(ReadFault::Memory),
+            }
+        }
+        Ok(Catalogue { table })
+    }
+}

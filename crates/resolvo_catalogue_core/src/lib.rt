@@ -1,0 +1,24 @@
+//! Catalogues and requests: reading them, and the questions about them.
+#![tactic(auto)]
+
+mod catalogue;
+mod laws;
+mod line_table;
+mod lines_by_version;
+mod obey;
+mod package;
+mod request;
+mod request_lines;
+mod rule;
+mod table;
+
+pub use catalogue::Catalogue;
+pub use laws::{
+    catalogue_has_no_fault, request_has_no_fault, text_is_one_catalogue, text_is_one_request,
+};
+pub use request::Request;
+pub use resolvo_text::{
+    Cond, Counted, IoFault, LineReader, MemorySink, MemorySource, ReadFault, Sink, Source, Span,
+    Spec, Version, WriteFault, cases_are_exact, is_in_span, write_all,
+};
+pub use rule::{Rule, VersionNo};

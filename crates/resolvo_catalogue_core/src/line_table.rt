@@ -1,0 +1,107 @@
+//! What each line says, with the rules apart: a line that states none takes little room.
+//! `said_list` is the list of what the lines say. Used by `table`.
+
+ghost use Rattle.std.specs.Prelude.{◌≡◌, ◌++◌, ◌∷◌, [], length, true, OnOk, option_and_then, option_copied, slice_get};
+ghost use Rattle.resolvo_catalogue_core.specs.Held.{is_held, are_held, held_at, said_in, said_list, said_at, rule_of};
+ghost use Rattle.resolvo_catalogue_core.specs.declared.line_table.LineKind.TheVariants as said;
+
+use crate::rule::{Rule, VersionNo};
+use std::alloc::{AllocError, Global};
+
+/// What one line says.
+#[derive(Debug, Drop)]
+pub enum LineKind {
+    Nothing,
+    Listed(VersionNo),
+    Favour(VersionNo),
+    Rule(Rule),
+}
+
+/// What is held of a line: of a rule, its place among the rules.
+#[derive(Clone, Copy, Debug)]
+pub enum StoredLine {
+    Nothing,
+    Listed(VersionNo),
+    Favour(VersionNo),
+    Rule(usize),
+}
+
+#[derive(Drop)]
+pub struct LineTable {
+    held: Vec<StoredLine>,
+    rules: Vec<Rule>,
+    ghost in_range: { are_held (length rules.items) held.items ≡ true },
+}
+
+impl LineTable {
+    pub fn new(alloc: Global) -> Self
+        ensures { said_list result.rules.items result.held.items ≡ [] }
+    {
+        LineTable {
+            held: Vec::new(alloc),
+            rules: Vec::new(alloc),
+        }
+    }
+
+    /// How many lines there are.
+    pub fn len(&self) -> usize
+        ensures { result ≡ length (said_list self.now.rules.items self.now.held.items) }
+    {
+        self.held.len()
+    }
+
+    /// One more line.
+    pub fn push(&mut self, said: LineKind) -> Result<(), AllocError>
+        ensures { OnOk result (said_list self.new.rules.items self.new.held.items ≡ said_list self.old.rules.items self.old.held.items ++ said ∷ []) }
+    {
+        match said {
+            LineKind::Nothing => self.hold(StoredLine::Nothing),
+            LineKind::Listed(version) => self.hold(StoredLine::Listed(version)),
+            LineKind::Favour(version) => self.hold(StoredLine::Favour(version)),
+            LineKind::Rule(rule) => self.push_rule(rule),
+        }
+    }
+
+    fn hold(&mut self, held: StoredLine) -> Result<(), AllocError>
+        requires { is_held (length self.old.rules.items) held ≡ true }
+        ensures { OnOk result (said_list self.new.rules.items self.new.held.items ≡ said_list self.old.rules.items self.old.held.items ++ said_in self.old.rules.items held ∷ []) }
+    {
+        self.held.push(held)?;
+        Ok(())
+    }
+
+    fn push_rule(&mut self, rule: Rule) -> Result<(), AllocError>
+        ensures { OnOk result (said_list self.new.rules.items self.new.held.items ≡ said_list self.old.rules.items self.old.held.items ++ said.Rule rule ∷ []) }
+    {
+        let place = self.rules.len();
+        self.rules.push(rule)?;
+        self.held.push(StoredLine::Rule(place))?;
+        Ok(())
+    }
+
+    /// What is held of the line of this number, from 1.
+    fn held_at(&self, line: u32) -> Option<&StoredLine>
+        ensures { option_copied result ≡ held_at self.now.held.items line }
+    {
+        if line == 0 {
+            return None;
+        }
+        self.held.get((line - 1) as usize)
+    }
+
+    fn rule_at(&self, place: usize) -> Option<&Rule>
+        ensures { option_copied result ≡ slice_get self.now.rules.items place }
+    {
+        self.rules.get(place)
+    }
+
+    /// The rule that the line of this number states, if it states one. Lines are numbered from 1.
+    pub fn rule(&self, line: u32) -> Option<&Rule>
+        ensures { option_copied result ≡ option_and_then rule_of (said_at (said_list self.now.rules.items self.now.held.items) line) }
+    {
+        match self.held_at(line)? {
+            StoredLine::Rule(place) => self.rule_at(*place),
+            _ => None,
+        }
+    }
+}

@@ -1,0 +1,160 @@
+//! The versions of a package, in line order and by their numbers.
+//! Most catalogues list them from the least number on: as long as they rise, they are sought among themselves, and only where one
+//! comes that is not above the last is a map made. Used by `table`.
+
+ghost use Rattle.std.specs.Prelude.{◌≡◌, ℕ, [], None, Some, IsTrue, IfOk, OnOk, length, nat_eq, not, is_some, slice_get};
+ghost use Rattle.std.specs.HashMap.{get};
+ghost use Rattle.resolvo_catalogue_core.specs.Numbered.{beside, AreRising, IsAbove, IsSought, IsNumbered};
+ghost use Rattle.resolvo_catalogue_core.specs.Table.{AddsNumber};
+
+use crate::rule::VersionNo;
+use std::alloc::{AllocError, Global};
+use std::collections::HashMap;
+
+#[derive(Drop)]
+pub struct Package {
+    numbers: Vec<u32>,
+    versions: Vec<VersionNo>,
+    by_number: Option<HashMap<u32, VersionNo>>,
+}
+
+impl Package {
+    pub fn new(alloc: Global) -> Self
+        ensures numbered { IsNumbered result }
+        ensures versions { result.versions.items ≡ [] }
+        ensures numbers { result.numbers.items ≡ [] }
+    {
+        Package {
+            numbers: Vec::new(alloc),
+            versions: Vec::new(alloc),
+            by_number: None,
+        }
+    }
+
+    /// The versions in line order.
+    pub fn versions(&self) -> &[VersionNo]
+        ensures { result.now ≡ self.now.versions.items }
+    {
+        &self.versions
+    }
+
+    /// The version of a number.
+    pub fn find(&self, number: u32) -> Option<VersionNo>
+        requires { IsNumbered self.now }
+        ensures { result ≡ beside self.now.numbers.items self.now.versions.items number }
+    {
+        match &self.by_number {
+            Some(map) => map.get(&number).copied(),
+            None => version_beside(&self.numbers, &self.versions, number),
+        }
+    }
+
+    /// Adds a version, if the package has none of this number; whether it was added.
+    pub fn add(&mut self, number: u32, version: VersionNo) -> Result<bool, AllocError>
+        requires { IsNumbered self.old }
+        ensures new { IfOk result (λ added. added ≡ not (is_some (beside self.old.numbers.items self.old.versions.items number))) }
+        ensures put { IfOk result (λ added. IsTrue added → AddsNumber (Some self.old) number version self.new) }
+    {
+        if self.goes_on(number) {
+            self.push(number, version)?;
+            return Ok(true);
+        }
+        if self.find(number).is_some() {
+            return Ok(false);
+        }
+        self.map(number, version)?;
+        Ok(true)
+    }
+
+    /// Whether the numbers rise, and go on rising with this one.
+    fn goes_on(&self, number: u32) -> bool
+        requires { IsNumbered self.now }
+        ensures unmapped { IsTrue result → self.now.by_number ≡ None }
+        ensures above { IsTrue result → IsAbove number self.now.numbers.items }
+    {
+        if self.by_number.is_some() {
+            return false;
+        }
+        match self.numbers.last() {
+            Some(last) => *last < number,
+            None => true,
+        }
+    }
+
+    /// Adds a version whose number is above the others, which rise.
+    fn push(&mut self, number: u32, version: VersionNo) -> Result<(), AllocError>
+        requires numbered { IsNumbered self.old }
+        requires unmapped { self.old.by_number ≡ None }
+        requires above { IsAbove number self.old.numbers.items }
+        ensures { OnOk result (AddsNumber (Some self.old) number version self.new) }
+    {
+        self.numbers.push(number)?;
+        self.versions.push(version)?;
+        Ok(())
+    }
+
+    /// The map, which is made where there is none. It is to be put back with what comes to it.
+    fn take_map(&mut self) -> Result<HashMap<u32, VersionNo>, AllocError>
+        requires { IsNumbered self.old }
+        ensures map { IfOk result (λ map. IsSought (Some map) self.old.numbers.items self.old.versions.items) }
+        ensures numbers { self.new.numbers ≡ self.old.numbers }
+        ensures versions { self.new.versions ≡ self.old.versions }
+    {
+        match self.by_number.take() {
+            Some(map) => Ok(map),
+            None => {
+                let map = map_of(*self.numbers.allocator(), &self.numbers, &self.versions)?;
+                Ok(map)
+            }
+        }
+    }
+
+    /// Adds a version of a new number, which may be any: it goes to the map, which is made where there is none.
+    fn map(&mut self, number: u32, version: VersionNo) -> Result<(), AllocError>
+        requires numbered { IsNumbered self.old }
+        requires new { beside self.old.numbers.items self.old.versions.items number ≡ None }
+        ensures { OnOk result (AddsNumber (Some self.old) number version self.new) }
+    {
+        let mut map = self.take_map()?;
+        map.insert(number, version)?;
+        self.by_number = Some(map);
+        self.numbers.push(number)?;
+        self.versions.push(version)?;
+        Ok(())
+    }
+}
+
+/// The version beside a number, where the numbers rise.
+fn version_beside(numbers: &[u32], versions: &[VersionNo], number: u32) -> Option<VersionNo>
+    requires paired { length numbers.now ≡ length versions.now }
+    requires rising { AreRising numbers.now }
+    ensures { result ≡ beside numbers.now versions.now number }
+{
+    match numbers.binary_search(&number) {
+        Ok(place) => version_at(versions, place),
+        Err(_) => None,
+    }
+}
+
+fn version_at(versions: &[VersionNo], place: usize) -> Option<VersionNo>
+    ensures { result ≡ slice_get versions.now place }
+{
+    versions.get(place).copied()
+}
+
+/// A map of the versions by their numbers, which rise.
+fn map_of(
+    alloc: Global,
+    numbers: &[u32],
+    versions: &[VersionNo],
+) -> Result<HashMap<u32, VersionNo>, AllocError>
+    requires paired { length numbers.now ≡ length versions.now }
+    requires rising { AreRising numbers.now }
+    ensures { IfOk result (λ map. (k : ℕ) → get nat_eq map k ≡ beside numbers.now versions.now k) }
+{
+    let mut map = HashMap::new(alloc);
+    for place in 0..numbers.len() {
+        map.insert(numbers[place], versions[place])?;
+    }
+    Ok(map)
+}

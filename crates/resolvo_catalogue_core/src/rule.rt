@@ -1,0 +1,74 @@
+//! What a line of a catalogue or a request states, with versions by their numbers.
+//! Made by the readers of `table` and `request`; read by all who ask for `rule`.
+
+ghost use Rattle.std.specs.Prelude.{◌≡◌, Option, List, Some, IfOk};
+ghost use Rattle.resolvo_text.specs.Line.{Version, Line};
+ghost use Rattle.resolvo_text.specs.View.{cases_of};
+
+use resolvo_text::{Cond, Spec, cases_in};
+use std::alloc::{AllocError, Global};
+
+/// The number of a listed version, from 0 in line order.
+#[derive(Clone, Copy, Debug, PartialEq, Eq, Hash)]
+pub struct VersionNo(pub u32);
+
+/// A rule, and the version that it belongs to. A rule of a request belongs to none.
+#[derive(Debug, Drop)]
+pub enum Rule {
+    /// If the condition holds, one of the alternatives is matched.
+    Needs {
+        owner: Option<VersionNo>,
+        alternatives: Vec<Spec>,
+        condition: Option<Cond>,
+    },
+    /// Each version of the SPEC's package matches it.
+    Limits {
+        owner: Option<VersionNo>,
+        spec: Spec,
+    },
+    /// No other version of the package.
+    Lock {
+        version: VersionNo,
+    },
+    /// Not this version, for the reason that the word gives.
+    Exclude {
+        version: VersionNo,
+        word: String,
+    },
+    /// What this version needs is unknown, so it is barred.
+    Unknown {
+        version: VersionNo,
+        word: String,
+    },
+}
+
+impl Rule {
+    ghost use Rattle.resolvo_catalogue_core.specs.Questions.{States, cases_of_line};
+    ghost use Rattle.resolvo_catalogue_core.specs.Table.{is_lock_of_another};
+
+    /// The cases of a need. Another rule has none.
+    pub fn cases(&self, alloc: Global) -> Result<Vec<Vec<Spec>>, AllocError>
+        ensures { IfOk result (λ v. (versions : List Version) (owner : Option Version) (line : Line) → States versions self.now owner line → cases_of v.items ≡ cases_of_line (Some line)) }
+    {
+        match self {
+            Rule::Needs { condition, .. } => match condition {
+                Some(condition) => cases_in(alloc, condition),
+                None => {
+                    let mut cases = Vec::new(alloc);
+                    cases.push(Vec::new(alloc))?;
+                    Ok(cases)
+                }
+            },
+            _ => Ok(Vec::new(alloc)),
+        }
+    }
+
+    pub(crate) fn is_lock_of_another(&self, version: VersionNo) -> bool
+        ensures { result ≡ is_lock_of_another self.now version.0 }
+    {
+        match self {
+            Rule::Lock { version: locked } => locked.0 != version.0,
+            _ => false,
+        }
+    }
+}

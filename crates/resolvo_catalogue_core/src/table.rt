@@ -1,0 +1,413 @@
+//! The lines of a catalogue as they are kept, and the maps by which questions are answered.
+//! The model is the list of lines, `lines_in`; `IsTable` says that the maps fit it. Used by `catalogue`.
+
+ghost use Rattle.std.specs.Prelude.{◌≡◌, ℕ, ◌+◌, ◌<◌, ◌==◌, ◌∷◌, ◌++◌, [], if◌then◌else◌, nat_eq, not, option_map, option_and_then, option_copied, map, is_some, length, slice_get, Contains, IsTrue, OnOk, OnErr, IfOk, Err, Some, None, List, true, false};
+ghost use Rattle.std.specs.HashMap.{get, get_by_text};
+ghost use Rattle.std.specs.Option.{option_map_or};
+ghost use Rattle.std.specs.String.{string_bytes};
+ghost use Rattle.resolvo_text.specs.Line as says;
+ghost use Rattle.resolvo_text.specs.View.{version_of, spec_of, specs_of, condition_of, view};
+ghost use Rattle.resolvo_text.specs.declared.line.LineFault.TheVariants.{Fault};
+ghost use Rattle.resolvo_catalogue_core.specs.Grammar.{MayFollow, IsCatalogueLine, line_at, owner_below};
+ghost use Rattle.resolvo_catalogue_core.specs.Questions.{number_of, IsOwner, IsOnly, LineIs, LocksAnother, Bars};
+ghost use Rattle.resolvo_catalogue_core.specs.Table.{AddsVersion, number_in};
+ghost use Rattle.resolvo_catalogue_core.specs.Numbered.{IsNumbered};
+ghost use Rattle.resolvo_catalogue_core.specs.declared.package.Package.{Package};
+
+use crate::line_table::{LineKind, LineTable};
+use crate::lines_by_version::LinesByVersion;
+use crate::obey::version_at;
+use crate::package::Package;
+use crate::rule::{Rule, VersionNo};
+use resolvo_text::{Cond, Line, LineFault, Spec, Version, line_in};
+use std::alloc::{AllocError, Global};
+use std::collections::HashMap;
+
+pub struct Table {
+    pub versions: Vec<(String, u32)>,
+    pub said: LineTable,
+    pub packages: HashMap<String, Package>,
+    /// The line that locks a version of the package.
+    pub locks: HashMap<String, u32>,
+    /// The line that favours a version of the package.
+    pub favoured: HashMap<String, u32>,
+    /// The line that excludes the version.
+    pub excluded: HashMap<u32, u32>,
+    /// The line that marks the version as unknown.
+    pub unknown: HashMap<u32, u32>,
+    /// The lines that belong to each version.
+    pub belonging: LinesByVersion,
+    pub favours: Vec<(u32, VersionNo)>,
+}
+
+// split for the prover: what owns one calls this drop, and doesn't drop each field at each exit
+impl Drop for Table {
+    fn drop(self) {
+        let Table {
+            versions: _,
+            said: _,
+            packages: _,
+            locks: _,
+            favoured: _,
+            excluded: _,
+            unknown: _,
+            belonging: _,
+            favours: _,
+        } = self;
+    }
+}
+
+/// Adds a version to those of its package, if it isn't listed; whether it was added.
+fn add_version(
+    packages: &mut HashMap<String, Package>,
+    alloc: Global,
+    version: &Version,
+    number: VersionNo,
+) -> Result<bool, AllocError>
+    requires kept { (name : List ℕ) (p : Package) → get_by_text packages.old name ≡ Some p → IsNumbered p }
+    ensures new { IfOk result (λ added. added ≡ not (is_some (number_in (get_by_text packages.old (string_bytes version.now.name)) version.now.number))) }
+    ensures put { IfOk result (λ added. IsTrue added → AddsVersion (λ name. get_by_text packages.old name) (version_of version.now) number (λ name. get_by_text packages.new name)) }
+{
+    if let Some(package) = packages.get_mut(version.name.as_str()) {
+        return package.add(version.number, number);
+    }
+    let mut package = Package::new(alloc);
+    package.add(version.number, number)?;
+    packages.insert(version.name.clone()?, package)?;
+    Ok(true)
+}
+
+impl Table {
+    ghost use Rattle.resolvo_catalogue_core.specs.Belonging.{kept_of};
+    ghost use Rattle.resolvo_catalogue_core.specs.Table.{IsTable, Adds, lines_in, versions_in, saids_in, numbers_in, is_lock_of_another};
+    ghost use Rattle.resolvo_catalogue_core.specs.Held.{said_at, rule_of};
+
+    pub fn new(alloc: Global) -> Self
+        ensures table { IsTable result }
+        ensures empty { lines_in result ≡ [] }
+    {
+        Table {
+            versions: Vec::new(alloc),
+            said: LineTable::new(alloc),
+            packages: HashMap::new(alloc),
+            locks: HashMap::new(alloc),
+            favoured: HashMap::new(alloc),
+            excluded: HashMap::new(alloc),
+            unknown: HashMap::new(alloc),
+            belonging: LinesByVersion::new(alloc),
+            favours: Vec::new(alloc),
+        }
+    }
+
+    pub fn find(&self, name: &str, number: u32) -> Option<VersionNo>
+        requires { IsTable self.now }
+        ensures { option_map number_of result ≡ number_in (get_by_text self.now.packages name.now) number }
+    {
+        let package = self.packages.get(name)?;
+        package.find(number)
+    }
+
+    pub fn versions_of(&self, name: &str) -> &[VersionNo]
+        ensures { map number_of result.now ≡ numbers_in (get_by_text self.now.packages name.now) }
+    {
+        match self.packages.get(name) {
+            Some(package) => package.versions(),
+            None => &[],
+        }
+    }
+
+    pub fn lines_of(&self, version: VersionNo) -> &[u32]
+        ensures { result.now ≡ kept_of self.now.belonging version.0 }
+    {
+        self.belonging.lines_of(version)
+    }
+
+    pub fn rule(&self, line: u32) -> Option<&Rule>
+        ensures { option_copied result ≡ option_and_then rule_of (said_at (saids_in self.now) line) }
+    {
+        self.said.rule(line)
+    }
+
+    fn lock_of(&self, name: &str) -> Option<u32>
+        ensures { result ≡ get_by_text self.now.locks name.now }
+    {
+        self.locks.get(name).copied()
+    }
+
+    fn excluded_by(&self, version: VersionNo) -> Option<u32>
+        ensures { result ≡ get nat_eq self.now.excluded version.0 }
+    {
+        self.excluded.get(&version.0).copied()
+    }
+
+    /// Whether the line locks another version.
+    fn locks_another(&self, line: u32, version: VersionNo) -> bool
+        ensures { result ≡ option_map_or (λ r. is_lock_of_another r version.0) (option_and_then rule_of (said_at (saids_in self.now) line)) false }
+    {
+        match self.rule(line) {
+            Some(rule) => rule.is_lock_of_another(version),
+            None => false,
+        }
+    }
+
+    /// The line that locks another version of the package.
+    fn other_lock(&self, name: &str, version: VersionNo) -> Option<u32>
+        requires { IsTable self.now }
+        ensures { (v : says.Version) → slice_get (versions_in self.now) version.0 ≡ Some v → name.now ≡ v.name → IsOnly result (λ n. LineIs (lines_in self.now) n (LocksAnother v)) }
+    {
+        match self.lock_of(name) {
+            Some(line) => {
+                if self.locks_another(line, version) {
+                    Some(line)
+                } else {
+                    None
+                }
+            }
+            None => None,
+        }
+    }
+
+    fn barred_as(&self, name: &str, version: VersionNo) -> Option<u32>
+        requires { IsTable self.now }
+        ensures { (v : says.Version) → slice_get (versions_in self.now) version.0 ≡ Some v → name.now ≡ v.name → IsOnly result (λ n. Bars (lines_in self.now) v n) }
+    {
+        match self.other_lock(name, version) {
+            Some(line) => Some(line),
+            None => self.excluded_by(version),
+        }
+    }
+
+    pub fn barred(&self, version: VersionNo) -> Option<u32>
+        requires { IsTable self.now }
+        ensures { IsOnly result (λ n. (v : says.Version) × (slice_get (versions_in self.now) version.0 ≡ Some v) × Bars (lines_in self.now) v n) }
+    {
+        match version_at(&self.versions, version) {
+            Some(found) => self.barred_as(&found.0, version),
+            None => None,
+        }
+    }
+
+    /// The number of a version that must be listed.
+    pub fn listed(&self, version: &Version) -> Result<VersionNo, LineFault>
+        requires { IsTable self.now }
+        ensures found { IfOk result (λ n. slice_get (versions_in self.now) n.0 ≡ Some (version_of version.now)) }
+        ensures absent { OnErr result (Contains (lines_in self.now) (says.Listed (version_of version.now)) → ⊥) }
+    {
+        match self.find(&version.name, version.number) {
+            Some(number) => Ok(number),
+            None => Err(LineFault::Fault),
+        }
+    }
+
+    fn is_locked(&self, name: &str) -> bool
+        ensures { result ≡ is_some (get_by_text self.now.locks name.now) }
+    {
+        self.locks.contains_key(name)
+    }
+
+    fn is_favoured(&self, name: &str) -> bool
+        ensures { result ≡ is_some (get_by_text self.now.favoured name.now) }
+    {
+        self.favoured.contains_key(name)
+    }
+
+    /// The version that a line below these belongs to.
+    fn owner(&self) -> Result<VersionNo, LineFault>
+        requires table { IsTable self.now }
+        requires short { length (lines_in self.now) < 16777216 }
+        ensures found { IfOk result (λ n. IsOwner (versions_in self.now) (Some n) (owner_below (lines_in self.now))) }
+        ensures last { IfOk result (λ n. n.0 + 1 ≡ length (versions_in self.now)) }
+        ensures absent { OnErr result (owner_below (lines_in self.now) ≡ None) }
+    {
+        let count = self.versions.len();
+        if count == 0 {
+            return Err(LineFault::Fault);
+        }
+        Ok(VersionNo((count - 1) as u32))
+    }
+
+    fn is_excluded(&self, version: VersionNo) -> bool
+        ensures { result ≡ is_some (get nat_eq self.now.excluded version.0) }
+    {
+        self.excluded.contains_key(&version.0)
+    }
+
+    fn is_unknown(&self, version: VersionNo) -> bool
+        ensures { result ≡ is_some (get nat_eq self.now.unknown version.0) }
+    {
+        self.unknown.contains_key(&version.0)
+    }
+
+    fn skip(&mut self) -> Result<(), LineFault>
+        requires table { IsTable self.old }
+        ensures ok { OnOk result (Adds self.old says.Skipped self.new) }
+        ensures memory { result ≡ Err Fault → ⊥ }
+    {
+        self.said.push(LineKind::Nothing)?;
+        Ok(())
+    }
+
+    fn list(&mut self, alloc: Global, version: Version) -> Result<(), LineFault>
+        requires table { IsTable self.old }
+        requires short { length (lines_in self.old) < 16777216 }
+        ensures ok { OnOk result (Adds self.old (says.Listed (version_of version)) self.new) }
+        ensures placed { OnOk result (MayFollow (lines_in self.old) (says.Listed (version_of version))) }
+        ensures fault { result ≡ Err Fault → MayFollow (lines_in self.old) (says.Listed (version_of version)) → ⊥ }
+    {
+        let number = VersionNo(self.versions.len() as u32);
+        if !add_version(&mut self.packages, alloc, &version, number)? {
+            return Err(LineFault::Fault);
+        }
+        self.belonging.add_version()?;
+        self.versions.push((version.name, version.number))?;
+        self.said.push(LineKind::Listed(number))?;
+        Ok(())
+    }
+
+    fn need(
+        &mut self,
+        line: u32,
+        alternatives: Vec<Spec>,
+        condition: Option<Cond>,
+    ) -> Result<(), LineFault>
+        requires table { IsTable self.old }
+        requires line { line ≡ length (lines_in self.old) + 1 }
+        requires short { line < 16777217 }
+        ensures ok { OnOk result (Adds self.old (says.Needs (specs_of alternatives.items) (condition_of condition)) self.new) }
+        ensures placed { OnOk result (MayFollow (lines_in self.old) (says.Needs (specs_of alternatives.items) (condition_of condition))) }
+        ensures fault { result ≡ Err Fault → MayFollow (lines_in self.old) (says.Needs (specs_of alternatives.items) (condition_of condition)) → ⊥ }
+    {
+        let owner = self.owner()?;
+        self.belonging.add_line(owner, line)?;
+        self.said.push(LineKind::Rule(Rule::Needs {
+            owner: Some(owner),
+            alternatives,
+            condition,
+        }))?;
+        Ok(())
+    }
+
+    fn limit(&mut self, line: u32, spec: Spec) -> Result<(), LineFault>
+        requires table { IsTable self.old }
+        requires line { line ≡ length (lines_in self.old) + 1 }
+        requires short { line < 16777217 }
+        ensures ok { OnOk result (Adds self.old (says.Limits (spec_of spec)) self.new) }
+        ensures placed { OnOk result (MayFollow (lines_in self.old) (says.Limits (spec_of spec))) }
+        ensures fault { result ≡ Err Fault → MayFollow (lines_in self.old) (says.Limits (spec_of spec)) → ⊥ }
+    {
+        let owner = self.owner()?;
+        self.belonging.add_line(owner, line)?;
+        self.said.push(LineKind::Rule(Rule::Limits {
+            owner: Some(owner),
+            spec,
+        }))?;
+        Ok(())
+    }
+
+    fn mark_unknown(&mut self, line: u32, word: String) -> Result<(), LineFault>
+        requires table { IsTable self.old }
+        requires line { line ≡ length (lines_in self.old) + 1 }
+        requires short { line < 16777217 }
+        ensures ok { OnOk result (Adds self.old (says.Unknown (string_bytes word)) self.new) }
+        ensures placed { OnOk result (MayFollow (lines_in self.old) (says.Unknown (string_bytes word))) }
+        ensures fault { result ≡ Err Fault → MayFollow (lines_in self.old) (says.Unknown (string_bytes word)) → ⊥ }
+    {
+        let version = self.owner()?;
+        if self.is_unknown(version) {
+            return Err(LineFault::Fault);
+        }
+        self.unknown.insert(version.0, line)?;
+        self.belonging.add_line(version, line)?;
+        self.said
+            .push(LineKind::Rule(Rule::Unknown { version, word }))?;
+        Ok(())
+    }
+
+    fn exclude(&mut self, line: u32, version: Version, word: String) -> Result<(), LineFault>
+        requires table { IsTable self.old }
+        requires line { line ≡ length (lines_in self.old) + 1 }
+        ensures ok { OnOk result (Adds self.old (says.Exclude (version_of version) (string_bytes word)) self.new) }
+        ensures placed { OnOk result (MayFollow (lines_in self.old) (says.Exclude (version_of version) (string_bytes word))) }
+        ensures fault { result ≡ Err Fault → MayFollow (lines_in self.old) (says.Exclude (version_of version) (string_bytes word)) → ⊥ }
+    {
+        let version = self.listed(&version)?;
+        if self.is_excluded(version) {
+            return Err(LineFault::Fault);
+        }
+        self.excluded.insert(version.0, line)?;
+        self.said
+            .push(LineKind::Rule(Rule::Exclude { version, word }))?;
+        Ok(())
+    }
+
+    fn favour(&mut self, line: u32, version: Version) -> Result<(), LineFault>
+        requires table { IsTable self.old }
+        requires line { line ≡ length (lines_in self.old) + 1 }
+        ensures ok { OnOk result (Adds self.old (says.Favour (version_of version)) self.new) }
+        ensures placed { OnOk result (MayFollow (lines_in self.old) (says.Favour (version_of version))) }
+        ensures fault { result ≡ Err Fault → MayFollow (lines_in self.old) (says.Favour (version_of version)) → ⊥ }
+    {
+        let favoured = self.listed(&version)?;
+        if self.is_favoured(&version.name) {
+            return Err(LineFault::Fault);
+        }
+        self.favoured.insert(version.name, line)?;
+        self.favours.push((line, favoured))?;
+        self.said.push(LineKind::Favour(favoured))?;
+        Ok(())
+    }
+
+    fn lock(&mut self, line: u32, version: Version) -> Result<(), LineFault>
+        requires table { IsTable self.old }
+        requires line { line ≡ length (lines_in self.old) + 1 }
+        ensures ok { OnOk result (Adds self.old (says.Lock (version_of version)) self.new) }
+        ensures placed { OnOk result (MayFollow (lines_in self.old) (says.Lock (version_of version))) }
+        ensures fault { result ≡ Err Fault → MayFollow (lines_in self.old) (says.Lock (version_of version)) → ⊥ }
+    {
+        let locked = self.listed(&version)?;
+        if self.is_locked(&version.name) {
+            return Err(LineFault::Fault);
+        }
+        self.locks.insert(version.name, line)?;
+        self.said
+            .push(LineKind::Rule(Rule::Lock { version: locked }))?;
+        Ok(())
+    }
+
+    /// Adds the line of this number, if it may stand below those of the table.
+    pub fn add(&mut self, alloc: Global, number: u32, line: Line) -> Result<(), LineFault>
+        requires table { IsTable self.old }
+        requires number { number ≡ length (lines_in self.old) + 1 }
+        requires short { number < 16777217 }
+        ensures ok { OnOk result (Adds self.old (view line) self.new) }
+        ensures placed { OnOk result (MayFollow (lines_in self.old) (view line)) }
+        ensures fault { result ≡ Err Fault → MayFollow (lines_in self.old) (view line) → ⊥ }
+    {
+        match line {
+            Line::Skipped => self.skip(),
+            Line::Listed(version) => self.list(alloc, version),
+            Line::Needs {
+                alternatives,
+                condition,
+            } => self.need(number, alternatives, condition),
+            Line::Limits(spec) => self.limit(number, spec),
+            Line::Unknown(word) => self.mark_unknown(number, word),
+            Line::Lock(version) => self.lock(number, version),
+            Line::Favour(version) => self.favour(number, version),
+            Line::Exclude { version, reason } => self.exclude(number, version, reason),
+            Line::Wish(_) => Err(LineFault::Fault),
+        }
+    }
+
+    /// Adds what the text of a line says.
+    pub fn read_line(&mut self, alloc: Global, number: u32, text: &[u8]) -> Result<(), LineFault>
+        requires table { IsTable self.old }
+        requires number { number ≡ length (lines_in self.old) + 1 }
+        requires short { number < 16777217 }
+        ensures ok { OnOk result ((line : says.Line) × IsCatalogueLine (lines_in self.old) text.now line × Adds self.old line self.new) }
+        ensures fault { result ≡ Err Fault → (line : says.Line) → IsCatalogueLine (lines_in self.old) text.now line → ⊥ }
+    {
+        let line = line_in(alloc, text)?;
+        self.add(alloc, number, line)
+    }
+}

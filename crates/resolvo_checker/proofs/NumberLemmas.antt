@@ -1,0 +1,52 @@
+-- Lemmas on the numbers of keys.
+use Rattle.std.proofs.Common.{◌≡◌, ℕ, ◌+◌, ◌<◌, Bool, true, false, List, Option, Some, None, sym, ap, subst, ◌∙◌, inl, inr, ◌⊎◌, cond, arith}
+use Rattle.std.specs.Global.{Vec}
+use Rattle.std.specs.Map.{lookup, KeepsOthers, IsKeyTest, AreApart}
+use Rattle.std.specs.Str.{bytes_eq}
+use Rattle.std.specs.HashMap.{HashMap, UpdatesBy}
+use Rattle.std.specs.Cmp.Lexicographic.{bytes_decides, nat_list_eq_equiv}
+use Rattle.std.proofs.lemmas.Bool.{cases_Bool, cond-true, cond-false}
+use Rattle.std.proofs.lemmas.Option.{none-some, same_Some}
+use Rattle.resolvo_checker.specs.Numbers.{number_in, AreNumbers, Keeps}
+
+abbrev key_eq : Vec ℕ → Vec ℕ → Bool
+key_eq x y = bytes_eq x.items y.items
+
+others : (key : List ℕ) (old new : List (Vec ℕ × ℕ)) → KeepsOthers key_eq (λ k. bytes_eq key k.items) old new → (other : Vec ℕ → Bool) → IsKeyTest key_eq other → AreApart (λ k. bytes_eq key k.items) other → lookup other new ≡ lookup other old
+unfolding KeepsOthers
+others key old new h = h
+
+apart_keys : (bs cs ks : List ℕ) → bytes_eq bs cs ≡ false → bytes_eq bs ks ≡ true → bytes_eq cs ks ≡ false
+apart_keys bs cs ks n y = nat_list_eq_equiv.symm cs ks ∙ sym (nat_list_eq_equiv.congr bs ks cs y) ∙ n
+
+-- what a new number at a key leaves at any key
+pub number-updated : {S : Type 0} (m n : HashMap (Vec ℕ) ℕ S) (key : List ℕ) (w : Option ℕ) → UpdatesBy key_eq (λ k. bytes_eq key k.items) m n w
+    → (other : List ℕ) → number_in n.entries other ≡ cond (bytes_eq key other) w (number_in m.entries other)
+number-updated m n key w h other = elim (cases_Bool (bytes_eq key other)) [
+  | inl y ↦ let same : key ≡ other = (bytes_decides key other).0 y in subst (λ (l : List ℕ). number_in n.entries l ≡ w) same h.1 ∙ sym (cond-true (bytes_eq key other) w (number_in m.entries other) y)
+  | inr y ↦ others key m.entries n.entries h.3 (λ k. bytes_eq other k.items) (λ a b. nat_list_eq_equiv.congr other a.items b.items) (λ k. apart_keys key other k.items y) ∙ sym (cond-false (bytes_eq key other) w (number_in m.entries other) y)
+]
+
+module _ (old new : List (Vec ℕ × ℕ)) (key : List ℕ) (count : ℕ) (is : (other : List ℕ) → number_in new other ≡ cond (bytes_eq key other) (Some count) (number_in old other)) (absent : number_in old key ≡ None) where
+  pub keeps : Keeps old new
+  keeps a i h = elim (cases_Bool (bytes_eq key a)) [
+    | inl y ↦ let same : key ≡ a = (bytes_decides key a).0 y in absurd (none-some i (sym absent ∙ (ap (number_in old) same ∙ h)))
+    | inr y ↦ is a ∙ (cond-false (bytes_eq key a) (Some count) (number_in old a) y ∙ h)
+  ]
+
+  module _ (were : AreNumbers old count) where
+    -- a number is the new key's, or an old one
+    given : (a : List ℕ) (i : ℕ) → number_in new a ≡ Some i → ((key ≡ a) × (i ≡ count)) ⊎ ((number_in old a ≡ Some i) × (i < count))
+    given a i h = elim (cases_Bool (bytes_eq key a)) [
+      | inl y ↦ inl ((bytes_decides key a).0 y, same_Some i count (sym h ∙ (is a ∙ cond-true (bytes_eq key a) (Some count) (number_in old a) y)))
+      | inr y ↦ let e : number_in old a ≡ Some i = sym (cond-false (bytes_eq key a) (Some count) (number_in old a) y) ∙ (sym (is a) ∙ h) in inr (e, were.below a i e)
+    ]
+
+    pub are_numbers : AreNumbers new (count + 1)
+    are_numbers = record {
+      apart = λ a b i h k. elim (given a i h) [
+        | inl x ↦ elim (given b i k) [ inl y ↦ sym x.0 ∙ y.0 | inr y ↦ absurd (omega (arith, x.1, y.1)) ]
+        | inr x ↦ elim (given b i k) [ inl y ↦ absurd (omega (arith, x.1, y.1)) | inr y ↦ were.apart a b i x.0 y.0 ]
+      ];
+      below = λ a i h. elim (given a i h) [ inl x ↦ omega (arith, x.1) | inr x ↦ omega (arith, x.1) ];
+    }

@@ -1,0 +1,169 @@
+-- The versions of a package, by their numbers and as they are listed.
+use Rattle.std.proofs.Common.{◌≡◌, ℕ, zero, suc, ◌+◌, ◌<◌, ◌≤◌, Bool, true, false, List, [], ◌∷◌, ◌++◌, map, length, get_or, Option, Some, refl, sym, ap, ◌∙◌, subst, inl, inr, ◌⊎◌, cond, arith, append_assoc, length-append}
+use Rattle.std.specs.Prelude.{filter, slice_get, slice_index_or, Contains}
+use Rattle.std.specs.List.Sorted.{IsStrictlyIncreasing}
+use Rattle.std.proofs.lemmas.Bool.{false≢true, cases_Bool, cases_lt}
+use Rattle.std.proofs.lemmas.Slice.Eq.{bytes_eq-Decides}
+use Rattle.std.specs.Str.{bytes_eq}
+use Rattle.resolvo_text.specs.Line.{Version}
+use Rattle.resolvo_catalogue_core.specs.Questions.{AreAll, IsOfPackage, number_of}
+use Rattle.resolvo_catalogue_core.specs.declared.rule.VersionNo.{VersionNo}
+use Rattle.std.specs.Option.{option_map}
+use Rattle.resolvo_pool_core.specs.OnePass as pass
+use Rattle.resolvo_report.specs.Value.{Atom}
+use Rattle.resolvo_checker.specs.StepClauses.{is_in}
+use Rattle.resolvo_checker.specs.Built.{told, somes}
+
+-- ---- members of rising lists
+
+abbrev In : ℕ → List ℕ → Type 0
+In n [] = ⊥
+In n (x ∷ xs) = (x ≡ n) ⊎ In n xs
+
+in_from : (n : ℕ) (xs : List ℕ) → Contains xs n → In n xs
+in_from n xs c = at xs c.0 c.1 c.2 where
+  at : (ys : List ℕ) (k : ℕ) → k < length ys → slice_index_or ys k n ≡ n → In n ys
+  at [] k l e = absurd (omega arith)
+  at (y ∷ ys) zero l e = inl e
+  at (y ∷ ys) (suc k) l e = inr (at ys k (omega arith) e)
+
+from_in : (n : ℕ) (xs : List ℕ) → In n xs → Contains xs n
+from_in n [] h = absurd h
+from_in n (x ∷ xs) h = elim h [
+  | inl e ↦ (0, omega arith, e)
+  | inr i ↦ let c = from_in n xs i in (suc c.0, omega (arith, c.1), c.2)
+]
+
+-- each is above the one before, and at least m
+abbrev Above : ℕ → List ℕ → Type 0
+Above m [] = Unit {0}
+Above m (x ∷ xs) = (m ≤ x) × Above (suc x) xs
+
+above_from : (m : ℕ) (xs : List ℕ) → IsStrictlyIncreasing xs → (0 < length xs → m ≤ get_or xs 0 0) → Above m xs
+above_from m [] r f = tt
+above_from m (x ∷ xs) r f = (f (omega arith), above_from (suc x) xs (λ k h. next k h) (λ l. let s : x < get_or xs 0 0 = r 0 (omega arith) in omega (arith, s))) where
+  next : (k : ℕ) → k + 1 < length xs → get_or xs k 0 < get_or xs (k + 1) 0
+  next k h = let e : suc k + 1 ≡ suc (k + 1) = omega arith in subst (λ (n : ℕ). get_or xs k 0 < get_or (x ∷ xs) n 0) e (r (suc k) (omega (arith, h)))
+
+in_above : (m n : ℕ) (xs : List ℕ) → Above m xs → In n xs → m ≤ n
+in_above m n [] a i = absurd i
+in_above m n (x ∷ xs) a i = elim i [
+  | inl e ↦ let b : m ≤ x = a.0 in omega (arith, b, e)
+  | inr j ↦ let b : m ≤ x = a.0 in let c : suc x ≤ n = in_above (suc x) n xs a.1 j in omega (arith, b, c)
+]
+
+-- ---- a list behind its front
+
+get_seam : (front : List Version) (v : Version) (vs : List Version) → slice_get (front ++ v ∷ vs) (length front) ≡ Some v
+get_seam [] v vs = refl
+get_seam (w ∷ front) v vs = get_seam front v vs
+
+get_end : (front : List Version) (n : ℕ) (v : Version) → length front ≤ n → slice_get (front ++ []) n ≡ Some v → ⊥
+get_end [] n v l e = cc
+get_end (w ∷ front) zero v l e = omega arith
+get_end (w ∷ front) (suc n) v l e = get_end front n v (omega arith) e
+
+module _ (whole : List Version) (name : List ℕ) (t : ℕ → Bool) (q : Version → Bool) (agree : (n : ℕ) (v : Version) → slice_get whole n ≡ Some v → v.name ≡ name → t n ≡ q v) (of : (v : Version) → q v ≡ true → v.name ≡ name) where
+  -- these are the numbers from m on of the package's versions
+  record AreFrom (m : ℕ) (xs : List ℕ) : Type 0 where
+    pub rising : Above m xs
+    pub each : (n : ℕ) → In n xs → IsOfPackage whole name n
+    pub all : (n : ℕ) → m ≤ n → IsOfPackage whole name n → In n xs
+
+  abbrev chosen : List ℕ → List (Option (pass.Literal Atom))
+  chosen xs = map (told whole) (filter t xs)
+
+  one_more : (b : Bool) (x : Version) (xs : List Version) → map (λ v. Some (is_in v)) (cond b (x ∷ xs) xs) ≡ cond b (Some (is_in x) ∷ map (λ v. Some (is_in v)) xs) (map (λ v. Some (is_in v)) xs)
+  one_more true x xs = refl
+  one_more false x xs = refl
+
+  kept_more : (b : Bool) (n : ℕ) (xs : List ℕ) → map (told whole) (cond b (n ∷ filter t xs) (filter t xs)) ≡ cond b (told whole n ∷ chosen xs) (chosen xs)
+  kept_more true n xs = refl
+  kept_more false n xs = refl
+
+  -- the first number is the one at m
+  first_is : (m : ℕ) (xs : List ℕ) → AreFrom m xs → IsOfPackage whole name m → (ys : List ℕ) × (xs ≡ m ∷ ys) × AreFrom (suc m) ys
+  first_is m [] a p = absurd (a.all m (omega arith) p)
+  first_is m (x ∷ xs) a p =
+      let l : m ≤ x = a.rising.0 in
+      let g : x ≤ m = elim (a.all m (omega arith) p) [ inl e ↦ omega (arith, e) | inr i ↦ let b : suc x ≤ m = in_above (suc x) m xs a.rising.1 i in omega (arith, b) ] in
+      let e : x ≡ m = omega (arith, l, g) in (
+        xs,
+        ap (λ k. k ∷ xs) e,
+        record {
+          rising = subst (λ k. Above (suc k) xs) e a.rising.1;
+          each = λ n i. a.each n (inr i);
+          all = λ n h o. elim (a.all n (omega (arith, h)) o) [ inl f ↦ absurd (omega (arith, e, f, h)) | inr i ↦ i ];
+        },
+      )
+
+  above_more : (m : ℕ) (xs : List ℕ) → Above m xs → (In m xs → ⊥) → Above (suc m) xs
+  above_more m [] a n = tt
+  above_more m (x ∷ xs) a n = let l : m ≤ x = a.0 in elim (cases_lt m x) [
+    | inl h ↦ (omega (arith, h), a.1)
+    | inr h ↦ absurd (n (inl (let e : x ≡ m = omega (arith, l, h) in e)))
+  ]
+
+  skip : (m : ℕ) (xs : List ℕ) → AreFrom m xs → (IsOfPackage whole name m → ⊥) → AreFrom (suc m) xs
+  skip m xs a none = record {
+    rising = above_more m xs a.rising (λ i. none (a.each m i));
+    each = a.each;
+    all = λ n h o. a.all n (omega (arith, h)) o;
+  }
+
+  none_left : (m : ℕ) (xs : List ℕ) → AreFrom m xs → ((n : ℕ) → m ≤ n → IsOfPackage whole name n → ⊥) → xs ≡ []
+  none_left m [] a none = refl
+  none_left m (x ∷ xs) a none = absurd (none x a.rising.0 (a.each x (inl refl)))
+
+  same_Some : (v w : Version) → Some v ≡ Some w → v ≡ w
+  same_Some v w h = cc
+
+  there : (m : ℕ) (v : Version) (vs : List Version) (xs : List ℕ) → slice_get whole m ≡ Some v → v.name ≡ name → AreFrom m xs
+      → ((ys : List ℕ) → AreFrom (suc m) ys → chosen ys ≡ map (λ w. Some (is_in w)) (filter q vs)) → chosen xs ≡ map (λ w. Some (is_in w)) (filter q (v ∷ vs))
+  there m v vs xs at named a ih =
+      let f = first_is m xs a (v, at, named) in
+      ap chosen f.1
+      ∙ (kept_more (t m) m f.0
+      ∙ (ap (λ b. cond b (told whole m ∷ chosen f.0) (chosen f.0)) (agree m v at named)
+      ∙ (ap (λ o. cond (q v) (option_map is_in o ∷ chosen f.0) (chosen f.0)) at
+      ∙ (ap (λ c. cond (q v) (Some (is_in v) ∷ c) c) (ih f.0 f.2)
+      ∙ sym (one_more (q v) v (filter q vs))))))
+
+  absent : (v : Version) (b : Bool) → q v ≡ b → (v.name ≡ name → ⊥) → q v ≡ false
+  absent v true e n = absurd (n (of v e))
+  absent v false e n = e
+
+  other : (m : ℕ) (v : Version) (vs : List Version) (xs : List ℕ) → slice_get whole m ≡ Some v → (v.name ≡ name → ⊥) → AreFrom m xs
+      → ((ys : List ℕ) → AreFrom (suc m) ys → chosen ys ≡ map (λ w. Some (is_in w)) (filter q vs)) → chosen xs ≡ map (λ w. Some (is_in w)) (filter q (v ∷ vs))
+  other m v vs xs at apart a ih =
+      ih xs (skip m xs a (λ p. apart (ap (λ (w : Version). w.name) (same_Some v p.0 (sym at ∙ p.1)) ∙ p.2)))
+      ∙ sym (ap (λ b. map (λ w. Some (is_in w)) (cond b (v ∷ filter q vs) (filter q vs))) (absent v (q v) refl apart))
+
+  chosen_is : (front vs : List Version) (xs : List ℕ) → whole ≡ front ++ vs → AreFrom (length front) xs → chosen xs ≡ map (λ w. Some (is_in w)) (filter q vs)
+  chosen_is front [] xs is a =
+      ap chosen (none_left (length front) xs a (λ n l p. get_end front n p.0 l (sym (ap (λ ws. slice_get ws n) is) ∙ p.1)))
+  chosen_is front (v ∷ vs) xs is a =
+      let at : slice_get whole (length front) ≡ Some v = ap (λ ws. slice_get ws (length front)) is ∙ get_seam front v vs in
+      let moved : whole ≡ (front ++ v ∷ []) ++ vs = is ∙ sym (append_assoc front (v ∷ []) vs) in
+      let long : suc (length front) ≡ length (front ++ v ∷ []) = omega (arith, length-append front (v ∷ [])) in
+      let ih : (ys : List ℕ) → AreFrom (suc (length front)) ys → chosen ys ≡ map (λ w. Some (is_in w)) (filter q vs) = λ ys b. chosen_is (front ++ v ∷ []) vs ys moved (subst (λ k. AreFrom k ys) long b) in
+      elim (cases_Bool (bytes_eq v.name name)) [
+        | inl e ↦ there (length front) v vs xs at ((bytes_eq-Decides v.name name).0 e) a ih
+        | inr e ↦ other (length front) v vs xs at (λ same. false≢true (sym e ∙ (bytes_eq-Decides v.name name).1 same)) a ih
+      ]
+
+twice : (xs : List Version) → map (λ w. Some (is_in w)) xs ≡ somes (map is_in xs)
+twice [] = refl
+twice (x ∷ xs) = ap (λ ys. Some (is_in x) ∷ ys) (twice xs)
+
+-- The literals of those numbers of a package's versions that pass are those of the listed versions that do.
+pub of_package : (vs : List Version) (name : List ℕ) (numbers : List VersionNo) → AreAll (map number_of numbers) (IsOfPackage vs name) → (t : ℕ → Bool) (q : Version → Bool)
+    → ((n : ℕ) (v : Version) → slice_get vs n ≡ Some v → v.name ≡ name → t n ≡ q v) → ((v : Version) → q v ≡ true → v.name ≡ name)
+    → map (told vs) (filter t (map number_of numbers)) ≡ somes (map is_in (filter q vs))
+of_package vs name numbers all t q agree of =
+    chosen_is vs name t q agree of [] vs (map number_of numbers) refl (record {
+      rising = above_from 0 (map number_of numbers) all.rising (λ h. omega arith);
+      each = λ n i. (all.all n).0 (from_in n (map number_of numbers) i);
+      all = λ n l p. in_from n (map number_of numbers) ((all.all n).1 p);
+    })
+    ∙ twice (filter q vs)

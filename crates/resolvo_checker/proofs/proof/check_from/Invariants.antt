@@ -1,0 +1,17 @@
+use Rattle.std.proofs.Common.{◌≡◌, ◌≤◌, take, length}
+use Rattle.resolvo_catalogue_core.specs.Listed.{listed}
+use Rattle.resolvo_report.specs.View.{steps_of}
+use Rattle.resolvo_checker.specs.Proof.{IsProof}
+use Rattle.resolvo_checker.specs.Checking.{names_catalogue, names_request, count_causes, StandFor}
+use Rattle.resolvo_checker.proofs.proof.check_from.Given as goal
+
+abbrev pub invariant-loop-at : goal.invariant-loop-at
+invariant-loop-at l = record {
+  stands : StandFor l.catalogue l.request.lines l.checker.numbers l.checker.clauses l.checker.places.items (steps_of (take l.at l.steps));
+  proof : IsProof l.catalogue l.request.lines (names_catalogue l.scope) (names_request l.scope) (steps_of (take l.at l.steps));
+  later : l.checker.truth.pass ≤ length l.checker.clauses;
+  count : length l.checker.clauses ≡ l.at;
+  long : length l.checker.places.items ≡ length (listed l.catalogue);
+  named : l.readings.named ≡ count_causes (steps_of (take l.at l.steps));
+  read : l.readings.read ≡ count_causes (steps_of (take l.at l.steps));
+}

@@ -1,0 +1,56 @@
+-- What built literals are, over the listed versions.
+use Rattle.std.specs.Prelude.{ℕ, Bool, true, false, not, List, map, Option, Some, None, slice_get}
+use Rattle.std.specs.String.{string_bytes}
+use Rattle.std.specs.Option.{option_map}
+use Rattle.std.specs.Bool.{beq}
+use Rattle.resolvo_catalogue_core.specs.Listed.{is_match}
+use Rattle.resolvo_text.specs.Line.{Version, Spec, Line}
+use Rattle.resolvo_text.specs.Matching.{matches}
+use Rattle.resolvo_text.specs.View.{spec_of, specs_of}
+use Rattle.resolvo_pool_core.specs.OnePass as pass
+use Rattle.resolvo_report.specs.Value as says
+use Rattle.resolvo_checker.specs.declared.atom.Atom.{Atom}
+use Rattle.resolvo_checker.specs.declared.atom.Atom.TheVariants as atom
+use Rattle.resolvo_checker.specs.declared.atom.Built.{Built}
+use Rattle.std.specs.Global.{Vec}
+use Rattle.resolvo_checker.specs.StepClauses.{Clause, clause_of, is_outside, membership, literal, is_in}
+
+-- that the version of this number is in the set, or isn't
+abbrev pub member_of : List Version → Bool → ℕ → Option (pass.Literal says.Atom)
+member_of versions positive n = option_map (λ v. membership v positive) (slice_get versions n)
+
+abbrev pub told : List Version → ℕ → Option (pass.Literal says.Atom)
+told versions n = option_map is_in (slice_get versions n)
+
+-- the literal, unless it names a version by a number that none has
+abbrev pub literal_of : List Version → Atom → Bool → Option (pass.Literal says.Atom)
+literal_of versions (atom.Version n) positive = member_of versions positive n.0
+literal_of versions (atom.Any name) positive = Some (literal (says.AnyOf (string_bytes name)) positive)
+literal_of versions (atom.Shared alternatives) positive = Some (literal (says.SharedBy (specs_of alternatives.items)) positive)
+literal_of versions (atom.Outside spec) positive = Some (literal (says.OutsideOf (spec_of spec)) positive)
+literal_of versions (atom.Bit bit name) positive = Some (literal (says.BitOf bit (string_bytes name)) positive)
+
+abbrev pub literals_in : List Version → List Built → List (Option (pass.Literal says.Atom))
+literals_in versions bs = map (λ b. literal_of versions b.atom b.positive) bs
+
+-- all are literals, and these
+abbrev pub somes : Clause → List (Option (pass.Literal says.Atom))
+somes clause = map Some clause
+
+-- v is of the SPEC's package and doesn't match, or else matches
+abbrev pub passes : Spec → Bool → Version → Bool
+passes s true v = is_outside s v
+passes s false v = matches s v
+
+-- whether the SPEC matches the version of this number, or else whether it doesn't
+abbrev pub picks : List Version → Spec → Bool → ℕ → Bool
+picks versions s outside n = not (beq (is_match versions s n) outside)
+
+-- the clause of a step that isn't derived
+abbrev pub rule_clause_of : List Line → List Line → says.Step → Option Clause
+rule_clause_of catalogue request (says.Derive literals causes) = None
+rule_clause_of catalogue request s = clause_of catalogue request s
+
+-- a clause that was built, if there is one
+abbrev pub seen : List Version → Option (Vec Built) → Option (List (Option (pass.Literal says.Atom)))
+seen versions o = option_map (λ c. literals_in versions c.items) o

@@ -1,0 +1,64 @@
+-- What is kept of the steps of a proof.
+use Rattle.std.specs.Prelude.{◌≡◌, ℕ, ◌+◌, ◌-◌, Bool, true, false, not, ◌&&◌, ◌||◌, ◌==◌, List, [], ◌∷◌, map, length, Option, Some, None, slice_get, unwrap_or, if◌then◌else◌}
+use Rattle.std.specs.Global.{Vec}
+use Rattle.std.specs.List.{list_all, list_any}
+use Rattle.std.specs.Option.{option_map_or}
+use Rattle.resolvo_text.specs.Line.{Version, Line}
+use Rattle.resolvo_catalogue_core.specs.Listed.{listed}
+use Rattle.resolvo_pool_core.specs.OnePass.{AreNamedClauses}
+use Rattle.resolvo_report.specs.Value.{Step}
+use Rattle.resolvo_report.specs.Value as step
+use Rattle.resolvo_checker.specs.declared.literal.Literal.{Literal}
+use Rattle.resolvo_checker.specs.declared.check_step.Premises.{Premises}
+use Rattle.resolvo_checker.specs.declared.check_step.Premises.TheVariants.{All, Named}
+use Rattle.resolvo_checker.specs.Literals.{literals_of}
+use Rattle.resolvo_checker.specs.StepClauses.{Clause, clause_of}
+use Rattle.resolvo_checker.specs.Proof.{allows_place}
+use Rattle.resolvo_checker.specs.Keys.{Names, Extends}
+use Rattle.resolvo_checker.specs.Numbers.{number_in}
+use Rattle.resolvo_catalogue_core.specs.declared.rule.VersionNo.{VersionNo}
+
+abbrev pub flag_at : List Bool → ℕ → Bool
+flag_at flags line = unwrap_or (slice_get flags line) false
+
+-- which lines steps may rest on
+abbrev pub names_catalogue : Premises → ℕ → Bool
+names_catalogue All line = true
+names_catalogue (Named catalogue request) line = flag_at catalogue.items line
+
+abbrev pub names_request : Premises → ℕ → Bool
+names_request All line = true
+names_request (Named catalogue request) line = flag_at request.items line
+
+-- a given place allows another
+abbrev pub allows : Option (Option ℕ) → ℕ → Bool
+allows (Some (Some given)) place = given == place
+allows (Some None) place = true
+allows None place = true
+
+abbrev pub clause_or_none : List Line → List Line → Step → Clause
+clause_or_none catalogue request s = unwrap_or (clause_of catalogue request s) []
+
+-- how many clauses a step names
+abbrev pub causes_in : Step → ℕ
+causes_in (step.Derive literals causes) = length causes
+causes_in s = 0
+
+-- how many clauses the steps name
+abbrev pub count_causes : List Step → ℕ
+count_causes [] = 0
+count_causes (s ∷ steps) = causes_in s + count_causes steps
+
+-- what numbering a step's clause gives: whether there is one, and its numbers
+abbrev pub AtomIds : Option Clause → Bool → List Version → List (Vec ℕ × ℕ) → List (Vec ℕ × ℕ) → List Literal → Type 0
+AtomIds None there versions old new ids = there ≡ false
+AtomIds (Some clause) there versions old new ids = (there ≡ true) × Extends versions old [] new ids clause
+
+-- the places that digit steps gave to versions, by their numbers
+abbrev pub Given : List Line → List (Option ℕ) → List Step → Type 0
+Given catalogue places earlier = (v : Version) (n place : ℕ) → slice_get (listed catalogue) n ≡ Some v → list_all (allows_place v place) earlier ≡ allows (slice_get places n) place
+
+-- what is kept stands for the earlier steps
+pub record StandFor (catalogue request : List Line) (entries : List (Vec ℕ × ℕ)) (clauses : List (List Literal)) (places : List (Option ℕ)) (earlier : List Step) : Type 0 where
+  pub numbered : AreNamedClauses (Names (listed catalogue) entries) (map (clause_or_none catalogue request) earlier) (map literals_of clauses)
+  pub placed : Given catalogue places earlier

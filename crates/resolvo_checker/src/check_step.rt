@@ -1,0 +1,356 @@
+//! The steps of a proof, taken one after the other.
+//! What is kept of the steps stands for them: `StandFor` of specs/Checking.antt. The judge takes each step of a report here.
+
+ghost use Rattle.std.specs.Prelude.{◌≡◌, ◌+◌, ◌^◌, ◌<◌, ◌≤◌, ◌&&◌, [], ◌∷◌, ◌++◌, ℕ, List, IfOk, IsTrue, length, map, is_some, slice_get, true};
+ghost use Rattle.std.specs.Bool.{nat_eq};
+ghost use Rattle.std.specs.List.{list_all};
+ghost use Rattle.resolvo_text.specs.Line as says;
+ghost use Rattle.resolvo_text.specs.View.{version_of};
+ghost use Rattle.resolvo_catalogue_core.specs.Listed.{listed, AreDistinct};
+ghost use Rattle.resolvo_pool_core.specs.OnePass.{one_pass};
+ghost use Rattle.resolvo_report.specs.Value.{Step as SaidStep};
+ghost use Rattle.resolvo_report.specs.View.{step_of, atom_of, literal_of, literals_of as said_literals};
+ghost use Rattle.resolvo_checker.specs.Literals.{literals_of, clause_at};
+ghost use Rattle.resolvo_checker.specs.Passing.{is_earlier};
+ghost use Rattle.resolvo_checker.specs.StepClauses.{is_atom, is_listed, literal_of as plain_literal, clause_of as clause_of_lem};
+ghost use Rattle.resolvo_checker.specs.Proof.{rests_on_named, allows_place, follows as follows_lem, may_stand};
+ghost use Rattle.resolvo_checker.specs.Keys.{Extends, Numbered};
+ghost use Rattle.resolvo_checker.specs.Numbers.{AreNumbers};
+ghost use Rattle.resolvo_checker.specs.Checking.{flag_at, names_catalogue, names_request, allows, causes_in, clause_or_none, AtomIds as NumbersOf, StandFor, Given};
+ghost use Rattle.resolvo_checker.specs.Built.{rule_clause_of};
+
+use crate::assignment::Assignment;
+use crate::atom_ids::AtomIds;
+use crate::clause_atoms::{
+    number_all, push_any, push_bit, push_outside, push_shared, push_version,
+};
+use crate::clauses::{Clauses, Readings};
+use crate::literal::Literal;
+use crate::rup::is_rup;
+use crate::steps::{clause_of, number_of};
+use resolvo_catalogue_core::{Catalogue, Request, Version, VersionNo};
+use resolvo_report as report;
+use resolvo_report::{Atom, Place, Step};
+use std::alloc::{AllocError, Global};
+
+/// The lines that steps may rest on: all, or those of the two texts that are marked.
+#[derive(Debug, Drop)]
+pub enum Premises {
+    All,
+    Named {
+        catalogue: Vec<bool>,
+        request: Vec<bool>,
+    },
+}
+
+fn is_marked(marks: &[bool], line: u32) -> bool
+    ensures { result ≡ flag_at marks.now line }
+{
+    match marks.get(line as usize) {
+        Some(mark) => *mark,
+        None => false,
+    }
+}
+
+fn in_catalogue(scope: &Premises, line: u32) -> bool
+    ensures { result ≡ names_catalogue scope.now line }
+{
+    match scope {
+        Premises::All => true,
+        Premises::Named { catalogue, .. } => is_marked(catalogue, line),
+    }
+}
+
+fn in_request(scope: &Premises, line: u32) -> bool
+    ensures { result ≡ names_request scope.now line }
+{
+    match scope {
+        Premises::All => true,
+        Premises::Named { request, .. } => is_marked(request, line),
+    }
+}
+
+/// Whether the line that the step takes its rule from may be rested on.
+fn is_named(scope: &Premises, step: &Step) -> bool
+    ensures { result ≡ rests_on_named (names_catalogue scope.now) (names_request scope.now) (step_of step.now) }
+{
+    match step {
+        Step::Need {
+            place: Place::Request,
+            line,
+            ..
+        }
+        | Step::LimitBars {
+            place: Place::Request,
+            line,
+            ..
+        }
+        | Step::Limit {
+            place: Place::Request,
+            line,
+        } => in_request(scope, *line),
+        Step::Need { line, .. }
+        | Step::LimitBars { line, .. }
+        | Step::Limit { line, .. }
+        | Step::Gate { line, .. }
+        | Step::Lock { line, .. }
+        | Step::Exclude { line }
+        | Step::Unknown { line } => in_catalogue(scope, *line),
+        Step::Shared { .. }
+        | Step::Outside { .. }
+        | Step::Digit { .. }
+        | Step::Any { .. }
+        | Step::Derive { .. } => true,
+    }
+}
+
+/// Numbers a literal of a derived clause. False where it names an unlisted version.
+fn push_said(
+    alloc: Global,
+    catalogue: &Catalogue,
+    numbers: &mut AtomIds,
+    out: &mut Vec<Literal>,
+    literal: &report::Literal,
+) -> Result<bool, AllocError>
+    ensures fine { IfOk result (λ fine. fine ≡ is_atom catalogue.now (atom_of literal.now.atom)) }
+    ensures extends { IfOk result (λ fine. IsTrue fine → Extends (listed catalogue.now) numbers.old out.old.items numbers.new out.new.items (plain_literal (literal_of literal.now) ∷ [])) }
+{
+    let positive = literal.positive;
+    match &literal.atom {
+        Atom::Version(version) => {
+            let Some(number) = number_of(catalogue, version) else {
+                return Ok(false);
+            };
+            push_version(alloc, numbers, out, number, positive)?;
+        }
+        Atom::Any { name } => push_any(alloc, numbers, out, name, positive)?,
+        Atom::Shared { alternatives } => push_shared(alloc, numbers, out, alternatives, positive)?,
+        Atom::Outside { spec } => push_outside(alloc, numbers, out, spec, positive)?,
+        Atom::Bit { bit, name } => push_bit(alloc, numbers, out, *bit, name, positive)?,
+    }
+    Ok(true)
+}
+
+/// Numbers the literals of a derived clause. False where one names an unlisted version.
+fn number_said(
+    alloc: Global,
+    catalogue: &Catalogue,
+    numbers: &mut AtomIds,
+    out: &mut Vec<Literal>,
+    literals: &[report::Literal],
+) -> Result<bool, AllocError>
+    ensures fine { IfOk result (λ fine. fine ≡ list_all (λ l. is_atom catalogue.now l.atom) (said_literals literals.now)) }
+    ensures extends { IfOk result (λ fine. IsTrue fine → Extends (listed catalogue.now) numbers.old [] numbers.new out.new.items (map plain_literal (said_literals literals.now))) }
+{
+    out.clear();
+    for literal in literals {
+        if !push_said(alloc, catalogue, numbers, out, literal)? {
+            return Ok(false);
+        }
+    }
+    Ok(true)
+}
+
+/// Numbers the clause of a rule step. False where the step doesn't fit its line.
+fn number_rule(
+    alloc: Global,
+    catalogue: &Catalogue,
+    request: &Request,
+    numbers: &mut AtomIds,
+    out: &mut Vec<Literal>,
+    step: &Step,
+) -> Result<bool, AllocError>
+    ensures { IfOk result (λ there. NumbersOf (rule_clause_of catalogue.now request.now.lines (step_of step.now)) there (listed catalogue.now) numbers.old numbers.new out.new.items) }
+{
+    match clause_of(alloc, catalogue, request, step)? {
+        Some(built) => {
+            number_all(alloc, numbers, out, &built)?;
+            Ok(true)
+        }
+        None => Ok(false),
+    }
+}
+
+/// Numbers the clause of a step, if it has one.
+fn number_step(
+    alloc: Global,
+    catalogue: &Catalogue,
+    request: &Request,
+    numbers: &mut AtomIds,
+    out: &mut Vec<Literal>,
+    step: &Step,
+) -> Result<bool, AllocError>
+    ensures { IfOk result (λ there. NumbersOf (clause_of_lem catalogue.now request.now.lines (step_of step.now)) there (listed catalogue.now) numbers.old numbers.new out.new.items) }
+{
+    if let Step::Derive { literals, .. } = step {
+        return number_said(alloc, catalogue, numbers, out, literals);
+    }
+    number_rule(alloc, catalogue, request, numbers, out, step)
+}
+
+/// The place that a version was given.
+fn may_have(places: &[Option<u32>], version: VersionNo, place: u32) -> bool
+    ensures { result ≡ allows (slice_get places.now version.0) place }
+{
+    match places.get(version.0 as usize) {
+        Some(Some(given)) => *given == place,
+        _ => true,
+    }
+}
+
+fn are_earlier(causes: &[u32], count: usize) -> bool
+    ensures { result ≡ list_all (is_earlier count) causes.now }
+{
+    causes.iter().all(|n| 0 < *n && *n as usize <= count)
+}
+
+/// What is kept of the steps so far, and the literals of the present one.
+#[derive(Drop)]
+pub struct Checker {
+    pub numbers: AtomIds,
+    pub clauses: Clauses,
+    pub truth: Assignment,
+    /// The places that digit steps gave to versions, by their numbers.
+    pub places: Vec<Option<u32>>,
+    pub literals: Vec<Literal>,
+}
+
+/// Whether the causes are earlier steps, and one pass over their clauses refutes the derived one.
+fn is_derived(
+    truth: &mut Assignment,
+    readings: &mut Readings,
+    clauses: &Clauses,
+    derived: &[Literal],
+    causes: &[u32],
+) -> Result<bool, AllocError>
+    requires later { truth.old.pass ≤ length clauses.now }
+    requires short { length clauses.now + 1 < 2 ^ 32 }
+    requires room { readings.old.read + length causes.now < 2 ^ 64 }
+    ensures answer { IfOk result (λ fine. fine ≡ (list_all (is_earlier (length clauses.now)) causes.now && one_pass nat_eq (literals_of derived.now) (map (clause_at clauses.now) causes.now))) }
+    ensures pass { truth.new.pass ≤ length clauses.now + 1 }
+    ensures read { IfOk result (λ fine. IsTrue fine → readings.new ≡ record readings.old { read = readings.old.read + length causes.now }) }
+{
+    if !are_earlier(causes, clauses.len()) {
+        return Ok(false);
+    }
+    let pass = clauses.len() as u32 + 1;
+    is_rup(truth, pass, derived, clauses, causes, readings)
+}
+
+/// Whether the version has no other place. A version that isn't listed has none.
+fn has_no_other(
+    catalogue: &Catalogue,
+    places: &[Option<u32>],
+    version: &Version,
+    place: u32,
+) -> bool
+    ensures { (earlier : List SaidStep) → is_listed catalogue.now (version_of version.now) ≡ true → Given catalogue.now places.now earlier → result ≡ list_all (allows_place (version_of version.now) place) earlier }
+{
+    match number_of(catalogue, version) {
+        Some(number) => may_have(places, number, place),
+        None => false,
+    }
+}
+
+/// Whether the step owes nothing to the earlier ones that it hasn't: a version has one place, and one pass over
+/// the clauses of earlier steps refutes a derived one.
+fn follows(
+    catalogue: &Catalogue,
+    numbers: &AtomIds,
+    truth: &mut Assignment,
+    readings: &mut Readings,
+    clauses: &Clauses,
+    places: &[Option<u32>],
+    literals: &[Literal],
+    step: &Step,
+) -> Result<bool, AllocError>
+    requires later { truth.old.pass ≤ length clauses.now }
+    requires short { length clauses.now + 1 < 2 ^ 32 }
+    requires room { readings.old.read + causes_in (step_of step.now) < 2 ^ 64 }
+    ensures answer { IfOk result (λ fine. (request : List says.Line) (earlier : List SaidStep) (count : ℕ) → AreNumbers numbers.now count → AreDistinct (listed catalogue.now) → is_some (clause_of_lem catalogue.now request (step_of step.now)) ≡ true → StandFor catalogue.now request numbers.now clauses.now places.now earlier → Numbered (listed catalogue.now) numbers.now (clause_or_none catalogue.now request (step_of step.now)) literals.now → fine ≡ follows_lem catalogue.now request earlier (step_of step.now)) }
+    ensures pass { truth.new.pass ≤ length clauses.now + 1 }
+    ensures read { IfOk result (λ fine. IsTrue fine → readings.new ≡ record readings.old { read = readings.old.read + causes_in (step_of step.now) }) }
+{
+    match step {
+        Step::Digit { version, place, .. } => Ok(has_no_other(catalogue, places, version, *place)),
+        Step::Derive { causes, .. } => is_derived(truth, readings, clauses, literals, causes),
+        Step::Need { .. }
+        | Step::Gate { .. }
+        | Step::Shared { .. }
+        | Step::LimitBars { .. }
+        | Step::Limit { .. }
+        | Step::Outside { .. }
+        | Step::Lock { .. }
+        | Step::Exclude { .. }
+        | Step::Unknown { .. }
+        | Step::Any { .. } => Ok(true),
+    }
+}
+
+/// Notes the place that a digit step gives.
+fn note_place(catalogue: &Catalogue, places: &mut Vec<Option<u32>>, step: &Step)
+    requires { length places.old.items ≡ length (listed catalogue.now) }
+    ensures long { length places.new.items ≡ length (listed catalogue.now) }
+    ensures given { (request : List says.Line) (earlier : List SaidStep) → AreDistinct (listed catalogue.now) → is_some (clause_of_lem catalogue.now request (step_of step.now)) ≡ true → follows_lem catalogue.now request earlier (step_of step.now) ≡ true → Given catalogue.now places.old.items earlier → Given catalogue.now places.new.items (earlier ++ step_of step.now ∷ []) }
+{
+    if let Step::Digit { version, place, .. } = step {
+        if let Some(number) = number_of(catalogue, version) {
+            places[number.0 as usize] = Some(*place);
+        }
+    }
+}
+
+/// Takes the next step: whether it may stand after the earlier ones. Where it may, what is kept stands for it too.
+///
+/// The number of the step is that of the steps before it and one.
+pub fn advance(
+    alloc: Global,
+    catalogue: &Catalogue,
+    request: &Request,
+    scope: &Premises,
+    checker: &mut Checker,
+    readings: &mut Readings,
+    step: &Step,
+) -> Result<bool, AllocError>
+    requires later { checker.old.truth.pass ≤ length checker.old.clauses }
+    requires long { length checker.old.places.items ≡ length (listed catalogue.now) }
+    requires short { length checker.old.clauses + 1 < 2 ^ 32 }
+    requires room { readings.old.read + causes_in (step_of step.now) < 2 ^ 64 }
+    ensures answer { IfOk result (λ fine. (earlier : List SaidStep) → StandFor catalogue.now request.now.lines checker.old.numbers checker.old.clauses checker.old.places.items earlier → fine ≡ may_stand catalogue.now request.now.lines (names_catalogue scope.now) (names_request scope.now) earlier (step_of step.now)) }
+    ensures stands { IfOk result (λ fine. IsTrue fine → (earlier : List SaidStep) → StandFor catalogue.now request.now.lines checker.old.numbers checker.old.clauses checker.old.places.items earlier → StandFor catalogue.now request.now.lines checker.new.numbers checker.new.clauses checker.new.places.items (earlier ++ step_of step.now ∷ [])) }
+    ensures later { IfOk result (λ fine. IsTrue fine → checker.new.truth.pass ≤ length checker.new.clauses) }
+    ensures long { IfOk result (λ fine. IsTrue fine → length checker.new.places.items ≡ length (listed catalogue.now)) }
+    ensures count { IfOk result (λ fine. IsTrue fine → length checker.new.clauses ≡ length checker.old.clauses + 1) }
+    ensures read { IfOk result (λ fine. IsTrue fine → readings.new ≡ record readings.old { read = readings.old.read + causes_in (step_of step.now) }) }
+{
+    let there = number_step(
+        alloc,
+        catalogue,
+        request,
+        &mut checker.numbers,
+        &mut checker.literals,
+        step,
+    )?;
+    if !there || !is_named(scope, step) {
+        return Ok(false);
+    }
+    // The proof rests on what these two say: no version is listed twice, and no two keys have one number.
+    let _versions = catalogue.versions();
+    let _count = checker.numbers.count();
+    let fine = follows(
+        catalogue,
+        &checker.numbers,
+        &mut checker.truth,
+        readings,
+        &checker.clauses,
+        &checker.places,
+        &checker.literals,
+        step,
+    )?;
+    if !fine {
+        return Ok(false);
+    }
+    checker.clauses.push(&checker.literals)?;
+    note_place(catalogue, &mut checker.places, step);
+    Ok(true)
+}

@@ -1,0 +1,143 @@
+//! The parts of clauses, added to a clause that is built.
+
+ghost use Rattle.std.specs.Prelude.{◌≡◌, [], ◌∷◌, ◌++◌, List, Some, OnOk, IfOk};
+ghost use Rattle.resolvo_text.specs.Line as says;
+ghost use Rattle.resolvo_text.specs.View.{spec_of, specs_of};
+ghost use Rattle.resolvo_catalogue_core.specs.Listed.{listed};
+ghost use Rattle.resolvo_report.specs.Value.{AnyOf, SharedBy, OutsideOf, BitOf};
+ghost use Rattle.resolvo_checker.specs.StepClauses.{literal, each_listed, some_match, case_fails};
+ghost use Rattle.resolvo_checker.specs.Built.{literals_in, member_of, somes, passes};
+
+use crate::atom::{Atom, Built};
+use resolvo_catalogue_core::{Catalogue, Spec, VersionNo};
+use std::alloc::{AllocError, Global};
+
+pub type Clause = Vec<Built>;
+
+pub fn push_version(out: &mut Clause, version: VersionNo, positive: bool) -> Result<(), AllocError>
+    ensures { OnOk result ((vs : List says.Version) → literals_in vs out.new.items ≡ literals_in vs out.old.items ++ member_of vs positive version.0 ∷ []) }
+{
+    out.push(Built {
+        atom: Atom::Version(version),
+        positive,
+    })?;
+    Ok(())
+}
+
+pub fn push_any(
+    alloc: Global,
+    out: &mut Clause,
+    name: &str,
+    positive: bool,
+) -> Result<(), AllocError>
+    ensures { OnOk result ((vs : List says.Version) → literals_in vs out.new.items ≡ literals_in vs out.old.items ++ Some (literal (AnyOf name.now) positive) ∷ []) }
+{
+    let name = String::from_str(alloc, name)?;
+    out.push(Built {
+        atom: Atom::Any(name),
+        positive,
+    })?;
+    Ok(())
+}
+
+pub fn push_bit(
+    alloc: Global,
+    out: &mut Clause,
+    bit: u32,
+    name: &str,
+    positive: bool,
+) -> Result<(), AllocError>
+    ensures { OnOk result ((vs : List says.Version) → literals_in vs out.new.items ≡ literals_in vs out.old.items ++ Some (literal (BitOf bit name.now) positive) ∷ []) }
+{
+    let name = String::from_str(alloc, name)?;
+    out.push(Built {
+        atom: Atom::Bit(bit, name),
+        positive,
+    })?;
+    Ok(())
+}
+
+fn copies_of(alloc: Global, specs: &[Spec]) -> Result<Vec<Spec>, AllocError>
+    ensures { IfOk result (λ v. specs_of v.items ≡ specs_of specs.now) }
+{
+    let mut copies = Vec::new(alloc);
+    for spec in specs {
+        copies.push(spec.copy()?)?;
+    }
+    Ok(copies)
+}
+
+pub fn push_shared(
+    alloc: Global,
+    out: &mut Clause,
+    alternatives: &[Spec],
+    positive: bool,
+) -> Result<(), AllocError>
+    ensures { OnOk result ((vs : List says.Version) → literals_in vs out.new.items ≡ literals_in vs out.old.items ++ Some (literal (SharedBy (specs_of alternatives.now)) positive) ∷ []) }
+{
+    let alternatives = copies_of(alloc, alternatives)?;
+    out.push(Built {
+        atom: Atom::Shared(alternatives),
+        positive,
+    })?;
+    Ok(())
+}
+
+pub fn push_outside(out: &mut Clause, spec: &Spec, positive: bool) -> Result<(), AllocError>
+    ensures { OnOk result ((vs : List says.Version) → literals_in vs out.new.items ≡ literals_in vs out.old.items ++ Some (literal (OutsideOf (spec_of spec.now)) positive) ∷ []) }
+{
+    let spec = spec.copy()?;
+    out.push(Built {
+        atom: Atom::Outside(spec),
+        positive,
+    })?;
+    Ok(())
+}
+
+/// Adds each listed version of the SPEC's package that doesn't match, or else each that matches.
+fn push_each(
+    out: &mut Clause,
+    catalogue: &Catalogue,
+    spec: &Spec,
+    outside: bool,
+) -> Result<(), AllocError>
+    ensures { OnOk result (literals_in (listed catalogue.now) out.new.items ≡ literals_in (listed catalogue.now) out.old.items ++ somes (each_listed catalogue.now (passes (spec_of spec.now) outside))) }
+{
+    let versions = catalogue.versions_of(&spec.name);
+    for version in versions {
+        if catalogue.match_of(spec, *version) != outside {
+            push_version(out, *version, true)?;
+        }
+    }
+    Ok(())
+}
+
+/// Adds each listed match of each alternative.
+pub fn push_matches(
+    out: &mut Clause,
+    catalogue: &Catalogue,
+    alternatives: &[Spec],
+) -> Result<(), AllocError>
+    ensures { OnOk result (literals_in (listed catalogue.now) out.new.items ≡ literals_in (listed catalogue.now) out.old.items ++ somes (some_match catalogue.now (specs_of alternatives.now))) }
+{
+    for spec in alternatives {
+        push_each(out, catalogue, spec, false)?;
+    }
+    Ok(())
+}
+
+/// Adds that each SPEC of the case has no matching member.
+pub fn push_case(
+    alloc: Global,
+    out: &mut Clause,
+    catalogue: &Catalogue,
+    specs: &[Spec],
+) -> Result<(), AllocError>
+    ensures { OnOk result (literals_in (listed catalogue.now) out.new.items ≡ literals_in (listed catalogue.now) out.old.items ++ somes (case_fails catalogue.now (specs_of specs.now))) }
+{
+    for spec in specs {
+        push_any(alloc, out, &spec.name, false)?;
+        push_each(out, catalogue, spec, true)?;
+    }
+    Ok(())
+}

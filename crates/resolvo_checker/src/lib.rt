@@ -1,0 +1,15 @@
+//! The steps of a report: the clause of each, whether it may stand where it does, and whole proofs.
+#![tactic(auto)]
+
+pub mod assignment;
+pub mod atom;
+pub mod atom_ids;
+pub mod check_step;
+mod clause_atoms;
+mod clause_parts;
+pub mod clauses;
+pub mod literal;
+pub mod proof;
+mod rup;
+pub mod stated;
+pub mod steps;

@@ -1,0 +1,146 @@
+//! Whole proofs: the steps in order, from all lines or from those that are named.
+
+ghost use Rattle.std.specs.Prelude.{◌≡◌, ◌+◌, ◌^◌, ◌<◌, ◌≤◌, ℕ, [], List, Some, IfOk, IfSome, IfNone, length, replicate, None, true, slice_get};
+ghost use Rattle.resolvo_text.specs.Line.{Version};
+ghost use Rattle.resolvo_text.specs.Matching.{Set};
+ghost use Rattle.resolvo_catalogue_core.specs.Listed.{listed};
+ghost use Rattle.resolvo_catalogue_core.specs.Sets.{IsSingle};
+ghost use Rattle.resolvo_report.specs.Value.{Step as SaidStep};
+ghost use Rattle.resolvo_report.specs.View.{step_of, steps_of};
+ghost use Rattle.resolvo_checker.specs.StepClauses.{Clause, clause_of};
+ghost use Rattle.resolvo_checker.specs.Proof.{IsProof, IsWrongAt, ObeysTested, ends_empty, bars, AreApart};
+ghost use Rattle.resolvo_checker.specs.Checking.{names_catalogue, names_request, causes_in as causes_in_lem, count_causes, StandFor};
+
+use crate::assignment::Assignment;
+use crate::atom_ids::AtomIds;
+use crate::check_step::{Checker, Premises, advance};
+use crate::clauses::{Clauses, Readings};
+use resolvo_catalogue_core::{Catalogue, Request};
+use resolvo_report::Step;
+use std::alloc::{AllocError, Global};
+
+/// The first step, from 0, that may not stand after those before it, and how many clauses were named and read.
+#[derive(Clone, Copy, Debug)]
+pub struct Checked {
+    pub wrong: Option<usize>,
+    pub readings: Readings,
+}
+
+/// A table of so many places, with nothing in each.
+pub fn nothing_each<T: Copy>(alloc: Global, count: usize) -> Result<Vec<Option<T>>, AllocError>
+    ensures { IfOk result (λ places. places.items ≡ replicate count None) }
+{
+    let mut places = Vec::new(alloc);
+    for _ in 0..count {
+        places.push(None)?;
+    }
+    Ok(places)
+}
+
+/// What is kept of no step.
+pub fn begin(alloc: Global, catalogue: &Catalogue, request: &Request) -> Result<Checker, AllocError>
+    ensures stands { IfOk result (λ c. StandFor catalogue.now request.now.lines c.numbers c.clauses c.places.items []) }
+    ensures pass { IfOk result (λ c. c.truth.pass ≡ 0) }
+    ensures count { IfOk result (λ c. c.clauses ≡ []) }
+    ensures long { IfOk result (λ c. length c.places.items ≡ length (listed catalogue.now)) }
+{
+    let places = nothing_each(alloc, catalogue.versions().len())?;
+    Ok(Checker {
+        numbers: AtomIds::new(alloc),
+        clauses: Clauses::new(alloc),
+        truth: Assignment::new(alloc),
+        places,
+        literals: Vec::new(alloc),
+    })
+}
+
+/// How many clauses a step names.
+pub fn causes_in(step: &Step) -> u64
+    ensures { result ≡ causes_in_lem (step_of step.now) }
+{
+    match step {
+        Step::Derive { causes, .. } => causes.len() as u64,
+        _ => 0,
+    }
+}
+
+/// How many clauses the steps name, if that is a number of 64 bits.
+pub fn count_causes(steps: &[Step]) -> Option<u64>
+    ensures count { IfSome result (λ n. n ≡ count_causes (steps_of steps.now)) }
+    ensures none { IfNone result (2 ^ 64 ≤ count_causes (steps_of steps.now)) }
+{
+    let mut count = 0u64;
+    for step in steps {
+        count = count.checked_add(causes_in(step))?;
+    }
+    Some(count)
+}
+
+/// Takes the steps in order.
+fn check_from(
+    alloc: Global,
+    catalogue: &Catalogue,
+    request: &Request,
+    scope: &Premises,
+    checker: &mut Checker,
+    steps: &[Step],
+) -> Result<Checked, AllocError>
+    requires stands { StandFor catalogue.now request.now.lines checker.old.numbers checker.old.clauses checker.old.places.items [] }
+    requires pass { checker.old.truth.pass ≡ 0 }
+    requires count { checker.old.clauses ≡ [] }
+    requires long { length checker.old.places.items ≡ length (listed catalogue.now) }
+    requires few { length steps.now + 1 < 2 ^ 32 }
+    requires room { count_causes (steps_of steps.now) < 2 ^ 64 }
+    ensures wrong { IfOk result (λ c. IfSome c.wrong (IsWrongAt catalogue.now request.now.lines (names_catalogue scope.now) (names_request scope.now) (steps_of steps.now))) }
+    ensures proof { IfOk result (λ c. IfNone c.wrong (IsProof catalogue.now request.now.lines (names_catalogue scope.now) (names_request scope.now) (steps_of steps.now))) }
+    ensures named { IfOk result (λ c. IfNone c.wrong (c.readings.named ≡ count_causes (steps_of steps.now))) }
+    ensures read { IfOk result (λ c. IfNone c.wrong (c.readings.read ≡ count_causes (steps_of steps.now))) }
+{
+    let mut readings = Readings::new();
+    for at in 0..steps.len() {
+        let step = &steps[at];
+        if !advance(
+            alloc,
+            catalogue,
+            request,
+            scope,
+            checker,
+            &mut readings,
+            step,
+        )? {
+            return Ok(Checked {
+                wrong: Some(at),
+                readings,
+            });
+        }
+        readings.name(causes_in(step));
+    }
+    Ok(Checked {
+        wrong: None,
+        readings,
+    })
+}
+
+/// Checks a proof from the lines of the scope.
+pub fn check_steps(
+    alloc: Global,
+    catalogue: &Catalogue,
+    request: &Request,
+    scope: &Premises,
+    steps: &[Step],
+) -> Result<Checked, AllocError>
+    requires few { length steps.now + 1 < 2 ^ 32 }
+    requires room { count_causes (steps_of steps.now) < 2 ^ 64 }
+    // The first step that may not stand where it does, or else the steps are a proof.
+    ensures wrong { IfOk result (λ c. IfSome c.wrong (IsWrongAt catalogue.now request.now.lines (names_catalogue scope.now) (names_request scope.now) (steps_of steps.now))) }
+    ensures proof { IfOk result (λ c. IfNone c.wrong (IsProof catalogue.now request.now.lines (names_catalogue scope.now) (names_request scope.now) (steps_of steps.now))) }
+    // Each named clause was read once for each naming.
+    ensures named { IfOk result (λ c. IfNone c.wrong (c.readings.named ≡ count_causes (steps_of steps.now))) }
+    ensures read { IfOk result (λ c. IfNone c.wrong (c.readings.read ≡ count_causes (steps_of steps.now))) }
+    // A proof that ends with the empty clause: no single set obeys the lines.
+    ensures refutes { IfOk result (λ c. IfNone c.wrong (ends_empty (steps_of steps.now) ≡ true → (set : Set) → IsSingle catalogue.now set → ObeysTested catalogue.now request.now.lines (names_catalogue scope.now) (names_request scope.now) set → ⊥)) }
+{
+    let mut checker = begin(alloc, catalogue, request)?;
+    let checked = check_from(alloc, catalogue, request, scope, &mut checker, steps)?;
+    Ok(checked)
+}

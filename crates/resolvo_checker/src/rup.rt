@@ -1,0 +1,110 @@
+//! One pass over clauses: deny a clause, and read the named clauses once each, in order.
+
+ghost use Rattle.std.specs.Prelude.{◌≡◌, ◌+◌, ◌^◌, ◌<◌, ◌≤◌, length, map, IfOk, OnOk, true};
+ghost use Rattle.std.specs.Bool.{nat_eq};
+ghost use Rattle.std.specs.List.{list_all};
+ghost use Rattle.resolvo_pool_core.specs.OnePass.{is_denied, reading, is_broken, learn, deny, one_pass};
+ghost use Rattle.resolvo_checker.specs.Truth.{known_in};
+ghost use Rattle.resolvo_checker.specs.Literals.{literal_of, literals_of, rest_of as rest_of_lem, clause_at};
+ghost use Rattle.resolvo_checker.specs.Passing.{is_earlier, meet as meet_lem};
+
+use crate::assignment::Assignment;
+use crate::clauses::{Clauses, Readings};
+use crate::literal::{Literal, RupResult};
+use std::alloc::AllocError;
+
+fn is_false(truth: &Assignment, literal: Literal) -> bool
+    ensures { result ≡ is_denied (known_in truth.now.marks.items truth.now.pass literal.atom) literal.positive }
+{
+    match truth.known(literal.atom) {
+        None => false,
+        Some(value) => value != literal.positive,
+    }
+}
+
+/// What is left with one more literal that isn't false.
+fn met(rest: RupResult, literal: Literal) -> RupResult
+    ensures { rest_of_lem result ≡ meet_lem nat_eq (rest_of_lem rest) (literal_of literal) }
+{
+    match rest {
+        RupResult::Broken => RupResult::Last(literal),
+        RupResult::Last(other) => {
+            if other.atom == literal.atom && other.positive == literal.positive {
+                RupResult::Last(other)
+            } else {
+                RupResult::Open
+            }
+        }
+        RupResult::Open => RupResult::Open,
+    }
+}
+
+/// What is left of the clause without its false literals.
+fn rest_of(truth: &Assignment, clause: &[Literal]) -> RupResult
+    ensures { rest_of_lem result ≡ reading nat_eq (known_in truth.now.marks.items truth.now.pass) (literals_of clause.now) }
+{
+    let mut rest = RupResult::Broken;
+    for literal in clause {
+        if !is_false(truth, *literal) {
+            rest = met(rest, *literal);
+        }
+    }
+    rest
+}
+
+/// Reads one clause: whether it is broken. A literal that is left alone, and has no value, is made true.
+fn read(truth: &mut Assignment, clause: &[Literal]) -> Result<bool, AllocError>
+    ensures broken { IfOk result (λ broken. broken ≡ is_broken (reading nat_eq (known_in truth.old.marks.items truth.old.pass) (literals_of clause.now))) }
+    ensures known { OnOk result (known_in truth.new.marks.items truth.new.pass ≡ learn nat_eq (known_in truth.old.marks.items truth.old.pass) (reading nat_eq (known_in truth.old.marks.items truth.old.pass) (literals_of clause.now))) }
+    ensures pass { truth.new.pass ≡ truth.old.pass }
+{
+    match rest_of(truth, clause) {
+        RupResult::Broken => Ok(true),
+        RupResult::Last(literal) => {
+            if truth.known(literal.atom).is_none() {
+                truth.set(literal.atom, literal.positive)?;
+            }
+            Ok(false)
+        }
+        RupResult::Open => Ok(false),
+    }
+}
+
+/// Makes all literals of the clause false.
+fn deny_all(truth: &mut Assignment, clause: &[Literal]) -> Result<(), AllocError>
+    ensures known { OnOk result (known_in truth.new.marks.items truth.new.pass ≡ deny nat_eq (known_in truth.old.marks.items truth.old.pass) (literals_of clause.now)) }
+    ensures pass { truth.new.pass ≡ truth.old.pass }
+{
+    for literal in clause {
+        truth.set(literal.atom, !literal.positive)?;
+    }
+    Ok(())
+}
+
+/// Whether one pass over the causes, which are steps counted from 1, refutes the denied clause.
+///
+/// The pass gets a number above those of the passes before it.
+pub fn is_rup(
+    truth: &mut Assignment,
+    pass: u32,
+    denied: &[Literal],
+    clauses: &Clauses,
+    causes: &[u32],
+    readings: &mut Readings,
+) -> Result<bool, AllocError>
+    requires later { truth.old.pass < pass }
+    requires causes { list_all (is_earlier (length clauses.now)) causes.now ≡ true }
+    requires room { readings.old.read + length causes.now < 2 ^ 64 }
+    ensures answer { IfOk result (λ refuted. refuted ≡ one_pass nat_eq (literals_of denied.now) (map (clause_at clauses.now) causes.now)) }
+    ensures read { OnOk result (readings.new ≡ record readings.old { read = readings.old.read + length causes.now }) }
+    ensures pass { truth.new.pass ≡ pass }
+{
+    truth.begin(pass);
+    deny_all(truth, denied)?;
+    let mut refuted = false;
+    for cause in causes {
+        let clause = clauses.clause(*cause as usize - 1, readings);
+        refuted |= read(truth, clause)?;
+    }
+    Ok(refuted)
+}

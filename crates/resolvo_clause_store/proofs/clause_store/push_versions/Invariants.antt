@@ -1,7 +1,0 @@
-use Rattle.std.proofs.Common.{◌≡◌, ◌++◌, take}
-use Rattle.resolvo_clause_store.specs.Changes.{versions_of}
-use Rattle.resolvo_clause_store.proofs.clause_store.push_versions.Given as goal
-
--- the versions so far stand behind the candidates
-abbrev pub invariant-loop-version : goal.invariant-loop-version
-invariant-loop-version g l = l.candidates.items ≡ l.initial.candidates.items ++ versions_of l.name (take l.version-index l.versions)

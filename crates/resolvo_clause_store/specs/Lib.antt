@@ -1,5 +1,0 @@
-pub mod Origins
-pub mod Stored
-pub mod Changes
-pub mod Calls
-pub mod Wording

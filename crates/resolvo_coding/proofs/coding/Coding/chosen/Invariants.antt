@@ -1,6 +1,0 @@
-use Rattle.std.proofs.Common.{◌≡◌, take}
-use Rattle.resolvo_coding.specs.Chosen.{choices}
-use Rattle.resolvo_coding.proofs.coding.Coding.chosen.Given as goal
-
-abbrev pub invariant-loop-entry : goal.invariant-loop-entry
-invariant-loop-entry g l = l.chosen.items ≡ choices l.self.atoms.keys (take l.entry-index l.entry-items)

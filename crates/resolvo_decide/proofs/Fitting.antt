@@ -1,0 +1,235 @@
+-- What is known stays so as the trail goes back and on, and what is known to be met or idle has nothing to decide.
+use Rattle.std.proofs.Common.{◌≡◌, ℕ, zero, suc, ◌+◌, ◌-◌, ◌<◌, ◌≤◌, ◌⊎◌, inl, inr, cond, Bool, true, false, List, [], ◌∷◌, ◌++◌, map, length, take, drop, get_or, Option, Some, None, refl, sym, ◌∙◌, ap, subst, arith}
+use Rattle.std.specs.Prelude.{nat_lt, ◌&&◌, ◌||◌, slice_get, slice_set, Contains}
+use Rattle.std.specs.Option.{option_map}
+use Rattle.std.specs.List.{list_any, list_all, find}
+use Rattle.std.proofs.Math.Bool.{beq}
+use Rattle.std.proofs.lemmas.Bool.{ltb-false, cases_lt}
+use Rattle.std.proofs.lemmas.List.{append_assoc, length-append, length-drop, length-map, length-set, take_more, take_all, drop_all, take-append-drop}
+use Rattle.std.proofs.Math.Seq.{take-length}
+use Rattle.resolvo_pool_core.specs.declared.requirement.Requirement.{Requirement}
+use Rattle.resolvo_store_core.specs.Signed.{Signed, value_under, is_true, is_false, is_open}
+use Rattle.resolvo_store_core.specs.Clauses.{candidate_literals}
+use Rattle.resolvo_store_core.specs.Lists.{named_by, candidates_in, condition_in}
+use Rattle.resolvo_store_core.specs.Pick.{offer, pick_after, offer_of, decision_for, is_eligible, later}
+use Rattle.resolvo_store_core.specs.Trail.{value_in}
+use Rattle.resolvo_store_core.specs.declared.decision.Entry.{Entry}
+use Rattle.resolvo_store_core.specs.declared.decide_queue.NeedClause.{NeedClause}
+use Rattle.resolvo_store_core.specs.declared.decide_queue.NextDecision.{NextDecision}
+use Rattle.resolvo_store_core.specs.declared.lists.Candidate.{Candidate}
+use Rattle.resolvo_store_core.specs.declared.lists.FixedLists.{FixedLists}
+use Rattle.resolvo_decide.specs.declared.clause_states.ClauseState.{ClauseState}
+use Rattle.resolvo_decide.specs.declared.clause_states.ClauseState.TheVariants.{Open, Met, Idle}
+use Rattle.resolvo_decide.specs.declared.undecided_clauses.UndecidedClauses.{UndecidedClauses}
+use Rattle.resolvo_decide.specs.States.{state_at, reopened, is_open_state}
+use Rattle.resolvo_decide.specs.Needs.{literals_in, is_met, places_at, IsMetNow, IsSo, Fits, KeepsFitting, AddsNeed}
+use Rattle.resolvo_decide.proofs.Positions.{state_end, state_map, state_out, state_put, state_set_other}
+use Rattle.resolvo_decide.proofs.Seen.{met_take, met_whole, take_less, idle_take, idle_more}
+
+module _ (literals : Requirement → List Signed) (q : NeedClause) where
+  -- where no more than so many first entries stay
+  so_back : (common : ℕ) (es : List Entry) (s : ClauseState) → IsSo literals es q s → IsSo literals (take common es) q (reopened common s)
+  so_back common es Open h = tt
+  so_back common es Idle h = idle_take common es q.parent.0 h
+  so_back common es (Met within) h = go (nat_lt common within) refl
+    where
+      go : (b : Bool) → nat_lt common within ≡ b → IsSo literals (take common es) q (cond b Open (Met within))
+      go true is = tt
+      go false is = subst (λ (xs : List Entry). is_met xs (literals q.requirement) ≡ true) (sym (take_less within common es (ltb-false common within is))) h
+
+  -- where an entry comes, and makes no parent true whose clause is noted as idle
+  so_on : (es : List Entry) (e : Entry) (s : ClauseState) → IsSo literals es q s → (e.decision.value ≡ true → e.decision.variable.0 ≡ q.parent.0 → s ≡ Idle → ⊥) → IsSo literals (es ++ e ∷ []) q s
+  so_on es e Open h other = tt
+  so_on es e (Met within) h other = met_take within es (e ∷ []) (literals q.requirement) h
+  so_on es e Idle h other = idle_more es e q.parent.0 h (λ same. go e.decision.value refl same)
+    where
+      go : (b : Bool) → e.decision.value ≡ b → e.decision.variable.0 ≡ q.parent.0 → b ≡ false
+      go true is same = absurd (other is same refl)
+      go false is same = refl
+
+  -- what is open is so
+  so_open : (es : List Entry) (s : ClauseState) → s ≡ Open → IsSo literals es q s
+  so_open es s is = subst (IsSo literals es q) (sym is) tt
+
+-- a state that was found, or none
+pub so_put : (literals : Requirement → List Signed) (es : List Entry) (q : NeedClause) (found new : ClauseState) → IsSo literals es q found → (new ≡ found) ⊎ (new ≡ Open) → IsSo literals es q new
+so_put literals es q found new so (inl is) = subst (IsSo literals es q) (sym is) so
+so_put literals es q found new so (inr is) = so_open literals q es new is
+
+pub fits_back : (common : ℕ) (old new : UndecidedClauses) → new.seen.items ≡ take common old.seen.items → new.states ≡ map (reopened common) old.states → new.places ≡ old.places → KeepsFitting old new
+fits_back common old new seen states places = λ literals queue f. record {
+  count = ap length states ∙ length-map old.states (reopened common) ∙ f.count;
+  each = λ i q at. subst (λ (es : List Entry). IsSo literals es q (state_at new.states i)) (sym seen)
+      (subst (IsSo literals (take common old.seen.items) q) (sym (ap (λ ss. state_at ss i) states ∙ state_map common old.states i)) (so_back literals q common old.seen.items (state_at old.states i) (f.each i q at)));
+  placed = λ i q at. subst (λ ps. Contains (places_at ps.items q.parent.0) i) (sym places) (f.placed i q at);
+}
+
+-- the states are as before, or open, and the clauses of a parent that the entry makes true are open
+pub fits_on : (e : Entry) (old new : UndecidedClauses) → new.seen.items ≡ old.seen.items ++ e ∷ [] → new.places ≡ old.places → length new.states ≡ length old.states
+    → ((i : ℕ) → (state_at new.states i ≡ state_at old.states i) ⊎ (state_at new.states i ≡ Open))
+    → (e.decision.value ≡ true → (i : ℕ) → Contains (places_at old.places.items e.decision.variable.0) i → state_at new.states i ≡ Open) → KeepsFitting old new
+fits_on e old new seen places long others opened = λ literals queue f. record {
+  count = long ∙ f.count;
+  each = λ i q at. subst (λ (es : List Entry). IsSo literals es q (state_at new.states i)) (sym seen) (each literals queue f i q at);
+  placed = λ i q at. subst (λ ps. Contains (places_at ps.items q.parent.0) i) (sym places) (f.placed i q at);
+}
+  where
+    open_not : (s : ClauseState) → s ≡ Open → s ≡ Idle → ⊥
+    open_not s a b = (let no : Open ≡ Idle = sym a ∙ b in absurd cc)
+
+    each : (literals : Requirement → List Signed) (queue : List NeedClause) → Fits literals old queue → (i : ℕ) (q : NeedClause) → slice_get queue i ≡ Some q → IsSo literals (old.seen.items ++ e ∷ []) q (state_at new.states i)
+    each literals queue f i q at = elim (others i) [
+      | inr open_ ↦ so_open literals q (old.seen.items ++ e ∷ []) (state_at new.states i) open_
+      | inl same ↦ so_on literals q old.seen.items e (state_at new.states i) (subst (IsSo literals old.seen.items q) (sym same) (f.each i q at))
+          (λ is parent. open_not (state_at new.states i) (opened is i (subst (λ v. Contains (places_at old.places.items v) i) (sym parent) (f.placed i q at))))
+    ]
+
+-- where a clause comes
+pub fits_add : (literals : Requirement → List Signed) (q : NeedClause) (old new : UndecidedClauses) (queue : List NeedClause) → Fits literals old queue → AddsNeed q.parent old new → Fits literals new (queue ++ q ∷ [])
+fits_add literals q old new queue f a = record {
+  count = ap length a.states ∙ length-append old.states (Open ∷ []) ∙ ap (λ n. n + 1) f.count ∙ sym (length-append queue (q ∷ []));
+  each = λ i r at. subst (λ (es : List Entry). IsSo literals es r (state_at new.states i)) (sym (ap (λ v. v.items) a.seen)) (each i r (at_end queue i r at));
+  placed = λ i r at. placed i r (at_end queue i r at);
+}
+  where
+    at_end : (qs : List NeedClause) (i : ℕ) (r : NeedClause) → slice_get (qs ++ q ∷ []) i ≡ Some r → (slice_get qs i ≡ Some r) ⊎ ((i ≡ length qs) × (r ≡ q) × (slice_get qs i ≡ None))
+    at_end [] zero r h = (let is : q ≡ r = cc in inr (refl, sym is, refl))
+    at_end [] (suc i) r h = cc
+    at_end (x ∷ qs) zero r h = inl h
+    at_end (x ∷ qs) (suc i) r h = elim (at_end qs i r h) [ inl before ↦ inl before | inr (last, is, none) ↦ inr (ap suc last, is, none) ]
+
+    same : (i : ℕ) → state_at new.states i ≡ state_at old.states i
+    same i = ap (λ ss. state_at ss i) a.states ∙ state_end old.states i
+
+    each : (i : ℕ) (r : NeedClause) → (slice_get queue i ≡ Some r) ⊎ ((i ≡ length queue) × (r ≡ q) × (slice_get queue i ≡ None)) → IsSo literals old.seen.items r (state_at new.states i)
+    each i r (inl before) = subst (IsSo literals old.seen.items r) (sym (same i)) (f.each i r before)
+    each i r (inr (last, is, none)) = so_open literals r old.seen.items (state_at new.states i) (same i ∙ state_out old.states i (let a : length old.states ≡ length queue = f.count in omega arith))
+
+    placed : (i : ℕ) (r : NeedClause) → (slice_get queue i ≡ Some r) ⊎ ((i ≡ length queue) × (r ≡ q) × (slice_get queue i ≡ None)) → Contains (places_at new.places.items r.parent.0) i
+    placed i r (inl before) = a.kept r.parent.0 i (f.placed i r before)
+    placed i r (inr (last, is, none)) = subst (λ (s : NeedClause). Contains (places_at new.places.items s.parent.0) i) (sym is) (subst (λ j. Contains (places_at new.places.items q.parent.0) j) (f.count ∙ sym last) a.placed)
+
+-- what values tell of a clause
+module _ {N : Type 0} (lists : FixedLists N) (values : ℕ → Option Bool) (es : List Entry) (agree : (v : ℕ) → values v ≡ value_in es v) where
+  met_agrees : (cs : List (Candidate N)) → list_any (λ c. is_true (value_under values c.literal)) cs ≡ is_met es (candidate_literals cs)
+  met_agrees [] = refl
+  met_agrees (c ∷ cs) =
+      ap (λ o. is_true (option_map (λ v. beq v c.literal.positive) o) || list_any (λ d. is_true (value_under values d.literal)) cs) (agree c.literal.variable.0)
+      ∙ ap (λ b. is_true (value_under (value_in es) c.literal) || b) (met_agrees cs)
+
+  pub so_met : (q : NeedClause) (s : ClauseState) → IsMetNow (length es) s → list_any (λ c. is_true (value_under values c.literal)) (candidates_in lists q.requirement) ≡ true → IsSo (literals_in lists) es q s
+  so_met q Open h met = tt
+  so_met q Idle h met = absurd h
+  so_met q (Met within) h met = subst (λ n. is_met (take n es) (literals_in lists q.requirement) ≡ true) (sym h)
+      (subst (λ (xs : List Entry). is_met xs (literals_in lists q.requirement) ≡ true) (sym (take-length es)) (sym (met_agrees (candidates_in lists q.requirement)) ∙ met))
+
+  pub so_nothing : (q : NeedClause) (s : ClauseState) → IsSo (literals_in lists) es q s → is_open_state s ≡ false → (score : N → ℕ) → offer lists values score q ≡ None
+  so_nothing q Open h shut score = cc
+  so_nothing q Idle h shut score = ap (λ b. cond (b && list_all (λ l. is_false (value_under values l)) (condition_in lists q.condition)) (offer_of (named_by lists) values score q (candidates_in lists q.requirement)) None) (ap is_true (agree q.parent.0) ∙ h)
+  so_nothing q (Met within) h shut score = ap (λ b. cond (is_eligible lists values q) (cond b None (option_map (decision_for (named_by lists) values score q (candidates_in lists q.requirement)) (find (λ c. is_open (value_under values c.literal)) (candidates_in lists q.requirement)))) None)
+      (met_agrees (candidates_in lists q.requirement) ∙ met_whole within es (literals_in lists q.requirement) h) ∙ either (is_eligible lists values q)
+    where
+      either : (b : Bool) → cond {A = Option NextDecision} b None None ≡ None
+      either true = refl
+      either false = refl
+
+-- a clause that has nothing to decide changes no decision
+pub later_none : (best : Option NextDecision) → later best None ≡ best
+later_none None = refl
+later_none (Some d) = refl
+
+pub some_one : {X : Type 0} (x y : X) → Some x ≡ Some y → x ≡ y
+some_one x y h = cc
+
+-- what is found of one clause is noted
+pub fits_found : (literals : Requirement → List Signed) (needs : UndecidedClauses) (queue : List NeedClause) (position : ℕ) (q : NeedClause) (found : ClauseState) → Fits literals needs queue → slice_get queue position ≡ Some q
+    → IsSo literals needs.seen.items q found → Fits literals (record needs { states = slice_set needs.states position found }) queue
+fits_found literals needs queue position q found f here so = record { count = length-set needs.states position found ∙ f.count; each = each; placed = f.placed }
+  where
+    each : (i : ℕ) (r : NeedClause) → slice_get queue i ≡ Some r → IsSo literals needs.seen.items r (state_at (slice_set needs.states position found) i)
+    each i r at = elim (state_set_other needs.states position found i) [
+      | inl same ↦ subst (IsSo literals needs.seen.items r) (sym same) (f.each i r at)
+      | inr is ↦ (let one : r ≡ q = some_one r q (sym at ∙ ap (slice_get queue) is ∙ here) in
+          subst (λ (x : NeedClause). IsSo literals needs.seen.items x (state_at (slice_set needs.states position found) i)) (sym one)
+          (subst (λ j. IsSo literals needs.seen.items q (state_at (slice_set needs.states position found) j)) (sym is) (so_put literals needs.seen.items q found (state_at (slice_set needs.states position found) position) so (state_put needs.states position found))))
+    ]
+
+-- one thing after the other
+pub keeps_then : (a b c : UndecidedClauses) → KeepsFitting a b → KeepsFitting b c → KeepsFitting a c
+keeps_then a b c f g = λ literals queue h. g literals queue (f literals queue h)
+
+-- the pick goes on behind a clause
+module _ {N : Type 0} (lists : FixedLists N) (values : ℕ → Option Bool) (score : N → ℕ) where
+  pub pick_taken : (best : Option NextDecision) (qs : List NeedClause) (i : ℕ) (d : NeedClause) → i < length qs → pick_after lists values score best (drop i qs) ≡ pick_after lists values score (later best (offer lists values score (get_or qs i d))) (drop (i + 1) qs)
+  pick_taken best [] i d h = absurd (omega arith)
+  pick_taken best (x ∷ qs) zero d h = refl
+  pick_taken best (x ∷ qs) (suc i) d h = let more : suc i + 1 ≡ suc (i + 1) = omega arith in rw more (pick_taken best qs i d (omega arith))
+
+  pub pick_passed : (best : Option NextDecision) (qs : List NeedClause) (i : ℕ) → i < length qs → ((q : NeedClause) → slice_get qs i ≡ Some q → offer lists values score q ≡ None) → pick_after lists values score best (drop i qs) ≡ pick_after lists values score best (drop (i + 1) qs)
+  pick_passed best [] i h none = absurd (omega arith)
+  pick_passed best (x ∷ qs) zero h none = ap (λ b. pick_after lists values score b qs) (ap (later best) (none x refl) ∙ later_none best)
+  pick_passed best (x ∷ qs) (suc i) h none = let more : suc i + 1 ≡ suc (i + 1) = omega arith in rw more (pick_passed best qs i (omega arith) none)
+
+  -- and behind clauses that have nothing to decide
+  pub pick_behind : (best : Option NextDecision) (qs : List NeedClause) (n from to : ℕ) → to ≡ from + n → ((i : ℕ) → from ≤ i → i < to → (q : NeedClause) → slice_get qs i ≡ Some q → offer lists values score q ≡ None)
+      → pick_after lists values score best (drop from qs) ≡ pick_after lists values score best (drop to qs)
+  pick_behind best qs zero from to is none = (let same : to ≡ from = omega arith in ap (λ i. pick_after lists values score best (drop i qs)) (sym same))
+  pick_behind best qs (suc n) from to is none = elim (cases_lt from (length qs)) [
+    | inl low ↦ pick_passed best qs from low (none from (omega arith) (omega arith)) ∙ pick_behind best qs n (from + 1) to (omega arith) (λ i above below. none i (omega arith) below)
+    | inr high ↦ ap (pick_after lists values score best) (drop_all from qs high ∙ sym (drop_all to qs (omega arith)))
+  ]
+
+-- and behind clauses that are known to be shut
+pub pick_shut : {N : Type 0} (lists : FixedLists N) (values : ℕ → Option Bool) (score : N → ℕ) (needs : UndecidedClauses) (queue : List NeedClause) → Fits (literals_in lists) needs queue → ((v : ℕ) → values v ≡ value_in needs.seen.items v) → (best : Option NextDecision) (from to : ℕ) → from ≤ to
+    → ((i : ℕ) → from ≤ i → i < to → is_open_state (state_at needs.states i) ≡ false) → pick_after lists values score best (drop from queue) ≡ pick_after lists values score best (drop to queue)
+pick_shut lists values score needs queue f agree best from to order shut = pick_behind lists values score best queue (to - from) from to (omega arith) (λ i above below q at. so_nothing lists values needs.seen.items agree q (state_at needs.states i) (f.each i q at) (shut i above below) score)
+
+-- what is known is told by the states, not by the marks beside them
+pub fits_same : (literals : Requirement → List Signed) (needs : UndecidedClauses) (queue : List NeedClause) (states : List ClauseState) → states ≡ needs.states → Fits literals needs queue → Fits literals (record needs { states = states }) queue
+fits_same literals needs queue states is f = record {
+  count = ap length is ∙ f.count;
+  each = λ i q at. subst (λ (ss : List ClauseState). IsSo literals needs.seen.items q (state_at ss i)) (sym is) (f.each i q at);
+  placed = f.placed;
+}
+
+-- the clause that is read is the one at its position
+pub read_at : (qs : List NeedClause) (i : ℕ) (d : NeedClause) → i < length qs → slice_get qs i ≡ Some (get_or qs i d)
+read_at [] i d h = absurd (omega arith)
+read_at (x ∷ qs) zero d h = refl
+read_at (x ∷ qs) (suc i) d h = read_at qs i d (omega arith)
+
+-- what is found of the clause that is read has nothing to decide, unless it is open
+pub read_nothing : {N : Type 0} (lists : FixedLists N) (values : ℕ → Option Bool) (es : List Entry) → ((v : ℕ) → values v ≡ value_in es v) → (qs : List NeedClause) (i : ℕ) (d : NeedClause) → i < length qs → (s : ClauseState) → IsSo (literals_in lists) es (get_or qs i d) s
+    → is_open_state s ≡ false → (score : N → ℕ) (q : NeedClause) → slice_get qs i ≡ Some q → offer lists values score q ≡ None
+read_nothing lists values es agree qs i d h s so shut score q at = so_nothing lists values es agree q s (subst (λ (x : NeedClause). IsSo (literals_in lists) es x s) (some_one (get_or qs i d) q (sym (read_at qs i d h) ∙ at)) so) shut score
+
+-- and it is noted
+pub read_fits : (literals : Requirement → List Signed) (old new : UndecidedClauses) (queue : List NeedClause) (i : ℕ) (d : NeedClause) → i < length queue → Fits literals old queue → (found : ClauseState) → IsSo literals old.seen.items (get_or queue i d) found
+    → new ≡ record old { states = slice_set old.states i found } → Fits literals new queue
+read_fits literals old new queue i d h f found so is = subst (λ (n : UndecidedClauses). Fits literals n queue) (sym is) (fits_found literals old queue i (get_or queue i d) found f (read_at queue i d h) so)
+
+-- one entry more was seen
+pub seen_more : (first rest before after : List Entry) (i : ℕ) (d : Entry) → before ≡ first ++ take i rest → i < length rest → after ≡ before ++ get_or rest i d ∷ [] → after ≡ first ++ take (i + 1) rest
+seen_more first rest before after i d is low more = more ∙ ap (λ xs. xs ++ get_or rest i d ∷ []) is ∙ append_assoc first (take i rest) (get_or rest i d ∷ []) ∙ ap (λ xs. first ++ xs) (sym (take_more rest i d low))
+
+-- and all of them
+pub seen_all : (n i : ℕ) (es seen : List Entry) → n ≤ length es → seen ≡ take n es ++ take i (take (length es - n) (drop n es)) → length (take (length es - n) (drop n es)) ≤ i → seen ≡ es
+seen_all n i es seen low is end =
+    let long : length (drop n es) ≡ length es - n = length-drop n es in
+    is ∙ ap (λ xs. take n es ++ xs) (take_all i (take (length es - n) (drop n es)) end ∙ take_all (length es - n) (drop n es) (omega arith)) ∙ take-append-drop n es
+
+-- where requirements get literals
+pub fits_more : (old new : Requirement → List Signed) (needs : UndecidedClauses) (queue : List NeedClause) → ((r : Requirement) (es : List Entry) → is_met es (old r) ≡ true → is_met es (new r) ≡ true) → Fits old needs queue → Fits new needs queue
+fits_more old new needs queue more f = record { count = f.count; each = λ i q at. so q (state_at needs.states i) (f.each i q at); placed = f.placed }
+  where
+    so : (q : NeedClause) (s : ClauseState) → IsSo old needs.seen.items q s → IsSo new needs.seen.items q s
+    so q Open h = tt
+    so q (Met within) h = more q.requirement (take within needs.seen.items) h
+    so q Idle h = h
+
+-- where there is no clause
+pub fits_none : (literals : Requirement → List Signed) (needs : UndecidedClauses) → needs.states ≡ [] → Fits literals needs []
+fits_none literals needs none = record { count = ap length none; each = λ i q at. absurd (nothing i q at); placed = λ i q at. absurd (nothing i q at) }
+  where
+    nothing : (i : ℕ) (q : NeedClause) → slice_get [] i ≡ Some q → ⊥
+    nothing i q at = cc

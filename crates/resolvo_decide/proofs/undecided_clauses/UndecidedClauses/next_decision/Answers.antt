@@ -1,0 +1,20 @@
+use Rattle.std.proofs.Common.{List, sym, ◌∙◌, ap, subst}
+use Rattle.resolvo_store_core.specs.Pick.{pick}
+use Rattle.resolvo_store_core.specs.Values.{value_at}
+use Rattle.resolvo_store_core.specs.declared.decide_queue.NeedClause.{NeedClause}
+use Rattle.resolvo_decide.specs.Needs.{literals_in, Fits}
+use Rattle.resolvo_decide.proofs.undecided_clauses.UndecidedClauses.next_decision.Goals as goal
+
+pub pick-requires-clause-fits : goal.pick-requires-clause-fits
+pick-requires-clause-fits g c =
+    subst (λ (qs : List NeedClause). Fits (literals_in c.args.lists.now) c.go_on.new.self qs) (sym c.registered.ensures) (c.in_ok-go_on.ensures.fits (literals_in c.args.lists.now) c.args.queue.now c.requires.fits)
+
+pub returns-clause-picked : goal.returns-clause-picked
+returns-clause-picked g c = record {
+  values = c.map.result.now;
+  agree = c.map.ensures;
+  picked = ap (pick c.args.lists.now (value_at c.map.result.now) (g.C.ScoreMap.score_of c.args.scores.now)) (sym c.registered.ensures) ∙ sym c.pick.ensures.picked;
+}
+
+pub returns-clause-seen : goal.returns-clause-seen
+returns-clause-seen g c = ap (λ es. es.items) c.pick.ensures.seen ∙ c.in_ok-go_on.ensures.seen ∙ c.stack.ensures.trail

@@ -1,0 +1,69 @@
+-- What is known of the need clauses under a trail.
+use Rattle.std.specs.Prelude.{◌≡◌, ℕ, ⊤, Bool, true, false, List, [], ◌∷◌, ◌++◌, take, length, slice_get, Option, Some, Vec, Contains}
+use Rattle.std.specs.declared.alloc.Global.{Global}
+use Rattle.std.specs.List.{list_any}
+use Rattle.resolvo_pool_core.specs.declared.id.VariableId.{VariableId}
+use Rattle.resolvo_pool_core.specs.declared.requirement.Requirement.{Requirement}
+use Rattle.resolvo_pool_core.specs.Slots.{at}
+use Rattle.resolvo_store_core.specs.Signed.{Signed, value_under, is_true}
+use Rattle.resolvo_store_core.specs.Clauses.{candidate_literals}
+use Rattle.resolvo_store_core.specs.Lists.{candidates_in, items_or_none}
+use Rattle.resolvo_store_core.specs.Pick.{pick}
+use Rattle.resolvo_store_core.specs.Trail.{assigned, value_in}
+use Rattle.resolvo_store_core.specs.Values.{value_at}
+use Rattle.resolvo_store_core.specs.declared.decision.Entry.{Entry}
+use Rattle.resolvo_store_core.specs.declared.decide_queue.NeedClause.{NeedClause}
+use Rattle.resolvo_store_core.specs.declared.decide_queue.NextDecision.{NextDecision}
+use Rattle.resolvo_store_core.specs.declared.decision_map.Assignment.{Assignment}
+use Rattle.resolvo_store_core.specs.declared.lists.FixedLists.{FixedLists}
+use Rattle.resolvo_decide.specs.declared.clause_states.ClauseState.{ClauseState}
+use Rattle.resolvo_decide.specs.declared.clause_states.ClauseState.TheVariants.{Open, Met, Idle}
+use Rattle.resolvo_decide.specs.declared.undecided_clauses.UndecidedClauses.{UndecidedClauses}
+use Rattle.resolvo_decide.specs.States.{state_at}
+
+-- the literals of a requirement's candidates
+abbrev pub literals_in : {N : Type 0} → FixedLists N → Requirement → List Signed
+literals_in lists r = candidate_literals (candidates_in lists r)
+
+-- one of the literals is true under the entries
+abbrev pub is_met : List Entry → List Signed → Bool
+is_met es literals = list_any (λ l. is_true (value_under (value_in es) l)) literals
+
+-- the positions of the clauses of a parent
+abbrev pub places_at : List (Vec ℕ Global) → ℕ → List ℕ
+places_at ps v = items_or_none (slice_get ps v)
+
+-- that a candidate is true among so many entries, or nothing
+abbrev pub IsMetNow : ℕ → ClauseState → Type 0
+IsMetNow count Open = ⊤
+IsMetNow count (Met within) = within ≡ count
+IsMetNow count Idle = ⊥
+
+-- what is known of the clause is so under the trail, where requirements have these literals
+abbrev pub IsSo : (Requirement → List Signed) → List Entry → NeedClause → ClauseState → Type 0
+IsSo literals trail q Open = ⊤
+IsSo literals trail q (Met within) = is_met (take within trail) (literals q.requirement) ≡ true
+IsSo literals trail q Idle = is_true (value_in trail q.parent.0) ≡ false
+
+-- what is known is so of each clause of the queue, and the clauses of each parent are listed
+pub record Fits (literals : Requirement → List Signed) (needs : UndecidedClauses) (queue : List NeedClause) : Type 0 where
+  pub count : length needs.states ≡ length queue
+  pub each : (i : ℕ) (q : NeedClause) → slice_get queue i ≡ Some q → IsSo literals needs.seen.items q (state_at needs.states i)
+  pub placed : (i : ℕ) (q : NeedClause) → slice_get queue i ≡ Some q → Contains (places_at needs.places.items q.parent.0) i
+
+-- it fits the queues that it fitted
+abbrev pub KeepsFitting : UndecidedClauses → UndecidedClauses → Type 0
+KeepsFitting old new = (literals : Requirement → List Signed) (queue : List NeedClause) → Fits literals old queue → Fits literals new queue
+
+-- a clause of this parent was noted
+pub record AddsNeed (parent : VariableId) (old new : UndecidedClauses) : Type 0 where
+  pub states : new.states ≡ old.states ++ Open ∷ []
+  pub seen : new.seen ≡ old.seen
+  pub placed : Contains (places_at new.places.items parent.0) (length old.states)
+  pub kept : (v i : ℕ) → Contains (places_at old.places.items v) i → Contains (places_at new.places.items v) i
+
+-- the pick under the trail's values, as a map has them
+pub record IsPick {N : Type 0} (lists : FixedLists N) (trail : List Entry) (score : N → ℕ) (queue : List NeedClause) (next : Option NextDecision) : Type 0 where
+  pub values : List (Option Assignment)
+  pub agree : (v : ℕ) → at values v ≡ assigned trail v
+  pub picked : pick lists (value_at values) score queue ≡ next

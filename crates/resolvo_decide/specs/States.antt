@@ -1,0 +1,29 @@
+-- What is known of each need clause, by its position, and which blocks of positions may have an open one.
+use Rattle.std.specs.Prelude.{◌≡◌, ℕ, ◌/◌, ◌<◌, cond, nat_lt, Bool, true, false, List, length, slice_index_or}
+use Rattle.resolvo_decide.specs.declared.clause_states.TheConstants.{BLOCK}
+use Rattle.resolvo_decide.specs.declared.clause_states.ClauseState.{ClauseState}
+use Rattle.resolvo_decide.specs.declared.clause_states.ClauseState.TheVariants.{Open, Met, Idle}
+
+-- the state of the clause at a position; any clause may have something to decide of which nothing was noted
+abbrev pub state_at : List ClauseState → ℕ → ClauseState
+state_at states i = slice_index_or states i Open
+
+-- it may have something to decide
+abbrev pub is_open_state : ClauseState → Bool
+is_open_state Open = true
+is_open_state (Met within) = false
+is_open_state Idle = false
+
+-- what is known where no more than so many first entries stay
+abbrev pub reopened : ℕ → ClauseState → ClauseState
+reopened common Open = Open
+reopened common (Met within) = cond (nat_lt common within) Open (Met within)
+reopened common Idle = Idle
+
+-- whether a block may have an open clause; any may of which nothing was noted
+abbrev pub mark_at : List Bool → ℕ → Bool
+mark_at marks k = slice_index_or marks k true
+
+-- a block whose mark is false has no open clause
+abbrev pub AreMarked : List ClauseState → List Bool → Type 0
+AreMarked states marks = (i : ℕ) → i < length states → mark_at marks (i / BLOCK) ≡ false → is_open_state (state_at states i) ≡ false

@@ -1,0 +1,220 @@
+//! What is known of each need clause, by its position in the queue, and which blocks of positions may have
+//! an open one. The model is the list of what is known.
+//! The pick asks for one open clause after the other, and passes over the blocks in which there is none.
+ghost use Rattle.std.specs.Prelude.{◌≡◌, ℕ, ◌<◌, ◌≤◌, ◌/◌, ◌++◌, ◌∷◌, ◌⊎◌, [], List, Bool, map, length, false, true, slice_set, Contains, OnOk, IsOkUnless};
+ghost use Rattle.resolvo_pool_core.specs.declared.want.Want.TheVariants.{Memory};
+ghost use Rattle.resolvo_decide.specs.declared.clause_states.ClauseState.TheVariants.{Open};
+ghost use Rattle.resolvo_decide.specs.States.{state_at, is_open_state, reopened, mark_at};
+
+use resolvo_pool_core::want::R;
+use std::alloc::Global;
+use std::marker::Model;
+
+/// So many clauses beside one another have one mark.
+const BLOCK: usize = 64;
+
+/// What is known of a need clause.
+#[derive(Clone, Copy, Debug)]
+pub enum ClauseState {
+    /// It may have something to decide.
+    Open,
+    /// One of its candidates is true among so many first entries of the trail.
+    Met(u32),
+    /// Its parent is not true.
+    Idle,
+}
+
+impl ClauseState {
+    /// Whether the clause may have something to decide.
+    pub fn is_open(self) -> bool
+        ensures { result ≡ is_open_state self }
+    {
+        match self {
+            ClauseState::Open => true,
+            _ => false,
+        }
+    }
+}
+
+/// What is known of each need clause.
+#[derive(Drop)]
+pub struct ClauseStates {
+    /// The state of each clause.
+    states: Vec<ClauseState>,
+    /// Whether a block may have an open clause.
+    marks: Vec<bool>,
+}
+
+impl Model for ClauseStates {
+    ghost use Rattle.std.specs.Prelude.{List};
+    ghost use Rattle.resolvo_decide.specs.declared.clause_states.ClauseState.{ClauseState};
+    ghost use Rattle.resolvo_decide.specs.States.{AreMarked};
+
+    ghost Value = { List ClauseState };
+
+    ghost view = { λ s. s.states.items };
+
+    ghost invariant = { λ s. AreMarked s.states.items s.marks.items };
+}
+
+impl ClauseStates {
+    /// Of no clause.
+    pub fn new(alloc: Global) -> ClauseStates
+        ensures { result ≡ [] }
+    {
+        ClauseStates {
+            states: Vec::new(alloc),
+            marks: Vec::new(alloc),
+        }
+    }
+
+    /// Of how many clauses something is known.
+    pub fn len(&self) -> usize
+        ensures { result ≡ length self.now }
+    {
+        self.states.len()
+    }
+
+    /// What is known of the clause at this position.
+    pub fn state(&self, position: usize) -> ClauseState
+        ensures { result ≡ state_at self.now position }
+    {
+        if position < self.states.len() {
+            self.states[position]
+        } else {
+            ClauseState::Open
+        }
+    }
+
+    /// The first position from this one on whose clause may have something to decide, or the number of
+    /// clauses. Blocks in which none has are not looked at again until one of their clauses opens.
+    pub fn next_open(&mut self, from: usize) -> usize
+        ensures behind { from ≤ result }
+        ensures passed { (i : ℕ) → from ≤ i → i < result → is_open_state (state_at self.old i) ≡ false }
+        ensures open { is_open_state (state_at self.old result) ≡ true }
+        ensures same { self.new ≡ self.old }
+    {
+        let mut position = from;
+        while !self.state(position).is_open() {
+            position = self.pass(position);
+        }
+        position
+    }
+
+    /// The position of the first open clause behind this one that isn't, or the end of its block.
+    fn pass(&mut self, position: usize) -> usize
+        requires within { position < length self.old }
+        requires shut { is_open_state (state_at self.old position) ≡ false }
+        ensures behind { position < result }
+        ensures within { result ≤ length self.old }
+        ensures passed { (i : ℕ) → position ≤ i → i < result → is_open_state (state_at self.old i) ≡ false }
+        ensures same { self.new ≡ self.old }
+    {
+        let block = position / BLOCK;
+        let start = block * BLOCK;
+        let end = start + BLOCK.min(self.states.len() - start);
+        if !is_marked(&self.marks, block) {
+            return end;
+        }
+        let found = first_open(&self.states, position + 1, end);
+        if found == end && position == start {
+            note(&mut self.marks, block, false);
+        }
+        found
+    }
+
+    /// Notes a state, unless the position is behind all clauses.
+    pub fn put(&mut self, position: usize, state: ClauseState)
+        ensures { self.new ≡ slice_set self.old position state }
+    {
+        if position < self.states.len() {
+            self.states[position] = state;
+            if state.is_open() {
+                note(&mut self.marks, position / BLOCK, true);
+            }
+        }
+    }
+
+    /// One clause more, of which nothing is known.
+    pub fn push(&mut self) -> R<()>
+        ensures pushed { OnOk result (self.new ≡ self.old ++ Open ∷ []) }
+        ensures refusal { IsOkUnless result Memory }
+    {
+        let block = self.states.len() / BLOCK;
+        if self.marks.len() <= block {
+            self.marks.push(true)?;
+        }
+        note(&mut self.marks, block, true);
+        self.states.push(ClauseState::Open)?;
+        Ok(())
+    }
+
+    /// Opens the clauses at these positions.
+    pub fn open_each(&mut self, places: &[usize])
+        ensures opened { (i : ℕ) → Contains places.now i → state_at self.new i ≡ Open }
+        ensures others { (i : ℕ) → (state_at self.new i ≡ state_at self.old i) ⊎ (state_at self.new i ≡ Open) }
+        ensures len { length self.new ≡ length self.old }
+    {
+        for place in places {
+            self.put(*place, ClauseState::Open);
+        }
+    }
+
+    /// Opens the clauses whose true candidates stand behind so many first entries.
+    pub fn reopen(&mut self, common: usize)
+        ensures { self.new ≡ map (reopened common) self.old }
+    {
+        for position in 0..self.len() {
+            let state = reopened(self.state(position), common);
+            self.put(position, state);
+        }
+    }
+}
+
+/// Whether a block may have an open clause.
+fn is_marked(marks: &[bool], block: usize) -> bool
+    ensures { result ≡ mark_at marks.now block }
+{
+    block >= marks.len() || marks[block]
+}
+
+/// Notes whether a block may have an open clause.
+fn note(marks: &mut [bool], block: usize, mark: bool)
+    ensures { marks.new ≡ slice_set marks.old block mark }
+{
+    if block < marks.len() {
+        marks[block] = mark;
+    }
+}
+
+/// The first open state from one position on and before another, or that other one.
+fn first_open(states: &[ClauseState], from: usize, end: usize) -> usize
+    requires order { from ≤ end }
+    requires end { end ≤ length states.now }
+    ensures behind { from ≤ result }
+    ensures within { result ≤ end }
+    ensures passed { (i : ℕ) → from ≤ i → i < result → is_open_state (state_at states.now i) ≡ false }
+{
+    for position in from..end {
+        if states[position].is_open() {
+            return position;
+        }
+    }
+    end
+}
+
+/// What is known of a clause where no more than so many first entries stay.
+fn reopened(state: ClauseState, common: usize) -> ClauseState
+    ensures { result ≡ reopened common state }
+{
+    match state {
+        ClauseState::Met(within) => {
+            if common < within as usize {
+                ClauseState::Open
+            } else {
+                state
+            }
+        }
+        _ => state,
+    }
+}

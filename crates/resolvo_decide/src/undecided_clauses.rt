@@ -1,0 +1,331 @@
+//! What is known of each need clause: whether one of its candidates is true, or its parent is not.
+//! It stands beside the queue of the clauses. It keeps the trail for which it holds: each pick sees the
+//! entries that came since, and where entries were taken away it goes back to those that stayed.
+ghost use Rattle.std.specs.Prelude.{◌≡◌, ℕ, ◌<◌, ◌≤◌, ◌++◌, ◌∷◌, ◌⊎◌, [], List, map, take, length, false, true, slice_get, Some, None, Contains, OnOk, IfOk, IsOkUnless};
+ghost use Rattle.resolvo_pool_core.specs.declared.want.Want.TheVariants.{Memory};
+ghost use Rattle.std.specs.List.{find, list_any};
+ghost use Rattle.std.specs.Option.{option_copied};
+ghost use Rattle.resolvo_store_core.specs.AtMostOne.{IsFrontOf};
+ghost use Rattle.resolvo_store_core.specs.Signed.{value_under, is_true, is_open};
+ghost use Rattle.resolvo_store_core.specs.Values.{value_at};
+ghost use Rattle.resolvo_store_core.specs.Trail.{value_in};
+ghost use Rattle.resolvo_store_core.specs.Pick.{pick, offer, later};
+ghost use Rattle.resolvo_store_core.specs.declared.decide_queue.NeedClause.{NeedClause};
+ghost use Rattle.resolvo_decide.specs.declared.clause_states.ClauseState.TheVariants.{Open};
+ghost use Rattle.resolvo_decide.specs.States.{state_at};
+ghost use Rattle.resolvo_decide.specs.Needs.{literals_in, places_at, IsMetNow, IsSo, Fits, KeepsFitting, IsPick, AddsNeed};
+
+use crate::clause_states::{ClauseState, ClauseStates};
+use resolvo_pool_core::id::VariableId;
+use resolvo_pool_core::id_map::ScoreMap;
+use resolvo_pool_core::want::R;
+use resolvo_store_core::decide_queue::{DecideQueue, NeedClause, NextDecision, offered, or_later};
+use resolvo_store_core::decision::Entry;
+use resolvo_store_core::decision_map::DecisionMap;
+use resolvo_store_core::decision_tracker::DecisionTracker;
+use resolvo_store_core::lists::{Candidate, FixedLists};
+use std::alloc::Global;
+
+/// What is known of the need clauses of a queue.
+#[derive(Drop)]
+pub struct UndecidedClauses {
+    /// The state of each clause, by its position in the queue.
+    states: ClauseStates,
+    /// The trail for which the states hold.
+    seen: Vec<Entry>,
+    /// The positions of the clauses of each parent, by the parent's variable.
+    places: Vec<Vec<usize>>,
+}
+
+impl UndecidedClauses {
+    /// For a queue without clauses.
+    pub fn new(alloc: Global) -> UndecidedClauses
+        ensures states { result.states ≡ [] }
+        ensures seen { result.seen.items ≡ [] }
+        ensures places { result.places.items ≡ [] }
+    {
+        UndecidedClauses {
+            states: ClauseStates::new(alloc),
+            seen: Vec::new(alloc),
+            places: Vec::new(alloc),
+        }
+    }
+
+    /// Takes note of one clause more, which has this parent.
+    pub fn add(&mut self, alloc: Global, parent: VariableId) -> R<()>
+        ensures added { OnOk result (AddsNeed parent self.old self.new) }
+        ensures refusal { IsOkUnless result Memory }
+    {
+        let index = parent.0 as usize;
+        make_room(&mut self.places, alloc, index + 1)?;
+        self.places[index].push(self.states.len())?;
+        self.states.push()?;
+        Ok(())
+    }
+
+    /// What is to be decided next under the trail: the pick over all clauses of the queue. The trail goes on
+    /// from the one that was seen; where entries were taken away, `follow` comes first.
+    pub fn next_decision<N: Copy + Eq, C: ScoreMap<N>>(
+        &mut self,
+        queue: &DecideQueue,
+        lists: &FixedLists<N>,
+        trail: &DecisionTracker,
+        scores: &C,
+    ) -> R<Option<NextDecision>>
+    where
+        N: Drop,
+        requires fits { Fits (literals_in lists.now) self.old queue.now }
+        requires seen { IsFrontOf self.old.seen.items trail.now.trail }
+        ensures picked { IfOk result (IsPick lists.now trail.now.trail (C.score_of scores.now) queue.now) }
+        ensures fits { OnOk result (Fits (literals_in lists.now) self.new queue.now) }
+        ensures seen { OnOk result (self.new.seen.items ≡ trail.now.trail) }
+        ensures refusal { IsOkUnless result Memory }
+    {
+        self.go_on(trail.stack())?;
+        Ok(self.pick(queue.registered(), lists, trail.map(), scores))
+    }
+
+    /// Goes back to where the trail that was seen and this one part.
+    pub fn follow(&mut self, trail: &[Entry])
+        ensures seen { IsFrontOf self.new.seen.items trail.now }
+        ensures fits { KeepsFitting self.old self.new }
+    {
+        let common = self.common(trail);
+        self.go_back(common);
+    }
+
+    /// Sees the entries of this trail that weren't seen yet.
+    fn go_on(&mut self, trail: &[Entry]) -> R<()>
+        requires { IsFrontOf self.old.seen.items trail.now }
+        ensures seen { OnOk result (self.new.seen.items ≡ trail.now) }
+        ensures fits { OnOk result (KeepsFitting self.old self.new) }
+        ensures refusal { IsOkUnless result Memory }
+    {
+        let seen = self.seen.len();
+        for entry in &trail[seen..] {
+            self.see(*entry)?;
+        }
+        Ok(())
+    }
+
+    /// How many first entries the trail has in common with the one that was seen.
+    fn common(&self, trail: &[Entry]) -> usize
+        ensures same { take result self.now.seen.items ≡ take result trail.now }
+        ensures seen { result ≤ length self.now.seen.items }
+        ensures within { result ≤ length trail.now }
+    {
+        let mut common = 0;
+        for entry in trail {
+            match self.seen.get(common) {
+                Some(seen) => {
+                    if *seen != *entry {
+                        return common;
+                    }
+                    common += 1;
+                }
+                None => return common,
+            }
+        }
+        common
+    }
+
+    /// Forgets what was seen behind so many first entries.
+    fn go_back(&mut self, common: usize)
+        ensures seen { self.new.seen.items ≡ take common self.old.seen.items }
+        ensures fits { KeepsFitting self.old self.new }
+    {
+        if common < self.seen.len() {
+            self.seen.truncate(common);
+            self.states.reopen(common);
+        }
+    }
+
+    /// Sees one entry more.
+    fn see(&mut self, entry: Entry) -> R<()>
+        ensures seen { OnOk result (self.new.seen.items ≡ self.old.seen.items ++ entry ∷ []) }
+        ensures fits { OnOk result (KeepsFitting self.old self.new) }
+        ensures refusal { IsOkUnless result Memory }
+    {
+        self.seen.push(entry)?;
+        if entry.decision.value {
+            self.open_needs_of(entry.decision.variable);
+        }
+        Ok(())
+    }
+
+    /// Opens the clauses of a parent.
+    fn open_needs_of(&mut self, parent: VariableId)
+        ensures opened { (i : ℕ) → Contains (places_at self.old.places.items parent.0) i → state_at self.new.states i ≡ Open }
+        ensures others { (i : ℕ) → (state_at self.new.states i ≡ state_at self.old.states i) ⊎ (state_at self.new.states i ≡ Open) }
+        ensures len { length self.new.states ≡ length self.old.states }
+        ensures rest { self.new ≡ record self.old { states = self.new.states } }
+    {
+        let index = parent.0 as usize;
+        if index < self.places.len() {
+            self.states.open_each(&self.places[index]);
+        }
+    }
+
+    /// The pick, where the trail is the one that was seen.
+    fn pick<N: Copy + Eq, C: ScoreMap<N>>(
+        &mut self,
+        queue: &[NeedClause],
+        lists: &FixedLists<N>,
+        values: &DecisionMap,
+        scores: &C,
+    ) -> Option<NextDecision>
+    where
+        N: Drop,
+        requires fits { Fits (literals_in lists.now) self.old queue.now }
+        requires values { (v : ℕ) → value_at values.now v ≡ value_in self.old.seen.items v }
+        ensures picked { result ≡ pick lists.now (value_at values.now) (C.score_of scores.now) queue.now }
+        ensures fits { Fits (literals_in lists.now) self.new queue.now }
+        ensures seen { self.new.seen ≡ self.old.seen }
+    {
+        let mut best = None;
+        let mut position = self.states.next_open(0);
+        while position < queue.len() {
+            if self.may_decide(position, queue, lists, values) {
+                best = or_offered(best, &queue[position], lists, values, scores);
+            }
+            position = self.states.next_open(position + 1);
+        }
+        best
+    }
+
+    /// Finds out whether the clause at this position may have something to decide.
+    fn may_decide<N: Copy>(
+        &mut self,
+        position: usize,
+        queue: &[NeedClause],
+        lists: &FixedLists<N>,
+        values: &DecisionMap,
+    ) -> bool
+    where
+        N: Drop,
+        requires within { position < length queue.now }
+        requires fits { Fits (literals_in lists.now) self.old queue.now }
+        requires values { (v : ℕ) → value_at values.now v ≡ value_in self.old.seen.items v }
+        ensures nothing { result ≡ false → (score : N → ℕ) (q : NeedClause) → slice_get queue.now position ≡ Some q → offer lists.now (value_at values.now) score q ≡ None }
+        ensures fits { Fits (literals_in lists.now) self.new queue.now }
+        ensures seen { self.new.seen ≡ self.old.seen }
+    {
+        let state = self.found(&queue[position], lists, values);
+        self.states.put(position, state);
+        state.is_open()
+    }
+
+    /// What these values tell of a clause.
+    fn found<N: Copy>(
+        &self,
+        need: &NeedClause,
+        lists: &FixedLists<N>,
+        values: &DecisionMap,
+    ) -> ClauseState
+    where
+        N: Drop,
+        requires values { (v : ℕ) → value_at values.now v ≡ value_in self.now.seen.items v }
+        ensures { IsSo (literals_in lists.now) self.now.seen.items need.now result }
+    {
+        if values.value(need.parent) != Some(true) {
+            return ClauseState::Idle;
+        }
+        match lists.candidates(need.requirement) {
+            Some(candidates) if begins_true(candidates, values) => self.met(),
+            _ => ClauseState::Open,
+        }
+    }
+
+    /// That a candidate is true among the entries that were seen.
+    fn met(&self) -> ClauseState
+        ensures { IsMetNow (length self.now.seen.items) result }
+    {
+        match u32::try_from(self.seen.len()) {
+            Ok(within) => ClauseState::Met(within),
+            Err(_) => ClauseState::Open,
+        }
+    }
+}
+
+/// Whether the first candidate that isn't false is true. One that is true behind an undecided one isn't
+/// looked for, which would cost a look at each.
+fn begins_true<N: Copy>(candidates: &[Candidate<N>], values: &DecisionMap) -> bool
+    ensures { result ≡ true → list_any (λ c. is_true (value_under (value_at values.now) c.literal)) candidates.now ≡ true }
+{
+    for candidate in candidates {
+        match candidate.literal.eval(values) {
+            Some(false) => {}
+            Some(true) => return true,
+            None => return false,
+        }
+    }
+    false
+}
+
+/// The decision so far, or what a clause has to decide where that beats it.
+fn or_offered<N: Copy + Eq, C: ScoreMap<N>>(
+    best: Option<NextDecision>,
+    need: &NeedClause,
+    lists: &FixedLists<N>,
+    values: &DecisionMap,
+    scores: &C,
+) -> Option<NextDecision>
+where
+    N: Drop,
+    ensures { result ≡ later best (offer lists.now (value_at values.now) (C.score_of scores.now) need.now) }
+{
+    if is_beaten(need, best, lists, values, scores) {
+        best
+    } else {
+        or_later(best, offered(need, lists, values, scores))
+    }
+}
+
+/// Whether the decision so far stands beside what a clause has to decide, which its first undecided
+/// candidate may tell.
+fn is_beaten<N: Copy + Eq, C: ScoreMap<N>>(
+    need: &NeedClause,
+    best: Option<NextDecision>,
+    lists: &FixedLists<N>,
+    values: &DecisionMap,
+    scores: &C,
+) -> bool
+where
+    N: Drop,
+    ensures { result ≡ true → later best (offer lists.now (value_at values.now) (C.score_of scores.now) need.now) ≡ best }
+{
+    let Some(best) = best else {
+        return false;
+    };
+    let Some(candidates) = lists.candidates(need.requirement) else {
+        return false;
+    };
+    match first_undecided(candidates, values) {
+        Some(candidate) => scores.get(candidate.package) <= best.package_activity,
+        None => true,
+    }
+}
+
+/// The first candidate that has no value.
+fn first_undecided<'a, N: Copy>(
+    candidates: &'a [Candidate<N>],
+    values: &DecisionMap,
+) -> Option<&'a Candidate<N>>
+    ensures { option_copied result ≡ find (λ c. is_open (value_under (value_at values.now) c.literal)) candidates.now }
+{
+    candidates
+        .iter()
+        .find(|candidate| candidate.literal.is_undecided(values))
+}
+
+/// Makes room for the positions of so many parents.
+fn make_room(places: &mut Vec<Vec<usize>>, alloc: Global, count: usize) -> R<()>
+    ensures long { OnOk result (count ≤ length places.new.items) }
+    ensures same { OnOk result ((v : ℕ) → places_at places.new.items v ≡ places_at places.old.items v) }
+    ensures refusal { IsOkUnless result Memory }
+{
+    while places.len() < count {
+        places.push(Vec::new(alloc))?;
+    }
+    Ok(())
+}

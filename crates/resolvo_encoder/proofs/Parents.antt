@@ -1,0 +1,117 @@
+-- Parents come, and their needs are encoded in turn.
+use Rattle.std.proofs.Common.{◌≡◌, ℕ, suc, ◌+◌, ◌<◌, ◌≤◌, ◌⊎◌, inl, inr, Bool, true, false, List, [], ◌∷◌, ◌++◌, length, cond, Option, Some, refl, sym, subst, arith, length-append}
+use Rattle.std.specs.Prelude.{slice_get, Contains}
+use Rattle.std.specs.List.{list_any}
+use Rattle.indexmap.specs.IndexSet.{insert_key}
+use Rattle.resolvo_pool_core.specs.declared.solver_id.SolvableIdOrRoot.{SolvableIdOrRoot}
+use Rattle.resolvo_pool_core.specs.Text.{solvable_of}
+use Rattle.resolvo_pool_core.specs.RuleKeeping.{Packages, Rules}
+use Rattle.resolvo_store_core.specs.AtMostOne.{IsFrontOf}
+use Rattle.resolvo_soundness.proofs.Lists.{any_contained, contains_first, contains_left, contains_right, contains_one, contains_parts}
+use Rattle.resolvo_state.proofs.Positions.{get_old, front_long, front_same}
+use Rattle.resolvo_encoder.proofs.Carrying.{split_at}
+use Rattle.resolvo_encoder.specs.Encoded.{IsParentEncoded, IsEncoding}
+use Rattle.resolvo_encoder.specs.Steps.{AddsParent, IsNextEncoded}
+use Rattle.resolvo_encoder.specs.declared.encoder.Encoder.{Encoder}
+
+-- what is put into a list without repeats comes behind the others, or stood there
+pub front_insert : {X : Type 0} (eq : X → X → Bool) (xs : List X) (x : X) → IsFrontOf xs (insert_key eq xs x)
+front_insert {X} eq xs x = go (list_any (eq x) xs)
+  where
+    go : (b : Bool) → IsFrontOf xs (cond b xs (xs ++ x ∷ []))
+    go true = front_same xs
+    go false = (x ∷ [], refl)
+
+-- a value that equals one of a list stands there
+pub any_stands : {X : Type 0} (eq : X → X → Bool) (xs : List X) (x : X) → ((y : X) → eq x y ≡ true → y ≡ x) → list_any (eq x) xs ≡ true → Contains xs x
+any_stands eq xs x exact h = let (y, stands, same) = any_contained (eq x) xs h in subst (Contains xs) (exact y same) stands
+
+-- what is put into a list stands there
+pub inserted : {X : Type 0} (eq : X → X → Bool) (xs : List X) (x : X) → ((y : X) → eq x y ≡ true → y ≡ x) → Contains (insert_key eq xs x) x
+inserted {X} eq xs x exact = go (list_any (eq x) xs) refl
+  where
+    go : (b : Bool) → list_any (eq x) xs ≡ b → Contains (cond b xs (xs ++ x ∷ [])) x
+    go true h = any_stands eq xs x exact h
+    go false h = contains_right x xs (x ∷ []) (contains_first x x [] refl)
+
+-- what stands in the front of a list stands in it
+pub front_contains : {X : Type 0} (xs ys : List X) (x : X) → IsFrontOf xs ys → Contains xs x → Contains ys x
+front_contains xs ys x (more, is) h = subst (λ zs. Contains zs x) (sym is) (contains_left x xs more h)
+
+-- a value that does not stand there makes the list longer by one
+pub inserted_long : {X : Type 0} (eq : X → X → Bool) (xs : List X) (x : X) → ((y : X) → eq x y ≡ true → y ≡ x) → (Contains xs x → ⊥) → length (insert_key eq xs x) ≡ suc (length xs)
+inserted_long {X} eq xs x exact fresh = go (list_any (eq x) xs) refl
+  where
+    go : (b : Bool) → list_any (eq x) xs ≡ b → length (cond b xs (xs ++ x ∷ [])) ≡ suc (length xs)
+    go true h = absurd (fresh (any_stands eq xs x exact h))
+    go false h = let long : length (xs ++ x ∷ []) ≡ length xs + 1 = length-append xs (x ∷ []) in omega (arith, long)
+
+-- what stands in a list stood there before a value was put into it, or is the value
+pub inserted_only : {X : Type 0} (eq : X → X → Bool) (xs : List X) (x y : X) → Contains (insert_key eq xs x) y → Contains xs y ⊎ (y ≡ x)
+inserted_only {X} eq xs x y = go (list_any (eq x) xs)
+  where
+    go : (b : Bool) → Contains (cond b xs (xs ++ x ∷ [])) y → Contains xs y ⊎ (y ≡ x)
+    go true h = inl h
+    go false h = elim (contains_parts y xs (x ∷ []) h) [ inl a ↦ inl a | inr a ↦ inr (contains_one y x a) ]
+
+module _ {N S : Type 0} (same : S → S → Bool) (p : Packages N S) (root : Rules) where
+  -- more parents leave the encoding one
+  pub parent_keeps : (old new : Encoder N S) → IsEncoding same p root old → AddsParent old new → IsEncoding same p root new
+  parent_keeps old new e added = subst (λ (x : Encoder N S). IsEncoding same p root x) (sym added.rest) (record {
+    coding = e.coding;
+    tied = e.tied;
+    spelled = e.spelled;
+    rule = e.rule;
+    positive = e.positive;
+    named = e.named;
+    candidates = e.candidates;
+    listed = λ q c a. (let (s, fits, m) = e.listed q c a in (s, record { positive = fits.positive; stands = fits.stands; tracked = fits.tracked }, m));
+    offered = λ q s h m. (let (c, a, fits) = e.offered q s h m in (c, a, record { positive = fits.positive; stands = fits.stands; tracked = fits.tracked }));
+    fixed = e.fixed;
+    queued = e.queued;
+    asked = e.asked;
+    gates = e.gates;
+    bar = e.bar;
+    noted = record { packages = e.noted.packages; version_sets = e.noted.version_sets };
+    cases = record { waiting = e.cases.waiting; places = e.cases.places; fired = e.cases.fired; cased = e.cases.cased; helped = e.cases.helped; there = e.cases.there };
+    within = (let a : length old.parents.keys ≤ length new.parents.keys = front_long old.parents.keys new.parents.keys added.front in let b : old.encoded ≤ length old.parents.keys = e.within in omega arith);
+    encoded = λ i parent below at. (let b : old.encoded ≤ length old.parents.keys = e.within in let (more, is) = added.front in
+        let h = e.encoded i parent below (get_old old.parents.keys more i parent (omega arith) (subst (λ (ks : List (SolvableIdOrRoot S)). slice_get ks i ≡ Some parent) is at)) in
+        record { needs = h.needs; limits = h.limits; guarded = h.guarded; unknown = h.unknown });
+    wished = e.wished;
+    called = e.called;
+  })
+
+  -- the needs of one parent more are encoded
+  pub next_keeps : (e : Encoder N S) → IsEncoding same p root e → e.encoded < length e.parents.keys → IsNextEncoded same p root e → IsEncoding same p root (record e { encoded = e.encoded + 1 })
+  next_keeps old e below next = record {
+    coding = e.coding;
+    tied = e.tied;
+    spelled = e.spelled;
+    rule = e.rule;
+    positive = e.positive;
+    named = e.named;
+    candidates = e.candidates;
+    listed = λ q c a. (let (s, fits, m) = e.listed q c a in (s, record { positive = fits.positive; stands = fits.stands; tracked = fits.tracked }, m));
+    offered = λ q s h m. (let (c, a, fits) = e.offered q s h m in (c, a, record { positive = fits.positive; stands = fits.stands; tracked = fits.tracked }));
+    fixed = e.fixed;
+    queued = e.queued;
+    asked = e.asked;
+    gates = e.gates;
+    bar = e.bar;
+    noted = record { packages = e.noted.packages; version_sets = e.noted.version_sets };
+    cases = record { waiting = e.cases.waiting; places = e.cases.places; fired = e.cases.fired; cased = e.cases.cased; helped = e.cases.helped; there = e.cases.there };
+    within = omega arith;
+    encoded = λ i parent low at. elim (last_or_before i old.encoded low) [
+      | inl before ↦ same_parent (solvable_of parent) (e.encoded i parent before at)
+      | inr is ↦ same_parent (solvable_of parent) (next parent (subst (λ n. slice_get old.parents.keys n ≡ Some parent) is at))
+    ];
+    wished = e.wished;
+    called = e.called;
+  }
+    where
+      same_parent : (parent : Option S) → IsParentEncoded same p old root parent → IsParentEncoded same p (record old { encoded = old.encoded + 1 }) root parent
+      same_parent parent h = record { needs = h.needs; limits = h.limits; guarded = h.guarded; unknown = h.unknown }
+
+      last_or_before : (i n : ℕ) → i < n + 1 → (i < n) ⊎ (i ≡ n)
+      last_or_before i n h = elim (split_at i n) [ inl a ↦ inl a | inr a ↦ inr (omega arith) ]

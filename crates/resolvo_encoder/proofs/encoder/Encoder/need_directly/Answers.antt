@@ -1,0 +1,10 @@
+use Rattle.std.proofs.Common.{None}
+use Rattle.resolvo_sat.specs.State.{count_of}
+use Rattle.resolvo_encoder.proofs.Building.{built_in_range, none_in_range}
+use Rattle.resolvo_encoder.proofs.encoder.Encoder.need_directly.Goals as goal
+
+pub state_need-requires-clause-in_range : goal.state_need-requires-clause-in_range
+state_need-requires-clause-in_range g c = built_in_range c.args.self.now c.args.variable None c.args.need.requirement c.requires.built c.requires.in_range (none_in_range (count_of c.args.self.now.coding.search))
+
+pub returns : goal.returns
+returns g c = record { needed = record { case = c.new.result; none = c.new.ensures.items; states = c.in_ok-state_need.ensures.stated } }

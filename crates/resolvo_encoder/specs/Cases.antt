@@ -1,0 +1,47 @@
+-- The cases of conditions, and how they are kept until they become clauses.
+use Rattle.std.specs.Prelude.{◌≡◌, ℕ, Bool, List, map, slice_get, Option, Some, Contains}
+use Rattle.std.specs.List.{AllByRecursion}
+use Rattle.resolvo_pool_core.specs.declared.id.VersionSetId.{VersionSetId}
+use Rattle.resolvo_pool_core.specs.declared.requirement.ConditionalRequirement.{ConditionalRequirement}
+use Rattle.resolvo_pool_core.specs.RuleKeeping.{Packages, Rules, is_in, is_match, rules_for}
+use Rattle.resolvo_store_core.specs.declared.conditions.DeferredConjunct.{DeferredConjunct}
+use Rattle.resolvo_store_core.specs.Deferred.{version_set_of, candidates_of}
+use Rattle.resolvo_soundness.specs.Encoding.{cases_for}
+use Rattle.resolvo_packages.specs.Answering.{AreOutside}
+use Rattle.resolvo_encoder.specs.declared.encoder.Deferred.{Deferred}
+use Rattle.resolvo_encoder.specs.declared.encoder.Encoder.{Encoder}
+use Rattle.resolvo_encoder.specs.declared.conditions.ConditionSet.{ConditionSet}
+
+-- the version sets of a case that waits
+abbrev pub case_of : {S : Type 0} → List (DeferredConjunct S) → List VersionSetId
+case_of conjuncts = map version_set_of conjuncts
+
+-- the version sets of a case that fires
+abbrev pub sets_case : {N S : Type 0} → List (ConditionSet N S) → List VersionSetId
+sets_case sets = map (λ c. c.version_set) sets
+
+-- some place of what waits has this case of this parent's need
+abbrev pub IsDeferred : {N S : Type 0} → Encoder N S → Option S → ConditionalRequirement → List VersionSetId → Type 0
+IsDeferred {N} {S} e parent need case = (i : ℕ) × (d : Deferred S) × (slice_get e.deferred.items i ≡ Some d) × (d.parent ≡ parent) × (d.need ≡ need) × (case_of d.conjuncts.items ≡ case)
+
+module _ {N S : Type 0} (same : S → S → Bool) (p : Packages N S) where
+  -- the candidates are those that match the version set
+  abbrev pub IsMatching : DeferredConjunct S → Type 0
+  IsMatching c = (s : S) → is_in same p (candidates_of c) s ≡ is_match same p (version_set_of c) s
+
+  abbrev pub AreConjuncts : List (DeferredConjunct S) → Type 0
+  AreConjuncts conjuncts = AllByRecursion IsMatching conjuncts
+
+  -- the version set has its package, and the candidates of that outside it
+  pub record IsSet (c : ConditionSet N S) : Type 0 where
+    pub named : c.name ≡ p.set_package c.version_set
+    pub outside : AreOutside same p c.version_set c.outside.items
+
+  abbrev pub AreSets : List (ConditionSet N S) → Type 0
+  AreSets sets = AllByRecursion IsSet sets
+
+  -- what waits is a case of a need of its parent
+  pub record IsCaseOf (root : Rules) (d : Deferred S) : Type 0 where
+    pub conjuncts : AreConjuncts d.conjuncts.items
+    pub listed : Contains (rules_for same p root d.parent).requirements d.need
+    pub case : Contains (cases_for same p d.need) (case_of d.conjuncts.items)

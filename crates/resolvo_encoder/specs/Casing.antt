@@ -1,0 +1,72 @@
+-- Which cases wait, which are due, and which became clauses.
+use Rattle.std.specs.Prelude.{◌≡◌, ℕ, suc, ◌-◌, ◌<◌, ◌⊎◌, Bool, true, false, List, length, slice_get, Some, Contains}
+use Rattle.resolvo_pool_core.specs.declared.id.VariableId.{VariableId}
+use Rattle.resolvo_pool_core.specs.RuleKeeping.{Packages, Rules, IsLawful}
+use Rattle.resolvo_store_core.specs.declared.conditions.DeferredConjunct.{DeferredConjunct}
+use Rattle.resolvo_store_core.specs.Deferred.{candidates_of}
+use Rattle.resolvo_store_core.specs.AtMostOne.{IsFrontOf}
+use Rattle.resolvo_store_core.specs.Clauses.{yes}
+use Rattle.resolvo_store_core.specs.Signed.{has}
+use Rattle.resolvo_sat.specs.Entries.{made_true}
+use Rattle.resolvo_sat.specs.State.{history}
+use Rattle.resolvo_soundness.specs.Encoding.{case_holds}
+use Rattle.resolvo_state.specs.declared.atom.ProofAtom.TheVariants.{Solvable}
+use Rattle.resolvo_state.specs.Atoms.{StandsFor}
+use Rattle.resolvo_state.specs.Chosen.{AreChosen}
+pub use Rattle.resolvo_encoder.specs.Cases.{case_of, sets_case, IsDeferred, IsMatching, AreConjuncts, IsSet, AreSets, IsCaseOf}
+pub use Rattle.resolvo_encoder.specs.Encoded.{IsCaseEncoded}
+use Rattle.resolvo_encoder.specs.Encoded.{IsEncoding}
+use Rattle.resolvo_encoder.specs.declared.conditions.DeferredRequirement.{DeferredRequirement}
+use Rattle.resolvo_encoder.specs.declared.encoder.Deferred.{Deferred}
+use Rattle.resolvo_encoder.specs.declared.encoder.Encoder.{Encoder}
+
+module _ {N S : Type 0} where
+  -- cases came behind the others, or none
+  pub record Defers (old new : Encoder N S) : Type 0 where
+    pub front : IsFrontOf old.deferred.items new.deferred.items
+    pub rest : new ≡ record old { deferred = new.deferred }
+
+  -- the case at the place became a clause
+  pub record Fires (index : ℕ) (old new : Encoder N S) : Type 0 where
+    pub fired : Contains new.fired.keys index
+    pub front : IsFrontOf old.fired.keys new.fired.keys
+    pub fresh : (Contains old.fired.keys index → ⊥) → length new.fired.keys ≡ suc (length old.fired.keys)
+    pub small : length new.fired.keys < 18446744073709551616
+    pub rest : new ≡ record old { fired = new.fired }
+
+  -- how many cases wait still
+  abbrev pub waiting_count : Encoder N S → ℕ
+  waiting_count e = length e.deferred.items - length e.fired.keys
+
+  -- this is what waits at the place
+  pub record IsWaiting (e : Encoder N S) (index : ℕ) (w : DeferredRequirement S) : Type 0 where
+    pub deferred : Deferred S
+    pub at : slice_get e.deferred.items index ≡ Some deferred
+    pub parent : w.parent ≡ deferred.parent
+    pub need : w.need ≡ deferred.need
+    pub case : w.case.items ≡ case_of deferred.conjuncts.items
+
+  -- the trail makes the solvable's variable true
+  abbrev pub IsTrueNow : Encoder N S → S → Type 0
+  IsTrueNow e s = (v : VariableId) × StandsFor e.coding.atoms.keys v (Solvable s) × (has (made_true (history e.coding.search)) (yes v) ≡ true)
+
+  -- one of these solvables is chosen
+  abbrev pub IsOneChosen : Encoder N S → List S → Type 0
+  IsOneChosen e list = (s : S) × Contains list s × IsTrueNow e s
+
+  -- each version set of the case at the place has a chosen match
+  pub record IsMetNow (e : Encoder N S) (index : ℕ) : Type 0 where
+    pub deferred : Deferred S
+    pub at : slice_get e.deferred.items index ≡ Some deferred
+    pub chosen : (c : DeferredConjunct S) → Contains deferred.conjuncts.items c → IsOneChosen e (candidates_of c)
+
+  module _ (same : S → S → Bool) (e : Encoder N S) where
+    -- the case at the place became a clause, or it doesn't hold in what is chosen
+    abbrev pub IsSpent : ℕ → Type 0
+    IsSpent index = Contains e.fired.keys index
+        ⊎ ((p : Packages N S) (root : Rules) → IsLawful p → IsEncoding same p root e → (d : Deferred S) → slice_get e.deferred.items index ≡ Some d
+        → (members : List S) → AreChosen e.coding.atoms.keys (made_true (history e.coding.search)) members → case_holds same p members (case_of d.conjuncts.items) ≡ false)
+
+    -- no case that waits holds in what is chosen
+    abbrev pub AreSpent : Type 0
+    AreSpent = (i : ℕ) → i < length e.deferred.items → IsSpent i

@@ -1,0 +1,69 @@
+-- What the clauses of a case rest on: its packages are noted, what is outside its version sets is registered, and clauses say
+-- of each registered solvable of these packages that one is there.
+use Rattle.std.specs.Prelude.{◌≡◌, Bool, true, List, Contains}
+use Rattle.resolvo_pool_core.specs.declared.id.VariableId.{VariableId}
+use Rattle.resolvo_pool_core.specs.declared.id.VersionSetId.{VersionSetId}
+use Rattle.resolvo_pool_core.specs.RuleKeeping.{Packages, Rules, IsLawful, is_outside}
+use Rattle.resolvo_store_core.specs.Signed.{Signed}
+use Rattle.resolvo_sat.specs.State.{count_of}
+use Rattle.resolvo_sat.specs.Steps.{AreInRange}
+use Rattle.resolvo_packages.specs.declared.package_source.Offered.{Offered}
+use Rattle.resolvo_soundness.specs.Encoding.{Rule, case_literals}
+use Rattle.resolvo_soundness.specs.Numbered.{Spells}
+use Rattle.resolvo_state.specs.Atoms.{origin}
+use Rattle.resolvo_state.specs.Registered.{IsTracked, IsRegistered}
+use Rattle.resolvo_encoder.specs.Cases.{sets_case, AreSets}
+use Rattle.resolvo_encoder.specs.Encoded.{rules_of, IsEncoding}
+use Rattle.resolvo_encoder.specs.Steps.{IsBuilt, Extends, IsListed}
+use Rattle.resolvo_encoder.specs.declared.conditions.ConditionSet.{ConditionSet}
+use Rattle.resolvo_encoder.specs.declared.encoder.Encoder.{Encoder}
+
+module _ {N S : Type 0} where
+  -- these are the registered solvables of the package, with it
+  pub record AreThose (e : Encoder N S) (name : N) (list : List (Offered N S)) : Type 0 where
+    pub each : (s : S) → IsRegistered e.registry e.coding name s → Contains list (record { solvable = s; name = name })
+    pub all : (o : Offered N S) → Contains list o → (o.name ≡ name) × IsRegistered e.registry e.coding name o.solvable
+
+  module _ (same : S → S → Bool) where
+    -- Clauses came that say of these that one of their package is there, if they are candidates of it.
+    pub record SaysThere (list : List (Offered N S)) (old new : Encoder N S) : Type 0 where
+      pub built : IsBuilt new
+      pub extends : Extends old new
+      pub lists : new.lists ≡ old.lists
+      pub registry : new.registry ≡ old.registry
+      pub helped : new.noted.helped ≡ old.noted.helped
+      pub encoding : (p : Packages N S) (root : Rules) → IsLawful p → IsEncoding same p root old → ((o : Offered N S) → Contains list o → IsListed same p o)
+          → IsEncoding same p root new × ((o : Offered N S) → Contains list o → rules_of new (Rule.is_there o.name o.solvable))
+
+    -- Such clauses came for those whose package is noted, if for no others.
+    pub record Admits (offered : List (Offered N S)) (old new : Encoder N S) : Type 0 where
+      pub said : List (Offered N S)
+      pub each : (o : Offered N S) → Contains offered o → Contains old.noted.helped.keys o.name → Contains said o
+      pub only : (o : Offered N S) → Contains said o → Contains offered o
+      pub says : SaysThere said old new
+
+    -- The package is noted, and such clauses came for its registered solvables.
+    pub record HelpsPackage (name : N) (old new : Encoder N S) : Type 0 where
+      pub built : IsBuilt new
+      pub extends : Extends old new
+      pub lists : new.lists ≡ old.lists
+      pub registry : new.registry ≡ old.registry
+      pub keeps : (n : N) → Contains old.noted.helped.keys n → Contains new.noted.helped.keys n
+      pub helped : Contains new.noted.helped.keys name
+      pub encoding : (p : Packages N S) (root : Rules) → IsLawful p → IsEncoding same p root old → IsEncoding same p root new
+
+    -- The case's packages are noted, what is outside its version sets is registered, and these are its literals.
+    pub record IsHelped (p : Packages N S) (e : Encoder N S) (case : List VersionSetId) (literals : List Signed) : Type 0 where
+      pub noted : (v : VersionSetId) → Contains case v → Contains e.noted.helped.keys (p.set_package v)
+      pub registered : (v : VersionSetId) (s : S) → Contains case v → is_outside same p v s ≡ true → IsRegistered e.registry e.coding (p.package_of s) s
+      pub spells : Spells (origin e.coding.atoms.keys) literals (case_literals same p case)
+
+    -- So it is with the case of these version sets, whose literals are those.
+    pub record Helps (sets : List (ConditionSet N S)) (literals : List Signed) (old new : Encoder N S) : Type 0 where
+      pub built : IsBuilt new
+      pub extends : Extends old new
+      pub lists : new.lists ≡ old.lists
+      pub keeps : (n : N) → Contains old.noted.helped.keys n → Contains new.noted.helped.keys n
+      pub tracked : (m : N) (u : VariableId) → IsTracked old.registry m u → IsTracked new.registry m u
+      pub in_range : AreInRange (count_of new.coding.search) literals
+      pub encoding : (p : Packages N S) (root : Rules) → IsLawful p → IsEncoding same p root old → AreSets same p sets → IsEncoding same p root new × IsHelped p new (sets_case sets) literals

@@ -1,0 +1,203 @@
+-- The steps of encoding.
+use Rattle.std.specs.Prelude.{◌≡◌, ℕ, ◌<◌, ◌≤◌, ◌⊎◌, Bool, true, false, List, [], ◌∷◌, ◌++◌, length, Option, Some, None, Contains, Vec, slice_get}
+use Rattle.std.specs.declared.alloc.Global.{Global}
+use Rattle.resolvo_pool_core.specs.declared.id.ClauseId.{ClauseId}
+use Rattle.resolvo_pool_core.specs.declared.id.VariableId.{VariableId}
+use Rattle.resolvo_pool_core.specs.declared.requirement.Requirement.{Requirement}
+use Rattle.resolvo_pool_core.specs.declared.id.DenseId.{DenseId}
+use Rattle.resolvo_pool_core.specs.declared.id.DisjunctionTag.{DisjunctionTag}
+use Rattle.resolvo_store_core.specs.Clauses.{yes, no, candidate_literals}
+use Rattle.resolvo_store_core.specs.declared.decide_queue.NeedClause.{NeedClause}
+use Rattle.resolvo_store_core.specs.declared.lists.Candidate.{Candidate}
+use Rattle.resolvo_store_core.specs.declared.lists.FixedLists.{FixedLists}
+use Rattle.resolvo_store_core.specs.Lists.{has_candidates, candidates_in, condition_in, FixesCandidates, IsEmpty}
+use Rattle.resolvo_pool_core.specs.ByRequirement.{slot_of}
+use Rattle.resolvo_pool_core.specs.declared.solver_id.SolvableIdOrRoot.TheVariants.{Root}
+use Rattle.resolvo_packages.specs.declared.package_source.Offered.{Offered}
+use Rattle.resolvo_packages.specs.Answering.{offered_solvables}
+use Rattle.resolvo_pool_core.specs.Provider.{listed}
+use Rattle.resolvo_pool_core.specs.RuleKeeping.{Packages, Rules, IsLawful, is_in, rules_for}
+use Rattle.resolvo_pool_core.specs.declared.id.VersionSetId.{VersionSetId}
+use Rattle.resolvo_pool_core.specs.declared.requirement.ConditionalRequirement.{ConditionalRequirement}
+use Rattle.resolvo_decide.specs.Needs.{literals_in, Fits, AddsNeed}
+use Rattle.resolvo_soundness.specs.Encoding.{Rule, cases_for, IsRule}
+use Rattle.resolvo_state.specs.declared.atom.ProofAtom.{ProofAtom}
+use Rattle.resolvo_state.specs.declared.atom.ProofAtom.TheVariants.{Solvable, Gate}
+use Rattle.resolvo_state.specs.declared.clause_kind.Stated.TheVariants as Says
+use Rattle.resolvo_pool_core.specs.Text.{solvable_of}
+use Rattle.resolvo_pool_core.specs.declared.solver_id.SolvableIdOrRoot.{SolvableIdOrRoot}
+use Rattle.resolvo_store_core.specs.AtMostOne.{IsFrontOf}
+use Rattle.resolvo_encoder.specs.Encoded.{IsParentVariable, IsCondition, IsParentEncoded, IsEncoding, AreCandidates}
+use Rattle.resolvo_state.specs.declared.clause_kind.Stated.{Stated}
+use Rattle.resolvo_state.specs.declared.solver_state.SolverState.{SolverState}
+use Rattle.resolvo_state.specs.declared.registry.Registry.{Registry}
+use Rattle.resolvo_state.specs.Atoms.{StandsFor}
+use Rattle.resolvo_state.specs.Coding.{IsCoding, IsBegun, Grows, SameTrail, States}
+use Rattle.resolvo_state.specs.Registered.{AreTied, IsTracked, IsDigitClause, IsNothing, Registers}
+use Rattle.resolvo_encoder.specs.declared.encoder.Encoder.{Encoder}
+
+-- What the calls rest on, whatever the packages are: the search is ready, registered solvables are tied, candidates are
+-- solvables that are to be chosen, each gate is its requirement's, and what is known of the need clauses is so for entries that
+-- begin the trail.
+pub record IsBuilt {N S : Type 0} (e : Encoder N S) : Type 0 where
+  pub coding : IsCoding e.coding
+  pub tied : AreTied e.registry e.coding
+  pub candidates : (r : Requirement) (c : Candidate N) → Contains (candidates_in e.lists r) c → (c.literal.positive ≡ true) × ((s : S) × StandsFor e.coding.atoms.keys c.literal.variable (Solvable s))
+  pub gates : (r : Requirement) (v : VariableId) → slot_of e.gates r ≡ Some v → StandsFor e.coding.atoms.keys v (Gate r)
+  pub within : e.encoded ≤ length e.parents.keys
+  pub needs : Fits (literals_in e.lists) e.needs e.queue
+  pub seen : IsFrontOf e.needs.seen.items e.coding.search.tracker.trail
+
+-- clauses and what they state came, and the trail, the wishes and the parents stay, and so do the cases that wait
+pub record Extends {N S : Type 0} (old new : Encoder N S) : Type 0 where
+  pub grows : Grows old.coding new.coding
+  pub trail : SameTrail old.coding new.coding
+  pub wishes : new.noted.wishes.items ≡ old.noted.wishes.items
+  pub parents : new.parents ≡ old.parents
+  pub encoded : new.encoded ≡ old.encoded
+  pub deferred : new.deferred ≡ old.deferred
+  pub fired : new.fired ≡ old.fired
+
+-- the candidate's literal is that what is offered, which is registered, is chosen
+pub record IsOfferedAs {N S : Type 0} (r : Registry N) (c : SolverState N S) (o : Offered N S) (candidate : Candidate N) : Type 0 where
+  pub positive : candidate.literal.positive ≡ true
+  pub stands : StandsFor c.atoms.keys candidate.literal.variable (Solvable o.solvable)
+  pub tracked : IsTracked r o.name candidate.literal.variable
+
+-- What is offered is registered, and given as a candidate.
+pub record RegistersOne {N S : Type 0} (o : Offered N S) (candidate : Candidate N) (r : Registry N) (old : SolverState N S) (t : Registry N) (new : SolverState N S) : Type 0 where
+  pub literal : candidate.literal.positive ≡ true
+  pub registers : Registers o.name o.solvable candidate.literal.variable r old t new
+
+-- What is offered is registered, and given as candidates; no other solvable came. Each clause that came tells a digit.
+pub record RegistersAll {N S : Type 0} (offered : List (Offered N S)) (given : List (Candidate N)) (r : Registry N) (old : SolverState N S) (t : Registry N) (new : SolverState N S) : Type 0 where
+  pub coding : IsCoding new
+  pub grows : Grows old new
+  pub trail : SameTrail old new
+  pub tied : AreTied t new
+  pub keeps : (m : N) (u : VariableId) → IsTracked r m u → IsTracked t m u
+  pub only : (m : N) (u : VariableId) → IsTracked t m u → IsTracked r m u ⊎ ((o : Offered N S) × Contains offered o × (m ≡ o.name) × StandsFor new.atoms.keys u (Solvable o.solvable))
+  pub digits : (n : ℕ) → length old.search.clauses ≤ n → n < length new.search.clauses → (name : N) × IsDigitClause t new name n
+  pub each : (o : Offered N S) → Contains offered o → (c : Candidate N) × Contains given c × IsOfferedAs t new o c
+  pub all : (c : Candidate N) → Contains given c → (o : Offered N S) × Contains offered o × IsOfferedAs t new o c
+  pub ordered : AreCandidates new.atoms.keys given (offered_solvables offered)
+
+-- a requirement that has got candidates keeps them
+abbrev pub KeepsLists : {N S : Type 0} → Encoder N S → Encoder N S → Type 0
+KeepsLists old new = (r : Requirement) → has_candidates old.lists r ≡ true → slot_of new.lists.candidates r ≡ slot_of old.lists.candidates r
+
+-- a requirement that has candidates had them, or it is this one, and they are what is offered, in its order
+abbrev pub AddsCandidates : {N S : Type 0} → Requirement → List (Offered N S) → Encoder N S → Encoder N S → Type 0
+AddsCandidates r offered old new = (q : Requirement) → has_candidates new.lists q ≡ true
+    → (slot_of new.lists.candidates q ≡ slot_of old.lists.candidates q) ⊎ ((q ≡ r) × AreCandidates new.coding.atoms.keys (candidates_in new.lists q) (offered_solvables offered))
+
+-- the solvable is offered with its package, of which it is a candidate
+abbrev pub IsListed : {N S : Type 0} → (S → S → Bool) → Packages N S → Offered N S → Type 0
+IsListed same p o = (o.name ≡ p.package_of o.solvable) × (is_in same p (listed (p.candidates_of o.name)) o.solvable ≡ true)
+
+-- What is offered is registered, and given as candidates; where a case names its package, a clause says that it is there.
+pub record Enrols {N S : Type 0} (same : S → S → Bool) (offered : List (Offered N S)) (given : List (Candidate N)) (old new : Encoder N S) : Type 0 where
+  pub built : IsBuilt new
+  pub extends : Extends old new
+  pub lists : new.lists ≡ old.lists
+  pub helped : new.noted.helped ≡ old.noted.helped
+  pub keeps : (m : N) (u : VariableId) → IsTracked old.registry m u → IsTracked new.registry m u
+  pub each : (o : Offered N S) → Contains offered o → (c : Candidate N) × Contains given c × IsOfferedAs new.registry new.coding o c
+  pub all : (c : Candidate N) → Contains given c → (o : Offered N S) × Contains offered o × IsOfferedAs new.registry new.coding o c
+  pub ordered : AreCandidates new.coding.atoms.keys given (offered_solvables offered)
+  pub encoding : (p : Packages N S) (root : Rules) → IsLawful p → IsEncoding same p root old → ((o : Offered N S) → Contains offered o → IsListed same p o) → IsEncoding same p root new
+
+-- what is offered became the requirement's candidates, unless it had them
+pub record Fixes {N S : Type 0} (same : S → S → Bool) (r : Requirement) (offered : List (Offered N S)) (old new : Encoder N S) : Type 0 where
+  pub fixed : ((has_candidates old.lists r ≡ true) × (new ≡ old))
+      ⊎ ((has_candidates old.lists r ≡ false) × (middle : Encoder N S) × (given : Vec (Candidate N) Global) × Enrols same offered given.items old middle × FixesCandidates r given middle.lists new.lists × (new ≡ record middle { lists = new.lists }))
+
+-- A clause came that states this of a variable: it is false, or a literal of the condition is true, or one of the requirement's
+-- candidates is chosen. Decisions are made for it.
+pub record StatesNeed {N S : Type 0} (stated : Stated N S) (v : VariableId) (condition : Option (DenseId DisjunctionTag ℕ)) (r : Requirement) (old new : Encoder N S) : Type 0 where
+  pub number : ClauseId
+  pub states : States stated (no v ∷ (condition_in old.lists condition ++ candidate_literals (candidates_in old.lists r))) number old.coding new.coding
+  pub queue : new.queue ≡ old.queue ++ (let q : NeedClause = record { parent = v; requirement = r; condition = condition; clause = number } in q) ∷ []
+  pub needs : AddsNeed v old.needs new.needs
+  pub registry : new.registry ≡ old.registry
+  pub lists : new.lists ≡ old.lists
+  pub gates : new.gates ≡ old.gates
+  pub noted : new.noted ≡ old.noted
+  pub parents : new.parents ≡ old.parents
+  pub encoded : new.encoded ≡ old.encoded
+  pub deferred : new.deferred ≡ old.deferred
+  pub fired : new.fired ≡ old.fired
+
+-- The clause of a case of a parent's need, or of the gate of a requirement that some solvable asks for; the variable is the
+-- parent's or the gate's, the condition's literals those of the case.
+abbrev pub IsNeed : {N S : Type 0} → (S → S → Bool) → Packages N S → Rules → FixedLists N → List (ProofAtom N S) → Stated N S → VariableId → Option (DenseId DisjunctionTag ℕ) → Requirement → Type 0
+IsNeed same p root lists atoms Says.Root v condition r = ⊥
+IsNeed same p root lists atoms (Says.Needs parent need case) v condition r = (need.requirement ≡ r) × IsParentVariable atoms parent v × IsCondition same p lists atoms condition case.items × Contains (rules_for same p root parent).requirements need × Contains (cases_for same p need) case.items
+IsNeed same p root lists atoms (Says.Gated s w) v condition r = ⊥
+IsNeed same p root lists atoms (Says.Shared w) v condition r = (w ≡ r) × (condition ≡ None) × StandsFor atoms v (Gate w) × IsRule same p root (Rule.shared w)
+IsNeed same p root lists atoms (Says.Limits parent w s) v condition r = ⊥
+IsNeed same p root lists atoms (Says.LimitsOutside parent w) v condition r = ⊥
+IsNeed same p root lists atoms (Says.IsOut w s) v condition r = ⊥
+IsNeed same p root lists atoms (Says.Locked locked s) v condition r = ⊥
+IsNeed same p root lists atoms (Says.Excluded s why) v condition r = ⊥
+IsNeed same p root lists atoms (Says.Digit n s place bit) v condition r = ⊥
+IsNeed same p root lists atoms (Says.IsThere n s) v condition r = ⊥
+IsNeed same p root lists atoms Says.Learnt v condition r = ⊥
+
+-- the clauses, variables and what these mean changed, and what is known of the need clauses, and nothing else
+pub record SameButCoding {N S : Type 0} (old new : Encoder N S) : Type 0 where
+  pub registry : new.registry ≡ old.registry
+  pub lists : new.lists ≡ old.lists
+  pub queue : new.queue ≡ old.queue
+  pub gates : new.gates ≡ old.gates
+  pub noted : new.noted ≡ old.noted
+  pub parents : new.parents ≡ old.parents
+  pub encoded : new.encoded ≡ old.encoded
+  pub deferred : new.deferred ≡ old.deferred
+  pub fired : new.fired ≡ old.fired
+
+-- the parent has the need, without condition
+pub record Needs {N S : Type 0} (same : S → S → Bool) (p : Packages N S) (root : Rules) (parent : Option S) (need : ConditionalRequirement) : Type 0 where
+  pub listed : Contains (rules_for same p root parent).requirements need
+  pub free : need.condition ≡ None
+
+-- the clause of the parent's need came
+pub record NeedsDirectly {N S : Type 0} (parent : Option S) (need : ConditionalRequirement) (v : VariableId) (old new : Encoder N S) : Type 0 where
+  pub case : Vec VersionSetId Global
+  pub none : case.items ≡ []
+  pub states : StatesNeed (Says.Needs parent need case) v None need.requirement old new
+
+-- the clause that the solvable opens the gate came
+pub record Opens {N S : Type 0} (s : S) (v gate : VariableId) (r : Requirement) (old new : Encoder N S) : Type 0 where
+  pub number : ClauseId
+  pub states : States (Says.Gated s r) (no v ∷ yes gate ∷ []) number old.coding new.coding
+  pub rest : SameButCoding old new
+  pub needs : new.needs ≡ old.needs
+
+-- the root alone is there, and its needs are to be encoded
+pub record IsBegunEncoding {N S : Type 0} (e : Encoder N S) : Type 0 where
+  pub coding : IsBegun e.coding
+  pub registry : IsNothing e.registry
+  pub lists : IsEmpty e.lists
+  pub queue : e.queue ≡ []
+  pub needs : e.needs.states ≡ []
+  pub seen : e.needs.seen.items ≡ []
+  pub gates : (r : Requirement) → slot_of e.gates r ≡ None
+  pub packages : e.noted.packages.keys ≡ []
+  pub version_sets : e.noted.version_sets.keys ≡ []
+  pub helped : e.noted.helped.keys ≡ []
+  pub there : e.noted.there.keys ≡ []
+  pub wishes : e.noted.wishes.items ≡ []
+  pub parents : e.parents.keys ≡ Root ∷ []
+  pub encoded : e.encoded ≡ 0
+  pub deferred : e.deferred.items ≡ []
+  pub fired : e.fired.keys ≡ []
+
+-- parents came behind the others, or none
+pub record AddsParent {N S : Type 0} (old new : Encoder N S) : Type 0 where
+  pub front : IsFrontOf old.parents.keys new.parents.keys
+  pub rest : new ≡ record old { parents = new.parents }
+
+-- the needs and the limits of the next parent are clauses, but for cases that wait
+abbrev pub IsNextEncoded : {N S : Type 0} → (S → S → Bool) → Packages N S → Rules → Encoder N S → Type 0
+IsNextEncoded {N} {S} same p root e = (parent : SolvableIdOrRoot S) → slice_get e.parents.keys e.encoded ≡ Some parent → IsParentEncoded same p e root (solvable_of parent)

@@ -1,0 +1,132 @@
+//! The packages that cases name: a clause says of each of their registered solvables that one of them is there, so that the
+//! literals of a case, once it holds, are all false.
+ghost use Rattle.std.specs.Prelude.{◌≡◌, ◌<◌, ◌∷◌, [], OnOk, IfOk};
+ghost use Rattle.resolvo_store_core.specs.Clauses.{no, candidate_literals};
+ghost use Rattle.resolvo_soundness.specs.Encoding.{Rule};
+ghost use Rattle.resolvo_encoder.specs.Steps.{IsBuilt};
+ghost use Rattle.resolvo_encoder.specs.Telling.{Tells};
+ghost use Rattle.resolvo_encoder.specs.Helped.{AreThose, SaysThere, HelpsPackage, Helps};
+
+use crate::conditions::ConditionSet;
+use crate::encoder::{Encoder, add_key, push_candidates};
+use resolvo_packages::package_source::Offered;
+use resolvo_pool_core::id::{Exact, VariableId};
+use resolvo_pool_core::want::R;
+use resolvo_state::atom::ProofAtom;
+use resolvo_state::clause_kind::Stated;
+use resolvo_store_core::lists::Candidate;
+use resolvo_store_core::literal::Literal;
+use std::alloc::Global;
+use std::fmt::Debug;
+use std::hash::Hash;
+
+impl<N: Copy + Exact + Hash + Debug + Drop, S: Copy + Exact + Hash + Debug> Encoder<N, S> {
+    /// States of a solvable that one of its package is there, once.
+    pub(crate) fn add_at_least_one(&mut self, alloc: Global, one: Offered<N, S>) -> R<()>
+        requires { IsBuilt self.old }
+        ensures { OnOk result (SaysThere S.eq (one ∷ []) self.old self.new) }
+    {
+        if self.noted.there.contains(&one.solvable) {
+            return Ok(());
+        }
+        self.state_there(alloc, one)?;
+        add_key(&mut self.noted.there, one.solvable)?;
+        Ok(())
+    }
+
+    /// The clause that one of a solvable's package is there.
+    fn state_there(&mut self, alloc: Global, one: Offered<N, S>) -> R<()>
+        requires { IsBuilt self.old }
+        ensures { OnOk result (Tells S.eq (Rule.is_there one.name one.solvable ∷ []) self.old self.new) }
+    {
+        let first = self.give(ProofAtom::Solvable(one.solvable))?;
+        let second = self.give(ProofAtom::AtLeastOne(one.name))?;
+        let stated = Stated::IsThere {
+            name: one.name,
+            solvable: one.solvable,
+        };
+        self.state_pair(alloc, stated, first, Literal::new(second, false))?;
+        Ok(())
+    }
+
+    /// States of each of these that one of its package is there.
+    fn say_each_there(&mut self, alloc: Global, list: &[Offered<N, S>]) -> R<()>
+        requires { IsBuilt self.old }
+        ensures { OnOk result (SaysThere S.eq list.now self.old self.new) }
+    {
+        for one in list {
+            self.add_at_least_one(alloc, *one)?;
+        }
+        Ok(())
+    }
+
+    /// The registered solvables of a package, with it.
+    fn registered(&self, alloc: Global, name: N) -> R<Vec<Offered<N, S>>>
+        requires { IsBuilt self.now }
+        ensures { IfOk result (λ v. AreThose self.now name v.items) }
+    {
+        let variables = self.registry.variables(name);
+        let mut registered = Vec::new(alloc);
+        for variable in variables {
+            if let Some(solvable) = self.coding.solvable(*variable) {
+                registered.push(Offered { solvable, name })?;
+            }
+        }
+        Ok(registered)
+    }
+
+    /// Notes that a case names a package, and states of its registered solvables that one of it is there.
+    fn help_package(&mut self, alloc: Global, name: N) -> R<()>
+        requires { IsBuilt self.old }
+        ensures { OnOk result (HelpsPackage S.eq name self.old self.new) }
+    {
+        if self.noted.helped.contains(&name) {
+            return Ok(());
+        }
+        let registered = self.registered(alloc, name)?;
+        self.say_each_there(alloc, registered.as_slice())?;
+        add_key(&mut self.noted.helped, name)?;
+        Ok(())
+    }
+
+    /// Notes the package of a version set, registers what is outside it, and gives the literals that the
+    /// version set has no chosen match.
+    fn help(&mut self, alloc: Global, set: &ConditionSet<N, S>) -> R<Vec<Literal>>
+        requires { IsBuilt self.old }
+        ensures { IfOk result (λ v. Helps S.eq (set.now ∷ []) v.items self.old self.new) }
+    {
+        self.help_package(alloc, set.name)?;
+        let any = self.give(ProofAtom::AtLeastOne(set.name))?;
+        let candidates = self.register(alloc, set.outside.as_slice())?;
+        let literals = none_or_outside(alloc, any, candidates.as_slice())?;
+        Ok(literals)
+    }
+
+    /// The same for each version set of a case.
+    pub(crate) fn add_each_at_least_one(
+        &mut self,
+        alloc: Global,
+        sets: &[ConditionSet<N, S>],
+    ) -> R<Vec<Literal>>
+        requires { IsBuilt self.old }
+        ensures { IfOk result (λ v. Helps S.eq sets.now v.items self.old self.new) }
+    {
+        let mut literals = Vec::new(alloc);
+        for set in sets {
+            let mut more = self.help(alloc, set)?;
+            literals.append(&mut more)?;
+        }
+        Ok(literals)
+    }
+}
+
+/// That none of a package is there, or that one of these is chosen.
+fn none_or_outside<N>(alloc: Global, any: VariableId, outside: &[Candidate<N>]) -> R<Vec<Literal>>
+    requires { any.0 < 2147483648 }
+    ensures { IfOk result (λ v. v.items ≡ no any ∷ candidate_literals outside.now) }
+{
+    let mut literals = Vec::new(alloc);
+    literals.push(Literal::new(any, true))?;
+    push_candidates(outside, &mut literals)?;
+    Ok(literals)
+}

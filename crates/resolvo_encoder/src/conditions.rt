@@ -1,0 +1,238 @@
+//! The cases of conditions. A case of a parent's need waits until each of its version sets has a chosen match, and then it becomes
+//! a clause. It keeps its place among those that wait; the places of those that became clauses are noted.
+ghost use Rattle.std.specs.Prelude.{◌≡◌, ◌<◌, true, false, length, slice_get, Some, OnOk, IfOk, Contains};
+ghost use Rattle.resolvo_pool_core.specs.RuleKeeping.{Packages, Rules, IsLawful, rules_for};
+ghost use Rattle.resolvo_store_core.specs.Deferred.{candidates_of};
+ghost use Rattle.resolvo_store_core.specs.declared.conditions.DeferredConjunct.{DeferredConjunct};
+ghost use Rattle.resolvo_packages.specs.Answering.{AreOffered, offered_solvables};
+ghost use Rattle.resolvo_soundness.specs.Encoding.{cases_for};
+ghost use Rattle.resolvo_soundness.specs.Ending.{IsNeedEncoded};
+ghost use Rattle.resolvo_encoder.specs.Encoded.{rules_of, IsGuarded, IsEncoding};
+ghost use Rattle.resolvo_encoder.specs.Steps.{IsBuilt, Extends, AddsCandidates};
+ghost use Rattle.resolvo_encoder.specs.Casing.{case_of, sets_case, IsDeferred, AreConjuncts, AreSets, Defers, Fires, waiting_count, IsWaiting, IsTrueNow, IsOneChosen, IsMetNow, IsSpent};
+ghost use Rattle.resolvo_encoder.specs.declared.encoder.Deferred.{Deferred as Kept};
+ghost use Rattle.resolvo_encoder.specs.declared.conditions.ConditionSet.{ConditionSet as Set};
+
+use crate::encoder::{Deferred, Encoder, add_key};
+use resolvo_packages::package_source::Offered;
+use resolvo_pool_core::id::{Exact, VersionSetId};
+use resolvo_pool_core::requirement::ConditionalRequirement;
+use resolvo_pool_core::want::R;
+use resolvo_state::atom::ProofAtom;
+use resolvo_state::clause_kind::Stated;
+use resolvo_store_core::conditions::DeferredConjunct;
+use resolvo_store_core::lists::Disjunction;
+use resolvo_store_core::literal::Literal;
+use std::alloc::Global;
+use std::fmt::Debug;
+use std::hash::Hash;
+
+/// A version set of a case that fires: its package, and the candidates of that outside it.
+#[derive(Drop)]
+pub struct ConditionSet<N, S> {
+    pub version_set: VersionSetId,
+    pub name: N,
+    pub outside: Vec<Offered<N, S>>,
+}
+
+/// What waits.
+#[derive(Drop)]
+pub struct DeferredRequirement<S> {
+    pub parent: Option<S>,
+    pub need: ConditionalRequirement,
+    pub case: Vec<VersionSetId>,
+}
+
+impl<N: Copy + Exact + Hash + Debug + Drop, S: Copy + Exact + Hash + Debug> Encoder<N, S> {
+    /// Lets a case of a parent's need wait until each of its version sets has a chosen match.
+    pub fn defer(
+        &mut self,
+        parent: Option<S>,
+        need: ConditionalRequirement,
+        conjuncts: Vec<DeferredConjunct<S>>,
+    ) -> R<()>
+        requires { IsBuilt self.old }
+        ensures encoded { OnOk result ((p : Packages N S) (root : Rules) → IsEncoding S.eq p root self.old → AreConjuncts S.eq p conjuncts.items → Contains (rules_for S.eq p root parent).requirements need → Contains (cases_for S.eq p need) (case_of conjuncts.items) → IsEncoding S.eq p root self.new × IsDeferred self.new parent need (case_of conjuncts.items)) }
+        ensures kept { OnOk result (Defers self.old self.new) }
+        ensures built { OnOk result (IsBuilt self.new) }
+    {
+        self.deferred.push(Deferred {
+            parent,
+            need,
+            conjuncts,
+        })?;
+        Ok(())
+    }
+
+    /// Whether the case at this place isn't a clause yet, and each of its version sets has a chosen match.
+    pub fn is_due(&self, index: usize) -> bool
+        requires { IsBuilt self.now }
+        ensures due { result ≡ true → (index < length self.now.deferred.items) × (Contains self.now.fired.keys index → ⊥) }
+        ensures met { result ≡ true → IsMetNow self.now index }
+        ensures spent { result ≡ false → IsSpent S.eq self.now index }
+    {
+        match self.deferred.get(index) {
+            None => false,
+            Some(deferred) => {
+                !self.fired.contains(&index) && self.has_each(deferred.conjuncts.as_slice())
+            }
+        }
+    }
+
+    /// Whether each version set has a chosen match.
+    fn has_each(&self, conjuncts: &[DeferredConjunct<S>]) -> bool
+        requires { IsBuilt self.now }
+        ensures chosen { result ≡ true → (c : DeferredConjunct S) → Contains conjuncts.now c → IsOneChosen self.now (candidates_of c) }
+        ensures missing { result ≡ false → (c : DeferredConjunct S) × Contains conjuncts.now c × (IsOneChosen self.now (candidates_of c) → ⊥) }
+    {
+        for conjunct in conjuncts {
+            if !self.has_one(conjunct.candidates()) {
+                return false;
+            }
+        }
+        true
+    }
+
+    /// Whether one of these is chosen.
+    fn has_one(&self, candidates: &[S]) -> bool
+        requires { IsBuilt self.now }
+        ensures chosen { result ≡ true → IsOneChosen self.now candidates.now }
+        ensures none { result ≡ false → IsOneChosen self.now candidates.now → ⊥ }
+    {
+        for candidate in candidates {
+            if self.is_chosen(*candidate) {
+                return true;
+            }
+        }
+        false
+    }
+
+    /// Whether the trail makes a solvable's variable true.
+    fn is_chosen(&self, solvable: S) -> bool
+        requires { IsBuilt self.now }
+        ensures chosen { result ≡ true → IsTrueNow self.now solvable }
+        ensures not_chosen { result ≡ false → IsTrueNow self.now solvable → ⊥ }
+    {
+        match self.coding.find(ProofAtom::Solvable(solvable)) {
+            None => false,
+            Some(variable) => self.coding.search.is_true(Literal::new(variable, false)),
+        }
+    }
+
+    /// The case at this place.
+    pub fn waiting(&self, alloc: Global, index: usize) -> R<DeferredRequirement<S>>
+        requires { index < length self.now.deferred.items }
+        ensures { IfOk result (λ w. IsWaiting self.now index w) }
+    {
+        let deferred = &self.deferred[index];
+        let case = version_sets_of(alloc, deferred.conjuncts.as_slice())?;
+        Ok(DeferredRequirement {
+            parent: deferred.parent,
+            need: deferred.need,
+            case,
+        })
+    }
+
+    /// States a case of a parent's need: where each of its version sets has a chosen match, one of the candidates that are offered
+    /// for its requirement is chosen. It states nothing where one of these version sets keeps the parent itself out.
+    pub fn require_case(
+        &mut self,
+        alloc: Global,
+        parent: Option<S>,
+        need: ConditionalRequirement,
+        sets: &[ConditionSet<N, S>],
+        offered: &[Offered<N, S>],
+    ) -> R<()>
+        requires { IsBuilt self.old }
+        ensures encoded { OnOk result ((p : Packages N S) (root : Rules) → IsLawful p → IsEncoding S.eq p root self.old → AreSets S.eq p sets.now → AreOffered S.eq p need.requirement offered.now → IsGuarded S.eq p (rules_of self.old) need.requirement → Contains (rules_for S.eq p root parent).requirements need → Contains (cases_for S.eq p need) (sets_case sets.now) → IsEncoding S.eq p root self.new × IsNeedEncoded S.eq p (rules_of self.new) parent need (sets_case sets.now)) }
+        ensures candidates { OnOk result (AddsCandidates need.requirement offered.now self.old self.new) }
+        ensures kept { OnOk result (Extends self.old self.new) }
+        ensures built { OnOk result (IsBuilt self.new) }
+    {
+        if keeps_out(sets, parent) {
+            return Ok(());
+        }
+        self.fix_candidates(alloc, need.requirement, offered)?;
+        let variable = self.parent_variable(parent)?;
+        let literals = self.add_each_at_least_one(alloc, sets)?;
+        let condition = self.lists.fix_disjunction(Disjunction { literals })?;
+        let case = names_of(alloc, sets)?;
+        let stated = Stated::Needs { parent, need, case };
+        self.state_need(alloc, stated, variable, Some(condition), need.requirement)?;
+        Ok(())
+    }
+
+    /// The case at this place became a clause.
+    pub fn end_case(&mut self, index: usize) -> R<()>
+        requires { index < length self.old.deferred.items }
+        ensures fired { OnOk result (Fires index self.old self.new) }
+        ensures encoding { OnOk result ((p : Packages N S) (root : Rules) → IsEncoding S.eq p root self.old → ((d : Kept S) → slice_get self.old.deferred.items index ≡ Some d → IsNeedEncoded S.eq p (rules_of self.old) d.parent d.need (case_of d.conjuncts.items)) → IsEncoding S.eq p root self.new) }
+        ensures built { OnOk result (IsBuilt self.old → IsBuilt self.new) }
+    {
+        add_key(&mut self.fired, index)?;
+        // A set has fewer than 2^64 values.
+        let _count = self.fired.len();
+        Ok(())
+    }
+
+    /// How many cases wait still.
+    pub fn deferred_count(&self) -> usize
+        ensures { result ≡ waiting_count self.now }
+    {
+        self.deferred.len().saturating_sub(self.fired.len())
+    }
+}
+
+/// Whether the parent is a solvable that one of these version sets keeps out.
+fn keeps_out<N, S: Copy + Exact + Hash + Debug>(
+    sets: &[ConditionSet<N, S>],
+    parent: Option<S>,
+) -> bool
+    ensures { result ≡ true → (s : S) × (c : Set N S) × (parent ≡ Some s) × Contains sets.now c × Contains (offered_solvables c.outside.items) s }
+{
+    match parent {
+        None => false,
+        Some(solvable) => {
+            for set in sets {
+                if is_offered(set.outside.as_slice(), solvable) {
+                    return true;
+                }
+            }
+            false
+        }
+    }
+}
+
+/// Whether a solvable is one of these.
+fn is_offered<N, S: Copy + Exact + Hash + Debug>(offered: &[Offered<N, S>], solvable: S) -> bool
+    ensures { result ≡ true → Contains (offered_solvables offered.now) solvable }
+{
+    for one in offered {
+        if one.solvable == solvable {
+            return true;
+        }
+    }
+    false
+}
+
+/// The version sets of a case that waits.
+fn version_sets_of<S>(alloc: Global, conjuncts: &[DeferredConjunct<S>]) -> R<Vec<VersionSetId>>
+    ensures { IfOk result (λ v. v.items ≡ case_of conjuncts.now) }
+{
+    let mut case = Vec::new(alloc);
+    for conjunct in conjuncts {
+        case.push(conjunct.version_set())?;
+    }
+    Ok(case)
+}
+
+/// The version sets of a case that fires.
+fn names_of<N, S>(alloc: Global, sets: &[ConditionSet<N, S>]) -> R<Vec<VersionSetId>>
+    ensures { IfOk result (λ v. v.items ≡ sets_case sets.now) }
+{
+    let mut case = Vec::new(alloc);
+    for set in sets {
+        case.push(set.version_set)?;
+    }
+    Ok(case)
+}

@@ -1,0 +1,118 @@
+//! The search goes on over what was encoded: it sets what follows, learns and chooses.
+ghost use Rattle.std.specs.Prelude.{◌≡◌, ◌-◌, max, IfOk, OnOk};
+ghost use Rattle.resolvo_pool_core.specs.RuleKeeping.{Packages, Rules, IsLawful};
+ghost use Rattle.resolvo_store_core.specs.AtMostOne.{IsFrontOf};
+ghost use Rattle.resolvo_decide.specs.Needs.{KeepsFitting};
+ghost use Rattle.resolvo_sat.specs.Steps.{Undoes};
+ghost use Rattle.resolvo_encoder.specs.Encoded.{IsEncoding};
+ghost use Rattle.resolvo_encoder.specs.Steps.{IsBuilt};
+ghost use Rattle.resolvo_encoder.specs.Going.{IsNext, GoesOn, IsStep, IsChoice};
+ghost use Rattle.resolvo_encoder.specs.Base.{KeepsFirst, KeepsTurns};
+
+use crate::encoder::Encoder;
+use resolvo_decide::undecided_clauses::UndecidedClauses;
+use resolvo_pool_core::id::{ClauseId, Exact};
+use resolvo_pool_core::id_map::ScoreMap;
+use resolvo_pool_core::want::R;
+use resolvo_sat::analyze::FinalConflict;
+use resolvo_sat::propagate_and_learn::StepResult;
+use resolvo_store_core::decide_queue::NextDecision;
+use resolvo_store_core::decision_tracker::DecisionTracker;
+use std::alloc::Global;
+use std::fmt::Debug;
+use std::hash::Hash;
+
+/// What one step came to.
+#[derive(Debug, Drop)]
+pub enum Step {
+    /// Nothing is left to set or to choose.
+    Settled,
+    /// A candidate was chosen.
+    Chosen,
+    /// A clause was broken, and this one was learnt from it.
+    Learnt(ClauseId),
+    /// A clause was broken by choices that the turn does not go behind.
+    Refused(FinalConflict),
+}
+
+impl<N: Copy + Exact + Hash + Debug + Drop, S: Copy + Exact + Hash + Debug> Encoder<N, S> {
+    /// The candidate that is to be chosen next, if one is. What is found of need clauses is noted.
+    pub fn next_decision<C: ScoreMap<N>>(&mut self, scores: &C) -> R<Option<NextDecision>>
+        requires { IsBuilt self.old }
+        ensures next { IfOk result (IsNext (C.score_of scores.now) self.new) }
+        ensures built { OnOk result (IsBuilt self.new) }
+        ensures rest { OnOk result (self.new ≡ record self.old { needs = self.new.needs }) }
+    {
+        let trail = &self.coding.search.tracker;
+        let next = self
+            .needs
+            .next_decision(&self.queue, &self.lists, trail, scores)?;
+        Ok(next)
+    }
+
+    /// Chooses the next candidate, or tells that none is left to choose.
+    pub fn choose_next<C: ScoreMap<N>>(&mut self, scores: &C) -> R<bool>
+        requires { IsBuilt self.old }
+        ensures stays { OnOk result ((p : Packages N S) (root : Rules) → IsLawful p → IsEncoding S.eq p root self.old → IsEncoding S.eq p root self.new) }
+        ensures goes_on { OnOk result (GoesOn self.old self.new) }
+        ensures built { OnOk result (IsBuilt self.new) }
+        ensures first { OnOk result (KeepsFirst self.old self.new) }
+        ensures chosen { IfOk result (IsChoice self.old self.new) }
+    {
+        match self.next_decision(scores)? {
+            None => Ok(false),
+            Some(next) => {
+                self.coding.choose(next.candidate, next.clause_id)?;
+                Ok(true)
+            }
+        }
+    }
+
+    /// Takes what was chosen since the turn began away, and what follows from it.
+    pub fn undo_turn(&mut self)
+        requires { IsBuilt self.old }
+        ensures stays { (p : Packages N S) (root : Rules) → IsLawful p → IsEncoding S.eq p root self.old → IsEncoding S.eq p root self.new }
+        ensures goes_on { GoesOn self.old self.new }
+        ensures built { IsBuilt self.new }
+        ensures undone { Undoes (max (self.old.coding.search.base_level - 1) 1) self.old.coding.search self.new.coding.search }
+        ensures turn { KeepsTurns self.old self.new }
+    {
+        let level = self.coding.search.base_level.saturating_sub(1);
+        self.coding.undo_until(level.max(1));
+        look_back(&mut self.needs, &self.coding.search.tracker);
+    }
+
+    /// Sets what follows; then learns where a clause is broken, and chooses where none is.
+    pub fn step<C: ScoreMap<N>>(&mut self, alloc: Global, scores: &C) -> R<Step>
+        requires { IsBuilt self.old }
+        ensures stays { OnOk result ((p : Packages N S) (root : Rules) → IsLawful p → IsEncoding S.eq p root self.old → IsEncoding S.eq p root self.new) }
+        ensures goes_on { OnOk result (GoesOn self.old self.new) }
+        ensures built { OnOk result (IsBuilt self.new) }
+        ensures first { OnOk result (KeepsFirst self.old self.new) }
+        ensures step { IfOk result (IsStep self.old self.new) }
+    {
+        match self.coding.propagate_and_learn(alloc)? {
+            StepResult::Refused(refusal) => Ok(Step::Refused(refusal)),
+            StepResult::Learnt(clause) => {
+                look_back(&mut self.needs, &self.coding.search.tracker);
+                Ok(Step::Learnt(clause))
+            }
+            StepResult::Complete => {
+                let has_chosen = self.choose_next(scores)?;
+                if has_chosen {
+                    Ok(Step::Chosen)
+                } else {
+                    Ok(Step::Settled)
+                }
+            }
+        }
+    }
+}
+
+/// What is known of the need clauses goes back to the entries that stayed, where some were taken away.
+fn look_back(needs: &mut UndecidedClauses, trail: &DecisionTracker)
+    ensures seen { IsFrontOf needs.new.seen.items trail.now.trail }
+    ensures fits { KeepsFitting needs.old needs.new }
+{
+    needs.follow(trail.stack());
+}

@@ -1,0 +1,416 @@
+//! What was encoded: the clauses with what they state, the registered solvables, the candidates of
+//! requirements, the need clauses in their order, the parents whose needs are encoded in turn, and the
+//! cases of conditions that wait.
+ghost use Rattle.std.specs.Prelude.{◌≡◌, ◌⊎◌, ◌<◌, ◌∷◌, ◌++◌, [], true, Some, None, OnOk, IfOk, IsSome, Contains, slice_get, length, ◌+◌};
+ghost use Rattle.indexmap.specs.IndexSet.{insert_key};
+ghost use Rattle.resolvo_pool_core.specs.declared.solver_id.SolvableIdOrRoot.TheVariants.{Root, Solvable as Parent};
+ghost use Rattle.resolvo_pool_core.specs.ByRequirement.{slot_of};
+ghost use Rattle.resolvo_pool_core.specs.RuleKeeping.{Packages, Rules, IsLawful};
+ghost use Rattle.resolvo_store_core.specs.AtMostOne.{IsFrontOf};
+ghost use Rattle.resolvo_store_core.specs.Clauses.{no, candidate_literals};
+ghost use Rattle.resolvo_store_core.specs.Lists.{has_candidates, candidates_in, condition_in, IsEmpty};
+ghost use Rattle.resolvo_sat.specs.State.{count_of};
+ghost use Rattle.resolvo_sat.specs.Steps.{AreInRange};
+ghost use Rattle.resolvo_packages.specs.Answering.{AreOffered};
+ghost use Rattle.resolvo_soundness.specs.Encoding.{Rule, IsRule};
+ghost use Rattle.resolvo_soundness.specs.Ending.{IsNeedEncoded};
+ghost use Rattle.resolvo_state.specs.declared.atom.ProofAtom.TheVariants.{Gate};
+ghost use Rattle.resolvo_state.specs.Atoms.{StandsFor};
+ghost use Rattle.resolvo_encoder.specs.Encoded.{rules_of, IsGuarded, IsEncoding};
+ghost use Rattle.resolvo_state.specs.Statements.{rule_of};
+ghost use Rattle.resolvo_state.specs.Coding.{IsBegun, IsCoding};
+ghost use Rattle.resolvo_encoder.specs.Steps.{Fixes, StatesNeed, IsBuilt, Needs, Extends, NeedsDirectly, Opens, AddsCandidates, IsBegunEncoding, AddsParent, IsNextEncoded};
+
+use indexmap::IndexSet;
+use resolvo_decide::undecided_clauses::UndecidedClauses;
+use resolvo_packages::package_source::Offered;
+use resolvo_pool_core::id::{DisjunctionId, Exact, VariableId, VersionSetId};
+use resolvo_pool_core::requirement::{ConditionalRequirement, Requirement, RequirementMap};
+use resolvo_pool_core::solver_id::SolvableIdOrRoot;
+use resolvo_pool_core::want::R;
+use resolvo_state::atom::ProofAtom;
+use resolvo_state::clause_kind::Stated;
+use resolvo_state::registry::Registry;
+use resolvo_state::solver_state::SolverState;
+use resolvo_store_core::conditions::DeferredConjunct;
+use resolvo_store_core::decide_queue::{DecideQueue, NeedClause};
+use resolvo_store_core::lists::{Candidate, FixedLists};
+use resolvo_store_core::literal::Literal;
+use std::alloc::Global;
+use std::fmt::Debug;
+use std::hash::Hash;
+
+/// From so many candidates on a gate stands between a requirement and those that ask for it, and a variable between a
+/// limit and those that it keeps out.
+pub const GATED: usize = 4;
+
+/// What was stated of packages, version sets and solvables as a whole, each once.
+pub struct EncodedOnce<N: Copy + Eq + Hash, S: Copy + Eq + Hash> {
+    /// The packages whose locks and exclusions are clauses.
+    pub packages: IndexSet<N>,
+    /// The version sets for which clauses say which candidates are outside.
+    pub version_sets: IndexSet<VersionSetId>,
+    /// The packages that cases name: a clause says of each registered solvable of theirs that one of them is there.
+    pub helped: IndexSet<N>,
+    /// The solvables of which such a clause says it.
+    pub there: IndexSet<S>,
+    /// The accepted wishes, and behind them the one whose turn it is. An equal one may stand twice.
+    pub wishes: Vec<S>,
+}
+
+// split for the prover: what owns one calls this drop, and doesn't drop each field at each exit
+impl<N: Copy + Eq + Hash, S: Copy + Eq + Hash> Drop for EncodedOnce<N, S> {
+    fn drop(self) {
+        let EncodedOnce {
+            packages: _,
+            version_sets: _,
+            helped: _,
+            there: _,
+            wishes: _,
+        } = self;
+    }
+}
+
+/// A case of a parent's need, which waits until each of its version sets has a chosen match.
+#[derive(Drop)]
+pub struct Deferred<S> {
+    pub parent: Option<S>,
+    pub need: ConditionalRequirement,
+    pub conjuncts: Vec<DeferredConjunct<S>>,
+}
+
+/// What was encoded so far.
+pub struct Encoder<N: Copy + Eq + Hash, S: Copy + Eq + Hash> {
+    pub coding: SolverState<N, S>,
+    pub registry: Registry<N>,
+    pub lists: FixedLists<N>,
+    pub queue: DecideQueue,
+    /// What is known of the queue's clauses, which spares the next decision to look at each. It goes back
+    /// where entries are taken from the trail.
+    pub needs: UndecidedClauses,
+    /// The gate of each requirement that has one.
+    pub gates: RequirementMap<VariableId>,
+    /// What was stated of packages, version sets and solvables as a whole.
+    pub noted: EncodedOnce<N, S>,
+    /// The parents whose needs are to be encoded, first come first.
+    pub parents: IndexSet<SolvableIdOrRoot<S>>,
+    /// How many of them were.
+    pub encoded: usize,
+    /// The cases of needs with a condition, in the order in which their parents came.
+    pub deferred: Vec<Deferred<S>>,
+    /// The places of those that became clauses.
+    pub fired: IndexSet<usize>,
+}
+
+// split for the prover: what owns one calls this drop, and doesn't drop each field at each exit
+impl<N: Copy + Eq + Hash, S: Copy + Eq + Hash> Drop for Encoder<N, S> {
+    fn drop(self) {
+        let Encoder {
+            coding: _,
+            registry: _,
+            lists: _,
+            queue: _,
+            needs: _,
+            gates: _,
+            noted: _,
+            parents: _,
+            encoded: _,
+            deferred: _,
+            fired: _,
+        } = self;
+    }
+}
+
+/// An encoding of these, which have just begun, and of nothing else.
+fn begun<N: Copy + Exact + Hash + Debug, S: Copy + Exact + Hash + Debug>(
+    alloc: Global,
+    coding: SolverState<N, S>,
+    lists: FixedLists<N>,
+    gates: RequirementMap<VariableId>,
+    parents: IndexSet<SolvableIdOrRoot<S>>,
+) -> Encoder<N, S>
+    requires coding { IsBegun coding }
+    requires lists { IsEmpty lists }
+    requires gates { (r : Requirement) → slot_of gates r ≡ None }
+    requires parents { parents.keys ≡ Root ∷ [] }
+    ensures { IsBegunEncoding result }
+{
+    Encoder {
+        coding,
+        registry: Registry::new(alloc),
+        lists,
+        queue: DecideQueue::new(alloc),
+        needs: UndecidedClauses::new(alloc),
+        gates,
+        noted: EncodedOnce {
+            packages: IndexSet::new(alloc),
+            version_sets: IndexSet::new(alloc),
+            helped: IndexSet::new(alloc),
+            there: IndexSet::new(alloc),
+            wishes: Vec::new(alloc),
+        },
+        parents,
+        encoded: 0,
+        deferred: Vec::new(alloc),
+        fired: IndexSet::new(alloc),
+    }
+}
+
+impl<N: Copy + Exact + Hash + Debug + Drop, S: Copy + Exact + Hash + Debug> Encoder<N, S> {
+    /// Nothing but the root, whose needs are to be encoded.
+    pub fn begin(alloc: Global) -> R<Encoder<N, S>>
+        ensures begun { IfOk result IsBegunEncoding }
+        ensures encoding { IfOk result (λ e. (p : Packages N S) (root : Rules) → IsLawful p → IsEncoding S.eq p root e) }
+        ensures built { IfOk result IsBuilt }
+    {
+        let mut parents = IndexSet::new(alloc);
+        parents.insert(SolvableIdOrRoot::Root)?;
+        let lists = FixedLists::new(alloc)?;
+        let gates = RequirementMap::new(alloc)?;
+        let coding = SolverState::begin(alloc)?;
+        Ok(begun(alloc, coding, lists, gates, parents))
+    }
+
+    /// States that a parent needs one of the candidates that are offered for its requirement, which has
+    /// no condition. Where they are many, and the parent is not the root, a gate stands between.
+    pub fn require(
+        &mut self,
+        alloc: Global,
+        parent: Option<S>,
+        need: ConditionalRequirement,
+        offered: &[Offered<N, S>],
+    ) -> R<()>
+        requires { IsBuilt self.old }
+        ensures encoded { OnOk result ((p : Packages N S) (root : Rules) → IsLawful p → IsEncoding S.eq p root self.old → AreOffered S.eq p need.requirement offered.now → IsGuarded S.eq p (rules_of self.old) need.requirement → Needs S.eq p root parent need → IsEncoding S.eq p root self.new × IsNeedEncoded S.eq p (rules_of self.new) parent need []) }
+        ensures candidates { OnOk result (AddsCandidates need.requirement offered.now self.old self.new) }
+        ensures kept { OnOk result (Extends self.old self.new) }
+        ensures built { OnOk result (IsBuilt self.new) }
+    {
+        self.fix_candidates(alloc, need.requirement, offered)?;
+        match parent {
+            None => {
+                self.need_directly(alloc, VariableId::root(), None, need)?;
+                Ok(())
+            }
+            Some(solvable) => {
+                self.require_of(alloc, solvable, need, offered.len())?;
+                Ok(())
+            }
+        }
+    }
+
+    /// States that a solvable needs one of the candidates of its requirement, of which there are so many.
+    fn require_of(
+        &mut self,
+        alloc: Global,
+        solvable: S,
+        need: ConditionalRequirement,
+        count: usize,
+    ) -> R<()>
+        requires { IsBuilt self.old }
+        ensures encoded { OnOk result ((p : Packages N S) (root : Rules) → IsLawful p → IsEncoding S.eq p root self.old → has_candidates self.old.lists need.requirement ≡ true → IsGuarded S.eq p (rules_of self.old) need.requirement → Needs S.eq p root (Some solvable) need → IsEncoding S.eq p root self.new × IsNeedEncoded S.eq p (rules_of self.new) (Some solvable) need []) }
+        ensures lists { OnOk result (self.new.lists ≡ self.old.lists) }
+        ensures kept { OnOk result (Extends self.old self.new) }
+        ensures built { OnOk result (IsBuilt self.new) }
+    {
+        let variable = self.coding.variable(ProofAtom::Solvable(solvable))?;
+        if count < GATED {
+            self.need_directly(alloc, variable, Some(solvable), need)?;
+            return Ok(());
+        }
+        let gate = self.gate(alloc, need.requirement)?;
+        self.open_gate(alloc, solvable, variable, gate, need.requirement)?;
+        Ok(())
+    }
+
+    /// Registers what is offered for a requirement, and notes it as its candidates, once.
+    pub(crate) fn fix_candidates(
+        &mut self,
+        alloc: Global,
+        requirement: Requirement,
+        offered: &[Offered<N, S>],
+    ) -> R<()>
+        requires { IsBuilt self.old }
+        ensures { OnOk result (Fixes S.eq requirement offered.now self.old self.new) }
+    {
+        if self.lists.candidates(requirement).is_some() {
+            return Ok(());
+        }
+        let candidates = self.register(alloc, offered)?;
+        self.lists.fix_candidates(requirement, candidates)?;
+        Ok(())
+    }
+
+    /// States a need without a gate.
+    fn need_directly(
+        &mut self,
+        alloc: Global,
+        variable: VariableId,
+        parent: Option<S>,
+        need: ConditionalRequirement,
+    ) -> R<()>
+        requires built { IsBuilt self.old }
+        requires in_range { variable.0 < count_of self.old.coding.search }
+        ensures needed { OnOk result (NeedsDirectly parent need variable self.old self.new) }
+    {
+        let stated = Stated::Needs {
+            parent,
+            need,
+            case: Vec::new(alloc),
+        };
+        self.state_need(alloc, stated, variable, None, need.requirement)?;
+        Ok(())
+    }
+
+    /// States that a variable is false, or a literal of the condition true, or one of the requirement's
+    /// candidates is chosen, and lets decisions be made for it.
+    pub(crate) fn state_need(
+        &mut self,
+        alloc: Global,
+        stated: Stated<N, S>,
+        variable: VariableId,
+        condition: Option<DisjunctionId>,
+        requirement: Requirement,
+    ) -> R<()>
+        requires coding { IsCoding self.old.coding }
+        requires rule { IsSome (rule_of stated) }
+        requires in_range { AreInRange (count_of self.old.coding.search) (no variable ∷ (condition_in self.old.lists condition ++ candidate_literals (candidates_in self.old.lists requirement))) }
+        ensures stated { OnOk result (StatesNeed stated variable condition requirement self.old self.new) }
+    {
+        let literals = self.literals_of(alloc, variable, condition, requirement)?;
+        let clause = self.coding.state(stated, literals)?;
+        self.queue.register_clause(NeedClause {
+            parent: variable,
+            requirement,
+            condition,
+            clause,
+        })?;
+        self.needs.add(alloc, variable)?;
+        Ok(())
+    }
+
+    /// The variable of the gate of a requirement that some solvable asks for, with its clause.
+    fn gate(&mut self, alloc: Global, requirement: Requirement) -> R<VariableId>
+        requires { IsBuilt self.old }
+        ensures encoded { OnOk result ((p : Packages N S) (root : Rules) → IsLawful p → IsEncoding S.eq p root self.old → has_candidates self.old.lists requirement ≡ true → IsGuarded S.eq p (rules_of self.old) requirement → IsRule S.eq p root (Rule.shared requirement) → IsEncoding S.eq p root self.new × rules_of self.new (Rule.shared requirement)) }
+        ensures stands { IfOk result (λ gate. StandsFor self.new.coding.atoms.keys gate (Gate requirement)) }
+        ensures lists { OnOk result (self.new.lists ≡ self.old.lists) }
+        ensures kept { OnOk result (Extends self.old self.new) }
+        ensures built { OnOk result (IsBuilt self.new) }
+    {
+        if let Some(gate) = self.gates.get(requirement) {
+            return Ok(*gate);
+        }
+        let gate = self.coding.variable(ProofAtom::Gate(requirement))?;
+        self.state_need(
+            alloc,
+            Stated::Shared { requirement },
+            gate,
+            None,
+            requirement,
+        )?;
+        self.gates.insert(requirement, gate)?;
+        Ok(gate)
+    }
+
+    /// States that a solvable opens a gate.
+    fn open_gate(
+        &mut self,
+        alloc: Global,
+        solvable: S,
+        variable: VariableId,
+        gate: VariableId,
+        requirement: Requirement,
+    ) -> R<()>
+        requires coding { IsCoding self.old.coding }
+        requires in_range { variable.0 < count_of self.old.coding.search }
+        requires gate_in_range { gate.0 < count_of self.old.coding.search }
+        ensures opened { OnOk result (Opens solvable variable gate requirement self.old self.new) }
+    {
+        let mut literals = Vec::new(alloc);
+        literals.push(Literal::new(variable, true))?;
+        literals.push(Literal::new(gate, false))?;
+        let stated = Stated::Gated {
+            solvable,
+            requirement,
+        };
+        self.coding.state(stated, literals)?;
+        Ok(())
+    }
+
+    /// The literals that a parent, or a gate, has not come, that a condition doesn't hold, or that a
+    /// candidate has.
+    fn literals_of(
+        &self,
+        alloc: Global,
+        variable: VariableId,
+        condition: Option<DisjunctionId>,
+        requirement: Requirement,
+    ) -> R<Vec<Literal>>
+        requires { variable.0 < 2147483648 }
+        ensures literals { IfOk result (λ v. v.items ≡ no variable ∷ (condition_in self.now.lists condition ++ candidate_literals (candidates_in self.now.lists requirement))) }
+    {
+        let mut literals = Vec::new(alloc);
+        literals.push(Literal::new(variable, true))?;
+        if let Some(condition) = self.lists.condition(condition) {
+            literals.extend_from_slice(condition)?;
+        }
+        if let Some(candidates) = self.lists.candidates(requirement) {
+            push_candidates(candidates, &mut literals)?;
+        }
+        Ok(literals)
+    }
+
+    /// The parent whose needs are to be encoded next, if one is left.
+    pub fn next_parent(&self) -> Option<SolvableIdOrRoot<S>>
+        ensures parent { result ≡ slice_get self.now.parents.keys self.now.encoded }
+        ensures bounded { self.now.encoded < 18446744073709551616 }
+    {
+        self.parents.get_index(self.encoded).copied()
+    }
+
+    /// Lets the needs of a solvable be encoded in their turn, unless they were or will be.
+    pub fn add_parent(&mut self, solvable: S) -> R<()>
+        ensures added { OnOk result (AddsParent self.old self.new) }
+        ensures encoding { OnOk result ((p : Packages N S) (root : Rules) → IsEncoding S.eq p root self.old → IsEncoding S.eq p root self.new) }
+        ensures built { OnOk result (IsBuilt self.old → IsBuilt self.new) }
+        ensures stands { OnOk result (Contains self.new.parents.keys (Parent solvable)) }
+    {
+        add_key(&mut self.parents, SolvableIdOrRoot::Solvable(solvable))?;
+        Ok(())
+    }
+
+    /// The needs of the next parent were encoded.
+    pub fn end_parent(&mut self)
+        requires { self.old.encoded < length self.old.parents.keys }
+        ensures next { self.new ≡ record self.old { encoded = self.old.encoded + 1 } }
+        ensures encoding { (p : Packages N S) (root : Rules) → IsEncoding S.eq p root self.old → IsNextEncoded S.eq p root self.old → IsEncoding S.eq p root self.new }
+        ensures built { IsBuilt self.old → IsBuilt self.new }
+        ensures bounded { self.old.encoded < 18446744073709551615 }
+    {
+        if self.encoded < self.parents.len() {
+            self.encoded += 1;
+        }
+    }
+}
+
+/// Puts the literals of candidates behind the others.
+pub(crate) fn push_candidates<N>(candidates: &[Candidate<N>], literals: &mut Vec<Literal>) -> R<()>
+    ensures { OnOk result (literals.new.items ≡ literals.old.items ++ candidate_literals candidates.now) }
+{
+    for candidate in candidates {
+        literals.push(candidate.literal)?;
+    }
+    Ok(())
+}
+
+/// Puts a value behind the others, unless it stands there.
+pub fn add_key<K: Copy + Eq + Hash + Drop>(keys: &mut IndexSet<K>, key: K) -> R<()>
+    ensures front { OnOk result (IsFrontOf keys.old.keys keys.new.keys) }
+    ensures stands { OnOk result (((other : K) → K.eq key other ≡ true → other ≡ key) → Contains keys.new.keys key) }
+    ensures only { OnOk result ((other : K) → Contains keys.new.keys other → Contains keys.old.keys other ⊎ (other ≡ key)) }
+    ensures added { OnOk result (keys.new.keys ≡ insert_key K.eq keys.old.keys key) }
+{
+    keys.insert(key)?;
+    Ok(())
+}

@@ -1,0 +1,106 @@
+//! Solvables are registered, as the candidates of a requirement, since they are outside a case's version set, or as wishes. Where
+//! a case names their package, a clause says first that one of it is there.
+ghost use Rattle.std.specs.Prelude.{◌≡◌, ◌∷◌, [], OnOk, IfOk};
+ghost use Rattle.resolvo_state.specs.Coding.{IsCoding};
+ghost use Rattle.resolvo_state.specs.Registered.{AreTied};
+ghost use Rattle.resolvo_encoder.specs.Steps.{RegistersOne, RegistersAll, IsBuilt, Enrols};
+ghost use Rattle.resolvo_encoder.specs.Helped.{SaysThere, Admits};
+ghost use Rattle.resolvo_encoder.specs.Wishing.{RegistersWish};
+
+use crate::encoder::Encoder;
+use resolvo_packages::package_source::Offered;
+use resolvo_pool_core::id::{Exact, VariableId};
+use resolvo_pool_core::want::R;
+use resolvo_state::registry::Registry;
+use resolvo_state::solver_state::SolverState;
+use resolvo_store_core::lists::Candidate;
+use resolvo_store_core::literal::Literal;
+use std::alloc::Global;
+use std::fmt::Debug;
+use std::hash::Hash;
+
+impl<N: Copy + Exact + Hash + Debug + Drop, S: Copy + Exact + Hash + Debug> Encoder<N, S> {
+    /// Registers what is offered, and gives it as candidates.
+    pub(crate) fn register(
+        &mut self,
+        alloc: Global,
+        offered: &[Offered<N, S>],
+    ) -> R<Vec<Candidate<N>>>
+        requires { IsBuilt self.old }
+        ensures { IfOk result (λ v. Enrols S.eq offered.now v.items self.old self.new) }
+    {
+        self.admit(alloc, offered)?;
+        let given = register_all(alloc, &mut self.registry, &mut self.coding, offered)?;
+        Ok(given)
+    }
+
+    /// States of each of these whose package a case names that one of it is there.
+    fn admit(&mut self, alloc: Global, offered: &[Offered<N, S>]) -> R<()>
+        requires { IsBuilt self.old }
+        ensures { OnOk result (Admits S.eq offered.now self.old self.new) }
+    {
+        for one in offered {
+            self.admit_one(alloc, *one)?;
+        }
+        Ok(())
+    }
+
+    /// States that one of its package is there, if a case names that.
+    fn admit_one(&mut self, alloc: Global, one: Offered<N, S>) -> R<()>
+        requires { IsBuilt self.old }
+        ensures { OnOk result (Admits S.eq (one ∷ []) self.old self.new) }
+    {
+        if self.noted.helped.contains(&one.name) {
+            self.add_at_least_one(alloc, one)?;
+        }
+        Ok(())
+    }
+
+    /// Registers a wish, and gives its variable.
+    pub(crate) fn register_soft(&mut self, alloc: Global, wish: Offered<N, S>) -> R<VariableId>
+        requires { IsBuilt self.old }
+        ensures { IfOk result (λ v. RegistersWish S.eq wish v self.old self.new) }
+    {
+        self.admit_one(alloc, wish)?;
+        let variable = self
+            .registry
+            .register(&mut self.coding, wish.name, wish.solvable)?;
+        Ok(variable)
+    }
+}
+
+/// Registers what is offered, and gives it as candidates.
+fn register_all<N: Copy + Exact + Hash + Debug, S: Copy + Exact + Hash + Debug>(
+    alloc: Global,
+    registry: &mut Registry<N>,
+    coding: &mut SolverState<N, S>,
+    offered: &[Offered<N, S>],
+) -> R<Vec<Candidate<N>>>
+    requires coding { IsCoding coding.old }
+    requires tied { AreTied registry.old coding.old }
+    ensures registered { IfOk result (λ v. RegistersAll offered.now v.items registry.old coding.old registry.new coding.new) }
+{
+    let mut candidates = Vec::new(alloc);
+    for one in offered {
+        let candidate = register_one(registry, coding, *one)?;
+        candidates.push(candidate)?;
+    }
+    Ok(candidates)
+}
+
+/// Registers what is offered, and gives it as a candidate.
+fn register_one<N: Copy + Exact + Hash + Debug, S: Copy + Exact + Hash + Debug>(
+    registry: &mut Registry<N>,
+    coding: &mut SolverState<N, S>,
+    one: Offered<N, S>,
+) -> R<Candidate<N>>
+    requires coding { IsCoding coding.old }
+    requires tied { AreTied registry.old coding.old }
+    ensures registered { IfOk result (λ c. RegistersOne one c registry.old coding.old registry.new coding.new) }
+{
+    let variable = registry.register(coding, one.name, one.solvable)?;
+    Ok(Candidate {
+        literal: Literal::new(variable, false),
+        package: one.name,
+    })
+}

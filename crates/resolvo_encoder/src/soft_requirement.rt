@@ -1,0 +1,106 @@
+//! The turn of a wish: it is chosen at the turn's first level, or barred by a clause that tells why it can't stand beside what
+//! was chosen before.
+ghost use Rattle.std.specs.Prelude.{◌≡◌, ◌<◌, length, Some, IfOk, OnOk};
+ghost use Rattle.resolvo_pool_core.specs.RuleKeeping.{Packages, Rules, IsLawful};
+ghost use Rattle.resolvo_sat.specs.Analysis.{IsBar};
+ghost use Rattle.resolvo_sat.specs.Entries.{top_level};
+ghost use Rattle.resolvo_sat.specs.State.{history};
+ghost use Rattle.resolvo_state.specs.Coding.{Bars};
+ghost use Rattle.resolvo_encoder.specs.Encoded.{IsEncoding};
+ghost use Rattle.resolvo_encoder.specs.Steps.{IsBuilt};
+ghost use Rattle.resolvo_encoder.specs.Going.{GoesOn};
+ghost use Rattle.resolvo_encoder.specs.Wishing.{turn_of, Notes, IsUntaken, TakesBack};
+ghost use Rattle.resolvo_encoder.specs.Base.{HasTurn, IsTried, KeepsTurn, KeepsTurns};
+
+use crate::encoder::Encoder;
+use resolvo_packages::package_source::Offered;
+use resolvo_pool_core::id::{ClauseId, Exact, VariableId};
+use resolvo_pool_core::want::R;
+use resolvo_sat::analyze::FinalConflict;
+use resolvo_store_core::literal::Literal;
+use std::alloc::Global;
+use std::fmt::Debug;
+use std::hash::Hash;
+
+impl<N: Copy + Exact + Hash + Debug + Drop, S: Copy + Exact + Hash + Debug> Encoder<N, S> {
+    /// Begins a turn: no jump goes below the next level. What stands is what stood before it.
+    pub fn begin_turn(&mut self)
+        requires { IsBuilt self.old }
+        ensures begun { self.new ≡ turn_of self.old }
+        ensures stays { (p : Packages N S) (root : Rules) → IsLawful p → IsEncoding S.eq p root self.old → IsEncoding S.eq p root self.new }
+        ensures built { IsBuilt self.new }
+    {
+        let level = self.coding.search.top_level() + 1;
+        self.coding.set_floor(level);
+    }
+
+    /// Chooses a wish at the first level of its turn, unless it is chosen. Where it is false before, this tells why.
+    pub fn assume_soft(&mut self, alloc: Global, variable: VariableId) -> R<Option<FinalConflict>>
+        requires built { IsBuilt self.old }
+        requires turn { HasTurn (Some variable) self.old }
+        ensures stays { OnOk result ((p : Packages N S) (root : Rules) → IsLawful p → IsEncoding S.eq p root self.old → IsEncoding S.eq p root self.new) }
+        ensures goes_on { OnOk result (GoesOn self.old self.new) }
+        ensures built { OnOk result (IsBuilt self.new) }
+        ensures turn { OnOk result (KeepsTurn (Some variable) self.old self.new) }
+        ensures tried { IfOk result (IsTried self.new variable) }
+    {
+        if self.coding.search.is_true(Literal::new(variable, false)) {
+            return Ok(None);
+        }
+        self.undo_turn();
+        let refusal = self.choose_or_refute(alloc, variable)?;
+        Ok(refusal)
+    }
+
+    /// Chooses a wish that isn't true at the first level of its turn. Where it is false, this tells why.
+    fn choose_or_refute(&mut self, alloc: Global, variable: VariableId) -> R<Option<FinalConflict>>
+        requires built { IsBuilt self.old }
+        requires above { top_level (history self.old.coding.search) < self.old.coding.search.base_level }
+        requires turn { HasTurn (Some variable) self.old }
+        ensures stays { OnOk result ((p : Packages N S) (root : Rules) → IsLawful p → IsEncoding S.eq p root self.old → IsEncoding S.eq p root self.new) }
+        ensures goes_on { OnOk result (GoesOn self.old self.new) }
+        ensures built { OnOk result (IsBuilt self.new) }
+        ensures turn { OnOk result (KeepsTurn (Some variable) self.old self.new) }
+        ensures tried { IfOk result (IsTried self.new variable) }
+    {
+        if let Some(refusal) = self.coding.search.analyze_final(alloc, variable)? {
+            return Ok(Some(refusal));
+        }
+        self.coding.choose(variable, ClauseId(0))?;
+        Ok(None)
+    }
+
+    /// Adds the clause of a refusal, which bars what can't stand together.
+    pub fn learn_refusal(&mut self, refusal: FinalConflict) -> R<ClauseId>
+        requires built { IsBuilt self.old }
+        requires some { 0 < length refusal.literals.items }
+        requires bar { IsBar self.old.coding.search refusal.literals.items refusal.causes.items }
+        ensures stays { OnOk result ((p : Packages N S) (root : Rules) → IsLawful p → IsEncoding S.eq p root self.old → IsEncoding S.eq p root self.new) }
+        ensures goes_on { OnOk result (GoesOn self.old self.new) }
+        ensures built { OnOk result (IsBuilt self.new) }
+        ensures turn { OnOk result (KeepsTurns self.old self.new) }
+        ensures barred { IfOk result (λ id. Bars refusal.literals.items refusal.causes.items id self.old.coding self.new.coding) }
+    {
+        let clause = self.coding.bar(refusal)?;
+        Ok(clause)
+    }
+
+    /// Registers a wish and notes it as the last one. Gives its variable.
+    pub fn note_soft(&mut self, alloc: Global, wish: Offered<N, S>) -> R<VariableId>
+        requires { IsBuilt self.old }
+        ensures { IfOk result (λ v. Notes S.eq wish v self.old self.new) }
+    {
+        let variable = self.register_soft(alloc, wish)?;
+        self.noted.wishes.push(wish.solvable)?;
+        Ok(variable)
+    }
+
+    /// Takes the last wish back, which isn't chosen.
+    pub fn drop_soft(&mut self)
+        requires built { IsBuilt self.old }
+        requires untaken { IsUntaken self.old }
+        ensures { TakesBack S.eq self.old self.new }
+    {
+        self.noted.wishes.pop();
+    }
+}

@@ -1,7 +1,0 @@
-use Rattle.std.proofs.Common.{take}
-use Rattle.resolvo_encoding.specs.Helped.{Admits}
-use Rattle.resolvo_encoding.proofs.encoding.Encoding.admit.Given as goal
-
--- of those so far it is stated
-abbrev pub invariant-loop-one : goal.invariant-loop-one
-invariant-loop-one g l = Admits g.S.PartialEq.eq (take l.one-index l.offered) l.initial.self l.self

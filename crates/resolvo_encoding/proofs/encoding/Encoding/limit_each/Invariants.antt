@@ -1,7 +1,0 @@
-use Rattle.std.proofs.Common.{take}
-use Rattle.resolvo_encoding.specs.Telling.{Tells, limit_rules}
-use Rattle.resolvo_encoding.proofs.encoding.Encoding.limit_each.Given as goal
-
--- of those so far it is stated
-abbrev pub invariant-loop-one : goal.invariant-loop-one
-invariant-loop-one g l = Tells g.S.PartialEq.eq (limit_rules l.fn.parent l.fn.version_set (take l.one-index l.outside)) l.initial.self l.self

@@ -1,7 +1,0 @@
-use Rattle.std.proofs.Common.{take}
-use Rattle.resolvo_encoding.specs.Steps.{RegistersAll}
-use Rattle.resolvo_encoding.proofs.registering.register_all.Given as goal
-
--- what was offered so far is registered
-abbrev pub invariant-loop-one : goal.invariant-loop-one
-invariant-loop-one g l = RegistersAll (take l.one-index l.offered) l.candidates.items l.initial.registry l.initial.coding l.registry l.coding

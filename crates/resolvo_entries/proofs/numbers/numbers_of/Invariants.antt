@@ -1,6 +1,0 @@
-use Rattle.std.proofs.Common.{◌≡◌, take}
-use Rattle.resolvo_entries.specs.Numbers.{numbers_of}
-use Rattle.resolvo_entries.proofs.numbers.numbers_of.Given as goal
-
-abbrev pub invariant-loop-solvable : goal.invariant-loop-solvable
-invariant-loop-solvable l = l.numbers.items ≡ numbers_of (take l.solvable-index l.chosen)

@@ -1,0 +1,6 @@
+use Rattle.std.proofs.Common.{◌≡◌, map, take}
+use Rattle.resolvo_graph.specs.Graph.{requirement_of}
+use Rattle.resolvo_graph.proofs.merge.sources.Given as goal
+
+abbrev pub invariant-loop-edge : goal.invariant-loop-edge
+invariant-loop-edge g l = l.found.items ≡ map (λ e. (requirement_of e.weight, e.source)) (take l.edge-index l.edges)

@@ -1,0 +1,286 @@
+//! Versions that are told as one: versions of one package with the same neighbours on both sides.
+//! `simplify` numbers what versions have in common, the sorted lists of their neighbours among it, each
+//! neighbour with its requirement; versions of one number are told as one.
+ghost use Rattle.std.specs.Prelude.{◌≡◌, ℕ, ◌<◌, ◌==◌, ◌++◌, ◌∷◌, [], IfOk, OnOk, Some, cond, length, map, nat_lt, ◌&&◌, vec_len};
+ghost use Rattle.resolvo_graph.specs.Merging.{before, after, IsInOrder, IsProfile, AreProfiles, AreMembers, numbered, told_together, solvable_of, IsMerged};
+ghost use Rattle.resolvo_graph.specs.Graph.{requirement_of};
+ghost use Rattle.resolvo_graph.specs.Kept.{kept_with, ids_at};
+
+use crate::graph::{ConflictGraph, ConflictNode, Edge, NodeIndex};
+use indexmap::IndexSet;
+use itertools::Itertools;
+use resolvo_pool_core::id::{Exact, SolvableId};
+use resolvo_pool_core::provider::Interner;
+use resolvo_pool_core::requirement::Requirement;
+use resolvo_pool_core::solver_id::SolverId;
+use resolvo_pool_core::want::R;
+use std::alloc::Global;
+use std::collections::HashMap;
+use std::fmt::Debug;
+use std::hash::Hash;
+use std::marker::Model;
+use std::rc::Rc;
+
+/// Versions of one package that are told as one, in the order of their nodes.
+#[derive(Drop)]
+pub struct MergedConflictNode<S = SolvableId> {
+    pub ids: Vec<S>,
+}
+
+/// What versions that are told as one have in common.
+#[derive(PartialEq, Eq, Hash, Drop)]
+struct Likeness<N> {
+    name: N,
+    before: Vec<(Option<Requirement>, NodeIndex)>,
+    after: Vec<(Option<Requirement>, NodeIndex)>,
+}
+
+/// A version, with all that decides which others it is told with.
+#[derive(Drop)]
+struct Profile<N, S> {
+    solvable: S,
+    likeness: Likeness<N>,
+}
+
+impl<N, S> Model for Profile<N, S> {
+    ghost use Rattle.resolvo_graph.specs.Merging.{Profile};
+
+    ghost Value = { Profile N S };
+
+    ghost view = { λ p. record { solvable = p.solvable; name = p.likeness.name; before = p.likeness.before.items; after = p.likeness.after.items } };
+}
+
+/// A version, with the number of those that it is told with.
+#[derive(Clone, Copy)]
+struct Member<S> {
+    solvable: S,
+    group: usize,
+}
+
+impl<S: Copy> ConflictNode<S> {
+    /// The version that this node stands for, if it stands for one.
+    pub fn solvable(self) -> Option<S>
+        ensures { result ≡ solvable_of self }
+    {
+        match self {
+            ConflictNode::Solvable(solvable) => Some(solvable),
+            ConflictNode::Root | ConflictNode::UnresolvedDependency | ConflictNode::Excluded(_) =>
+                None,
+        }
+    }
+}
+
+impl<S: SolverId> ConflictGraph<S> {
+    /// The versions that are told as one, under each of them.
+    pub fn simplify<I: Interner<SolvableId = S>>(
+        &self,
+        alloc: Global,
+        interner: &I,
+    ) -> R<HashMap<S, Rc<MergedConflictNode<S>>>>
+        ensures { IfOk result (λ m. IsMerged I.NameId.eq S.eq self.now (I.name_of_solvable interner.now) (kept_with S.eq m)) }
+    {
+        let members = members(alloc, profiles(alloc, self, interner)?)?;
+        let groups = shared(alloc, groups(alloc, &members)?)?;
+        merged(alloc, &members, &groups)
+    }
+}
+
+/// The versions with their numbers. Those that are told as one have one number.
+fn members<N: Copy + Exact + Hash + Debug, S: Copy + Exact + Hash + Debug>(
+    alloc: Global,
+    profiles: Vec<Profile<N, S>>,
+) -> R<Vec<Member<S>>>
+    ensures { IfOk result (λ v. AreMembers N.eq profiles.items v.items) }
+{
+    let mut likenesses = IndexSet::new(alloc);
+    let mut members = Vec::new(alloc);
+    for profile in profiles {
+        let Profile { solvable, likeness } = profile;
+        let (group, _) = likenesses.insert_full(likeness)?;
+        members.push(Member { solvable, group })?;
+    }
+    Ok(members)
+}
+
+/// The versions of each number, at that number.
+fn groups<S: Copy + Exact + Hash + Debug>(
+    alloc: Global,
+    members: &[Member<S>],
+) -> R<Vec<MergedConflictNode<S>>>
+    ensures { IfOk result (λ v. (g : ℕ) → ids_at v.items g ≡ numbered members.now g) }
+{
+    let mut groups = Vec::new(alloc);
+    for member in members {
+        cover(alloc, &mut groups, member.group)?;
+        add(&mut groups, *member)?;
+    }
+    Ok(groups)
+}
+
+/// Adds a version to the group of its number.
+fn add<S: Copy + Exact + Hash + Debug>(
+    groups: &mut Vec<MergedConflictNode<S>>,
+    member: Member<S>,
+) -> R<()>
+    requires { member.group < vec_len groups.old }
+    ensures { OnOk result ((g : ℕ) → ids_at groups.new.items g ≡ ids_at groups.old.items g ++ cond (member.group == g) (member.solvable ∷ []) []) }
+{
+    groups[member.group].ids.push(member.solvable)?;
+    Ok(())
+}
+
+/// Adds groups without a version until there is one of this number.
+fn cover<S: Copy + Exact + Hash + Debug>(
+    alloc: Global,
+    groups: &mut Vec<MergedConflictNode<S>>,
+    number: usize,
+) -> R<()>
+    ensures same { (g : ℕ) → ids_at groups.new.items g ≡ ids_at groups.old.items g }
+    ensures covered { OnOk result (number < vec_len groups.new) }
+{
+    while groups.len() <= number {
+        groups.push(MergedConflictNode {
+            ids: Vec::new(alloc),
+        })?;
+    }
+    Ok(())
+}
+
+/// The same groups, to be shared.
+fn shared<S: Copy + Exact + Hash + Debug>(
+    alloc: Global,
+    groups: Vec<MergedConflictNode<S>>,
+) -> R<Vec<Rc<MergedConflictNode<S>>>>
+    ensures { IfOk result (λ v. map (λ r. r.value) v.items ≡ groups.items) }
+{
+    let mut shared = Vec::new(alloc);
+    for group in groups {
+        shared.push(Rc::new(alloc, group)?)?;
+    }
+    Ok(shared)
+}
+
+/// The groups of two versions or more, under each of their versions.
+fn merged<S: Copy + Exact + Hash + Debug>(
+    alloc: Global,
+    members: &[Member<S>],
+    groups: &[Rc<MergedConflictNode<S>>],
+) -> R<HashMap<S, Rc<MergedConflictNode<S>>>>
+    ensures { IfOk result (λ m. (s : S) → kept_with S.eq m s ≡ told_together S.eq (ids_at (map (λ r. r.value) groups.now)) members.now s) }
+{
+    let mut merged = HashMap::new(alloc);
+    for member in members {
+        if let Some(group) = groups.get(member.group) {
+            keep(&mut merged, member.solvable, group)?;
+        }
+    }
+    Ok(merged)
+}
+
+/// Keeps a group under one of its versions, unless that is its only one.
+fn keep<S: Copy + Exact + Hash + Debug>(
+    merged: &mut HashMap<S, Rc<MergedConflictNode<S>>>,
+    solvable: S,
+    group: &Rc<MergedConflictNode<S>>,
+) -> R<()>
+    ensures { OnOk result ((s : S) → kept_with S.eq merged.new s ≡ cond (S.eq solvable s && nat_lt 1 (length group.now.value.ids.items)) (Some group.now.value.ids.items) (kept_with S.eq merged.old s)) }
+{
+    if group.ids.len() > 1 {
+        merged.insert(solvable, group.clone()?)?;
+    }
+    Ok(())
+}
+
+/// The versions of a graph, in the order of their nodes.
+fn profiles<S: SolverId, I: Interner<SolvableId = S>>(
+    alloc: Global,
+    graph: &ConflictGraph<S>,
+    interner: &I,
+) -> R<Vec<Profile<I::NameId, S>>>
+    ensures { IfOk result (λ v. AreProfiles graph.now (I.name_of_solvable interner.now) v.items) }
+{
+    let mut found = Vec::new(alloc);
+    for (index, node) in graph.nodes().iter().enumerate() {
+        if let Some(solvable) = node.solvable() {
+            found.push(profile_of(alloc, graph, interner, NodeIndex(index), solvable)?)?;
+        }
+    }
+    Ok(found)
+}
+
+/// What decides with which others a version is told.
+fn profile_of<S: SolverId, I: Interner<SolvableId = S>>(
+    alloc: Global,
+    graph: &ConflictGraph<S>,
+    interner: &I,
+    node: NodeIndex,
+    solvable: S,
+) -> R<Profile<I::NameId, S>>
+    ensures { IfOk result (IsProfile graph.now (I.name_of_solvable interner.now) (node, solvable)) }
+{
+    Ok(Profile {
+        solvable,
+        likeness: Likeness {
+            name: interner.solvable_name(solvable),
+            before: neighbours_before(alloc, graph, node)?,
+            after: neighbours_after(alloc, graph, node)?,
+        },
+    })
+}
+
+/// Where the edges to a node come from, each with its requirement, in the order of neighbours.
+fn neighbours_before<S: Copy + Exact + Hash>(
+    alloc: Global,
+    graph: &ConflictGraph<S>,
+    node: NodeIndex,
+) -> R<Vec<(Option<Requirement>, NodeIndex)>>
+    ensures { IfOk result (λ v. IsInOrder (before graph.now node) v.items) }
+{
+    let edges = graph.edges_to(alloc, node)?;
+    in_order(alloc, sources(alloc, &edges)?)
+}
+
+/// Where the edges of a node lead, each with its requirement, in the order of neighbours.
+fn neighbours_after<S: Copy + Exact + Hash>(
+    alloc: Global,
+    graph: &ConflictGraph<S>,
+    node: NodeIndex,
+) -> R<Vec<(Option<Requirement>, NodeIndex)>>
+    ensures { IfOk result (λ v. IsInOrder (after graph.now node) v.items) }
+{
+    let edges = graph.edges(alloc, node)?;
+    in_order(alloc, targets(alloc, &edges)?)
+}
+
+/// Where some edges come from, each with its requirement.
+fn sources<S: Copy>(alloc: Global, edges: &[Edge<S>]) -> R<Vec<(Option<Requirement>, NodeIndex)>>
+    ensures { IfOk result (λ v. v.items ≡ map (λ e. (requirement_of e.weight, e.source)) edges.now) }
+{
+    let mut found = Vec::new(alloc);
+    for edge in edges {
+        found.push((edge.weight.requirement(), edge.source))?;
+    }
+    Ok(found)
+}
+
+/// Where some edges lead, each with its requirement.
+fn targets<S: Copy>(alloc: Global, edges: &[Edge<S>]) -> R<Vec<(Option<Requirement>, NodeIndex)>>
+    ensures { IfOk result (λ v. v.items ≡ map (λ e. (requirement_of e.weight, e.target)) edges.now) }
+{
+    let mut found = Vec::new(alloc);
+    for edge in edges {
+        found.push((edge.weight.requirement(), edge.target))?;
+    }
+    Ok(found)
+}
+
+/// The same neighbours in their order.
+fn in_order(
+    alloc: Global,
+    neighbours: Vec<(Option<Requirement>, NodeIndex)>,
+) -> R<Vec<(Option<Requirement>, NodeIndex)>>
+    ensures { IfOk result (λ v. IsInOrder neighbours.items v.items) }
+{
+    let sorted = neighbours.into_iter().sorted(alloc)?;
+    Ok(sorted.collect_vec(alloc)?)
+}

@@ -1,5 +1,0 @@
-use Rattle.resolvo_catalogue.proofs.CatalogueFacts.{request_keeps_no_rule}
-use Rattle.resolvo_judge.proofs.ending.keeps_request_line.Goals as goal
-
-pub returns-in-None : goal.returns-in-None
-returns-in-None c = λ set h. request_keeps_no_rule c.args.request.now.lines c.args.line set c.in-None.ensures.none

@@ -1,0 +1,126 @@
+//! Whether the entries of an `install` report keep all rules. The judge asks it at the report's end.
+
+ghost use Rattle.std.specs.Prelude.{◌≡◌, ℕ, List, Option, Some, None, IsTrue, false, slice_get, option_map};
+ghost use Rattle.resolvo_text.specs.Line as says;
+ghost use Rattle.resolvo_text.specs.Line.{Lock};
+ghost use Rattle.resolvo_text.specs.Matching.{Set, is_member};
+ghost use Rattle.resolvo_catalogue_core.specs.Listed.{pair_version, pair_versions};
+ghost use Rattle.resolvo_catalogue_core.specs.Questions.{States, IsOwner};
+ghost use Rattle.resolvo_catalogue_core.specs.Rules.{binds as binds_lem, obeys as obeys_lem, keeps, keeps_in_request};
+ghost use Rattle.resolvo_judge.specs.Chosen.{Holds};
+ghost use Rattle.resolvo_judge.specs.Ending.{KeepsAll};
+
+use crate::chosen::Chosen;
+use resolvo_catalogue_core::{Catalogue, Request, Rule, VersionNo};
+
+/// The listed version of this number.
+fn listed_at(versions: &[(String, u32)], number: VersionNo) -> Option<&(String, u32)>
+    ensures { option_map (λ p. pair_version p.now) result ≡ slice_get (pair_versions versions.now) number.0 }
+{
+    versions.get(number.0 as usize)
+}
+
+/// Whether the version of this number is chosen.
+fn is_chosen(chosen: &Chosen, versions: &[(String, u32)], number: VersionNo) -> bool
+    ensures { (set : Set) (v : says.Version) → Holds chosen.now set → slice_get (pair_versions versions.now) number.0 ≡ Some v → result ≡ is_member v set }
+{
+    match listed_at(versions, number) {
+        Some(version) => chosen.has_listed(version),
+        None => false,
+    }
+}
+
+/// Whether a rule of this owner binds: its owner is chosen, or it has none.
+fn binds(chosen: &Chosen, versions: &[(String, u32)], owner: Option<VersionNo>) -> bool
+    ensures { (set : Set) (whose : Option says.Version) → Holds chosen.now set → IsOwner (pair_versions versions.now) owner whose → result ≡ binds_lem whose set }
+{
+    match owner {
+        Some(number) => is_chosen(chosen, versions, number),
+        None => true,
+    }
+}
+
+fn keeps_lock(chosen: &Chosen, versions: &[(String, u32)], locked: VersionNo) -> bool
+    ensures { (set : Set) (v : says.Version) → Holds chosen.now set → slice_get (pair_versions versions.now) locked.0 ≡ Some v → result ≡ obeys_lem None (Lock v) set }
+{
+    match listed_at(versions, locked) {
+        Some(version) => chosen.keeps_lock(version),
+        None => true,
+    }
+}
+
+/// Whether the chosen versions obey the rule. The numbers in the rule are those of listed versions.
+fn obeys(chosen: &Chosen, versions: &[(String, u32)], rule: &Rule) -> bool
+    ensures { (set : Set) (owner : Option says.Version) (line : says.Line) → Holds chosen.now set → States (pair_versions versions.now) rule.now owner line → result ≡ obeys_lem owner line set }
+{
+    match rule {
+        Rule::Needs {
+            owner,
+            alternatives,
+            condition,
+        } => {
+            !binds(chosen, versions, *owner)
+                || !chosen.condition_holds(condition)
+                || chosen.is_met_by_one(alternatives)
+        }
+        Rule::Limits { owner, spec } => {
+            !binds(chosen, versions, *owner) || chosen.are_within(spec)
+        }
+        Rule::Lock { version } => keeps_lock(chosen, versions, *version),
+        Rule::Exclude { version, .. } => !is_chosen(chosen, versions, *version),
+        Rule::Unknown { version, .. } => !binds(chosen, versions, Some(*version)),
+    }
+}
+
+/// Whether they obey the line of the catalogue. A line that states no rule is obeyed.
+fn keeps_line(chosen: &Chosen, catalogue: &Catalogue, line: u32) -> bool
+    ensures { (set : Set) → Holds chosen.now set → result ≡ keeps catalogue.now line set }
+{
+    match catalogue.rule(line) {
+        Some(rule) => obeys(chosen, catalogue.versions(), rule),
+        None => true,
+    }
+}
+
+/// Whether they obey the line of the request.
+fn keeps_request_line(chosen: &Chosen, catalogue: &Catalogue, request: &Request, line: u32) -> bool
+    ensures { (set : Set) → Holds chosen.now set → result ≡ keeps_in_request request.now.lines line set }
+{
+    match request.rule(line) {
+        Some(rule) => obeys(chosen, catalogue.versions(), rule),
+        None => true,
+    }
+}
+
+/// Whether they obey all lines of the catalogue.
+fn keeps_catalogue(chosen: &Chosen, catalogue: &Catalogue) -> bool
+    ensures yes { (set : Set) → Holds chosen.now set → IsTrue result → (n : ℕ) → IsTrue (keeps catalogue.now n set) }
+    ensures no { (set : Set) → Holds chosen.now set → result ≡ false → ((n : ℕ) → IsTrue (keeps catalogue.now n set)) → ⊥ }
+{
+    for index in 0..catalogue.line_count() {
+        if !keeps_line(chosen, catalogue, index + 1) {
+            return false;
+        }
+    }
+    true
+}
+
+/// Whether they obey all lines of the request.
+fn keeps_request(chosen: &Chosen, catalogue: &Catalogue, request: &Request) -> bool
+    ensures yes { (set : Set) → Holds chosen.now set → IsTrue result → (n : ℕ) → IsTrue (keeps_in_request request.now.lines n set) }
+    ensures no { (set : Set) → Holds chosen.now set → result ≡ false → ((n : ℕ) → IsTrue (keeps_in_request request.now.lines n set)) → ⊥ }
+{
+    for index in 0..request.line_count() {
+        if !keeps_request_line(chosen, catalogue, request, index + 1) {
+            return false;
+        }
+    }
+    true
+}
+
+/// Whether the chosen versions obey all lines of both texts.
+pub fn keeps_all(chosen: &Chosen, catalogue: &Catalogue, request: &Request) -> bool
+    ensures { (set : Set) → Holds chosen.now set → KeepsAll catalogue.now request.now.lines set result }
+{
+    keeps_catalogue(chosen, catalogue) && keeps_request(chosen, catalogue, request)
+}

@@ -1,9 +1,0 @@
-use Rattle.std.proofs.Common.{◌≡◌, List, ℕ, length, ◌++◌}
-use Rattle.resolvo_judging.specs.Input.{StandsAbove}
-use Rattle.resolvo_judging.proofs.input.split_input.Given as goal
-
-abbrev pub invariant-loop-line : goal.invariant-loop-line
-invariant-loop-line l = (above : List ℕ) × (l.input ≡ above ++ l.rest) × (length above ≡ l.start) × StandsAbove above
-
-abbrev pub decreases-loop-line : goal.decreases-loop-line
-decreases-loop-line l = length l.rest

@@ -1,7 +1,0 @@
-use Rattle.std.proofs.Common.{◌∙◌, sym, ap}
-use Rattle.resolvo_text.specs.Matching.{condition_holds}
-use Rattle.resolvo_text.specs.View.{condition_of}
-use Rattle.resolvo_listing.proofs.chosen.Chosen.condition_holds.Goals as goal
-
-pub returns-in-Some : goal.returns-in-Some
-returns-in-Some c = λ chosen entries h. c.holds.ensures chosen entries h ∙ ap (λ x. condition_holds (condition_of x) entries) (sym c.in-Some.is)

@@ -1,6 +1,0 @@
-use Rattle.std.proofs.Common.{◌≡◌, ◌++◌, take}
-use Rattle.resolvo_listing.specs.Kept.{lines_for}
-use Rattle.resolvo_listing.proofs.listing.push_lines.Given as goal
-
-abbrev pub invariant-loop-line : goal.invariant-loop-line
-invariant-loop-line l = l.lines.items ≡ l.initial.lines.items ++ lines_for l.version (take l.line-index l.numbers)

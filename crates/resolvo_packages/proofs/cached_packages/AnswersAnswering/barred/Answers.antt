@@ -1,0 +1,17 @@
+use Rattle.std.proofs.Common.{rules, ◌≡◌, List, subst, sym}
+use Rattle.resolvo_pool_core.specs.Provider.{listing_or_empty}
+use Rattle.resolvo_packages.specs.declared.package_source.Barred.{Barred}
+use Rattle.resolvo_packages.specs.Answering.{packages_by}
+use Rattle.resolvo_packages.specs.Barring.{AreBarred, kept_out}
+use Rattle.resolvo_packages.proofs.Barring.{are_barred}
+use Rattle.resolvo_packages.proofs.cached_packages.AnswersAnswering.barred.Goals as goal
+
+pub returns-clause-barred : goal.returns-clause-barred
+returns-clause-barred g c =
+    let provider : c.cache_candidates.new.self.provider ≡ c.args.self.now = search rules in
+    let packages = λ (q : g.row.D.Denot). packages_by g.D.Interner.name_of_solvable g.D.Interner.name_of_version_set g.D.Interner.members_of g.D.Interner.condition_of g.D.DependencyProvider.candidates_of g.D.DependencyProvider.matches g.D.DependencyProvider.dependencies_of q in
+    let q = c.cache_candidates.new.self.provider in
+    let items : c.in_ok-barred.barred.items ≡ kept_out g.D.SolvableId.PartialEq.eq (listing_or_empty (g.D.DependencyProvider.candidates_of q c.args.name)) = search rules in
+    subst (λ (x : g.row.D.Denot). AreBarred g.D.SolvableId.PartialEq.eq (packages x) c.args.name c.in_ok-barred.barred.items) provider
+    (subst (λ (xs : List (Barred _)). AreBarred g.D.SolvableId.PartialEq.eq (packages q) c.args.name xs) (sym items)
+    (are_barred g.D.SolvableId.PartialEq.eq g.met.D.SolvableId.Exact.exact (packages q) (record { below = g.met.D.Interner.operands_below q; named = g.met.D.DependencyProvider.candidates_named q }) c.args.name))

@@ -1,0 +1,124 @@
+//! What a solver asks of packages, answered by value.
+ghost use Rattle.std.specs.Prelude.{◌≡◌, List, IfOk, IfErr, map};
+ghost use Rattle.resolvo_pool_core.specs.Provider.{needs_of};
+ghost use Rattle.resolvo_pool.specs.Cached.{IsCancelledBy};
+ghost use Rattle.resolvo_pool_core.specs.RuleKeeping.{Packages, IsLawful};
+ghost use Rattle.resolvo_pool_core.specs.declared.requirement.Requirement.{Requirement};
+ghost use Rattle.resolvo_pool_core.specs.Text.{alternatives_of};
+ghost use Rattle.resolvo_store_core.specs.Cases.{cases, cases_of};
+ghost use Rattle.resolvo_packages.specs.Answering.{AreOffered, AreOutside, offered_solvables};
+ghost use Rattle.resolvo_packages.specs.Barring.{AreBarred};
+
+use resolvo_pool::cache::CacheFault;
+use resolvo_pool_core::id::{ConditionId, Exact, StringId, VersionSetId};
+use resolvo_pool_core::provider::Dependencies;
+use resolvo_pool_core::requirement::Requirement;
+use resolvo_pool_core::want::R;
+use std::fmt::Debug;
+use std::hash::Hash;
+
+/// A candidate of a requirement, with its package.
+#[derive(Clone, Copy, Debug)]
+pub struct Offered<N, S> {
+    pub solvable: S,
+    pub name: N,
+}
+
+/// Why a solvable is kept out of its package.
+#[derive(Clone, Copy, Debug)]
+pub enum Why<S> {
+    /// Another one of its package is locked.
+    Locked { locked: S },
+    /// It is excluded, for this reason.
+    Excluded { reason: StringId },
+}
+
+/// A solvable that a lock or an exclusion keeps out of its package.
+#[derive(Clone, Copy, Debug)]
+pub struct Barred<S> {
+    pub solvable: S,
+    pub why: Why<S>,
+}
+
+/// Answers to a solver's questions of packages. Each question is answered with the same value whenever it is
+/// asked; any question may be cancelled.
+pub trait PackageSource {
+    type NameId: Copy + Exact + Hash + Debug;
+
+    type SolvableId: Copy + Exact + Hash + Debug;
+
+    /// What is handed out where a question is cancelled.
+    type Cancel;
+
+    /// What the answers say of the packages.
+    ghost packages: { Self → Packages Self.NameId Self.SolvableId };
+
+    /// In which orders the candidates of a requirement may be tried.
+    ghost orders: { Self → Requirement → List Self.SolvableId → Type 0 };
+
+    /// With which values a question may be cancelled.
+    ghost may_cancel: { Self → Self.Cancel → Type 0 };
+
+    /// Tells that the solver shall stop, if it shall.
+    fn check(&self) -> Result<(), CacheFault<Self::Cancel>>
+        ensures cancelled { IfErr result (IsCancelledBy (may_cancel self.now)) };
+
+    /// The package of a solvable.
+    fn package(&self, solvable: Self::SolvableId) -> Self::NameId
+        ensures { result ≡ (packages self.now).package_of solvable };
+
+    /// What a solvable needs and limits.
+    fn dependencies(
+        &mut self,
+        solvable: Self::SolvableId,
+    ) -> Result<Dependencies, CacheFault<Self::Cancel>>
+        ensures same { self.new ≡ self.old }
+        ensures answer { IfOk result (λ d. needs_of d ≡ (packages self.old).dependencies_of solvable) }
+        ensures cancelled { IfErr result (IsCancelledBy (may_cancel self.old)) };
+
+    /// The candidates that match a requirement, in the order in which they are tried.
+    fn candidates(
+        &mut self,
+        requirement: Requirement,
+    ) -> Result<Vec<Offered<Self::NameId, Self::SolvableId>>, CacheFault<Self::Cancel>>
+        ensures same { self.new ≡ self.old }
+        ensures offered { IfOk result (λ v. AreOffered Self.SolvableId.eq (packages self.old) requirement v.items) }
+        ensures ordered { IfOk result (λ v. orders self.old requirement (offered_solvables v.items)) }
+        ensures cancelled { IfErr result (IsCancelledBy (may_cancel self.old)) };
+
+    /// The packages of a requirement's version sets.
+    fn named(&self, requirement: Requirement) -> R<Vec<Self::NameId>>
+        ensures { IfOk result (λ v. v.items ≡ map (packages self.now).set_package (alternatives_of (packages self.now).members_of requirement)) };
+
+    /// The package of a version set.
+    fn set_package(&self, version_set: VersionSetId) -> Self::NameId
+        ensures { result ≡ (packages self.now).set_package version_set };
+
+    /// The cases of a condition, in order. It holds exactly if all version sets of some case are met.
+    fn cases(&self, condition: ConditionId) -> R<Vec<Vec<VersionSetId>>>
+        ensures { IfOk result (λ v. cases_of v.items ≡ cases (packages self.now).condition_of condition) };
+
+    /// What locks and exclusions keep out of a package.
+    fn barred(
+        &mut self,
+        name: Self::NameId,
+    ) -> Result<Vec<Barred<Self::SolvableId>>, CacheFault<Self::Cancel>>
+        ensures same { self.new ≡ self.old }
+        ensures barred { IfOk result (λ v. AreBarred Self.SolvableId.eq (packages self.old) name v.items) }
+        ensures cancelled { IfErr result (IsCancelledBy (may_cancel self.old)) };
+
+    /// The candidates of a version set's package that don't match it.
+    fn outside(
+        &mut self,
+        version_set: VersionSetId,
+    ) -> Result<Vec<Offered<Self::NameId, Self::SolvableId>>, CacheFault<Self::Cancel>>
+        ensures same { self.new ≡ self.old }
+        ensures outside { IfOk result (λ v. AreOutside Self.SolvableId.eq (packages self.old) version_set v.items) }
+        ensures cancelled { IfErr result (IsCancelledBy (may_cancel self.old)) };
+
+    /// Whether a solvable's dependencies are at hand. It decides when they are asked for, not what they are.
+    fn are_dependencies_available_for(&self, solvable: Self::SolvableId) -> bool;
+
+    /// A condition's operands have smaller ids, and candidates have the name of their package.
+    ghost lawful: { (a : Self) → IsLawful (packages a) };
+}

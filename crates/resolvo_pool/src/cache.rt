@@ -1,0 +1,643 @@
+//! A provider's answers, each asked for once.
+//! The model is the provider with the keys whose answers are kept, and the sorted lists; what is
+//! kept at a key is the provider's answer. The solver asks the provider through it alone. Each
+//! answer comes by two calls, one that sees to it that the answer is kept and one that looks; the
+//! `get_or_cache` calls are both in one. Which solvables kept candidates hint is kept as a set, so
+//! that whether one is hinted is one look-up.
+ghost use Rattle.std.specs.Prelude.{◌≡◌, ◌||◌, ◌&&◌, [], ◌∷◌, true, false, not, All, None, Some, List, IfOk, IfErr, IsOk, OnErr, OnOk, ⊤, IfSome, length, position, ◌<◌};
+ghost use Rattle.std.specs.List.{flat_map};
+ghost use Rattle.std.specs.Map.{lookup};
+ghost use Rattle.resolvo_pool_core.specs.declared.id.VersionSetId.{VersionSetId};
+ghost use Rattle.resolvo_pool_core.specs.Text.{alternatives_of};
+ghost use Rattle.resolvo_pool_core.specs.Provider.{kept, listed, listing, listing_or_empty, hints, needs_of, matching_in, favoured_first, IsTried, tried_first, IsTriedFor};
+ghost use Rattle.resolvo_pool.specs.Cached.{among, same_set, same_union, sorted_of, has_sorted, is_sorted, Extends, IsCancelledBy};
+
+use crate::hinted::put_hinted;
+use resolvo_pool_core::id::{Exact, VersionSetId, VersionSetUnionId};
+use resolvo_pool_core::id_map::IdSet;
+use resolvo_pool_core::provider::{Candidates, Dependencies, DependencyProvider};
+use resolvo_pool_core::requirement::Requirement;
+use resolvo_pool_core::solver_id::SolverId;
+use resolvo_pool_core::want::{R, Want};
+use std::alloc::{AllocError, AllocFailed, Global};
+use std::collections::HashMap;
+use std::marker::Model;
+use thiserror::Error;
+
+/// Why a question to the cache has no answer.
+#[derive(Debug, Drop, Error)]
+pub enum CacheFault<C> {
+    /// A growth was refused.
+    #[error("no memory")]
+    Memory,
+    /// The provider ran out of ids.
+    #[error("no ids")]
+    Ids,
+    /// The provider cancelled, with this value.
+    #[error("cancelled")]
+    Cancelled(C),
+}
+
+impl<C> From<Want> for CacheFault<C> {
+    ghost use Rattle.std.specs.Prelude.{◌≡◌};
+    ghost use Rattle.resolvo_pool.specs.Fault.{fault_of};
+
+    ghost from_gives = { λ w f. f ≡ fault_of w };
+
+    fn from(want: Want) -> CacheFault<C> {
+        match want {
+            Want::Memory => CacheFault::Memory,
+            Want::Ids => CacheFault::Ids,
+        }
+    }
+}
+
+impl<C> From<AllocError> for CacheFault<C> {
+    ghost use Rattle.std.specs.Prelude.{◌≡◌};
+    ghost use Rattle.resolvo_pool.specs.declared.cache.CacheFault.TheVariants.{Memory};
+
+    ghost from_gives = { λ _ f. f ≡ Memory };
+
+    fn from(_refused: AllocError) -> CacheFault<C> {
+        CacheFault::Memory
+    }
+}
+
+impl<C, T: Drop> From<AllocFailed<T>> for CacheFault<C> {
+    ghost use Rattle.std.specs.Prelude.{◌≡◌};
+    ghost use Rattle.resolvo_pool.specs.declared.cache.CacheFault.TheVariants.{Memory};
+
+    ghost from_gives = { λ _ f. f ≡ Memory };
+
+    fn from(_refused: AllocFailed<T>) -> CacheFault<C> {
+        CacheFault::Memory
+    }
+}
+
+/// A provider, and its answers so far.
+#[derive(Drop)]
+pub struct SolverCache<D: DependencyProvider> {
+    provider: D,
+    alloc: Global,
+    lists: HashMap<D::NameId, Candidates<D::SolvableId>>,
+    matching: HashMap<VersionSetId, Vec<D::SolvableId>>,
+    non_matching: HashMap<VersionSetId, Vec<D::SolvableId>>,
+    sorted: HashMap<VersionSetId, Vec<D::SolvableId>>,
+    unions: HashMap<VersionSetUnionId, Vec<D::SolvableId>>,
+    dependencies: HashMap<D::SolvableId, Dependencies>,
+    hinted: <D::SolvableId as SolverId>::Set,
+}
+
+impl<D: DependencyProvider> Model for SolverCache<D> {
+    ghost use Rattle.std.specs.Prelude.{true, false};
+    ghost use Rattle.std.specs.HashMap.{keys};
+    ghost use Rattle.resolvo_pool_core.specs.Provider.{matching_in, tried_first};
+    ghost use Rattle.resolvo_pool.specs.Cached.{Cached, IsKept, IsListing, IsList, IsSortedList, IsUnionList, IsNeeds, same_set, same_union, lists_of, among};
+    ghost use Rattle.resolvo_pool.specs.Hinted.{is_hinted, HoldsHinted};
+
+    ghost Value = { Cached D D.NameId D.SolvableId };
+
+    ghost view = { λ c. record { provider = c.provider; names = keys c.lists; matching = keys c.matching; non_matching = keys c.non_matching; sorted = lists_of c.sorted.entries; unions = keys c.unions; solvables = keys c.dependencies } };
+
+    ghost invariant = { λ c.
+        IsKept D.NameId.eq (IsListing (D.candidates_of c.provider)) c.lists.entries
+        × IsKept same_set (IsList (matching_in (D.name_of_version_set c.provider) (D.candidates_of c.provider) (D.matches c.provider) false)) c.matching.entries
+        × IsKept same_set (IsList (matching_in (D.name_of_version_set c.provider) (D.candidates_of c.provider) (D.matches c.provider) true)) c.non_matching.entries
+        × IsKept same_set (IsSortedList (D.sorts c.provider) D.SolvableId.eq (tried_first (D.name_of_version_set c.provider) (D.candidates_of c.provider)) (matching_in (D.name_of_version_set c.provider) (D.candidates_of c.provider) (D.matches c.provider) false)) c.sorted.entries
+        × IsKept same_union (IsUnionList (D.members_of c.provider) (lists_of c.sorted.entries)) c.unions.entries
+        × IsKept D.SolvableId.eq (IsNeeds (D.dependencies_of c.provider)) c.dependencies.entries
+        × HoldsHinted (λ s. among D.NameId.eq (keys c.lists) (D.name_of_solvable c.provider s)) (is_hinted D.SolvableId.eq (D.name_of_solvable c.provider) (D.candidates_of c.provider)) (D.SolvableId.Set.has c.hinted) };
+}
+
+impl<D: DependencyProvider> SolverCache<D> {
+    /// A cache that has asked nothing.
+    #[tactic(auto, using(crate::proofs::HintedLemmas::hinted_none))]
+    pub fn new(alloc: Global, provider: D) -> SolverCache<D>
+        ensures { result ≡ record { provider = provider; names = []; matching = []; non_matching = []; sorted = []; unions = []; solvables = [] } }
+    {
+        SolverCache {
+            provider,
+            alloc,
+            lists: HashMap::new(alloc),
+            matching: HashMap::new(alloc),
+            non_matching: HashMap::new(alloc),
+            sorted: HashMap::new(alloc),
+            unions: HashMap::new(alloc),
+            dependencies: HashMap::new(alloc),
+            hinted: <D::SolvableId as SolverId>::Set::new(alloc),
+        }
+    }
+
+    /// The provider.
+    pub fn provider(&self) -> &D
+        ensures { result.now ≡ self.now.provider }
+    {
+        &self.provider
+    }
+
+    /// Whether the candidates of a package are kept.
+    pub fn has_candidates(&self, name: D::NameId) -> bool
+        ensures { result ≡ among D.NameId.eq self.now.names name }
+    {
+        self.lists.contains_key(&name)
+    }
+
+    /// The kept candidates of a package.
+    pub fn candidates(&self, name: D::NameId) -> &Candidates<D::SolvableId>
+        requires { among D.NameId.eq self.now.names name ≡ true }
+        ensures { listing result.now ≡ listing_or_empty (D.candidates_of self.now.provider name) }
+    {
+        match self.lists.get(&name) {
+            Some(list) => list,
+            None => unreachable!(),
+        }
+    }
+
+    /// Sees to it that the candidates of a package are kept.
+    pub fn cache_candidates(&mut self, name: D::NameId) -> Result<(), CacheFault<D::Cancel>>
+        ensures there { OnOk result (among D.NameId.eq self.new.names name ≡ true) }
+        ensures cached { among D.NameId.eq self.old.names name ≡ true → IsOk result × (self.new ≡ self.old) }
+        ensures extends { Extends D.NameId.eq D.SolvableId.eq self.old self.new }
+        ensures err { OnErr result (self.new ≡ self.old) }
+        ensures cancelled { IfErr result (IsCancelledBy (D.may_cancel self.old.provider)) }
+    {
+        if self.has_candidates(name) {
+            return Ok(());
+        }
+        self.ask_candidates(name)
+    }
+
+    /// Asks for the candidates of a package, and keeps them.
+    fn ask_candidates(&mut self, name: D::NameId) -> Result<(), CacheFault<D::Cancel>>
+        ensures there { OnOk result (among D.NameId.eq self.new.names name ≡ true) }
+        ensures extends { Extends D.NameId.eq D.SolvableId.eq self.old self.new }
+        ensures err { OnErr result (self.new ≡ self.old) }
+        ensures cancelled { IfErr result (IsCancelledBy (D.may_cancel self.old.provider)) }
+    {
+        if let Some(value) = self.provider.should_cancel_with_value() {
+            return Err(CacheFault::Cancelled(value));
+        }
+        let list = candidates_from(&self.provider, self.alloc, name)?;
+        put_hinted(&mut self.hinted, &self.provider, name, &list)?;
+        self.lists.insert(name, list)?;
+        Ok(())
+    }
+
+    /// The candidates of a package. A package that the provider does not have has none.
+    pub fn get_or_cache_candidates(
+        &mut self,
+        name: D::NameId,
+    ) -> Result<&Candidates<D::SolvableId>, CacheFault<D::Cancel>>
+        ensures answer { IfOk result (λ r. listing r.now ≡ listing_or_empty (D.candidates_of self.old.provider name)) }
+        ensures cached { among D.NameId.eq self.old.names name ≡ true → IsOk result }
+        ensures cancelled { IfErr result (IsCancelledBy (D.may_cancel self.old.provider)) }
+    {
+        self.cache_candidates(name)?;
+        Ok(self.candidates(name))
+    }
+
+    /// Whether the candidates of a version set's package that match it are kept.
+    pub fn has_matching_candidates(&self, version_set: VersionSetId) -> bool
+        ensures { result ≡ among same_set self.now.matching version_set }
+    {
+        self.matching.contains_key(&version_set)
+    }
+
+    /// The kept candidates of a version set's package that match it.
+    pub fn matching_candidates(&self, version_set: VersionSetId) -> &[D::SolvableId]
+        requires { among same_set self.now.matching version_set ≡ true }
+        ensures { result.now ≡ matching_in (D.name_of_version_set self.now.provider) (D.candidates_of self.now.provider) (D.matches self.now.provider) false version_set }
+    {
+        match self.matching.get(&version_set) {
+            Some(list) => list.as_slice(),
+            None => unreachable!(),
+        }
+    }
+
+    /// Sees to it that the candidates of a version set's package that match it are kept.
+    pub fn cache_matching_candidates(
+        &mut self,
+        version_set: VersionSetId,
+    ) -> Result<(), CacheFault<D::Cancel>>
+        ensures there { OnOk result (among same_set self.new.matching version_set ≡ true) }
+        ensures cached { among same_set self.old.matching version_set ≡ true → IsOk result × (self.new ≡ self.old) }
+        ensures extends { Extends D.NameId.eq D.SolvableId.eq self.old self.new }
+        ensures cancelled { IfErr result (IsCancelledBy (D.may_cancel self.old.provider)) }
+    {
+        if self.has_matching_candidates(version_set) {
+            return Ok(());
+        }
+        let name = self.provider.version_set_name(version_set);
+        self.cache_candidates(name)?;
+        self.keep_matching(version_set)?;
+        Ok(())
+    }
+
+    /// Filters the kept candidates of a version set's package, and keeps those that match it.
+    fn keep_matching(&mut self, version_set: VersionSetId) -> R<()>
+        requires { among D.NameId.eq self.old.names (D.name_of_version_set self.old.provider version_set) ≡ true }
+        ensures there { OnOk result (among same_set self.new.matching version_set ≡ true) }
+        ensures extends { Extends D.NameId.eq D.SolvableId.eq self.old self.new }
+        ensures err { OnErr result (self.new ≡ self.old) }
+    {
+        let found = self.filtered(version_set, false)?;
+        self.matching.insert(version_set, found)?;
+        Ok(())
+    }
+
+    /// The candidates of a version set's package that match it, in order.
+    pub fn get_or_cache_matching_candidates(
+        &mut self,
+        version_set: VersionSetId,
+    ) -> Result<&[D::SolvableId], CacheFault<D::Cancel>>
+        ensures answer { IfOk result (λ r. r.now ≡ matching_in (D.name_of_version_set self.old.provider) (D.candidates_of self.old.provider) (D.matches self.old.provider) false version_set) }
+        ensures cached { among same_set self.old.matching version_set ≡ true → IsOk result }
+        ensures cancelled { IfErr result (IsCancelledBy (D.may_cancel self.old.provider)) }
+    {
+        self.cache_matching_candidates(version_set)?;
+        Ok(self.matching_candidates(version_set))
+    }
+
+    /// Whether the candidates of a version set's package that don't match it are kept.
+    pub fn has_non_matching_candidates(&self, version_set: VersionSetId) -> bool
+        ensures { result ≡ among same_set self.now.non_matching version_set }
+    {
+        self.non_matching.contains_key(&version_set)
+    }
+
+    /// The kept candidates of a version set's package that don't match it.
+    pub fn non_matching_candidates(&self, version_set: VersionSetId) -> &[D::SolvableId]
+        requires { among same_set self.now.non_matching version_set ≡ true }
+        ensures { result.now ≡ matching_in (D.name_of_version_set self.now.provider) (D.candidates_of self.now.provider) (D.matches self.now.provider) true version_set }
+    {
+        match self.non_matching.get(&version_set) {
+            Some(list) => list.as_slice(),
+            None => unreachable!(),
+        }
+    }
+
+    /// Sees to it that the candidates of a version set's package that don't match it are kept.
+    pub fn cache_non_matching_candidates(
+        &mut self,
+        version_set: VersionSetId,
+    ) -> Result<(), CacheFault<D::Cancel>>
+        ensures there { OnOk result (among same_set self.new.non_matching version_set ≡ true) }
+        ensures cached { among same_set self.old.non_matching version_set ≡ true → IsOk result × (self.new ≡ self.old) }
+        ensures extends { Extends D.NameId.eq D.SolvableId.eq self.old self.new }
+        ensures cancelled { IfErr result (IsCancelledBy (D.may_cancel self.old.provider)) }
+    {
+        if self.has_non_matching_candidates(version_set) {
+            return Ok(());
+        }
+        let name = self.provider.version_set_name(version_set);
+        self.cache_candidates(name)?;
+        self.keep_non_matching(version_set)?;
+        Ok(())
+    }
+
+    /// Filters the kept candidates of a version set's package, and keeps those that don't match it.
+    fn keep_non_matching(&mut self, version_set: VersionSetId) -> R<()>
+        requires { among D.NameId.eq self.old.names (D.name_of_version_set self.old.provider version_set) ≡ true }
+        ensures there { OnOk result (among same_set self.new.non_matching version_set ≡ true) }
+        ensures extends { Extends D.NameId.eq D.SolvableId.eq self.old self.new }
+        ensures err { OnErr result (self.new ≡ self.old) }
+    {
+        let found = self.filtered(version_set, true)?;
+        self.non_matching.insert(version_set, found)?;
+        Ok(())
+    }
+
+    /// The candidates of a version set's package that don't match it, in order.
+    pub fn get_or_cache_non_matching_candidates(
+        &mut self,
+        version_set: VersionSetId,
+    ) -> Result<&[D::SolvableId], CacheFault<D::Cancel>>
+        ensures answer { IfOk result (λ r. r.now ≡ matching_in (D.name_of_version_set self.old.provider) (D.candidates_of self.old.provider) (D.matches self.old.provider) true version_set) }
+        ensures cached { among same_set self.old.non_matching version_set ≡ true → IsOk result }
+        ensures cancelled { IfErr result (IsCancelledBy (D.may_cancel self.old.provider)) }
+    {
+        self.cache_non_matching_candidates(version_set)?;
+        Ok(self.non_matching_candidates(version_set))
+    }
+
+    /// What the provider keeps of the kept candidates of a version set's package.
+    fn filtered(&self, version_set: VersionSetId, inverse: bool) -> R<Vec<D::SolvableId>>
+        requires { among D.NameId.eq self.now.names (D.name_of_version_set self.now.provider version_set) ≡ true }
+        ensures { IfOk result (λ v. v.items ≡ matching_in (D.name_of_version_set self.now.provider) (D.candidates_of self.now.provider) (D.matches self.now.provider) inverse version_set) }
+    {
+        let name = self.provider.version_set_name(version_set);
+        let list = self.candidates(name);
+        self.provider.filter_candidates(
+            self.alloc,
+            list.candidates.as_slice(),
+            version_set,
+            inverse,
+        )
+    }
+
+    /// Whether the sorted candidates of a requirement are kept.
+    pub fn has_sorted_candidates(&self, requirement: Requirement) -> bool
+        ensures { result ≡ has_sorted self.now requirement }
+    {
+        match requirement {
+            Requirement::Single(version_set) => self.sorted.contains_key(&version_set),
+            Requirement::Union(union) => self.unions.contains_key(&union),
+        }
+    }
+
+    /// The kept sorted candidates of a requirement.
+    pub fn sorted_candidates(&self, requirement: Requirement) -> &[D::SolvableId]
+        requires { has_sorted self.now requirement ≡ true }
+        ensures in_order { result.now ≡ flat_map (sorted_of self.now.sorted) (alternatives_of (D.members_of self.now.provider) requirement) }
+        ensures tried { IsTriedFor (D.sorts self.now.provider) D.SolvableId.eq (tried_first (D.name_of_version_set self.now.provider) (D.candidates_of self.now.provider)) (matching_in (D.name_of_version_set self.now.provider) (D.candidates_of self.now.provider) (D.matches self.now.provider) false) (alternatives_of (D.members_of self.now.provider) requirement) result.now }
+    {
+        match requirement {
+            Requirement::Single(version_set) => self.sorted_of_set(version_set),
+            Requirement::Union(union) => self.sorted_of_union(union),
+        }
+    }
+
+    /// The kept sorted candidates of a version set.
+    fn sorted_of_set(&self, version_set: VersionSetId) -> &[D::SolvableId]
+        requires { is_sorted self.now.sorted version_set ≡ true }
+        ensures kept { lookup (same_set version_set) self.now.sorted ≡ Some result.now }
+        ensures tried { IsTried (D.sorts self.now.provider) D.SolvableId.eq (tried_first (D.name_of_version_set self.now.provider) (D.candidates_of self.now.provider) version_set) (matching_in (D.name_of_version_set self.now.provider) (D.candidates_of self.now.provider) (D.matches self.now.provider) false version_set) result.now }
+    {
+        match self.sorted.get(&version_set) {
+            Some(list) => list.as_slice(),
+            None => unreachable!(),
+        }
+    }
+
+    /// The kept sorted candidates of a union.
+    fn sorted_of_union(&self, union: VersionSetUnionId) -> &[D::SolvableId]
+        requires { among same_union self.now.unions union ≡ true }
+        ensures in_order { result.now ≡ flat_map (sorted_of self.now.sorted) (D.members_of self.now.provider union) }
+        ensures tried { IsTriedFor (D.sorts self.now.provider) D.SolvableId.eq (tried_first (D.name_of_version_set self.now.provider) (D.candidates_of self.now.provider)) (matching_in (D.name_of_version_set self.now.provider) (D.candidates_of self.now.provider) (D.matches self.now.provider) false) (D.members_of self.now.provider union) result.now }
+    {
+        match self.unions.get(&union) {
+            Some(list) => list.as_slice(),
+            None => unreachable!(),
+        }
+    }
+
+    /// Sees to it that the sorted candidates of a version set are kept.
+    pub fn cache_sorted_candidates_for_version_set(
+        &mut self,
+        version_set: VersionSetId,
+    ) -> Result<(), CacheFault<D::Cancel>>
+        ensures there { OnOk result (is_sorted self.new.sorted version_set ≡ true) }
+        ensures cached { is_sorted self.old.sorted version_set ≡ true → IsOk result × (self.new ≡ self.old) }
+        ensures extends { Extends D.NameId.eq D.SolvableId.eq self.old self.new }
+        ensures cancelled { IfErr result (IsCancelledBy (D.may_cancel self.old.provider)) }
+    {
+        if self.has_sorted_candidates(Requirement::Single(version_set)) {
+            return Ok(());
+        }
+        self.cache_matching_candidates(version_set)?;
+        let name = self.provider.version_set_name(version_set);
+        self.cache_candidates(name)?;
+        self.keep_sorted(version_set)?;
+        Ok(())
+    }
+
+    /// Sorts the kept matching candidates of a version set, and keeps the list.
+    fn keep_sorted(&mut self, version_set: VersionSetId) -> R<()>
+        requires matching { among same_set self.old.matching version_set ≡ true }
+        requires listed { among D.NameId.eq self.old.names (D.name_of_version_set self.old.provider version_set) ≡ true }
+        ensures there { OnOk result (is_sorted self.new.sorted version_set ≡ true) }
+        ensures extends { Extends D.NameId.eq D.SolvableId.eq self.old self.new }
+        ensures err { OnErr result (self.new ≡ self.old) }
+    {
+        if self.sorted.contains_key(&version_set) {
+            return Ok(());
+        }
+        let list = self.sorted_list(version_set)?;
+        self.sorted.insert(version_set, list)?;
+        Ok(())
+    }
+
+    /// The kept matching candidates of a version set in the order in which they are tried.
+    fn sorted_list(&self, version_set: VersionSetId) -> R<Vec<D::SolvableId>>
+        requires matching { among same_set self.now.matching version_set ≡ true }
+        requires listed { among D.NameId.eq self.now.names (D.name_of_version_set self.now.provider version_set) ≡ true }
+        ensures { IfOk result (λ v. IsTried (D.sorts self.now.provider) D.SolvableId.eq (tried_first (D.name_of_version_set self.now.provider) (D.candidates_of self.now.provider) version_set) (matching_in (D.name_of_version_set self.now.provider) (D.candidates_of self.now.provider) (D.matches self.now.provider) false version_set) v.items) }
+    {
+        let mut list = Vec::from_slice(self.alloc, self.matching_candidates(version_set))?;
+        self.provider
+            .sort_candidates(self.alloc, list.as_mut_slice())?;
+        let name = self.provider.version_set_name(version_set);
+        if let Some(favored) = self.candidates(name).favored {
+            favour(list.as_mut_slice(), favored);
+        }
+        Ok(list)
+    }
+
+    /// The candidates that match a version set, in the order in which they are tried: sorted by the
+    /// provider, and then the favoured one in front.
+    pub fn get_or_cache_sorted_candidates_for_version_set(
+        &mut self,
+        version_set: VersionSetId,
+    ) -> Result<&[D::SolvableId], CacheFault<D::Cancel>>
+        ensures answer { IfOk result (λ r. IsTried (D.sorts self.old.provider) D.SolvableId.eq (tried_first (D.name_of_version_set self.old.provider) (D.candidates_of self.old.provider) version_set) (matching_in (D.name_of_version_set self.old.provider) (D.candidates_of self.old.provider) (D.matches self.old.provider) false version_set) r.now) }
+        ensures cached { IfOk result (λ r. (xs : List D.SolvableId) → lookup (same_set version_set) self.old.sorted ≡ Some xs → r.now ≡ xs) }
+        ensures succeeds { is_sorted self.old.sorted version_set ≡ true → IsOk result }
+        ensures cancelled { IfErr result (IsCancelledBy (D.may_cancel self.old.provider)) }
+    {
+        self.cache_sorted_candidates_for_version_set(version_set)?;
+        Ok(self.sorted_of_set(version_set))
+    }
+
+    /// Sees to it that the sorted candidates of a requirement are kept.
+    pub fn cache_sorted_candidates(
+        &mut self,
+        requirement: Requirement,
+    ) -> Result<(), CacheFault<D::Cancel>>
+        ensures there { OnOk result (has_sorted self.new requirement ≡ true) }
+        ensures cached { has_sorted self.old requirement ≡ true → IsOk result × (self.new ≡ self.old) }
+        ensures extends { Extends D.NameId.eq D.SolvableId.eq self.old self.new }
+        ensures cancelled { IfErr result (IsCancelledBy (D.may_cancel self.old.provider)) }
+    {
+        if self.has_sorted_candidates(requirement) {
+            return Ok(());
+        }
+        match requirement {
+            Requirement::Single(version_set) => {
+                self.cache_sorted_candidates_for_version_set(version_set)
+            }
+            Requirement::Union(union) => self.cache_sorted_union(union),
+        }
+    }
+
+    /// Sees to it that the sorted candidates of a union are kept.
+    fn cache_sorted_union(&mut self, union: VersionSetUnionId) -> Result<(), CacheFault<D::Cancel>>
+        ensures there { OnOk result (among same_union self.new.unions union ≡ true) }
+        ensures extends { Extends D.NameId.eq D.SolvableId.eq self.old self.new }
+        ensures cancelled { IfErr result (IsCancelledBy (D.may_cancel self.old.provider)) }
+    {
+        let members = Vec::from_slice(self.alloc, self.provider.version_sets_in_union(union))?;
+        self.cache_sorted_members(members.as_slice())?;
+        self.keep_union(union)?;
+        Ok(())
+    }
+
+    /// Sees to it that the sorted candidates of each of these version sets are kept.
+    fn cache_sorted_members(
+        &mut self,
+        members: &[VersionSetId],
+    ) -> Result<(), CacheFault<D::Cancel>>
+        ensures there { OnOk result (All (λ v. is_sorted self.new.sorted v ≡ true) members.now) }
+        ensures extends { Extends D.NameId.eq D.SolvableId.eq self.old self.new }
+        ensures cancelled { IfErr result (IsCancelledBy (D.may_cancel self.old.provider)) }
+    {
+        for version_set in members {
+            self.cache_sorted_candidates_for_version_set(*version_set)?;
+        }
+        Ok(())
+    }
+
+    /// Joins the kept sorted lists of a union's version sets, and keeps the whole.
+    fn keep_union(&mut self, union: VersionSetUnionId) -> R<()>
+        requires { All (λ v. is_sorted self.old.sorted v ≡ true) (D.members_of self.old.provider union) }
+        ensures there { OnOk result (among same_union self.new.unions union ≡ true) }
+        ensures extends { Extends D.NameId.eq D.SolvableId.eq self.old self.new }
+        ensures err { OnErr result (self.new ≡ self.old) }
+    {
+        let joined = self.joined(self.provider.version_sets_in_union(union))?;
+        self.unions.insert(union, joined)?;
+        Ok(())
+    }
+
+    /// The kept sorted lists of these version sets, one after another.
+    fn joined(&self, members: &[VersionSetId]) -> R<Vec<D::SolvableId>>
+        requires { All (λ v. is_sorted self.now.sorted v ≡ true) members.now }
+        ensures { IfOk result (λ v. v.items ≡ flat_map (sorted_of self.now.sorted) members.now) }
+    {
+        let mut joined = Vec::new(self.alloc);
+        for version_set in members {
+            joined.extend_from_slice(self.sorted_of_set(*version_set))?;
+        }
+        Ok(joined)
+    }
+
+    /// The candidates that match a requirement, in the order in which they are tried: those of each
+    /// of its version sets, in their order.
+    pub fn get_or_cache_sorted_candidates(
+        &mut self,
+        requirement: Requirement,
+    ) -> Result<&[D::SolvableId], CacheFault<D::Cancel>>
+        ensures answer { IfOk result (λ r. IsTriedFor (D.sorts self.old.provider) D.SolvableId.eq (tried_first (D.name_of_version_set self.old.provider) (D.candidates_of self.old.provider)) (matching_in (D.name_of_version_set self.old.provider) (D.candidates_of self.old.provider) (D.matches self.old.provider) false) (alternatives_of (D.members_of self.old.provider) requirement) r.now) }
+        ensures cached { has_sorted self.old requirement ≡ true → IfOk result (λ r. r.now ≡ flat_map (sorted_of self.old.sorted) (alternatives_of (D.members_of self.old.provider) requirement)) }
+        ensures succeeds { has_sorted self.old requirement ≡ true → IsOk result }
+        ensures cancelled { IfErr result (IsCancelledBy (D.may_cancel self.old.provider)) }
+    {
+        self.cache_sorted_candidates(requirement)?;
+        Ok(self.sorted_candidates(requirement))
+    }
+
+    /// Whether the dependencies of a solvable are kept.
+    pub fn has_dependencies(&self, solvable: D::SolvableId) -> bool
+        ensures { result ≡ among D.SolvableId.eq self.now.solvables solvable }
+    {
+        self.dependencies.contains_key(&solvable)
+    }
+
+    /// The kept dependencies of a solvable.
+    pub fn dependencies(&self, solvable: D::SolvableId) -> &Dependencies
+        requires { among D.SolvableId.eq self.now.solvables solvable ≡ true }
+        ensures { needs_of result.now ≡ D.dependencies_of self.now.provider solvable }
+    {
+        match self.dependencies.get(&solvable) {
+            Some(found) => found,
+            None => unreachable!(),
+        }
+    }
+
+    /// Sees to it that the dependencies of a solvable are kept.
+    pub fn cache_dependencies(
+        &mut self,
+        solvable: D::SolvableId,
+    ) -> Result<(), CacheFault<D::Cancel>>
+        ensures there { OnOk result (among D.SolvableId.eq self.new.solvables solvable ≡ true) }
+        ensures cached { among D.SolvableId.eq self.old.solvables solvable ≡ true → IsOk result × (self.new ≡ self.old) }
+        ensures extends { Extends D.NameId.eq D.SolvableId.eq self.old self.new }
+        ensures err { OnErr result (self.new ≡ self.old) }
+        ensures cancelled { IfErr result (IsCancelledBy (D.may_cancel self.old.provider)) }
+    {
+        if self.has_dependencies(solvable) {
+            return Ok(());
+        }
+        self.ask_dependencies(solvable)
+    }
+
+    /// Asks for the dependencies of a solvable, and keeps them.
+    fn ask_dependencies(&mut self, solvable: D::SolvableId) -> Result<(), CacheFault<D::Cancel>>
+        ensures there { OnOk result (among D.SolvableId.eq self.new.solvables solvable ≡ true) }
+        ensures extends { Extends D.NameId.eq D.SolvableId.eq self.old self.new }
+        ensures err { OnErr result (self.new ≡ self.old) }
+        ensures cancelled { IfErr result (IsCancelledBy (D.may_cancel self.old.provider)) }
+    {
+        if let Some(value) = self.provider.should_cancel_with_value() {
+            return Err(CacheFault::Cancelled(value));
+        }
+        let found = self.provider.get_dependencies(self.alloc, solvable)?;
+        self.dependencies.insert(solvable, found)?;
+        Ok(())
+    }
+
+    /// What a solvable needs and limits.
+    pub fn get_or_cache_dependencies(
+        &mut self,
+        solvable: D::SolvableId,
+    ) -> Result<&Dependencies, CacheFault<D::Cancel>>
+        ensures answer { IfOk result (λ r. needs_of r.now ≡ D.dependencies_of self.old.provider solvable) }
+        ensures cached { among D.SolvableId.eq self.old.solvables solvable ≡ true → IsOk result }
+        ensures cancelled { IfErr result (IsCancelledBy (D.may_cancel self.old.provider)) }
+    {
+        self.cache_dependencies(solvable)?;
+        Ok(self.dependencies(solvable))
+    }
+
+    /// Whether the dependencies of a solvable are kept, or the kept candidates of its package say
+    /// that the provider has them at hand.
+    pub fn are_dependencies_available_for(&self, solvable: D::SolvableId) -> bool
+        ensures { result ≡ (among D.SolvableId.eq self.now.solvables solvable || (among D.NameId.eq self.now.names (D.name_of_solvable self.now.provider solvable) && hints D.SolvableId.eq (listing_or_empty (D.candidates_of self.now.provider (D.name_of_solvable self.now.provider solvable))) solvable)) }
+    {
+        if self.has_dependencies(solvable) {
+            return true;
+        }
+        let name = self.provider.solvable_name(solvable);
+        self.has_candidates(name) && self.hinted.contains(solvable)
+    }
+}
+
+/// The candidates of a package, of which a package that the provider does not have has none.
+fn candidates_from<D: DependencyProvider>(
+    provider: &D,
+    alloc: Global,
+    name: D::NameId,
+) -> R<Candidates<D::SolvableId>>
+    ensures { IfOk result (λ c. listing c ≡ listing_or_empty (D.candidates_of provider.now name)) }
+{
+    match provider.get_candidates(alloc, name)? {
+        Some(list) => Ok(list),
+        None => Ok(Candidates::new(alloc)),
+    }
+}
+
+/// Moves the favoured one to the front, if it is there.
+fn favour<S: Copy + Exact>(list: &mut [S], favored: S)
+    ensures { list.new ≡ favoured_first S.eq (Some favored) list.old }
+{
+    if let Some(place) = place_of(list, favored) {
+        list[..=place].rotate_right(1);
+    }
+}
+
+/// The place of a solvable in a list.
+fn place_of<S: Copy + Eq>(list: &[S], solvable: S) -> Option<usize>
+    ensures place { result ≡ position (λ s. S.eq s solvable) list.now }
+    ensures bounded { IfSome result (λ i. i < length list.now) }
+{
+    list.iter().position(|s| *s == solvable)
+}

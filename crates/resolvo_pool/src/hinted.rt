@@ -1,0 +1,46 @@
+//! The solvables whose dependencies a provider has at hand, as a set. The cache puts a package's
+//! hinted solvables in before it keeps the package's candidates, and afterwards asks the set.
+//! Of a list that hints solvables of other packages too, only those of the asked package count.
+ghost use Rattle.std.specs.Prelude.{OnOk};
+ghost use Rattle.resolvo_pool_core.specs.Provider.{listing, hints};
+ghost use Rattle.resolvo_pool.specs.Hinted.{hints_own, among_own, Grows, HasEach};
+
+use resolvo_pool_core::id_map::IdSet;
+use resolvo_pool_core::provider::{Candidates, DependencyProvider, HintDependenciesAvailable};
+use resolvo_pool_core::solver_id::SolverId;
+use resolvo_pool_core::want::R;
+
+/// Puts the solvables of a package in that its candidates hint. A refusal may leave some of them in.
+pub fn put_hinted<D: DependencyProvider>(
+    set: &mut <D::SolvableId as SolverId>::Set,
+    provider: &D,
+    name: D::NameId,
+    list: &Candidates<D::SolvableId>,
+) -> R<()>
+    ensures grows { Grows (hints_own D.NameId.eq D.SolvableId.eq (D.name_of_solvable provider.now) name (listing list.now)) (D.SolvableId.Set.has set.old) (D.SolvableId.Set.has set.new) }
+    ensures each { OnOk result (HasEach (hints_own D.NameId.eq D.SolvableId.eq (D.name_of_solvable provider.now) name (listing list.now)) (D.SolvableId.Set.has set.new)) }
+{
+    match &list.hint_dependencies_available {
+        HintDependenciesAvailable::None => Ok(()),
+        HintDependenciesAvailable::All => put_own(set, provider, name, list.candidates.as_slice()),
+        HintDependenciesAvailable::Some(hinted) => put_own(set, provider, name, hinted.as_slice()),
+    }
+}
+
+/// Puts those of the solvables in that are of a package.
+fn put_own<D: DependencyProvider>(
+    set: &mut <D::SolvableId as SolverId>::Set,
+    provider: &D,
+    name: D::NameId,
+    solvables: &[D::SolvableId],
+) -> R<()>
+    ensures grows { Grows (among_own D.NameId.eq D.SolvableId.eq (D.name_of_solvable provider.now) name solvables.now) (D.SolvableId.Set.has set.old) (D.SolvableId.Set.has set.new) }
+    ensures each { OnOk result (HasEach (among_own D.NameId.eq D.SolvableId.eq (D.name_of_solvable provider.now) name solvables.now) (D.SolvableId.Set.has set.new)) }
+{
+    for solvable in solvables {
+        if provider.solvable_name(*solvable) == name {
+            set.insert(*solvable)?;
+        }
+    }
+    Ok(())
+}

@@ -1,0 +1,7 @@
+pub mod Conditions
+pub mod Interned
+pub mod PassLearns
+pub mod PassNamed
+pub mod PassSound
+pub mod SlotLemmas
+pub mod Texts

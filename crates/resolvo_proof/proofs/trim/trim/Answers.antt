@@ -1,0 +1,18 @@
+use Rattle.std.proofs.Common.{ℕ, ◌-◌, ap, ◌∙◌}
+use Rattle.resolvo_proof.specs.Trimmed.{IsTrimmed}
+use Rattle.resolvo_proof.proofs.Shortened.{trimmed_empty}
+use Rattle.resolvo_proof.proofs.Numbering.{last_wanted, all_named}
+use Rattle.resolvo_proof.proofs.trim.trim.Goals as goal
+
+-- what is left leads to the last step
+left : (g : _) (c : goal.After-drop-branch g) → IsTrimmed c.args.steps.items c.in_ok-steps.field-0.steps.items
+left g c = last_wanted c.args.steps.items c.in_ok-steps.field-0.steps.items c.saturating_sub-last.result (c.saturating_sub-last.ensures ∙ ap (λ (n : ℕ). n - 1) (c.len.ensures ∙ c.args.steps.ok.0)) c.in_ok-steps.ensures.kept.trimmed
+
+pub returns-clause-kept : goal.returns-clause-kept
+returns-clause-kept g c = left g c
+
+pub returns-clause-named : goal.returns-clause-named
+returns-clause-named g c = all_named c.args.steps.items c.in_ok-steps.field-0.steps.items (left g c)
+
+pub returns-clause-empty : goal.returns-clause-empty
+returns-clause-empty g c = trimmed_empty c.args.steps.items c.in_ok-steps.field-0.steps.items (left g c)

@@ -1,9 +1,0 @@
-use Rattle.std.proofs.Common.{◌≡◌, take, map}
-use Rattle.resolvo_rules.specs.Numbered.{meanings}
-use Rattle.resolvo_coding.specs.Atoms.{origin}
-use Rattle.resolvo_proof.specs.Steps.{literal_in}
-use Rattle.resolvo_proof.proofs.writing.write_literals.Given as goal
-
--- what the literals so far mean
-abbrev pub invariant-loop-literal : goal.invariant-loop-literal
-invariant-loop-literal g l = map literal_in l.written.items ≡ meanings (origin l.coding.atoms.keys) (take l.literal-index l.literals)

@@ -1,0 +1,185 @@
+//! Steps are written from clauses: a rule as it is stated, a derived clause with what its literals mean.
+//! The root's literals and its clause are left out, so clause n is step n - 1.
+ghost use Rattle.std.specs.Prelude.{◌≡◌, ◌<◌, length, map, IfOk, IsOkUnless};
+ghost use Rattle.resolvo_pool_core.specs.declared.want.Want.TheVariants.{Memory};
+ghost use Rattle.resolvo_sat.specs.State.{count_of};
+ghost use Rattle.resolvo_sat.specs.Steps.{AreInRange};
+ghost use Rattle.resolvo_soundness.specs.Numbered.{meanings};
+ghost use Rattle.resolvo_state.specs.Atoms.{origin};
+ghost use Rattle.resolvo_state.specs.Coding.{IsCoding};
+ghost use Rattle.resolvo_proof.specs.Steps.{literal_in};
+ghost use Rattle.resolvo_proof.specs.Written.{places, atoms_of, IsTold, IsDerivation, IsStepAt};
+
+use crate::step::{ProofLiteral, ProofRule, ProofStep};
+use resolvo_pool_core::id::{ClauseId, Exact, VariableId};
+use resolvo_pool_core::want::R;
+use resolvo_state::atom::ProofAtom;
+use resolvo_state::clause_kind::Stated;
+use resolvo_state::solver_state::SolverState;
+use resolvo_store_core::literal::Literal;
+use std::alloc::Global;
+use std::fmt::Debug;
+use std::hash::Hash;
+
+/// The step of a clause behind the root's.
+pub(crate) fn write_step<N: Copy + Exact + Hash + Debug, S: Copy + Exact + Hash + Debug>(
+    alloc: Global,
+    coding: &SolverState<N, S>,
+    number: usize,
+) -> R<ProofStep<N, S>>
+    requires coding { IsCoding coding.now }
+    requires behind { 0 < number }
+    requires in_range { number < length coding.now.search.clauses }
+    ensures step { IfOk result (IsStepAt coding.now number) }
+    ensures refusal { IsOkUnless result Memory }
+{
+    match write_rule(&coding.stated[number])? {
+        Some(rule) => Ok(ProofStep::Rule(rule)),
+        None => {
+            let clause = &coding.search.clauses.iter().rest[number];
+            let literals = clause.literals.as_slice();
+            let step = write_derived(alloc, coding, literals, clause.causes.as_slice())?;
+            Ok(step)
+        }
+    }
+}
+
+/// A derived step of these literals and causes.
+pub(crate) fn write_derived<N: Copy + Exact + Hash + Debug, S: Copy + Exact + Hash + Debug>(
+    alloc: Global,
+    coding: &SolverState<N, S>,
+    literals: &[Literal],
+    causes: &[ClauseId],
+) -> R<ProofStep<N, S>>
+    requires coding { IsCoding coding.now }
+    requires in_range { AreInRange (count_of coding.now.search) literals.now }
+    ensures step { IfOk result (IsDerivation coding.now.atoms.keys literals.now causes.now) }
+    ensures refusal { IsOkUnless result Memory }
+{
+    Ok(ProofStep::Derived {
+        literals: write_literals(alloc, coding, literals)?,
+        causes: write_causes(alloc, causes)?,
+    })
+}
+
+/// What literals mean, but for the root's.
+fn write_literals<N: Copy + Exact + Hash + Debug, S: Copy + Exact + Hash + Debug>(
+    alloc: Global,
+    coding: &SolverState<N, S>,
+    literals: &[Literal],
+) -> R<Vec<ProofLiteral<N, S>>>
+    requires coding { IsCoding coding.now }
+    requires in_range { AreInRange (count_of coding.now.search) literals.now }
+    ensures written { IfOk result (λ v. map literal_in v.items ≡ meanings (origin coding.now.atoms.keys) literals.now) }
+    ensures refusal { IsOkUnless result Memory }
+{
+    let mut written = Vec::new(alloc);
+    for literal in literals {
+        if let Some(atom) = atom_of(coding, literal.variable()) {
+            written.push(ProofLiteral {
+                atom,
+                positive: literal.satisfying_value(),
+            })?;
+        }
+    }
+    Ok(written)
+}
+
+/// What a variable stands for; the root's stands for nothing.
+fn atom_of<N: Copy + Exact + Hash + Debug, S: Copy + Exact + Hash + Debug>(
+    coding: &SolverState<N, S>,
+    variable: VariableId,
+) -> Option<ProofAtom<N, S>>
+    ensures { result ≡ atoms_of coding.now.atoms.keys variable.0 }
+{
+    let place = (variable.0 as usize).checked_sub(1)?;
+    coding.atoms.get_index(place).copied()
+}
+
+/// The causes as places of steps, but for the root's clause, which is no step.
+fn write_causes(alloc: Global, causes: &[ClauseId]) -> R<Vec<usize>>
+    ensures written { IfOk result (λ v. v.items ≡ places causes.now) }
+    ensures refusal { IsOkUnless result Memory }
+{
+    let mut written = Vec::new(alloc);
+    for cause in causes {
+        if let Some(place) = (cause.0 as usize).checked_sub(1) {
+            written.push(place)?;
+        }
+    }
+    Ok(written)
+}
+
+/// The rule that is stated. The root's clause and a learnt one state none.
+fn write_rule<N: Copy + Exact + Hash + Debug, S: Copy + Exact + Hash + Debug>(
+    stated: &Stated<N, S>,
+) -> R<Option<ProofRule<N, S>>>
+    ensures told { IfOk result (IsTold stated.now) }
+    ensures refusal { IsOkUnless result Memory }
+{
+    let rule = match stated {
+        Stated::Root | Stated::Learnt => return Ok(None),
+        Stated::Needs { parent, need, case } => ProofRule::Needs {
+            parent: *parent,
+            requirement: need.requirement,
+            case: case.clone()?,
+        },
+        Stated::Gated {
+            solvable,
+            requirement,
+        } => ProofRule::GateOf {
+            parent: *solvable,
+            requirement: *requirement,
+        },
+        Stated::Shared { requirement } => ProofRule::Shared {
+            requirement: *requirement,
+        },
+        Stated::Limits {
+            parent,
+            version_set,
+            barred,
+        } => ProofRule::Limit {
+            parent: *parent,
+            version_set: *version_set,
+            barred: Some(*barred),
+        },
+        Stated::LimitsOutside {
+            parent,
+            version_set,
+        } => ProofRule::Limit {
+            parent: *parent,
+            version_set: *version_set,
+            barred: None,
+        },
+        Stated::IsOut {
+            version_set,
+            solvable,
+        } => ProofRule::Outside {
+            version_set: *version_set,
+            solvable: *solvable,
+        },
+        Stated::Locked { locked, barred } => ProofRule::Locked {
+            locked: *locked,
+            barred: *barred,
+        },
+        Stated::Excluded { solvable, reason } => ProofRule::Excluded {
+            solvable: *solvable,
+            reason: *reason,
+        },
+        Stated::Digit {
+            solvable,
+            place,
+            bit,
+            ..
+        } => ProofRule::Digit {
+            solvable: *solvable,
+            place: *place,
+            bit: *bit,
+        },
+        Stated::IsThere { name, solvable } => ProofRule::AtLeastOne {
+            name: *name,
+            solvable: *solvable,
+        },
+    };
+    Ok(Some(rule))
+}

@@ -1,7 +1,0 @@
-use Rattle.std.proofs.Common.{take}
-use Rattle.resolvo_text.specs.View.{specs_of}
-use Rattle.resolvo_provider.specs.Ids.{Interns, AreEach, IsSpec}
-use Rattle.resolvo_provider.proofs.id_table.IdTable.specs.Given as goal
-
-abbrev pub invariant-loop-spec : goal.invariant-loop-spec
-invariant-loop-spec l = AreEach (IsSpec l.self) l.ids.items (specs_of (take l.spec-index l.specs)) × Interns l.initial.self l.self

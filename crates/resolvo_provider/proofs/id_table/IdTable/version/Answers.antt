@@ -1,7 +1,0 @@
-use Rattle.resolvo_provider.proofs.Standing.{grows_on}
-use Rattle.resolvo_provider.proofs.Steps.{solvable_grows}
-use Rattle.resolvo_provider.proofs.id_table.IdTable.version.Goals as goal
-
-pub returns-clause-grows : goal.returns-clause-grows
-returns-clause-grows c =
-    grows_on _ _ _ c.package.ensures.interns.grows (rw (← c.self.view_is) (solvable_grows c.self.inside.unions.keys c.self.inside.pool c.intern_solvable.new.self _ c.in_ok-version.ensures.put))

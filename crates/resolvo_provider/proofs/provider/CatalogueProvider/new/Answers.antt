@@ -1,4 +1,0 @@
-use Rattle.resolvo_provider.proofs.provider.CatalogueProvider.new.Goals as goal
-
-pub returns-clause-over : goal.returns-clause-over
-returns-clause-over c = c.in_ok-packages.ensures.over c.args.hint

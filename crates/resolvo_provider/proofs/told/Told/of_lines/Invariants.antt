@@ -1,7 +1,0 @@
-use Rattle.std.proofs.Common.{take}
-use Rattle.resolvo_provider.specs.Ids.{Interns}
-use Rattle.resolvo_provider.specs.Told.{Tells, told_of, lines_at}
-use Rattle.resolvo_provider.proofs.told.Told.of_lines.Given as goal
-
-abbrev pub invariant-loop-line : goal.invariant-loop-line
-invariant-loop-line l = Tells l.ids (lines_at l.catalogue (take l.line-index l.lines)) (told_of l.told) × Interns l.initial.ids l.ids

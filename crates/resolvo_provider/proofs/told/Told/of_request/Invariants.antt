@@ -1,7 +1,0 @@
-use Rattle.std.proofs.Common.{take}
-use Rattle.resolvo_provider.specs.Ids.{Interns}
-use Rattle.resolvo_provider.specs.Told.{Tells, told_of}
-use Rattle.resolvo_provider.proofs.told.Told.of_request.Given as goal
-
-abbrev pub invariant-loop-line : goal.invariant-loop-line
-invariant-loop-line l = Tells l.ids (take l.line l.request.lines) (told_of l.told) × Interns l.initial.ids l.ids

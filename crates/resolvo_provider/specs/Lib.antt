@@ -1,9 +1,0 @@
-pub mod Ids
-pub mod Told
-pub mod Marked
-pub mod Known
-pub mod Provider
-pub mod Laws
-pub mod Over
-pub mod Keeping
-pub mod Trying

@@ -1,5 +1,0 @@
-use Rattle.resolvo_refusal.proofs.Barring.{no_unknown}
-use Rattle.resolvo_refusal.proofs.lines.Texts.is_unknown.Goals as goal
-
-pub returns-in-None : goal.returns-in-None
-returns-in-None c = λ l at. no_unknown l (c.in-None.ensures.none l at)

@@ -1,5 +1,0 @@
-use Rattle.resolvo_refusal.proofs.Barring.{no_lock}
-use Rattle.resolvo_refusal.proofs.lines.is_lock.Goals as goal
-
-pub returns-in-None : goal.returns-in-None
-returns-in-None c = λ l at. no_lock l (c.in-None.ensures.none l at)

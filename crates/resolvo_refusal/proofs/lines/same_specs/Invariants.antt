@@ -1,7 +1,0 @@
-use Rattle.std.proofs.Common.{◌≡◌, take}
-use Rattle.resolvo_text.specs.View.{specs_of}
-use Rattle.resolvo_refusal.proofs.lines.same_specs.Given as goal
-
--- the SPECs so far are the same
-abbrev pub invariant-loop-place : goal.invariant-loop-place
-invariant-loop-place l = specs_of (take l.place l.some) ≡ specs_of (take l.place l.others)

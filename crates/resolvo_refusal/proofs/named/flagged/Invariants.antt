@@ -1,7 +1,0 @@
-use Rattle.resolvo_catalogue.specs.Questions.{AreAll}
-use Rattle.resolvo_refusal.specs.Named.{IsFlaggedLine}
-use Rattle.resolvo_refusal.proofs.named.flagged.Given as goal
-
--- the lines of the flags so far
-abbrev pub invariant-loop-place : goal.invariant-loop-place
-invariant-loop-place l = AreAll l.lines.items (IsFlaggedLine l.flags l.place)

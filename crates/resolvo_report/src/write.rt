@@ -1,0 +1,205 @@
+//! Writing a report to a device, line by line.
+//!
+//! What the device took is told as the front of the report's text. The program writes its answer so.
+
+ghost use Rattle.std.specs.Prelude.{◌≡◌, ◌++◌, ◌∷◌, [], ⊤, map, OnOk, OnErr, IfErr, codes};
+ghost use Rattle.resolvo_text.specs.Device.{WriterFailed, TakesFront};
+ghost use Rattle.resolvo_report.specs.Value as says;
+ghost use Rattle.resolvo_report.specs.View.{report_of, answer_lines_of, steps_of, messages_of};
+ghost use Rattle.resolvo_report.specs.Text.{lines_text, numbered, report_text};
+ghost use Rattle.resolvo_report.specs.Writing.{Wrote, StopsWriting};
+
+use crate::report::{AnswerLine, Report};
+use crate::step::Step;
+use resolvo_text::{Sink, WriteFault, write_all};
+use std::alloc::{AllocError, AllocFailed, Global};
+use thiserror::Error;
+
+/// Why a report was not written whole.
+#[derive(Clone, Copy, Debug, PartialEq, Eq, Error)]
+pub enum ReportWriteFault {
+    /// The device failed, took no byte, or was interrupted too often in a row.
+    #[error("the report could not be written")]
+    Writer,
+    #[error("out of memory")]
+    Memory,
+}
+
+impl From<WriteFault> for ReportWriteFault {
+    ghost use Rattle.resolvo_report.specs.declared.write.ReportWriteFault.TheVariants.{Writer};
+
+    ghost from_gives = { λ _ e. e ≡ Writer };
+
+    fn from(_fault: WriteFault) -> Self {
+        ReportWriteFault::Writer
+    }
+}
+
+impl From<AllocError> for ReportWriteFault {
+    ghost use Rattle.resolvo_report.specs.declared.write.ReportWriteFault.TheVariants.{Memory};
+
+    ghost from_gives = { λ _ e. e ≡ Memory };
+
+    fn from(_error: AllocError) -> Self {
+        ReportWriteFault::Memory
+    }
+}
+
+impl<T: Drop> From<AllocFailed<T>> for ReportWriteFault {
+    ghost use Rattle.resolvo_report.specs.declared.write.ReportWriteFault.TheVariants.{Memory};
+
+    ghost from_gives = { λ _ e. e ≡ Memory };
+
+    fn from(_error: AllocFailed<T>) -> Self {
+        ReportWriteFault::Memory
+    }
+}
+
+impl Report {
+    /// Writes the report.
+    pub fn write<S: Sink>(&self, alloc: Global, sink: &mut S) -> Result<(), ReportWriteFault>
+        ensures whole { OnOk result (Wrote (S.contents sink.old) (S.contents sink.new) (S.failures sink.old) (S.failures sink.new)
+            (S.empty_writes sink.old) (S.empty_writes sink.new) (report_text (report_of self.now))) }
+        ensures fault { IfErr result (λ e. StopsWriting e (S.contents sink.old) (S.contents sink.new) (S.failures sink.old) (S.failures sink.new)
+            (S.interruptions sink.new) (S.empty_writes sink.old) (S.empty_writes sink.new) (report_text (report_of self.now))) }
+    {
+        match self {
+            Report::Install { lines, steps } => write_install(alloc, sink, lines, steps),
+            Report::Refused {
+                catalogue,
+                request,
+                steps,
+                message,
+            } => write_refused(alloc, sink, catalogue, request, steps, message),
+        }
+    }
+}
+
+fn write_install<S: Sink>(
+    alloc: Global,
+    sink: &mut S,
+    lines: &[AnswerLine],
+    steps: &[Step],
+) -> Result<(), ReportWriteFault>
+    ensures whole { OnOk result (Wrote (S.contents sink.old) (S.contents sink.new) (S.failures sink.old) (S.failures sink.new)
+        (S.empty_writes sink.old) (S.empty_writes sink.new) (report_text (says.Install (answer_lines_of lines.now) (steps_of steps.now)))) }
+    ensures fault { IfErr result (λ e. StopsWriting e (S.contents sink.old) (S.contents sink.new) (S.failures sink.old) (S.failures sink.new)
+        (S.interruptions sink.new) (S.empty_writes sink.old) (S.empty_writes sink.new) (report_text (says.Install (answer_lines_of lines.now) (steps_of steps.now)))) }
+{
+    write_line(sink, "install\n")?;
+    write_answers(alloc, sink, lines)?;
+    write_steps(alloc, sink, steps)
+}
+
+fn write_refused<S: Sink>(
+    alloc: Global,
+    sink: &mut S,
+    catalogue: &[u32],
+    request: &[u32],
+    steps: &[Step],
+    message: &[Vec<u8>],
+) -> Result<(), ReportWriteFault>
+    ensures whole { OnOk result (Wrote (S.contents sink.old) (S.contents sink.new) (S.failures sink.old) (S.failures sink.new) (S.empty_writes sink.old)
+        (S.empty_writes sink.new) (report_text (says.Refused catalogue.now request.now (steps_of steps.now) (messages_of message.now)))) }
+    ensures fault { IfErr result (λ e. StopsWriting e (S.contents sink.old) (S.contents sink.new) (S.failures sink.old) (S.failures sink.new) (S.interruptions sink.new)
+        (S.empty_writes sink.old) (S.empty_writes sink.new) (report_text (says.Refused catalogue.now request.now (steps_of steps.now) (messages_of message.now)))) }
+{
+    write_line(sink, "refused\n")?;
+    write_named(alloc, sink, catalogue)?;
+    write_asked(alloc, sink, request)?;
+    write_steps(alloc, sink, steps)?;
+    write_message(sink, message)
+}
+
+fn write_line<S: Sink>(sink: &mut S, line: &str) -> Result<(), ReportWriteFault>
+    ensures whole { OnOk result (Wrote (S.contents sink.old) (S.contents sink.new) (S.failures sink.old) (S.failures sink.new)
+        (S.empty_writes sink.old) (S.empty_writes sink.new) line.now) }
+    ensures fault { IfErr result (λ e. StopsWriting e (S.contents sink.old) (S.contents sink.new) (S.failures sink.old) (S.failures sink.new)
+        (S.interruptions sink.new) (S.empty_writes sink.old) (S.empty_writes sink.new) line.now) }
+{
+    write_all(sink, line.as_bytes())?;
+    Ok(())
+}
+
+fn write_answers<S: Sink>(
+    alloc: Global,
+    sink: &mut S,
+    lines: &[AnswerLine],
+) -> Result<(), ReportWriteFault>
+    ensures whole { OnOk result (Wrote (S.contents sink.old) (S.contents sink.new) (S.failures sink.old) (S.failures sink.new)
+        (S.empty_writes sink.old) (S.empty_writes sink.new) (lines_text (map says.Answer (answer_lines_of lines.now)))) }
+    ensures fault { IfErr result (λ e. StopsWriting e (S.contents sink.old) (S.contents sink.new) (S.failures sink.old) (S.failures sink.new)
+        (S.interruptions sink.new) (S.empty_writes sink.old) (S.empty_writes sink.new) (lines_text (map says.Answer (answer_lines_of lines.now)))) }
+{
+    for line in lines {
+        let text = format!(in alloc; "{line}\n")?;
+        write_line(sink, text.as_str())?;
+    }
+    Ok(())
+}
+
+/// Writes which lines of the catalogue are named.
+fn write_named<S: Sink>(alloc: Global, sink: &mut S, lines: &[u32]) -> Result<(), ReportWriteFault>
+    ensures whole { OnOk result (Wrote (S.contents sink.old) (S.contents sink.new) (S.failures sink.old) (S.failures sink.new)
+        (S.empty_writes sink.old) (S.empty_writes sink.new) (lines_text (map says.CatalogueLine lines.now))) }
+    ensures fault { IfErr result (λ e. StopsWriting e (S.contents sink.old) (S.contents sink.new) (S.failures sink.old) (S.failures sink.new)
+        (S.interruptions sink.new) (S.empty_writes sink.old) (S.empty_writes sink.new) (lines_text (map says.CatalogueLine lines.now))) }
+{
+    for number in lines {
+        let text = format!(in alloc; "catalogue line {number}\n")?;
+        write_line(sink, text.as_str())?;
+    }
+    Ok(())
+}
+
+/// Writes which lines of the request are named.
+fn write_asked<S: Sink>(alloc: Global, sink: &mut S, lines: &[u32]) -> Result<(), ReportWriteFault>
+    ensures whole { OnOk result (Wrote (S.contents sink.old) (S.contents sink.new) (S.failures sink.old) (S.failures sink.new)
+        (S.empty_writes sink.old) (S.empty_writes sink.new) (lines_text (map says.RequestLine lines.now))) }
+    ensures fault { IfErr result (λ e. StopsWriting e (S.contents sink.old) (S.contents sink.new) (S.failures sink.old) (S.failures sink.new)
+        (S.interruptions sink.new) (S.empty_writes sink.old) (S.empty_writes sink.new) (lines_text (map says.RequestLine lines.now))) }
+{
+    for number in lines {
+        let text = format!(in alloc; "request line {number}\n")?;
+        write_line(sink, text.as_str())?;
+    }
+    Ok(())
+}
+
+fn write_steps<S: Sink>(alloc: Global, sink: &mut S, steps: &[Step]) -> Result<(), ReportWriteFault>
+    ensures whole { OnOk result (Wrote (S.contents sink.old) (S.contents sink.new) (S.failures sink.old) (S.failures sink.new)
+        (S.empty_writes sink.old) (S.empty_writes sink.new) (lines_text (numbered 1 (steps_of steps.now)))) }
+    ensures fault { IfErr result (λ e. StopsWriting e (S.contents sink.old) (S.contents sink.new) (S.failures sink.old) (S.failures sink.new)
+        (S.interruptions sink.new) (S.empty_writes sink.old) (S.empty_writes sink.new) (lines_text (numbered 1 (steps_of steps.now)))) }
+{
+    for i in 0..steps.len() {
+        let number = i + 1;
+        let step = &steps[i];
+        let text = format!(in alloc; "step {number} {step}\n")?;
+        write_line(sink, text.as_str())?;
+    }
+    Ok(())
+}
+
+fn write_message<S: Sink>(sink: &mut S, message: &[Vec<u8>]) -> Result<(), ReportWriteFault>
+    ensures whole { OnOk result (Wrote (S.contents sink.old) (S.contents sink.new) (S.failures sink.old) (S.failures sink.new)
+        (S.empty_writes sink.old) (S.empty_writes sink.new) (lines_text (map says.Message (messages_of message.now)))) }
+    ensures fault { IfErr result (λ e. StopsWriting e (S.contents sink.old) (S.contents sink.new) (S.failures sink.old) (S.failures sink.new)
+        (S.interruptions sink.new) (S.empty_writes sink.old) (S.empty_writes sink.new) (lines_text (map says.Message (messages_of message.now)))) }
+{
+    for bytes in message {
+        write_message_line(sink, bytes)?;
+    }
+    Ok(())
+}
+
+fn write_message_line<S: Sink>(sink: &mut S, bytes: &[u8]) -> Result<(), ReportWriteFault>
+    ensures whole { OnOk result (Wrote (S.contents sink.old) (S.contents sink.new) (S.failures sink.old) (S.failures sink.new)
+        (S.empty_writes sink.old) (S.empty_writes sink.new) (codes "| " ++ bytes.now ++ codes "\n")) }
+    ensures fault { IfErr result (λ e. StopsWriting e (S.contents sink.old) (S.contents sink.new) (S.failures sink.old) (S.failures sink.new)
+        (S.interruptions sink.new) (S.empty_writes sink.old) (S.empty_writes sink.new) (codes "| " ++ bytes.now ++ codes "\n")) }
+{
+    write_line(sink, "| ")?;
+    write_all(sink, bytes)?;
+    write_line(sink, "\n")
+}

@@ -1,7 +1,0 @@
-use Rattle.resolvo_reporting.proofs.Verdicts.{chosen_keeps, refused_none}
-use Rattle.resolvo_reporting.proofs.laws.either_hint_gives_one_verdict.Goals as goal
-
-pub returns : goal.returns
-returns c = λ catalogue said one other verdict another given given_other chosen refused.
-    let (set, keeps) = chosen_keeps catalogue said one verdict given chosen in
-    refused_none catalogue said other another given_other refused set keeps

@@ -1,8 +1,0 @@
-//! From a catalogue and a request to the report of the solver's answer: the turns of a search as those of a report.
-#![tactic(auto)]
-
-pub mod laws;
-mod message;
-pub mod reporting;
-pub mod turns;
-pub mod wishes;

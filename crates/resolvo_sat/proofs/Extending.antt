@@ -1,0 +1,75 @@
+-- Lemmas on a trail that goes on.
+use Rattle.std.proofs.Common.{◌≡◌, ℕ, ◌≤◌, ◌⊎◌, inl, inr, true, List, [], ◌∷◌, ◌++◌, reverse, take, drop, length, suc, refl, sym, ◌∙◌, ap, subst, arith, append_assoc}
+use Rattle.std.proofs.lemmas.List.{append-nil, reverse-append, take-append-le, take-append-drop}
+use Rattle.resolvo_pool_core.specs.declared.id.ClauseId.{ClauseId}
+use Rattle.resolvo_store_core.specs.Signed.{Signed, has}
+use Rattle.resolvo_store_core.specs.declared.decision.Entry.{Entry}
+use Rattle.resolvo_sat.specs.declared.state.SatState.{SatState}
+use Rattle.resolvo_sat.specs.Entries.{made_true, literal_of, before, top_level, StandsOn}
+use Rattle.resolvo_sat.specs.State.{history, clauses_of, lists, IsState}
+use Rattle.resolvo_sat.specs.Steps.{Sets, SameBut, KeepsChoices, forced_entry}
+use Rattle.resolvo_sat.specs.Propagation.{Extends}
+use Rattle.resolvo_sat.proofs.Literals.{has_here, has_right}
+use Rattle.resolvo_sat.proofs.StepLemmas.{reverse_push}
+
+-- a forced entry is no choice
+pub forced_keeps : (c : ClauseId) (l : Signed) (h new : List Entry) → new ≡ forced_entry c l h ∷ h → KeepsChoices h new
+forced_keeps c l h new is e older stands choice = go (subst (λ (x : List Entry). StandsOn x e older) is stands)
+  where
+    go : ((forced_entry c l h ≡ e) × (h ≡ older)) ⊎ StandsOn h e older → StandsOn h e older
+    go (inr s) = s
+    go (inl s) =
+        let a : e.level ≡ suc (top_level older) = choice.opens in
+        let b : top_level h ≡ e.level = ap (λ (x : Entry). x.level) s.0 in
+        let d : top_level h ≡ top_level older = ap top_level s.1 in
+        absurd (omega arith)
+
+pub set_pushed : (s t : SatState) (c : ClauseId) (l : Signed) → Sets c l s t → history t ≡ forced_entry c l (history s) ∷ history s
+set_pushed s t c l set = ap reverse set.pushed ∙ reverse_push s.tracker.trail (forced_entry c l (history s))
+
+pub set_extends : (s t : SatState) (c : ClauseId) (l : Signed) → Sets c l s t → Extends s t
+set_extends s t c l set = record { state = set.state; same = set.same; more = forced_entry c l (history s) ∷ []; added = set.pushed; choices = forced_keeps c l (history s) (history t) (set_pushed s t c l set) }
+
+pub set_stands : (s t : SatState) (c : ClauseId) (l : Signed) → Sets c l s t → has (made_true (history t)) l ≡ true
+set_stands s t c l set = subst (λ (h : List Entry). has (made_true h) l ≡ true) (sym (set_pushed s t c l set)) (has_here l (made_true (history s)) l refl)
+
+same_itself : (s : SatState) → SameBut s s
+same_itself s = record { variables = refl; base_level = refl; clauses = refl }
+
+pub extends_nothing : (s : SatState) → IsState s → Extends s s
+extends_nothing s state = record { state = state; same = same_itself s; more = []; added = sym (append-nil s.tracker.trail); choices = λ e older stands choice. stands }
+
+pub same_more : (s t u : SatState) → SameBut s t → SameBut t u → SameBut s u
+same_more s t u a b = record { variables = b.variables ∙ a.variables; base_level = b.base_level ∙ a.base_level; clauses = b.clauses ∙ a.clauses }
+
+pub extends_more : (s t u : SatState) → Extends s t → Extends t u → Extends s u
+extends_more s t u a b = record {
+  state = b.state;
+  same = same_more s t u a.same b.same;
+  more = a.more ++ b.more;
+  added = b.added ∙ ap (λ (xs : List Entry). xs ++ b.more) a.added ∙ append_assoc s.tracker.trail a.more b.more;
+  choices = λ e older stands choice. a.choices e older (b.choices e older stands choice) choice;
+}
+
+pub made_true-append : (xs ys : List Entry) → made_true (xs ++ ys) ≡ made_true xs ++ made_true ys
+made_true-append [] ys = refl
+made_true-append (x ∷ xs) ys = ap (λ (ls : List Signed). literal_of x ∷ ls) (made_true-append xs ys)
+
+pub known_in_more : (xs ys : List Entry) (l : Signed) → has (made_true (reverse xs)) l ≡ true → has (made_true (reverse (xs ++ ys))) l ≡ true
+known_in_more xs ys l h =
+    subst (λ (ls : List Signed). has ls l ≡ true) (sym (ap made_true (reverse-append xs ys) ∙ made_true-append (reverse ys) (reverse xs)))
+    (has_right (made_true (reverse ys)) (made_true (reverse xs)) l h)
+
+-- what was true stays true
+pub still_true : (s t : SatState) (l : Signed) → Extends s t → has (made_true (history s)) l ≡ true → has (made_true (history t)) l ≡ true
+still_true s t l e h = subst (λ (xs : List Entry). has (made_true (reverse xs)) l ≡ true) (sym e.added) (known_in_more s.tracker.trail e.more l h)
+
+-- what the first entries make true, the trail makes true
+pub true_by_now : (xs : List Entry) (k : ℕ) (l : Signed) → has (made_true (before xs k)) l ≡ true → has (made_true (reverse xs)) l ≡ true
+true_by_now xs k l h = subst (λ (ys : List Entry). has (made_true (reverse ys)) l ≡ true) (take-append-drop k xs) (known_in_more (take k xs) (drop k xs) l h)
+
+pub before_kept : (s t : SatState) (k : ℕ) → Extends s t → k ≤ length s.tracker.trail → before t.tracker.trail k ≡ before s.tracker.trail k
+before_kept s t k e h = ap (λ (xs : List Entry). before xs k) e.added ∙ ap reverse (take-append-le k s.tracker.trail e.more h)
+
+pub same_clauses : (s t : SatState) → Extends s t → clauses_of t ≡ clauses_of s
+same_clauses s t e = ap lists e.same.clauses

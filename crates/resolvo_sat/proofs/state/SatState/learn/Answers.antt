@@ -1,0 +1,22 @@
+use Rattle.std.proofs.Common.{refl}
+use Rattle.resolvo_sat.specs.declared.state.SatClause.{SatClause}
+use Rattle.resolvo_sat.proofs.Readiness.{ready_undone}
+use Rattle.resolvo_sat.proofs.Choosing.{undo_covered}
+use Rattle.resolvo_sat.proofs.Jumping.{added_forces, learns}
+use Rattle.resolvo_sat.proofs.state.SatState.learn.Goals as goal
+
+pub add_clause-requires-clause-ready : goal.add_clause-requires-clause-ready
+add_clause-requires-clause-ready c = ready_undone c.args.self.now c.undo_until.new.self c.args.watching.now c.args.learnt.level c.undo_until.ensures c.requires.ready
+
+pub add_clause-requires-clause-covered : goal.add_clause-requires-clause-covered
+add_clause-requires-clause-covered c = undo_covered c.args.self.now c.undo_until.new.self c.args.watching.now c.args.learnt.level c.undo_until.ensures c.requires.covered
+
+pub assign-requires-clause-forces : goal.assign-requires-clause-forces
+assign-requires-clause-forces c =
+    let h : SatClause = record { literals = c.args.learnt.literals; causes = c.args.learnt.causes } in
+    added_forces c.args.self.now c.undo_until.new.self c.add_clause.new.self c.args.watching.now c.add_clause.new.watching c.args.learnt h c.in_ok-clause.clause c.requires.ready.state c.requires.learnt c.undo_until.ensures refl c.in_ok-clause.ensures.added
+
+pub returns-clause-learns : goal.returns-clause-learns
+returns-clause-learns c =
+    let h : SatClause = record { literals = c.args.learnt.literals; causes = c.args.learnt.causes } in
+    learns c.args.self.now c.undo_until.new.self c.add_clause.new.self c.assign.new.self c.args.watching.now c.add_clause.new.watching c.args.learnt h c.in_ok-clause.clause c.undo_until.ensures refl c.in_ok-clause.ensures.added c.in_ok-assign.ensures.set

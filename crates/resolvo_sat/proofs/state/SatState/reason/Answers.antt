@@ -1,0 +1,84 @@
+use Rattle.std.proofs.Common.{◌≡◌, ◌<◌, ◌≤◌, ◌-◌, ◌^◌, ℕ, List, ◌∷◌, [], ◌++◌, true, length, is_ok, sym, ◌∙◌, ap, subst, arith}
+use Rattle.std.proofs.ResultArms.{chosen}
+use Rattle.resolvo_pool_core.specs.declared.id.ClauseId.{ClauseId}
+use Rattle.resolvo_store_core.specs.Signed.{Signed, negation}
+use Rattle.resolvo_store_core.specs.declared.decision.Entry.{Entry}
+use Rattle.resolvo_sat.specs.declared.state.SatState.{SatState}
+use Rattle.resolvo_sat.specs.Entries.{before, literal_of, reason_of, IsPropagated}
+use Rattle.resolvo_sat.specs.State.{clauses_of, count_of}
+use Rattle.resolvo_sat.specs.Known.{clause_at}
+use Rattle.resolvo_sat.specs.Analysis.{Walks, Seen, IsKeptOrForced, is_seen}
+use Rattle.resolvo_sat.proofs.Clauses.{length-lists}
+use Rattle.resolvo_sat.proofs.Walking.{Meets, meets, walk_begins, walk_keeps, walk_resolves, walk_at, rooted_before, rooted_before_false, false_forced, below_turn, kept_low, in_range_from}
+use Rattle.resolvo_sat.proofs.state.SatState.reason.Goals as goal
+
+pub literals-requires : goal.literals-requires
+literals-requires c =
+    let s : SatState = c.args.self.now in
+    let m : Meets s c.args.place c.args.entry = meets s c.args.place c.args.entry c.requires.state c.requires.in_range c.requires.next in
+    let forced : IsPropagated (clauses_of s) c.args.entry (before s.tracker.trail c.args.place) = false_forced s c.args.place c.args.entry m c.requires.fell in
+    omega (arith, length-lists s.clauses, in_range_from (clauses_of s) (reason_of c.args.entry) _ forced.forced.stands)
+
+pub literal_made_true-requires : goal.literal_made_true-requires
+literal_made_true-requires c =
+    let s : SatState = c.args.self.now in
+    let m : Meets s c.args.place c.args.entry = meets s c.args.place c.args.entry c.requires.state c.requires.in_range c.requires.next in
+    let below : c.args.entry.decision.variable.0 < count_of s = m.follows.in_range in
+    let small : count_of s < 2 ^ 31 = c.requires.state.small in
+    omega arith
+
+pub loop-at-init : goal.loop-at-init
+loop-at-init c =
+    let s : SatState = c.args.self.now in
+    let d : Entry = c.args.entry in
+    let m : Meets s c.args.place d = meets s c.args.place d c.requires.state c.requires.in_range c.requires.next in
+    let forced : IsPropagated (clauses_of s) d (before s.tracker.trail c.args.place) = false_forced s c.args.place d m c.requires.fell in
+    let rooted = rooted_before_false s c.args.place d c.requires.state m c.requires.fell in
+    let causes : c.push.new.self.items ≡ d.decision.derived_from ∷ [] =
+    chosen _ _ _ _ c.push.ensures.items (ap is_ok c.in_ok-push.was) ∙ ap (λ (l : List ClauseId). l ++ d.decision.derived_from ∷ []) c.new-causes.ensures.items in
+    let kept : c.push-2.new.self.items ≡ literal_of d ∷ [] =
+    chosen _ _ _ _ c.push-2.ensures.items (ap is_ok c.in_ok-push-2.was) ∙ ap (λ (l : List Signed). l ++ c.literal_made_true.result ∷ []) c.new-kept.ensures.items ∙ ap (λ (l : Signed). l ∷ []) c.literal_made_true.ensures in
+    let marked : Seen (clause_at (clauses_of s) (reason_of d)) c.new-seen.result c.mark_seen.new.seen = subst (λ (l : List Signed). Seen l c.new-seen.result c.mark_seen.new.seen) c.literals.ensures c.in_ok-mark_seen.ensures.marked in
+    subst (λ (k : List Signed). Walks s (literal_of d ∷ []) c.args.place c.mark_seen.new.seen k c.push.new.self.items) (sym kept)
+    (subst (λ (r : List ClauseId). Walks s (literal_of d ∷ []) c.args.place c.mark_seen.new.seen (literal_of d ∷ []) r) (sym causes)
+    (walk_begins s c.args.place d c.new-seen.result c.mark_seen.new.seen m rooted forced c.new-seen.ensures marked))
+
+pub loop-at-preserved-in-Continue-branch-4 : goal.loop-at-preserved-in-Continue-branch-4
+loop-at-preserved-in-Continue-branch-4 c =
+    let s : SatState = c.args.self.now in
+    let p : ℕ = c.loop-at.at - 1 in
+    let d : Entry = c.entry-earlier.result in
+    let bound : c.loop-at.at ≤ length s.tracker.trail = c.loop-at.invariant.in_range in
+    let within : p < length s.tracker.trail = omega arith in
+    let m : Meets s p d = meets s p d c.requires.state within c.entry-earlier.ensures.next in
+    let marked : is_seen c.loop-at.seen d ≡ true = sym c.contains.ensures ∙ c.if-contains.true in
+    let low : d.level < s.base_level = below_turn s p d c.requires.state m c.requires.above in
+    let pushed = chosen _ _ _ _ c.push-then-is_kept.ensures.items (ap is_ok c.in_ok-push-3.was) ∙ ap (λ (l : Signed). c.loop-at.kept.items ++ l ∷ []) (c.negate.ensures ∙ ap negation c.literal_made_true-then-is_kept.ensures) in
+    walk_keeps s (literal_of c.args.entry ∷ []) p d c.loop-at.seen c.loop-at.kept.items c.push-then-is_kept.new.self.items c.loop-at.causes.items m marked
+    (kept_low s p d 0 (omega arith) (λ above under. absurd (omega arith))
+    (subst (IsKeptOrForced s d (before s.tracker.trail p)) c.if-is_kept.true c.is_kept.ensures))
+    pushed (walk_at s (literal_of c.args.entry ∷ []) c.loop-at.at c.loop-at.seen c.loop-at.kept.items c.loop-at.causes.items c.loop-at-test.true c.loop-at.invariant)
+
+pub literals-requires-else-is_kept : goal.literals-requires-else-is_kept
+literals-requires-else-is_kept c =
+    let s : SatState = c.args.self.now in
+    let p : ℕ = c.loop-at.at - 1 in
+    let d : Entry = c.entry-earlier.result in
+    let forced : IsPropagated (clauses_of s) d (before s.tracker.trail p) = subst (IsKeptOrForced s d (before s.tracker.trail p)) c.if-is_kept.false c.is_kept.ensures in
+    omega (arith, length-lists s.clauses, in_range_from (clauses_of s) (reason_of d) _ forced.forced.stands)
+
+pub loop-at-preserved-in-Continue-branch-6 : goal.loop-at-preserved-in-Continue-branch-6
+loop-at-preserved-in-Continue-branch-6 c =
+    let s : SatState = c.args.self.now in
+    let p : ℕ = c.loop-at.at - 1 in
+    let d : Entry = c.entry-earlier.result in
+    let bound : c.loop-at.at ≤ length s.tracker.trail = c.loop-at.invariant.in_range in
+    let within : p < length s.tracker.trail = omega arith in
+    let m : Meets s p d = meets s p d c.requires.state within c.entry-earlier.ensures.next in
+    let is_marked_d : is_seen c.loop-at.seen d ≡ true = sym c.contains.ensures ∙ c.if-contains.true in
+    let forced : IsPropagated (clauses_of s) d (before s.tracker.trail p) = subst (IsKeptOrForced s d (before s.tracker.trail p)) c.if-is_kept.false c.is_kept.ensures in
+    let marked : Seen (clause_at (clauses_of s) (reason_of d)) c.loop-at.seen c.mark_seen-else-is_kept.new.seen = subst (λ (l : List Signed). Seen l c.loop-at.seen c.mark_seen-else-is_kept.new.seen) c.literals-else-is_kept.ensures c.in_ok-mark_seen-2.ensures.marked in
+    let pushed = chosen _ _ _ _ c.push-else-is_kept.ensures.items (ap is_ok c.in_ok-push-4.was) in
+    walk_resolves s (literal_of c.args.entry ∷ []) p d c.loop-at.seen c.mark_seen-else-is_kept.new.seen c.loop-at.kept.items c.loop-at.causes.items c.push-else-is_kept.new.self.items m
+    (rooted_before s p d c.loop-at.seen c.requires.state m c.loop-at.invariant.rootless is_marked_d) forced marked pushed
+    (walk_at s (literal_of c.args.entry ∷ []) c.loop-at.at c.loop-at.seen c.loop-at.kept.items c.loop-at.causes.items c.loop-at-test.true c.loop-at.invariant)

@@ -1,0 +1,126 @@
+-- What is learnt from a broken clause.
+use Rattle.std.specs.Prelude.{◌≡◌, ℕ, ◌<◌, ◌≤◌, ◌⊎◌, Bool, true, false, List, [], ◌∷◌, ◌++◌, reverse, length, cond, slice_index_or, Option, Some, None, slice_get}
+use Rattle.resolvo_pool_core.specs.declared.id.ClauseId.{ClauseId}
+use Rattle.resolvo_pool_core.specs.declared.id.VariableId.{VariableId}
+use Rattle.resolvo_store_core.specs.Signed.{Signed, negation, has}
+use Rattle.resolvo_store_core.specs.Clauses.{no}
+use Rattle.resolvo_store_core.specs.declared.decision.Entry.{Entry}
+use Rattle.resolvo_sat.specs.declared.state.VariableKind.TheVariants.{Solvable}
+use Rattle.resolvo_sat.specs.declared.state.SatState.{SatState}
+use Rattle.resolvo_sat.specs.declared.analyze.Analysis.{Analysis}
+use Rattle.resolvo_sat.specs.declared.analyze.Learnt.{Learnt}
+use Rattle.resolvo_sat.specs.declared.analyze.FinalConflict.{FinalConflict}
+use Rattle.resolvo_sat.specs.Known.{clause_at}
+use Rattle.resolvo_sat.specs.Entries.{literal_of, made_true, before, top_level, IsChoice, IsPropagated, StandsAt, StandsOn}
+use Rattle.resolvo_sat.specs.State.{history, clauses_of, IsDerived}
+
+-- the entry's variable is marked
+abbrev pub is_seen : List Bool → Entry → Bool
+is_seen seen e = slice_index_or seen e.decision.variable.0 false
+
+-- the negations of what the marked entries make true
+abbrev pub denied : List Bool → List Entry → List Signed
+denied seen [] = []
+denied seen (e ∷ older) = cond (is_seen seen e) (negation (literal_of e) ∷ denied seen older) (denied seen older)
+
+-- the variables of these literals, but the root's, are marked too, and no others
+pub record Seen (literals : List Signed) (old new : List Bool) : Type 0 where
+  pub keeps : (v : ℕ) → slice_index_or old v false ≡ true → slice_index_or new v false ≡ true
+  pub takes : (l : Signed) → has literals l ≡ true → (l.variable.0 ≡ 0) ⊎ (slice_index_or new l.variable.0 false ≡ true)
+  pub only : (v : ℕ) → slice_index_or new v false ≡ true → (slice_index_or old v false ≡ true) ⊎ ((v ≡ 0 → ⊥) × ((l : Signed) × (has literals l ≡ true) × (l.variable.0 ≡ v)))
+
+-- no marked entry stands above the level, which is not above the last entry's
+pub record IsMarkedLevel (seen : List Bool) (h : List Entry) (level : ℕ) : Type 0 where
+  pub bounds : (l : Signed) → has (denied seen h) l ≡ true → (k : ℕ) × (k ≤ level) × StandsAt h (negation l) k
+  pub low : level ≤ top_level h
+
+-- the variable stands for a solvable
+abbrev pub IsSolvable : SatState → ℕ → Type 0
+IsSolvable s v = slice_get s.variables.items v ≡ Some Solvable
+
+-- a choice that the search does not go behind: a solvable chosen before the turn, or the choice that began it
+pub record IsKept (s : SatState) (e : Entry) (older : List Entry) : Type 0 where
+  pub chosen : e.decision.value ≡ true
+  pub low : e.level ≤ s.base_level
+  pub begins : ((e.level < s.base_level) × IsSolvable s e.decision.variable.0) ⊎ IsChoice e older
+
+-- the literal denies a kept choice
+abbrev pub DeniesKept : SatState → Signed → Type 0
+DeniesKept s l = (e : Entry) × (older : List Entry) × StandsOn (history s) e older × (literal_of e ≡ negation l) × IsKept s e older
+
+-- each literal denies a kept choice
+abbrev pub DenyKept : SatState → List Signed → Type 0
+DenyKept s literals = (l : Signed) → has literals l ≡ true → DeniesKept s l
+
+-- each literal denies a kept choice, or is one of these
+abbrev pub DenyKeptBut : SatState → List Signed → List Signed → Type 0
+DenyKeptBut s these literals = (l : Signed) → has literals l ≡ true → (has these l ≡ true) ⊎ DeniesKept s l
+
+-- each literal stands in some clause
+abbrev pub AreFromClauses : SatState → List Signed → Type 0
+AreFromClauses s literals = (l : Signed) → has literals l ≡ true → (n : ℕ) × (has (clause_at (clauses_of s) n) l ≡ true)
+
+-- each literal but this one is false at the level or below
+abbrev pub IsBoundedBut : Signed → List Entry → List Signed → ℕ → Type 0
+IsBoundedBut except h clause level = (l : Signed) → has clause l ≡ true → (l ≡ except) ⊎ ((k : ℕ) × (k ≤ level) × StandsAt h (negation l) k)
+
+-- the learnt clause follows from its causes, and after a jump to its level all its literals but the asserted one are false
+pub record IsLearnt (s : SatState) (x : Learnt) : Type 0 where
+  pub derived : IsDerived (clauses_of s) x.literals.items x.causes.items
+  pub caused : 0 < length x.causes.items
+  pub from : AreFromClauses s x.literals.items
+  pub stands : has x.literals.items x.asserting ≡ true
+  pub others : IsBoundedBut x.asserting (history s) x.literals.items x.level
+  pub fell : (k : ℕ) × (x.level < k) × StandsAt (history s) (negation x.asserting) k
+  pub low : s.base_level ≤ x.level
+
+-- the clause follows from its causes, in which its literals stand, and denies kept choices alone
+pub record IsRefusal (s : SatState) (literals : List Signed) (causes : List ClauseId) : Type 0 where
+  pub derived : IsDerived (clauses_of s) literals causes
+  pub caused : 0 < length causes
+  pub from : AreFromClauses s literals
+  pub denies : DenyKept s literals
+
+-- why a literal holds: the clause follows from its causes, in which its literals stand, and denies kept choices but for this literal
+pub record IsReason (s : SatState) (l : Signed) (literals : List Signed) (causes : List ClauseId) : Type 0 where
+  pub derived : IsDerived (clauses_of s) literals causes
+  pub caused : 0 < length causes
+  pub from : AreFromClauses s literals
+  pub denies : DenyKeptBut s (l ∷ []) literals
+
+-- the clause follows from its causes, in which its literals stand, and it only denies
+pub record IsBar (s : SatState) (literals : List Signed) (causes : List ClauseId) : Type 0 where
+  pub derived : IsDerived (clauses_of s) literals causes
+  pub caused : 0 < length causes
+  pub from : AreFromClauses s literals
+  pub negative : (l : Signed) → has literals l ≡ true → l.positive ≡ false
+
+-- the variable is false, by this reason; or it isn't false
+abbrev pub IsRefuted : SatState → VariableId → Option FinalConflict → Type 0
+IsRefuted s v None = has (made_true (history s)) (no v) ≡ true → ⊥
+IsRefuted s v (Some r) = (has (made_true (history s)) (no v) ≡ true) × IsReason s (no v) r.literals.items r.causes.items
+
+abbrev pub IsAnalysis : SatState → Analysis → Type 0
+IsAnalysis s (Analysis.Refused x) = IsRefusal s x.literals.items x.causes.items
+IsAnalysis s (Analysis.Learnt x) = IsLearnt s x
+
+-- what was learnt where this entry is the last of its level, from these parts
+abbrev pub IsLearntOf : List Signed → List Signed → List ClauseId → Entry → ℕ → Analysis → Type 0
+IsLearntOf literals kept causes e level (Analysis.Refused x) = ⊥
+IsLearntOf literals kept causes e level (Analysis.Learnt x) = (x.literals.items ≡ (literals ++ kept) ++ negation (literal_of e) ∷ []) × (x.causes.items ≡ reverse causes) × (x.asserting ≡ negation (literal_of e)) × (x.level ≡ level)
+
+-- a choice, made before the turn where it is below its first level; else its clause forces it
+abbrev pub IsKeptOrForced : SatState → Entry → List Entry → Bool → Type 0
+IsKeptOrForced s e older true = (e.decision.value ≡ true) × (((e.level < s.base_level) × IsSolvable s e.decision.variable.0) ⊎ IsChoice e older)
+IsKeptOrForced s e older false = IsPropagated (clauses_of s) e older
+
+-- The walk back along the trail has come to this place: one pass over the causes, the newest first,
+-- refutes whatever denies the marked entries before it and makes the kept literals false. These deny kept choices, but for
+-- the literals from which the walk began.
+pub record Walks (s : SatState) (begun : List Signed) (place : ℕ) (seen : List Bool) (kept : List Signed) (causes : List ClauseId) : Type 0 where
+  pub in_range : place ≤ length s.tracker.trail
+  pub derived : IsDerived (clauses_of s) (denied seen (before s.tracker.trail place) ++ kept) (reverse causes)
+  pub caused : 0 < length causes
+  pub from : AreFromClauses s (denied seen (before s.tracker.trail place) ++ kept)
+  pub denies : DenyKeptBut s begun kept
+  pub rootless : slice_index_or seen 0 false ≡ false

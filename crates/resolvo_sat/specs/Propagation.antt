@@ -1,0 +1,237 @@
+-- What follows from the trail: walks over the clauses that watch what fell.
+use Rattle.std.specs.Prelude.{◌≡◌, ℕ, ◌+◌, ◌-◌, ◌<◌, ◌≤◌, ◌⊎◌, Bool, true, false, List, [], ◌∷◌, ◌++◌, drop, length, Option, Some, None}
+use Rattle.resolvo_pool_core.specs.declared.id.ClauseId.{ClauseId}
+use Rattle.resolvo_store_core.specs.Signed.{Signed, negation, same_literal, has}
+use Rattle.resolvo_store_core.specs.Clauses.{yes, root}
+use Rattle.resolvo_store_core.specs.Pairs.{watches, other_of}
+use Rattle.resolvo_store_core.specs.Watches.{watchers, pair_at, count, IsWatched, Moves}
+use Rattle.resolvo_store_core.specs.declared.decision.Entry.{Entry}
+use Rattle.resolvo_store_core.specs.declared.watched_literals.WatchedLiterals.{WatchedLiterals}
+use Rattle.resolvo_sat.specs.declared.state.SatState.{SatState}
+use Rattle.resolvo_sat.specs.declared.watch_lists.WatchLists.{WatchLists}
+use Rattle.resolvo_sat.specs.declared.watch_lists.UnitClause.{UnitClause}
+use Rattle.resolvo_sat.specs.declared.propagate.WatchVisit.{WatchVisit}
+use Rattle.resolvo_sat.specs.Known.{IsFalseUnder, clause_at}
+use Rattle.resolvo_sat.specs.Entries.{made_true, before}
+use Rattle.resolvo_sat.specs.State.{history, clauses_of, IsState}
+use Rattle.resolvo_sat.specs.Steps.{SameBut, KeepsChoices}
+
+-- the watched literals are the clause's own
+pub record IsOwnPair (clause : List Signed) (p : WatchedLiterals) : Type 0 where
+  pub first : has clause p.first ≡ true
+  pub second : has clause p.second ≡ true
+
+-- the clause has this literal alone
+pub record IsOnly (clause : List Signed) (l : Signed) : Type 0 where
+  pub stands : has clause l ≡ true
+  pub alone : (m : Signed) → has clause m ≡ true → m ≡ l
+
+abbrev pub HasSingle : List UnitClause → UnitClause → Type 0
+HasSingle [] x = ⊥
+HasSingle (y ∷ ys) x = (y ≡ x) ⊎ HasSingle ys x
+
+-- each stands for a clause of one literal
+abbrev pub AreSingles : List (List Signed) → List UnitClause → Type 0
+AreSingles clauses [] = Unit {0}
+AreSingles clauses (x ∷ xs) = (x.clause.0 < length clauses) × IsOnly (clause_at clauses x.clause.0) x.literal × AreSingles clauses xs
+
+-- the clause has two different literals
+abbrev pub HasTwo : List Signed → Type 0
+HasTwo clause = (l : Signed) × (m : Signed) × (has clause l ≡ true) × (has clause m ≡ true) × (same_literal l m ≡ false)
+
+-- the clause came, and is still to watch two of its literals
+abbrev pub Waits : ℕ → WatchLists → Type 0
+Waits n w = 0 < count n w.waiting.items
+
+-- the watches fit the clauses, whatever is true or false: a clause that watches something watches its own literals; a clause
+-- that waits watches nothing, has two different literals, and waits once
+pub record IsFit (s : SatState) (w : WatchLists) : Type 0 where
+  pub fit : IsWatched w.watched.items (watchers w.watches)
+  pub each : length w.watched.items ≡ length s.clauses
+  pub own : (n : ℕ) (p : WatchedLiterals) → pair_at w.watched.items n ≡ Some p → IsOwnPair (clause_at (clauses_of s) n) p
+  pub unwatched : (n : ℕ) → Waits n w → pair_at w.watched.items n ≡ None
+  pub two : (n : ℕ) → Waits n w → HasTwo (clause_at (clauses_of s) n)
+  pub once : (n : ℕ) → count n w.waiting.items ≤ 1
+
+-- where one of the two fell among the first literals, the other one is true
+pub record Guards (fallen known : List Signed) (p : WatchedLiterals) : Type 0 where
+  pub first : has fallen (negation p.first) ≡ true → has known p.second ≡ true
+  pub second : has fallen (negation p.second) ≡ true → has known p.first ≡ true
+
+-- the first k entries of the trail were walked: in each clause where one of the two watched literals
+-- fell by them, the other one is true
+abbrev pub IsWalkedTo : ℕ → SatState → WatchLists → Type 0
+IsWalkedTo k s w = (n : ℕ) (p : WatchedLiterals) → pair_at w.watched.items n ≡ Some p → Guards (made_true (before s.tracker.trail k)) (made_true (history s)) p
+
+-- what holds of the watches between calls: they fit the clauses, and the trail was walked up to its front
+pub record IsReady (s : SatState) (w : WatchLists) : Type 0 where
+  pub state : IsState s
+  pub fits : IsFit s w
+  pub front : s.tracker.front ≤ length s.tracker.trail
+  pub walked : IsWalkedTo s.tracker.front s w
+
+-- the clause is noted as one of one literal
+abbrev pub IsNoted : ℕ → WatchLists → Type 0
+IsNoted n w = (x : UnitClause) × (x.clause.0 ≡ n) × (HasSingle w.assertions.items x ⊎ HasSingle w.learnt.items x)
+
+-- a clause that watches nothing is the root's, which comes first, or is noted as one of one literal, or waits
+pub record AreCovered (s : SatState) (w : WatchLists) : Type 0 where
+  pub assertions : AreSingles (clauses_of s) w.assertions.items
+  pub learnt : AreSingles (clauses_of s) w.learnt.items
+  pub covered : (n : ℕ) → n < length s.clauses → pair_at w.watched.items n ≡ None → (n ≡ 0) ⊎ (IsNoted n w ⊎ Waits n w)
+  pub first : has (clause_at (clauses_of s) 0) (yes root) ≡ true
+
+-- no clause stopped watching, and none came: what waited waits still or watches, and the clauses of one literal are the same
+pub record SameWatching (v w : WatchLists) : Type 0 where
+  pub assertions : w.assertions ≡ v.assertions
+  pub learnt : w.learnt ≡ v.learnt
+  pub pairs : (n : ℕ) → pair_at w.watched.items n ≡ None → pair_at v.watched.items n ≡ None
+  pub waited : (n : ℕ) → Waits n w → Waits n v
+  pub waits : (n : ℕ) → Waits n v → pair_at w.watched.items n ≡ None → Waits n w
+
+-- where one of the two is this literal, the other one is true
+pub record Passed (l : Signed) (known : List Signed) (p : WatchedLiterals) : Type 0 where
+  pub first : p.first ≡ l → has known p.second ≡ true
+  pub second : p.second ≡ l → has known p.first ≡ true
+
+-- entries were added to the trail, none of them a choice
+pub record Extends (old new : SatState) : Type 0 where
+  pub state : IsState new
+  pub same : SameBut old new
+  pub more : List Entry
+  pub added : new.tracker.trail ≡ old.tracker.trail ++ more
+  pub choices : KeepsChoices (history old) (history new)
+
+-- the walk over the literal, whose negation is entry k, has come to this place
+pub record IsVisiting (k : ℕ) (l : Signed) (place : ℕ) (old s : SatState) (v w : WatchLists) : Type 0 where
+  pub fits : IsFit s w
+  pub extends : Extends old s
+  pub front : s.tracker.front ≡ old.tracker.front
+  pub walked : IsWalkedTo k s w
+  pub passed : (n : ℕ) (p : WatchedLiterals) → pair_at w.watched.items n ≡ Some p → count n (drop place (watchers w.watches l)) ≡ 0 → Passed l (made_true (history s)) p
+  pub entry : made_true (before s.tracker.trail (k + 1)) ≡ negation l ∷ made_true (before s.tracker.trail k)
+  pub long : k < length s.tracker.trail
+  pub watching : SameWatching v w
+
+-- a literal of the clause that is not false and not watched, or there is none
+abbrev pub IsFree : List Signed → List Signed → WatchedLiterals → Option Signed → Type 0
+IsFree known clause p None = (m : Signed) → has clause m ≡ true → (watches (Some p) m ≡ true) ⊎ (has known (negation m) ≡ true)
+IsFree known clause p (Some l) = (has clause l ≡ true) × (watches (Some p) l ≡ false) × (has known (negation l) ≡ false)
+
+-- the clause's other watched literal is true
+pub record Keeps (l : Signed) (p : WatchedLiterals) (s t : SatState) (w x : WatchLists) : Type 0 where
+  pub extends : Extends s t
+  pub front : t.tracker.front ≡ s.tracker.front
+  pub same_watching : x ≡ w
+  pub stands : has (made_true (history t)) (other_of p l) ≡ true
+
+-- the clause watches another literal, which is not false
+pub record Replaces (l : Signed) (place n : ℕ) (s t : SatState) (w x : WatchLists) : Type 0 where
+  pub same_state : t ≡ s
+  pub to : Signed
+  pub moves : Moves l place to w.watched.items x.watched.items (watchers w.watches) (watchers x.watches)
+  pub assertions : x.assertions ≡ w.assertions
+  pub learnt : x.learnt ≡ w.learnt
+  pub waiting : x.waiting ≡ w.waiting
+  pub own : has (clause_at (clauses_of s) n) to ≡ true
+  pub unwatched : watches (pair_at w.watched.items n) to ≡ false
+  pub free : has (made_true (history s)) (negation to) ≡ false
+
+-- all literals of the clause are false
+pub record Breaks (n : ℕ) (s t : SatState) (w x : WatchLists) : Type 0 where
+  pub same_state : t ≡ s
+  pub same_watching : x ≡ w
+  pub falls : IsFalseUnder (made_true (history s)) (clause_at (clauses_of s) n)
+
+-- what came of the clause that was met
+abbrev pub IsMeeting : Signed → ℕ → ℕ → WatchedLiterals → SatState → WatchLists → SatState → WatchLists → WatchVisit → Type 0
+IsMeeting l place n p s w t x WatchVisit.Kept = Keeps l p s t w x
+IsMeeting l place n p s w t x WatchVisit.Moved = Replaces l place n s t w x
+IsMeeting l place n p s w t x WatchVisit.Broken = Breaks n s t w x
+
+-- the clause is wholly false
+pub record IsBroken (n : ℕ) (s : SatState) : Type 0 where
+  pub in_range : n < length s.clauses
+  pub falls : IsFalseUnder (made_true (history s)) (clause_at (clauses_of s) n)
+
+-- the first k entries of the trail were walked, and what follows was added
+pub record Walked (k : ℕ) (old new : SatState) (v w : WatchLists) : Type 0 where
+  pub watching : SameWatching v w
+  pub fits : IsFit new w
+  pub extends : Extends old new
+  pub front : new.tracker.front ≡ old.tracker.front
+  pub walked : IsWalkedTo k new w
+
+abbrev pub AllTrue : List Signed → List UnitClause → Type 0
+AllTrue known [] = Unit {0}
+AllTrue known (x ∷ xs) = (has known x.literal ≡ true) × AllTrue known xs
+
+-- a literal of the clause is true, or two different ones are not false
+abbrev pub IsQuiet : List Signed → List Signed → Type 0
+IsQuiet known clause = ((l : Signed) × (has clause l ≡ true) × (has known l ≡ true))
+    ⊎ ((l : Signed) × (m : Signed) × (has clause l ≡ true) × (has clause m ≡ true) × (same_literal l m ≡ false) × (has known (negation l) ≡ false) × (has known (negation m) ≡ false))
+
+-- nothing is left to set: no clause is wholly false, and none has one literal left; all of the trail was walked, and no clause waits
+pub record IsComplete (old new : SatState) (v w : WatchLists) : Type 0 where
+  pub watching : SameWatching v w
+  pub ready : IsReady new w
+  pub extends : Extends old new
+  pub front : new.tracker.front ≡ length new.tracker.trail
+  pub settled : (n : ℕ) → Waits n w → ⊥
+  pub quiet : (n : ℕ) → n < length new.clauses → IsQuiet (made_true (history new)) (clause_at (clauses_of new) n)
+
+-- the clause is wholly false by what follows
+pub record Conflicts (n : ℕ) (old new : SatState) (v w : WatchLists) : Type 0 where
+  pub watching : SameWatching v w
+  pub ready : IsReady new w
+  pub extends : Extends old new
+  pub broken : IsBroken n new
+
+-- a broken clause, or the entry's literal was walked over
+abbrev pub IsVisit : ℕ → SatState → SatState → WatchLists → WatchLists → Option ClauseId → Type 0
+IsVisit k old new v w None = Walked (k + 1) old new v w
+IsVisit k old new v w (Some n) = Conflicts n.0 old new v w
+
+abbrev pub IsPropagation : SatState → SatState → WatchLists → WatchLists → Option ClauseId → Type 0
+IsPropagation old new v w None = IsComplete old new v w
+IsPropagation old new v w (Some n) = Conflicts n.0 old new v w
+
+-- the literal is true, or false as it was
+abbrev pub IsSingleSet : UnitClause → SatState → SatState → Bool → Type 0
+IsSingleSet x old new true = Extends old new × (new.tracker.front ≡ old.tracker.front) × (has (made_true (history new)) x.literal ≡ true)
+IsSingleSet x old new false = (new ≡ old) × (has (made_true (history old)) (negation x.literal) ≡ true)
+
+-- the first singles' literals are true
+pub record SetsSingles (part : List UnitClause) (old new : SatState) : Type 0 where
+  pub extends : Extends old new
+  pub front : new.tracker.front ≡ old.tracker.front
+  pub set : AllTrue (made_true (history new)) part
+
+abbrev pub IsSinglesEnd : List UnitClause → SatState → SatState → Option ClauseId → Type 0
+IsSinglesEnd singles old new None = SetsSingles singles old new
+IsSinglesEnd singles old new (Some n) = Extends old new × (new.tracker.front ≡ old.tracker.front) × IsBroken n.0 new
+
+-- the literal fell by the entry of this place
+pub record FellAt (l : Signed) (place : ℕ) (s : SatState) : Type 0 where
+  pub in_range : place < length s.tracker.trail
+  pub entry : made_true (before s.tracker.trail (place + 1)) ≡ negation l ∷ made_true (before s.tracker.trail place)
+
+-- the place of the entry that was taken last
+abbrev pub last_taken : SatState → ℕ
+last_taken s = s.tracker.front - 1
+
+-- the entry at the front was taken, by which the literal fell; or there is none behind it
+abbrev pub IsTaken : SatState → SatState → Option Signed → Type 0
+IsTaken old new None = (length old.tracker.trail ≤ old.tracker.front) × Extends old new × (new.tracker.trail ≡ old.tracker.trail) × (new.tracker.front ≡ length old.tracker.trail)
+IsTaken old new (Some l) = FellAt l old.tracker.front old × Extends old new × (new.tracker.trail ≡ old.tracker.trail) × (new.tracker.front ≡ old.tracker.front + 1)
+
+-- propagation has come to this entry of the trail, and no clause waits
+pub record Running (old s : SatState) (v w : WatchLists) : Type 0 where
+  pub watching : SameWatching v w
+  pub settled : (n : ℕ) → Waits n w → ⊥
+  pub fits : IsFit s w
+  pub extends : Extends old s
+  pub walked : IsWalkedTo s.tracker.front s w
+  pub assertions : AllTrue (made_true (history s)) v.assertions.items
+  pub learnt : AllTrue (made_true (history s)) v.learnt.items
+  pub in_range : s.tracker.front ≤ length s.tracker.trail

@@ -1,0 +1,68 @@
+-- What the steps of the search do.
+use Rattle.std.specs.Prelude.{◌≡◌, ℕ, suc, ◌<◌, ◌≤◌, ◌⊎◌, true, List, [], ◌∷◌, ◌++◌, length, min}
+use Rattle.resolvo_pool_core.specs.declared.id.ClauseId.{ClauseId}
+use Rattle.resolvo_pool_core.specs.declared.id.VariableId.{VariableId}
+use Rattle.resolvo_store_core.specs.Signed.{Signed, has}
+use Rattle.resolvo_store_core.specs.Trail.{Tracked}
+use Rattle.resolvo_store_core.specs.declared.decision.Entry.{Entry}
+use Rattle.resolvo_sat.specs.declared.state.SatClause.{SatClause}
+use Rattle.resolvo_sat.specs.declared.state.SatState.{SatState}
+use Rattle.resolvo_sat.specs.Entries.{top_level, IsChoice, StandsOn, IsUndone}
+use Rattle.resolvo_sat.specs.State.{history, IsState}
+
+-- the literal is of one of the variables
+abbrev pub AreInRange : ℕ → List Signed → Type 0
+AreInRange count literals = (l : Signed) → has literals l ≡ true → l.variable.0 < count
+
+-- the entry of a literal that a clause forces
+abbrev pub forced_entry : ClauseId → Signed → List Entry → Entry
+forced_entry c l older = record { decision = record { variable = l.variable; value = l.positive; derived_from = c }; level = top_level older }
+
+-- the entry of a variable that is chosen to be true, for a clause
+abbrev pub choice_entry : VariableId → ClauseId → List Entry → Entry
+choice_entry v c older = record { decision = record { variable = v; value = true; derived_from = c }; level = suc (top_level older) }
+
+-- only the trail changed
+pub record SameBut (old new : SatState) : Type 0 where
+  pub variables : new.variables ≡ old.variables
+  pub base_level : new.base_level ≡ old.base_level
+  pub clauses : new.clauses ≡ old.clauses
+
+-- each choice was one before, over the same older entries
+abbrev pub KeepsChoices : List Entry → List Entry → Type 0
+KeepsChoices old new = (e : Entry) (older : List Entry) → StandsOn new e older → IsChoice e older → StandsOn old e older
+
+-- the literal was made true, forced by the clause
+pub record Sets (c : ClauseId) (l : Signed) (old new : SatState) : Type 0 where
+  pub state : IsState new
+  pub same : SameBut old new
+  pub pushed : new.tracker.trail ≡ old.tracker.trail ++ forced_entry c l (history old) ∷ []
+  pub front : new.tracker.front ≡ old.tracker.front
+
+-- the variable was chosen to be true, at the next level
+pub record Chooses (v : VariableId) (c : ClauseId) (old new : SatState) : Type 0 where
+  pub state : IsState new
+  pub same : SameBut old new
+  pub pushed : new.tracker.trail ≡ old.tracker.trail ++ choice_entry v c (history old) ∷ []
+  pub front : new.tracker.front ≡ old.tracker.front
+
+-- propagation begins anew at the trail's first entry; or it goes on, as no entry was taken away
+abbrev pub IsFrontUndone : Tracked → Tracked → Type 0
+IsFrontUndone old new = (new.front ≡ 0) ⊎ ((new.trail ≡ old.trail) × (new.front ≡ min old.front (length old.trail)))
+
+-- the entries above the level are gone
+pub record Undoes (level : ℕ) (old new : SatState) : Type 0 where
+  pub state : IsState new
+  pub same : SameBut old new
+  pub undone : IsUndone level (history old) (history new)
+  pub low : top_level (history new) ≤ level
+  pub front : IsFrontUndone old.tracker new.tracker
+
+-- the clause came behind the others
+pub record Adds (c : SatClause) (id : ClauseId) (old new : SatState) : Type 0 where
+  pub state : IsState new
+  pub variables : new.variables ≡ old.variables
+  pub base_level : new.base_level ≡ old.base_level
+  pub tracker : new.tracker ≡ old.tracker
+  pub number : id.0 ≡ length old.clauses
+  pub added : new.clauses ≡ old.clauses ++ c ∷ []

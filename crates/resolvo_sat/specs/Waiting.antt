@@ -1,0 +1,71 @@
+-- A clause that waited begins to watch two of its literals.
+use Rattle.std.specs.Prelude.{◌≡◌, ◌+◌, ◌-◌, ℕ, ◌⊎◌, Bool, true, false, List, [], ◌∷◌, ◌++◌, length, slice_get, slice_set, Option, Some, None}
+use Rattle.resolvo_pool_core.specs.declared.id.ClauseId.{ClauseId}
+use Rattle.resolvo_store_core.specs.Signed.{Signed, negation, same_literal, has}
+use Rattle.resolvo_store_core.specs.Watches.{watchers, StartsIn}
+use Rattle.resolvo_store_core.specs.declared.watched_literals.WatchedLiterals.{WatchedLiterals}
+use Rattle.resolvo_sat.specs.declared.state.SatState.{SatState}
+use Rattle.resolvo_sat.specs.declared.watch_lists.WatchLists.{WatchLists}
+use Rattle.resolvo_sat.specs.Known.{IsFalseUnder, clause_at}
+use Rattle.resolvo_sat.specs.Entries.{made_true}
+use Rattle.resolvo_sat.specs.State.{history, clauses_of}
+use Rattle.resolvo_sat.specs.Propagation.{IsReady, IsOwnPair, Guards, Waits, SameWatching, Extends, IsBroken, Conflicts}
+
+-- each literal of the clause is this one, or false
+abbrev pub AreFalseBut : Signed → List Signed → List Signed → Type 0
+AreFalseBut l known clause = (m : Signed) → has clause m ≡ true → (m ≡ l) ⊎ (has known (negation m) ≡ true)
+
+-- a literal of the clause beside this one, false only where all of them are; or the clause has no other
+abbrev pub IsBestBeside : List Signed → List Signed → Signed → Option Signed → Type 0
+IsBestBeside known clause l None = (m : Signed) → has clause m ≡ true → m ≡ l
+IsBestBeside known clause l (Some m) = (has clause m ≡ true) × (same_literal l m ≡ false) × (has known (negation m) ≡ true → AreFalseBut l known clause)
+
+-- the same of the literals so far, each of which is this one, or false
+abbrev pub IsBestSoFar : List Signed → List Signed → List Signed → Signed → Option Signed → Type 0
+IsBestSoFar known clause part l None = (m : Signed) → has part m ≡ true → m ≡ l
+IsBestSoFar known clause part l (Some m) = (has clause m ≡ true) × (same_literal l m ≡ false) × AreFalseBut l known part
+
+-- the literal, or the one that there was
+abbrev pub IsEither : Option Signed → Signed → Signed → Type 0
+IsEither None l m = m ≡ l
+IsEither (Some k) l m = (m ≡ l) ⊎ (m ≡ k)
+
+-- two different literals of the clause: where the first is false, so is the second, and where the second is, so are all but the first
+pub record IsBestPair (known clause : List Signed) (p : WatchedLiterals) : Type 0 where
+  pub own : IsOwnPair clause p
+  pub differ : same_literal p.first p.second ≡ false
+  pub first : has known (negation p.first) ≡ true → has known (negation p.second) ≡ true
+  pub others : has known (negation p.second) ≡ true → AreFalseBut p.first known clause
+
+-- where one of the two is false, the other one is true; or the clause is wholly false
+abbrev pub IsFirstSet : ℕ → WatchedLiterals → SatState → SatState → Bool → Type 0
+IsFirstSet n p old new true = Extends old new × (new.tracker.front ≡ old.tracker.front) × Guards (made_true (history new)) (made_true (history new)) p
+IsFirstSet n p old new false = (new ≡ old) × IsFalseUnder (made_true (history old)) (clause_at (clauses_of old) n)
+
+-- the clause is the last one
+abbrev pub IsLast : ClauseId → List ClauseId → Type 0
+IsLast c xs = slice_get xs (length xs - 1) ≡ Some c
+
+-- the clause that waited last watches the two
+pub record Starts (c : ClauseId) (p : WatchedLiterals) (v w : WatchLists) : Type 0 where
+  pub waiting : v.waiting.items ≡ w.waiting.items ++ c ∷ []
+  pub watched : w.watched.items ≡ slice_set v.watched.items c.0 (Some p)
+  pub lists : StartsIn c p (watchers v.watches) (watchers w.watches)
+  pub assertions : w.assertions ≡ v.assertions
+  pub learnt : w.learnt ≡ v.learnt
+
+-- clauses that waited watch, and what they force is set
+pub record Settles (old new : SatState) (v w : WatchLists) : Type 0 where
+  pub watching : SameWatching v w
+  pub ready : IsReady new w
+  pub extends : Extends old new
+
+-- one clause less waits; or the clause is wholly false, and all is as it was
+abbrev pub IsSettling : ℕ → SatState → SatState → WatchLists → WatchLists → Bool → Type 0
+IsSettling n old new v w true = Settles old new v w × (length w.waiting.items + 1 ≡ length v.waiting.items)
+IsSettling n old new v w false = (new ≡ old) × (w ≡ v) × IsBroken n old
+
+-- no clause waits any longer; or one of those that do is wholly false
+abbrev pub IsWaitingEnd : SatState → SatState → WatchLists → WatchLists → Option ClauseId → Type 0
+IsWaitingEnd old new v w None = Settles old new v w × ((n : ℕ) → Waits n w → ⊥)
+IsWaitingEnd old new v w (Some n) = Conflicts n.0 old new v w

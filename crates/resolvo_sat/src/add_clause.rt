@@ -1,0 +1,79 @@
+//! A clause comes, and waits until it watches two of its literals.
+ghost use Rattle.std.specs.Prelude.{◌≡◌, ◌<◌, length, true, not, IfOk, IsErrOf, IsOkUnless};
+ghost use Rattle.resolvo_pool_core.specs.declared.want.Want.TheVariants.{Memory, Ids};
+ghost use Rattle.resolvo_store_core.specs.Signed.{has};
+ghost use Rattle.resolvo_sat.specs.State.{IsDerived, clauses_of, count_of};
+ghost use Rattle.resolvo_sat.specs.Steps.{AreInRange};
+ghost use Rattle.resolvo_sat.specs.Propagation.{IsReady, AreCovered};
+ghost use Rattle.resolvo_sat.specs.Adding.{HasAnother, with_last, Begins, Comes};
+
+use crate::state::{SatClause, SatState};
+use crate::watch_lists::{UnitClause, WatchLists};
+use resolvo_pool_core::id::ClauseId;
+use resolvo_pool_core::want::R;
+use resolvo_store_core::literal::Literal;
+
+impl SatState {
+    /// Adds a clause, a rule or one that follows from its causes. It waits until propagation lets it
+    /// watch two of its literals; a clause of one literal is noted as such, and watches nothing.
+    pub fn add_clause(&mut self, watching: &mut WatchLists, clause: SatClause) -> R<ClauseId>
+        requires ready { IsReady self.old watching.old }
+        requires covered { AreCovered self.old watching.old }
+        requires follows { 0 < length clause.causes.items → IsDerived (clauses_of self.old) clause.literals.items clause.causes.items }
+        requires in_range { AreInRange (count_of self.old) clause.literals.items }
+        requires some { 0 < length clause.literals.items }
+        ensures added { IfOk result (λ id. Comes clause id self.old watching.old self.new watching.new) }
+        ensures ids { IsErrOf result Ids → length self.old.clauses ≡ 4294967295 }
+    {
+        let literal = clause.literals[0];
+        let is_long = has_another(clause.literals.as_slice(), literal);
+        let is_rule = clause.causes.is_empty();
+        let clause = self.hold(clause)?;
+        watching.begin(UnitClause { clause, literal }, is_long, is_rule)?;
+        Ok(clause)
+    }
+}
+
+/// Whether a clause has a literal beside this one of its own.
+fn has_another(literals: &[Literal], first: Literal) -> bool
+    requires { has literals.now first ≡ true }
+    ensures { HasAnother literals.now first result }
+{
+    for literal in literals {
+        if *literal != first {
+            return true;
+        }
+    }
+    false
+}
+
+impl WatchLists {
+    /// Takes a clause that came behind the others: it waits, or has this one literal alone.
+    fn begin(&mut self, single: UnitClause, is_long: bool, is_rule: bool) -> R<()>
+        ensures begun { IfOk result (λ _. Begins single is_long is_rule self.old self.new) }
+        ensures refusal { IsOkUnless result Memory }
+    {
+        if is_long {
+            self.waiting.push(single.clause)?;
+        } else {
+            self.note(single, is_rule)?;
+        }
+        self.watched.push(None)?;
+        Ok(())
+    }
+
+    /// Notes a clause of one literal.
+    fn note(&mut self, single: UnitClause, is_rule: bool) -> R<()>
+        ensures assertions { IfOk result (λ _. self.new.assertions.items ≡ with_last is_rule single self.old.assertions.items) }
+        ensures learnt { IfOk result (λ _. self.new.learnt.items ≡ with_last (not is_rule) single self.old.learnt.items) }
+        ensures others { (self.new.watched ≡ self.old.watched) × (self.new.watches ≡ self.old.watches) × (self.new.waiting ≡ self.old.waiting) }
+        ensures refusal { IsOkUnless result Memory }
+    {
+        if is_rule {
+            self.assertions.push(single)?;
+        } else {
+            self.learnt.push(single)?;
+        }
+        Ok(())
+    }
+}

@@ -1,0 +1,73 @@
+//! Why a variable is false before its turn: a walk back along the trail from the clause that made it so.
+ghost use Rattle.std.specs.Prelude.{◌≡◌, ◌<◌, ◌+◌, ◌∷◌, length, false, IfOk, IsOkUnless};
+ghost use Rattle.resolvo_pool_core.specs.declared.want.Want.TheVariants.{Memory};
+ghost use Rattle.resolvo_sat.specs.Entries.{before, literal_of, top_level};
+ghost use Rattle.resolvo_sat.specs.State.{IsState, history};
+ghost use Rattle.resolvo_sat.specs.Analysis.{IsReason, IsRefuted};
+
+use crate::analyze::{FinalConflict, literal_made_true, mark_seen};
+use crate::state::SatState;
+use resolvo_pool_core::id::VariableId;
+use resolvo_pool_core::indexed_set::IndexedSet;
+use resolvo_pool_core::want::R;
+use resolvo_store_core::decision::Entry;
+use std::alloc::Global;
+
+impl SatState {
+    /// Why a variable is false, before a turn has set anything: a clause that denies it and choices of earlier turns, with
+    /// its causes in the order of reading. None where the variable isn't false.
+    pub fn analyze_final(&self, alloc: Global, variable: VariableId) -> R<Option<FinalConflict>>
+        requires state { IsState self.now }
+        requires above { top_level (history self.now) < self.now.base_level }
+        ensures refuted { IfOk result (IsRefuted self.now variable) }
+        ensures refusal { IsOkUnless result Memory }
+    {
+        let mut place = self.tracker.stack().len();
+        while place > 0 {
+            place -= 1;
+            let entry = self.entry(place);
+            if entry.decision.variable == variable && !entry.decision.value {
+                let reason = self.reason(alloc, place, entry)?;
+                return Ok(Some(reason));
+            }
+        }
+        Ok(None)
+    }
+
+    /// Goes back along the trail from the clause that forced an entry. Each marked entry is resolved with its reason, but
+    /// for choices, which the clause denies.
+    fn reason(&self, alloc: Global, place: usize, entry: Entry) -> R<FinalConflict>
+        requires state { IsState self.now }
+        requires above { top_level (history self.now) < self.now.base_level }
+        requires in_range { place < length self.now.tracker.trail }
+        requires next { before self.now.tracker.trail (place + 1) ≡ entry ∷ before self.now.tracker.trail place }
+        requires fell { entry.decision.value ≡ false }
+        ensures reason { IfOk result (λ r. IsReason self.now (literal_of entry) r.literals.items r.causes.items) }
+        ensures refusal { IsOkUnless result Memory }
+    {
+        let mut seen = IndexedSet::new(alloc);
+        mark_seen(&mut seen, self.literals(entry.decision.derived_from))?;
+        let mut causes = Vec::new(alloc);
+        causes.push(entry.decision.derived_from)?;
+        let mut kept = Vec::new(alloc);
+        kept.push(literal_made_true(entry))?;
+        let mut at = place;
+        while at > 0 {
+            at -= 1;
+            let earlier = self.entry(at);
+            if seen.contains(earlier.decision.variable) {
+                if self.is_kept(at, earlier) {
+                    kept.push(literal_made_true(earlier).negate())?;
+                } else {
+                    causes.push(earlier.decision.derived_from)?;
+                    mark_seen(&mut seen, self.literals(earlier.decision.derived_from))?;
+                }
+            }
+        }
+        causes.reverse();
+        Ok(FinalConflict {
+            literals: kept,
+            causes,
+        })
+    }
+}

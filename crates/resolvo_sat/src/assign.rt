@@ -1,0 +1,95 @@
+//! The steps of the search: a literal is made true, a variable is chosen, entries are undone, a clause
+//! comes.
+ghost use Rattle.std.specs.Prelude.{◌≡◌, ◌<◌, ◌≤◌, length, true, IfOk, IsErrOf, IsOkUnless};
+ghost use Rattle.resolvo_pool_core.specs.declared.want.Want.TheVariants.{Memory, Ids};
+ghost use Rattle.resolvo_store_core.specs.Signed.{negation, has};
+ghost use Rattle.resolvo_store_core.specs.Clauses.{yes};
+ghost use Rattle.resolvo_sat.specs.Known.{Forces, IsUndecided, clause_at};
+ghost use Rattle.resolvo_sat.specs.Entries.{made_true};
+ghost use Rattle.resolvo_sat.specs.State.{IsState, IsDerived, history, clauses_of, count_of};
+ghost use Rattle.resolvo_sat.specs.Steps.{AreInRange, Sets, Chooses, Undoes, Adds};
+
+use crate::state::{SatClause, SatState};
+use resolvo_pool_core::id::{ClauseId, VariableId};
+use resolvo_pool_core::want::R;
+use resolvo_store_core::decision::Decision;
+use resolvo_store_core::literal::Literal;
+
+impl SatState {
+    /// Whether a literal is true.
+    pub fn is_true(&self, literal: Literal) -> bool
+        requires { IsState self.now }
+        ensures { result ≡ has (made_true (history self.now)) literal }
+    {
+        literal.is_true(self.tracker.map())
+    }
+
+    /// Whether a literal is false.
+    pub fn is_false(&self, literal: Literal) -> bool
+        requires { IsState self.now }
+        ensures { result ≡ has (made_true (history self.now)) (negation literal) }
+    {
+        literal.is_false(self.tracker.map())
+    }
+
+    /// Makes the literal true that a clause forces.
+    pub fn assign(&mut self, clause: ClauseId, literal: Literal) -> R<()>
+        requires state { IsState self.old }
+        requires forces { Forces (made_true (history self.old)) (clause_at (clauses_of self.old) clause.0) literal }
+        ensures set { IfOk result (λ _. Sets clause literal self.old self.new) }
+        ensures refusal { IsOkUnless result Memory }
+    {
+        let level = self.top_level();
+        let decision = Decision {
+            variable: literal.variable(),
+            value: literal.satisfying_value(),
+            derived_from: clause,
+        };
+        self.tracker.try_add_decision(decision, level)?;
+        Ok(())
+    }
+
+    /// Chooses a variable to be true, for a clause, at the next level.
+    pub fn choose(&mut self, variable: VariableId, clause: ClauseId) -> R<()>
+        requires state { IsState self.old }
+        requires in_range { variable.0 < count_of self.old }
+        requires undecided { IsUndecided (made_true (history self.old)) (yes variable) }
+        ensures chosen { IfOk result (λ _. Chooses variable clause self.old self.new) }
+        ensures refusal { IsOkUnless result Memory }
+    {
+        let level = self.top_level() + 1;
+        let decision = Decision {
+            variable,
+            value: true,
+            derived_from: clause,
+        };
+        self.tracker.try_add_decision(decision, level)?;
+        Ok(())
+    }
+
+    /// Takes the entries above a level away. Where there were such, propagation begins anew, since what
+    /// stood in the way of a false literal may be gone.
+    pub fn undo_until(&mut self, level: u32)
+        requires state { IsState self.old }
+        requires one { 1 ≤ level }
+        ensures { Undoes level self.old self.new }
+    {
+        let count = self.tracker.stack().len();
+        self.tracker.undo_until(level);
+        if self.tracker.stack().len() < count {
+            self.tracker.again();
+        }
+    }
+
+    /// Adds a clause: a rule, or one that follows from its causes.
+    pub fn hold(&mut self, clause: SatClause) -> R<ClauseId>
+        requires state { IsState self.old }
+        requires follows { 0 < length clause.causes.items → IsDerived (clauses_of self.old) clause.literals.items clause.causes.items }
+        requires in_range { AreInRange (count_of self.old) clause.literals.items }
+        ensures added { IfOk result (λ id. Adds clause id self.old self.new) }
+        ensures ids { IsErrOf result Ids → length self.old.clauses ≡ 4294967295 }
+    {
+        let id = self.clauses.alloc(clause)?;
+        Ok(id)
+    }
+}

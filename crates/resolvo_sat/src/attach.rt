@@ -1,0 +1,172 @@
+//! Clauses that wait begin to watch: each the two of its literals that fell last, or not at all.
+ghost use Rattle.std.specs.Prelude.{◌≡◌, ◌-◌, ◌<◌, length, reverse, slice_get, false, IfOk, IsOkUnless};
+ghost use Rattle.resolvo_pool_core.specs.declared.want.Want.TheVariants.{Memory};
+ghost use Rattle.resolvo_store_core.specs.Signed.{same_literal};
+ghost use Rattle.resolvo_sat.specs.Known.{clause_at};
+ghost use Rattle.resolvo_sat.specs.Entries.{made_true};
+ghost use Rattle.resolvo_sat.specs.State.{IsState, history, clauses_of};
+ghost use Rattle.resolvo_sat.specs.Propagation.{HasTwo, IsReady};
+ghost use Rattle.resolvo_sat.specs.Waiting.{IsBestBeside, IsEither, IsBestPair, IsFirstSet, IsLast, Starts, IsSettling, IsWaitingEnd};
+
+use crate::state::SatState;
+use crate::watch_lists::WatchLists;
+use resolvo_pool_core::id::{ClauseId, DenseIndex};
+use resolvo_pool_core::want::R;
+use resolvo_store_core::literal::Literal;
+use resolvo_store_core::watched_literals::WatchedLiterals;
+
+impl SatState {
+    /// Lets the clauses that wait watch, in the order in which they came, and sets what they force; or
+    /// gives one of them that is wholly false, which goes on waiting.
+    pub(crate) fn attach_pending(&mut self, watching: &mut WatchLists) -> R<Option<ClauseId>>
+        requires ready { IsReady self.old watching.old }
+        ensures settled { IfOk result (IsWaitingEnd self.old self.new watching.old watching.new) }
+        ensures refusal { IsOkUnless result Memory }
+    {
+        watching.turn_waiting();
+        let broken = self.attach_from_last(watching)?;
+        Ok(broken)
+    }
+
+    /// Lets the clauses that wait watch, the last first, and sets what they force; or gives one of them
+    /// that is wholly false.
+    fn attach_from_last(&mut self, watching: &mut WatchLists) -> R<Option<ClauseId>>
+        requires ready { IsReady self.old watching.old }
+        ensures settled { IfOk result (IsWaitingEnd self.old self.new watching.old watching.new) }
+        ensures refusal { IsOkUnless result Memory }
+    {
+        while let Some(clause) = watching.last_waiting() {
+            match self.attach(watching, clause)? {
+                true => {}
+                false => return Ok(Some(clause)),
+            }
+        }
+        Ok(None)
+    }
+
+    /// Lets the clause that waits last watch, and sets what it forces; false where it is wholly false.
+    fn attach(&mut self, watching: &mut WatchLists, clause: ClauseId) -> R<bool>
+        requires ready { IsReady self.old watching.old }
+        requires last { IsLast clause watching.old.waiting.items }
+        ensures settled { IfOk result (IsSettling clause.0 self.old self.new watching.old watching.new) }
+        ensures refusal { IsOkUnless result Memory }
+    {
+        let watched = self.watch_pair(clause);
+        match self.assign_first(clause, &watched)? {
+            true => {
+                watching.start(clause, watched)?;
+                Ok(true)
+            }
+            false => Ok(false),
+        }
+    }
+
+    /// Makes the first of the two true where the clause forces it; false where the clause is wholly false.
+    fn assign_first(&mut self, clause: ClauseId, watched: &WatchedLiterals) -> R<bool>
+        requires state { IsState self.old }
+        requires best { IsBestPair (made_true (history self.old)) (clause_at (clauses_of self.old) clause.0) watched.now }
+        ensures set { IfOk result (IsFirstSet clause.0 watched.now self.old self.new) }
+        ensures refusal { IsOkUnless result Memory }
+    {
+        if !self.is_false(watched.second) {
+            return Ok(true);
+        }
+        if self.is_true(watched.first) {
+            return Ok(true);
+        }
+        if self.is_false(watched.first) {
+            return Ok(false);
+        }
+        self.assign(clause, watched.first)?;
+        Ok(true)
+    }
+
+    /// The two literals for a clause to watch: those that aren't false, or that fell last.
+    fn watch_pair(&self, clause: ClauseId) -> WatchedLiterals
+        requires state { IsState self.now }
+        requires two { HasTwo (clause_at (clauses_of self.now) clause.0) }
+        ensures { IsBestPair (made_true (history self.now)) (clause_at (clauses_of self.now) clause.0) result }
+    {
+        let any = self.literals(clause)[0];
+        let best = self.best_beside(clause, any).unwrap();
+        let next = self.best_beside(clause, best).unwrap();
+        if self.is_false(best) {
+            return WatchedLiterals {
+                first: next,
+                second: best,
+            };
+        }
+        WatchedLiterals {
+            first: best,
+            second: next,
+        }
+    }
+
+    /// The literal of a clause, beside this one, that isn't false, or that fell last.
+    fn best_beside(&self, clause: ClauseId, beside: Literal) -> Option<Literal>
+        requires state { IsState self.now }
+        requires in_range { clause.0 < length self.now.clauses }
+        ensures { IsBestBeside (made_true (history self.now)) (clause_at (clauses_of self.now) clause.0) beside result }
+    {
+        let mut best = None;
+        for literal in self.literals(clause) {
+            if *literal != beside {
+                if !self.is_false(*literal) {
+                    return Some(*literal);
+                }
+                best = Some(self.later(best, *literal));
+            }
+        }
+        best
+    }
+
+    /// The one of two literals that fell at the higher level.
+    fn later(&self, best: Option<Literal>, literal: Literal) -> Literal
+        ensures { IsEither best literal result }
+    {
+        match best {
+            Some(other) => {
+                let level = self.tracker.level(literal.variable());
+                if level < self.tracker.level(other.variable()) {
+                    other
+                } else {
+                    literal
+                }
+            }
+            None => literal,
+        }
+    }
+}
+
+impl WatchLists {
+    /// Turns the order of the clauses that wait, so that the first comes last.
+    fn turn_waiting(&mut self)
+        ensures turned { self.new.waiting.items ≡ reverse self.old.waiting.items }
+        ensures rest { self.new ≡ record self.old { waiting = self.new.waiting } }
+    {
+        self.waiting.as_mut_slice().reverse();
+    }
+
+    /// The clause that waits last.
+    fn last_waiting(&self) -> Option<ClauseId>
+        ensures { result ≡ slice_get self.now.waiting.items (length self.now.waiting.items - 1) }
+    {
+        self.waiting.as_slice().last().copied()
+    }
+
+    /// Lets the clause that waits last watch two literals.
+    fn start(&mut self, clause: ClauseId, watched: WatchedLiterals) -> R<()>
+        requires last { IsLast clause self.old.waiting.items }
+        requires in_range { clause.0 < length self.old.watched.items }
+        requires differ { same_literal watched.first watched.second ≡ false }
+        ensures started { IfOk result (λ _. Starts clause watched self.old self.new) }
+        ensures refusal { IsOkUnless result Memory }
+    {
+        let WatchedLiterals { first, second } = watched;
+        self.watches
+            .start_watching(WatchedLiterals { first, second }, clause)?;
+        self.watched[clause.to_index()] = Some(WatchedLiterals { first, second });
+        self.waiting.pop();
+        Ok(())
+    }
+}

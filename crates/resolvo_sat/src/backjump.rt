@@ -1,0 +1,35 @@
+//! What was learnt is added, after a jump to the level at which it asserts its literal.
+ghost use Rattle.std.specs.Prelude.{◌≡◌, length, IfOk, IsErrOf};
+ghost use Rattle.resolvo_pool_core.specs.declared.want.Want.TheVariants.{Ids};
+ghost use Rattle.resolvo_sat.specs.Analysis.{IsLearnt};
+ghost use Rattle.resolvo_sat.specs.Propagation.{IsReady, AreCovered};
+ghost use Rattle.resolvo_sat.specs.Adding.{Learns};
+
+use crate::analyze::Learnt;
+use crate::state::{SatClause, SatState};
+use crate::watch_lists::WatchLists;
+use resolvo_pool_core::id::ClauseId;
+use resolvo_pool_core::want::R;
+
+impl SatState {
+    /// Jumps to the level of what was learnt, adds the clause, which waits, and makes its asserted
+    /// literal true.
+    pub fn learn(&mut self, watching: &mut WatchLists, learnt: Learnt) -> R<ClauseId>
+        requires ready { IsReady self.old watching.old }
+        requires covered { AreCovered self.old watching.old }
+        requires learnt { IsLearnt self.old learnt }
+        ensures learns { IfOk result (λ id. Learns learnt id self.old self.new watching.new) }
+        ensures ids { IsErrOf result Ids → length self.old.clauses ≡ 4294967295 }
+    {
+        let Learnt {
+            literals,
+            causes,
+            asserting,
+            level,
+        } = learnt;
+        self.undo_until(level);
+        let clause = self.add_clause(watching, SatClause { literals, causes })?;
+        self.assign(clause, asserting)?;
+        Ok(clause)
+    }
+}

@@ -1,0 +1,83 @@
+//! The search at its start: the root is true, and there is no other variable.
+ghost use Rattle.std.specs.Prelude.{◌≡◌, ◌∷◌, [], length, IfOk, IsErrOf, IsOkUnless};
+ghost use Rattle.resolvo_pool_core.specs.declared.want.Want.TheVariants.{Memory, Ids};
+ghost use Rattle.resolvo_sat.specs.State.{IsState, count_of, history};
+ghost use Rattle.resolvo_sat.specs.Propagation.{IsReady, AreCovered};
+ghost use Rattle.resolvo_sat.specs.Beginning.{Begun, AddsVariable, IsRootClause};
+
+use crate::state::{SatClause, SatState, VariableKind};
+use crate::watch_lists::WatchLists;
+use resolvo_pool_core::arena::Arena;
+use resolvo_pool_core::id::{ClauseId, VariableId};
+use resolvo_pool_core::want::{R, Want};
+use resolvo_store_core::decision::Decision;
+use resolvo_store_core::decision_tracker::DecisionTracker;
+use resolvo_store_core::literal::Literal;
+use resolvo_store_core::watch_map::WatchMap;
+use std::alloc::Global;
+
+/// The search at its start. The first clause says that the root, the first variable, is true; the
+/// trail begins with it, at level 1.
+pub fn begin(alloc: Global) -> R<(SatState, WatchLists)>
+    ensures begun { IfOk result (λ p. Begun p.0 p.1) }
+    ensures refusal { IsOkUnless result Memory }
+{
+    let mut variables = Vec::new(alloc);
+    variables.push(VariableKind::Root)?;
+    let mut tracker = DecisionTracker::new(alloc);
+    tracker.try_add_decision(
+        Decision {
+            variable: VariableId(0),
+            value: true,
+            derived_from: ClauseId(0),
+        },
+        1,
+    )?;
+    let mut watched = Vec::new(alloc);
+    watched.push(None)?;
+    let state = SatState {
+        variables,
+        clauses: root_clause(alloc)?,
+        tracker,
+        base_level: 1,
+    };
+    let watching = WatchLists {
+        watched,
+        watches: WatchMap::new(alloc),
+        assertions: Vec::new(alloc),
+        learnt: Vec::new(alloc),
+        waiting: Vec::new(alloc),
+    };
+    Ok((state, watching))
+}
+
+/// The clause that the root is true, alone.
+fn root_clause(alloc: Global) -> R<Arena<ClauseId, SatClause>>
+    ensures clause { IfOk result IsRootClause }
+    ensures refusal { IsOkUnless result Memory }
+{
+    let mut literals = Vec::new(alloc);
+    literals.push(Literal::new(VariableId(0), false))?;
+    let mut clauses = Arena::new(alloc);
+    clauses.alloc(SatClause {
+        literals,
+        causes: Vec::new(alloc),
+    })?;
+    Ok(clauses)
+}
+
+impl SatState {
+    /// Adds a variable, the next one by number. There are 2,147,483,647 at most.
+    pub fn add_variable(&mut self, kind: VariableKind) -> R<VariableId>
+        requires { IsState self.old }
+        ensures added { IfOk result (λ v. AddsVariable kind v self.old self.new) }
+        ensures ids { IsErrOf result Ids → count_of self.old ≡ 2147483647 }
+    {
+        let number = self.variables.len();
+        if number >= 2147483647 {
+            return Err(Want::Ids);
+        }
+        self.variables.push(kind)?;
+        Ok(VariableId(number as u32))
+    }
+}

@@ -1,0 +1,178 @@
+//! What follows from the trail. Propagation goes on at the trail's front: in each clause one of whose
+//! watched literals fell before it, the other one is true. Clauses that came since wait for it.
+ghost use Rattle.std.specs.Prelude.{◌≡◌, ◌<◌, slice_get, length, Some, true, IfOk, IsOkUnless};
+ghost use Rattle.resolvo_pool_core.specs.declared.want.Want.TheVariants.{Memory};
+ghost use Rattle.resolvo_store_core.specs.Signed.{negation, has};
+ghost use Rattle.resolvo_store_core.specs.Watches.{watchers, pair_at};
+ghost use Rattle.resolvo_sat.specs.Known.{clause_at};
+ghost use Rattle.resolvo_sat.specs.Entries.{made_true};
+ghost use Rattle.resolvo_sat.specs.State.{IsState, history, clauses_of};
+ghost use Rattle.resolvo_sat.specs.Propagation.{IsReady, IsFit, AreCovered, AreSingles, IsFree, FellAt, last_taken, IsMeeting, IsVisit, IsWalkedTo, IsOnly, IsSingleSet, IsSinglesEnd, IsTaken, IsPropagation};
+
+use crate::state::SatState;
+use crate::watch_lists::{UnitClause, WatchLists};
+use resolvo_pool_core::id::ClauseId;
+use resolvo_pool_core::want::R;
+use resolvo_store_core::literal::Literal;
+use resolvo_store_core::watch_map::WatchMapCursor;
+use resolvo_store_core::watched_literals::WatchedLiterals;
+
+/// What became of a clause that was met.
+#[derive(Clone, Copy, Debug)]
+pub enum WatchVisit {
+    /// It watches what it watched; its other watched literal is true.
+    Kept,
+    /// It watches another literal.
+    Moved,
+    /// All its literals are false.
+    Broken,
+}
+
+impl SatState {
+    /// A literal of the clause to watch in place of a false one.
+    fn free_literal(&self, clause: ClauseId, watched: &WatchedLiterals) -> Option<Literal>
+        requires state { IsState self.now }
+        requires in_range { clause.0 < length self.now.clauses }
+        ensures { IsFree (made_true (history self.now)) (clause_at (clauses_of self.now) clause.0) watched.now result }
+    {
+        for literal in self.literals(clause) {
+            let is_watched = watched.watches(*literal);
+            if !is_watched && !self.is_false(*literal) {
+                return Some(*literal);
+            }
+        }
+        None
+    }
+
+    /// Sees to the clause at a cursor, one of whose watched literals fell.
+    fn visit_clause(
+        &mut self,
+        watching: &mut WatchLists,
+        cursor: WatchMapCursor,
+        clause: ClauseId,
+        watched: WatchedLiterals,
+    ) -> R<WatchVisit>
+        requires state { IsState self.old }
+        requires fits { IsFit self.old watching.old }
+        requires known { has (made_true (history self.old)) (negation cursor.literal) ≡ true }
+        requires stands { slice_get (watchers watching.old.watches cursor.literal) cursor.place ≡ Some clause }
+        requires pair { pair_at watching.old.watched.items clause.0 ≡ Some watched }
+        ensures met { IfOk result (IsMeeting cursor.literal cursor.place clause.0 watched self.old watching.old self.new watching.new) }
+        ensures refusal { IsOkUnless result Memory }
+    {
+        let other = watched.other(cursor.literal);
+        if self.is_true(other) {
+            return Ok(WatchVisit::Kept);
+        }
+        match self.free_literal(clause, &watched) {
+            Some(to) => {
+                cursor.update(&mut watching.watches, watching.watched.as_mut_slice(), to)?;
+                Ok(WatchVisit::Moved)
+            }
+            None => {
+                if self.is_false(other) {
+                    Ok(WatchVisit::Broken)
+                } else {
+                    self.assign(clause, other)?;
+                    Ok(WatchVisit::Kept)
+                }
+            }
+        }
+    }
+
+    /// Walks over the clauses that watch a literal, which fell by the entry that was taken last. Where
+    /// one of them is wholly false, its walk is left unfinished, and propagation is to begin anew.
+    fn propagate_literal(
+        &mut self,
+        watching: &mut WatchLists,
+        literal: Literal,
+    ) -> R<Option<ClauseId>>
+        requires state { IsState self.old }
+        requires fits { IsFit self.old watching.old }
+        requires fell { FellAt literal (last_taken self.old) self.old }
+        requires walked { IsWalkedTo (last_taken self.old) self.old watching.old }
+        ensures propagate_literal { IfOk result (IsVisit (last_taken self.old) self.old self.new watching.old watching.new) }
+        ensures refusal { IsOkUnless result Memory }
+    {
+        let mut cursor = watching.watches.cursor(literal);
+        while let Some(clause) = cursor.clause_id(&watching.watches) {
+            let watched = cursor.watched_literals(&watching.watches, watching.watched.as_slice());
+            match self.visit_clause(watching, cursor, clause, watched)? {
+                WatchVisit::Kept => cursor.next(),
+                WatchVisit::Moved => {}
+                WatchVisit::Broken => {
+                    self.tracker.again();
+                    return Ok(Some(clause));
+                }
+            }
+        }
+        Ok(None)
+    }
+
+    /// Makes the literal of a clause of one literal true, unless it is false.
+    fn assign_unit(&mut self, single: UnitClause) -> R<bool>
+        requires state { IsState self.old }
+        requires alone { IsOnly (clause_at (clauses_of self.old) single.clause.0) single.literal }
+        ensures set { IfOk result (IsSingleSet single self.old self.new) }
+        ensures refusal { IsOkUnless result Memory }
+    {
+        if self.is_false(single.literal) {
+            return Ok(false);
+        }
+        if !self.is_true(single.literal) {
+            self.assign(single.clause, single.literal)?;
+        }
+        Ok(true)
+    }
+
+    /// Makes the literals of the clauses of one literal true, or gives one of them that is false.
+    fn assign_units(&mut self, singles: &[UnitClause]) -> R<Option<ClauseId>>
+        requires state { IsState self.old }
+        requires alone { AreSingles (clauses_of self.old) singles.now }
+        ensures set { IfOk result (IsSinglesEnd singles.now self.old self.new) }
+        ensures refusal { IsOkUnless result Memory }
+    {
+        for single in singles {
+            match self.assign_unit(*single)? {
+                true => {}
+                false => return Ok(Some(single.clause)),
+            }
+        }
+        Ok(None)
+    }
+
+    /// Takes the entry at the trail's front, and gives the literal that fell by it; none behind the last.
+    fn take_next(&mut self) -> Option<Literal>
+        requires state { IsState self.old }
+        ensures { IsTaken self.old self.new result }
+    {
+        match self.tracker.next_unpropagated() {
+            Some(decision) => Some(Literal::new(decision.variable, decision.value)),
+            None => None,
+        }
+    }
+
+    /// Sets what the clauses force, from the trail's front on, or gives a clause that is wholly false.
+    pub fn propagate(&mut self, watching: &mut WatchLists) -> R<Option<ClauseId>>
+        requires ready { IsReady self.old watching.old }
+        requires covered { AreCovered self.old watching.old }
+        ensures propagation { IfOk result (IsPropagation self.old self.new watching.old watching.new) }
+        ensures refusal { IsOkUnless result Memory }
+    {
+        if let Some(clause) = self.assign_units(watching.assertions.as_slice())? {
+            return Ok(Some(clause));
+        }
+        if let Some(clause) = self.assign_units(watching.learnt.as_slice())? {
+            return Ok(Some(clause));
+        }
+        if let Some(clause) = self.attach_pending(watching)? {
+            return Ok(Some(clause));
+        }
+        while let Some(literal) = self.take_next() {
+            if let Some(clause) = self.propagate_literal(watching, literal)? {
+                return Ok(Some(clause));
+            }
+        }
+        Ok(None)
+    }
+}

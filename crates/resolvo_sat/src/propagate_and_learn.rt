@@ -1,0 +1,44 @@
+//! One step of the search: what follows is set, and what a broken clause teaches is learnt.
+ghost use Rattle.std.specs.Prelude.{◌≡◌, length, IfOk, IsErrOf};
+ghost use Rattle.resolvo_pool_core.specs.declared.want.Want.TheVariants.{Ids};
+ghost use Rattle.resolvo_sat.specs.Propagation.{IsReady, AreCovered};
+ghost use Rattle.resolvo_sat.specs.Advancing.{IsProgress};
+
+use crate::analyze::{Analysis, FinalConflict};
+use crate::state::SatState;
+use crate::watch_lists::WatchLists;
+use resolvo_pool_core::id::ClauseId;
+use resolvo_pool_core::want::R;
+use std::alloc::Global;
+
+/// What one step of the search came to.
+#[derive(Debug, Drop)]
+pub enum StepResult {
+    /// Nothing is left to set.
+    Complete,
+    /// A clause was broken, and this one was learnt from it.
+    Learnt(ClauseId),
+    /// A clause was broken by choices that the turn does not go behind.
+    Refused(FinalConflict),
+}
+
+impl SatState {
+    /// Sets what the clauses force; where one is broken, learns from it, or tells why the turn is refused.
+    pub fn propagate_and_learn(&mut self, alloc: Global, watching: &mut WatchLists) -> R<StepResult>
+        requires ready { IsReady self.old watching.old }
+        requires covered { AreCovered self.old watching.old }
+        ensures progress { IfOk result (IsProgress self.old watching.old self.new watching.new) }
+        ensures ids { IsErrOf result Ids → length self.old.clauses ≡ 4294967295 }
+    {
+        match self.propagate(watching)? {
+            None => Ok(StepResult::Complete),
+            Some(broken) => match self.analyze(alloc, broken)? {
+                Analysis::Refused(refusal) => Ok(StepResult::Refused(refusal)),
+                Analysis::Learnt(learnt) => {
+                    let clause = self.learn(watching, learnt)?;
+                    Ok(StepResult::Learnt(clause))
+                }
+            },
+        }
+    }
+}

@@ -1,0 +1,103 @@
+//! What the search stands on: the variables, the clauses with their causes, and the trail.
+ghost use Rattle.std.specs.Prelude.{◌≡◌, ◌<◌, ◌≤◌, ◌+◌, ◌∷◌, length};
+ghost use Rattle.std.specs.Bool.{Decides};
+ghost use Rattle.resolvo_sat.specs.Entries.{before, top_level};
+ghost use Rattle.resolvo_sat.specs.State.{IsState, history, clauses_of};
+ghost use Rattle.resolvo_sat.specs.Known.{clause_at};
+ghost use Rattle.resolvo_sat.specs.Analysis.{IsSolvable};
+
+use resolvo_pool_core::arena::Arena;
+use resolvo_pool_core::id::{ClauseId, DenseIndex, VariableId};
+use resolvo_store_core::decision::Entry;
+use resolvo_store_core::decision_tracker::DecisionTracker;
+use resolvo_store_core::literal::Literal;
+
+/// What a variable stands for.
+#[derive(Clone, Copy, Debug, PartialEq, Eq)]
+pub enum VariableKind {
+    /// The problem itself; always true.
+    Root,
+    /// A solvable.
+    Solvable,
+    /// A helper of the encoding.
+    Helper,
+}
+
+/// A clause: one of its literals is true. A rule has no causes; a learnt clause has those from which
+/// it follows, in the order of reading.
+#[derive(Debug, Drop)]
+pub struct SatClause {
+    pub literals: Vec<Literal>,
+    pub causes: Vec<ClauseId>,
+}
+
+/// The variables by their numbers, the clauses, the trail, and the first level of the turn: no jump
+/// goes below it.
+pub struct SatState {
+    pub variables: Vec<VariableKind>,
+    pub clauses: Arena<ClauseId, SatClause>,
+    pub tracker: DecisionTracker,
+    pub base_level: u32,
+}
+
+// split for the prover: what owns one calls this drop, and doesn't drop each field at each exit
+impl Drop for SatState {
+    fn drop(self) {
+        let SatState {
+            variables: _,
+            clauses: _,
+            tracker: _,
+            base_level: _,
+        } = self;
+    }
+}
+
+impl SatState {
+    /// The entry at a place of the trail.
+    pub fn entry(&self, place: usize) -> Entry
+        requires state { IsState self.now }
+        requires in_range { place < length self.now.tracker.trail }
+        ensures next { before self.now.tracker.trail (place + 1) ≡ result ∷ before self.now.tracker.trail place }
+        ensures small { result.decision.variable.0 < 2147483648 }
+    {
+        self.tracker.stack()[place]
+    }
+
+    /// The level at which the trail ends.
+    pub fn top_level(&self) -> u32
+        ensures { result ≡ top_level (history self.now) }
+    {
+        match self.tracker.stack().last() {
+            Some(entry) => entry.level,
+            None => 0,
+        }
+    }
+
+    /// The literals of a clause.
+    pub fn literals(&self, clause: ClauseId) -> &[Literal]
+        requires { clause.0 < length self.now.clauses }
+        ensures { result.now ≡ clause_at (clauses_of self.now) clause.0 }
+    {
+        self.clauses[clause].literals.as_slice()
+    }
+
+    /// Whether a variable stands for a solvable.
+    pub fn is_solvable(&self, variable: VariableId) -> bool
+        ensures { Decides result (IsSolvable self.now variable.0) }
+    {
+        let index = variable.to_index();
+        index < self.variables.len() && self.variables[index] == VariableKind::Solvable
+    }
+
+    /// The level of the entry before a place of the trail, or 0 at its front.
+    pub fn level_before(&self, place: usize) -> u32
+        requires state { IsState self.now }
+        requires in_range { place ≤ length self.now.tracker.trail }
+        ensures { result ≡ top_level (before self.now.tracker.trail place) }
+    {
+        if place == 0 {
+            return 0;
+        }
+        self.entry(place - 1).level
+    }
+}

@@ -1,8 +1,0 @@
-use Rattle.std.proofs.Common.{take, None}
-use Rattle.resolvo_search.specs.State.{history}
-use Rattle.resolvo_search.specs.Entries.{made_true}
-use Rattle.resolvo_search.specs.Propagation.{IsFree}
-use Rattle.resolvo_search.proofs.state.SearchState.free_literal.Given as goal
-
-abbrev pub invariant-loop-literal : goal.invariant-loop-literal
-invariant-loop-literal l = IsFree (made_true (history l.self)) (take l.literal-index l.literal-items) l.watched None

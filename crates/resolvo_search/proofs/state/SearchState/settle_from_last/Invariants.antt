@@ -1,9 +1,0 @@
-use Rattle.std.proofs.Common.{length}
-use Rattle.resolvo_search.specs.Waiting.{Settles}
-use Rattle.resolvo_search.proofs.state.SearchState.settle_from_last.Given as goal
-
-abbrev pub invariant-loop-clause : goal.invariant-loop-clause
-invariant-loop-clause l = Settles l.initial.self l.self l.initial.watching l.watching
-
-abbrev pub decreases-loop-clause : goal.decreases-loop-clause
-decreases-loop-clause l = length l.watching.waiting.items

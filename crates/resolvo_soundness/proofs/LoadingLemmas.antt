@@ -1,0 +1,35 @@
+-- From single parents to all that is encoded.
+use Rattle.std.proofs.Common.{◌≡◌, ◌⊎◌, inl, inr, Bool, true, List, Option, Some, refl}
+use Rattle.std.proofs.lemmas.Bool.{both_ways}
+use Rattle.resolvo_pool_core.specs.declared.id.VersionSetId.{VersionSetId}
+use Rattle.resolvo_pool_core.specs.declared.requirement.ConditionalRequirement.{ConditionalRequirement}
+use Rattle.resolvo_pool_core.specs.RuleKeeping.{Packages, Rules, is_member}
+use Rattle.resolvo_soundness.specs.Encoding.{Rule}
+use Rattle.resolvo_soundness.specs.Ending.{IsNeedEncoded, AreEncoded}
+use Rattle.resolvo_soundness.specs.Loading.{Deferred, IsParentEncoded, NoneFires}
+
+module _ {N S : Type 0} (same : S → S → Bool) (p : Packages N S) (root : Rules) where
+  -- all is encoded where the root and each member are, and no case that waits holds
+  pub all_encoded : (rules : Rule N S → Type 0) (waiting : Deferred S → Type 0) (members : List S)
+      → ((parent : Option S) → is_member same p root members parent ≡ true → IsParentEncoded same p rules root waiting parent) → NoneFires same p waiting members → AreEncoded same p rules root members
+  all_encoded rules waiting members each none = record {
+    need = λ parent need case m n a holds. elim ((each parent m).need need case n a) [ inl e ↦ e | inr w ↦ absurd (both_ways _ (none _ w) holds) ];
+    limit = λ parent v s m a o. (each parent m).limit v s a o;
+    bar = λ parent v s m a b. (each parent m).bar v s a b;
+    unknown = λ s m u. (each (Some s) m).unknown s refl u;
+  }
+
+  need_grows : (rules more : Rule N S → Type 0) (parent : Option S) (need : ConditionalRequirement) (case : List VersionSetId) → ((r : Rule N S) → rules r → more r) → IsNeedEncoded same p rules parent need case → IsNeedEncoded same p more parent need case
+  need_grows rules more parent need case f (inl r) = inl (f _ r)
+  need_grows rules more parent need case f (inr (inl (s, is, g, r))) = inr (inl (s, is, f _ g, f _ r))
+  need_grows rules more parent need case f (inr (inr x)) = inr (inr x)
+
+  -- more rules, and cases that wait no longer once they have clauses, leave a parent encoded
+  pub parent_grows : (rules more : Rule N S → Type 0) (waiting left : Deferred S → Type 0) (parent : Option S) → ((r : Rule N S) → rules r → more r)
+      → ((d : Deferred S) → waiting d → IsNeedEncoded same p more d.parent d.need d.case ⊎ left d) → IsParentEncoded same p rules root waiting parent → IsParentEncoded same p more root left parent
+  parent_grows rules more waiting left parent f g e = record {
+    need = λ need case n a. elim (e.need need case n a) [ inl x ↦ inl (need_grows rules more parent need case f x) | inr w ↦ g _ w ];
+    limit = λ v s a o. elim (e.limit v s a o) [ inl r ↦ inl (f _ r) | inr (r, q) ↦ inr (f _ r, f _ q) ];
+    bar = λ v s a b. (let (w, r) = e.bar v s a b in (w, f _ r));
+    unknown = λ s is u. (let (w, r) = e.unknown s is u in (w, f _ r));
+  }

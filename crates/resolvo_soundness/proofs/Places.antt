@@ -1,0 +1,41 @@
+-- Places below a power of two are told apart by a digit.
+use Rattle.std.proofs.Common.{◌≡◌, ℕ, zero, suc, ◌/◌, ◌^◌, ◌<◌, ◌⊎◌, inl, inr, Bool, true, false, not, refl, sym, ◌∙◌, ap, subst, arith}
+use Rattle.resolvo_store_core.specs.AtMostOne.{digit}
+use Rattle.resolvo_store_core.proofs.Digits.{same_digits}
+use Rattle.resolvo_soundness.specs.Encoding.{Rule}
+use Rattle.resolvo_soundness.specs.Ending.{AreTold}
+use Rattle.resolvo_soundness.proofs.Members.{twice}
+
+same_or_not : (a b : Bool) → (a ≡ b) ⊎ (a ≡ not b)
+same_or_not true true = inl refl
+same_or_not true false = inr refl
+same_or_not false true = inr refl
+same_or_not false false = inl refl
+
+-- the lowest digits are the same, or one of them differs
+first_digits : (h j k : ℕ) → ((i : ℕ) → i < h → digit j i ≡ digit k i) ⊎ ((i : ℕ) × (i < h) × (digit j i ≡ not (digit k i)))
+first_digits zero j k = inl (λ i l. absurd (omega arith))
+first_digits (suc h) j k = elim (same_or_not (digit j zero) (digit k zero)) [
+  | inr e ↦ inr (zero, omega arith, e)
+  | inl e ↦ elim (first_digits h (j / 2) (k / 2)) [
+    | inr (i, l, d) ↦ inr (suc i, omega arith, d)
+    | inl f ↦ inl (all e f)
+  ]
+]
+  where
+    all : digit j zero ≡ digit k zero → ((i : ℕ) → i < h → digit (j / 2) i ≡ digit (k / 2) i) → (i : ℕ) → i < suc h → digit j i ≡ digit k i
+    all e f zero l = e
+    all e f (suc i) l = f i (omega arith)
+
+pub told_by_digit : (h j k : ℕ) → j < 2 ^ h → k < 2 ^ h → (j ≡ k) ⊎ ((i : ℕ) × (i < h) × (digit j i ≡ not (digit k i)))
+told_by_digit h j k a b = elim (first_digits h j k) [ inl f ↦ inl (same_digits h j k a b f) | inr d ↦ inr d ]
+
+-- solvables whose places have all their digits told are one where the places are, and else told apart
+pub places_tell : {N S : Type 0} (rules : Rule N S → Type 0) (place : S → ℕ) (h : ℕ) (s t : S) → place s < 2 ^ h → place t < 2 ^ h
+    → ((i : ℕ) → i < h → rules (Rule.has_digit s i (digit (place s) i))) → ((i : ℕ) → i < h → rules (Rule.has_digit t i (digit (place t) i))) → (place s ≡ place t → s ≡ t) → (s ≡ t) ⊎ AreTold rules s t
+places_tell rules place h s t a b first second one = elim (told_by_digit h (place s) (place t) a b) [
+  | inl e ↦ inl (one e)
+  | inr (i, l, d) ↦
+      let other : digit (place t) i ≡ not (digit (place s) i) = sym (twice (digit (place t) i)) ∙ ap not (sym d) in
+      inr (i, digit (place s) i, first i l, subst (λ x. rules (Rule.has_digit t i x)) other (second i l))
+]

@@ -1,5 +1,0 @@
-//! Sources of packages to try a solver with: one that cancels, and one whose ids are sparse.
-#![tactic(auto)]
-
-pub mod cancelling;
-pub mod shelf;

@@ -1,0 +1,73 @@
+-- What a trail chooses, in its order: none stands twice, and what was chosen stays in front where the trail goes on.
+use Rattle.std.proofs.Common.{◌≡◌, ℕ, zero, suc, ◌<◌, Bool, true, false, cond, List, [], ◌∷◌, ◌++◌, reverse, length, Option, Some, None, refl, sym, ◌∙◌, ap, subst, append-nil, arith}
+use Rattle.std.specs.Prelude.{slice_get}
+use Rattle.std.specs.List.{cons_option}
+use Rattle.std.proofs.lemmas.Bool.{both_ways}
+use Rattle.std.proofs.lemmas.List.{reverse-append, reverse-reverse}
+use Rattle.std.proofs.lemmas.List.Elements.{filter_map-append}
+use Rattle.resolvo_store_core.specs.AtMostOne.{IsFrontOf}
+use Rattle.resolvo_store_core.specs.Signed.{Signed, has}
+use Rattle.resolvo_store_core.specs.declared.decision.Entry.{Entry}
+use Rattle.resolvo_sat.specs.Entries.{literal_of, made_true, Follows, IsTrail, EndsWith}
+use Rattle.resolvo_state.specs.declared.atom.ProofAtom.{ProofAtom}
+use Rattle.resolvo_state.specs.declared.atom.ProofAtom.TheVariants.{Solvable}
+use Rattle.resolvo_state.specs.Atoms.{solvable_in, solvable_of}
+use Rattle.resolvo_state.specs.Chosen.{choice_of, choices}
+use Rattle.resolvo_state.specs.Keys.{AreOnce}
+use Rattle.resolvo_state.proofs.ChosenLemmas.{choices_chosen, choices_newest}
+use Rattle.resolvo_state.proofs.Origins.{means_solvable, stands_solvable, one_variable}
+use Rattle.resolvo_state.proofs.Positions.{front_get, get_below, get_contains, once_none, once_push}
+
+-- an entry that chooses a solvable makes its variable true
+choice_made : {S : Type 0} (b : Bool) (o : Option S) (s : S) → cond b o None ≡ Some s → (b ≡ true) × (o ≡ Some s)
+choice_made true o s h = (refl, h)
+choice_made false o s h = absurd cc
+
+module _ {N S : Type 0} where
+  -- a solvable of an entry that may follow was not chosen before
+  once_then : (atoms : List (ProofAtom N S)) (count : ℕ) (clauses : List (List Signed)) (e : Entry) (older : List Entry) → AreOnce atoms → Follows count clauses e older → AreOnce (choices atoms (reverse older)) → AreOnce (choices atoms (reverse (e ∷ older)))
+  once_then atoms count clauses e older once follows c = step (choice_of atoms e) refl
+    where
+      before : List S
+      before = choices atoms (reverse older)
+
+      is : (o : Option S) → choice_of atoms e ≡ o → choices atoms (reverse (e ∷ older)) ≡ before ++ cons_option o []
+      is o h = choices_newest atoms e older ∙ ap (λ (p : Option S). before ++ cons_option p []) h
+
+      fresh : (s : S) → choice_of atoms e ≡ Some s → (k : ℕ) → slice_get before k ≡ Some s → ⊥
+      fresh s h k at =
+          let (value, of) = choice_made e.decision.value (solvable_of atoms e.decision.variable.0) s h in
+          let (l, known, means) = (choices_chosen atoms older).each s (get_contains before k s at) in
+          let (positive, stands) = means_solvable atoms l s means in
+          let one : l.variable ≡ e.decision.variable = one_variable atoms l.variable e.decision.variable (Solvable s) once stands (stands_solvable atoms e.decision.variable s of) in
+          let sign : l.positive ≡ e.decision.value = positive ∙ sym value in
+          let same : l ≡ literal_of e = λ i. record { variable = one i; positive = sign i } in
+          both_ways (has (made_true older) (literal_of e)) follows.undecided.not_true (subst (λ (x : Signed). has (made_true older) x ≡ true) same known)
+
+      step : (o : Option S) → choice_of atoms e ≡ o → AreOnce (choices atoms (reverse (e ∷ older)))
+      step None h = subst AreOnce (sym (is None h ∙ append-nil before)) c
+      step (Some s) h = subst AreOnce (sym (is (Some s) h)) (once_push before s c (fresh s h))
+
+  -- no solvable stands twice in what a trail chooses
+  pub choices_once : (atoms : List (ProofAtom N S)) (count : ℕ) (clauses : List (List Signed)) (history : List Entry) → AreOnce atoms → IsTrail count clauses history → AreOnce (choices atoms (reverse history))
+  choices_once atoms count clauses [] once t = once_none (choices atoms (reverse [])) refl
+  choices_once atoms count clauses (e ∷ older) once (follows, t) = once_then atoms count clauses e older once follows (choices_once atoms count clauses older once t)
+
+  -- atoms that come behind the others leave what a variable stands for as it is
+  solvable_kept : (atoms more : List (ProofAtom N S)) (n : ℕ) → n < suc (length atoms) → IsFrontOf atoms more → solvable_of more n ≡ solvable_of atoms n
+  solvable_kept atoms more zero low front = refl
+  solvable_kept atoms more (suc k) low front = let (x, at) = get_below atoms k (omega arith) in ap solvable_in (front_get atoms more k x front at ∙ sym at)
+
+  -- and what a trail chooses
+  pub choices_kept : (atoms more : List (ProofAtom N S)) (count : ℕ) (clauses : List (List Signed)) (history : List Entry) → IsTrail count clauses history → count ≡ suc (length atoms) → IsFrontOf atoms more → choices more (reverse history) ≡ choices atoms (reverse history)
+  choices_kept atoms more count clauses [] t long front = refl
+  choices_kept atoms more count clauses (e ∷ older) (follows, t) long front =
+      let low : e.decision.variable.0 < count = follows.in_range in
+      let here : choice_of more e ≡ choice_of atoms e = ap (λ (o : Option S). cond e.decision.value o None) (solvable_kept atoms more e.decision.variable.0 (omega arith) front) in
+      choices_newest more e older ∙ ap (λ (xs : List S). xs ++ cons_option (choice_of more e) []) (choices_kept atoms more count clauses older t long front) ∙ ap (λ (o : Option S). choices atoms (reverse older) ++ cons_option o []) here ∙ sym (choices_newest atoms e older)
+
+  -- where the trail goes on, so does what it chooses
+  pub choices_go_on : (atoms : List (ProofAtom N S)) (old new : List Entry) → EndsWith (reverse old) (reverse new) → IsFrontOf (choices atoms old) (choices atoms new)
+  choices_go_on atoms old new (p, is) =
+      let whole : new ≡ old ++ reverse p = sym (reverse-reverse new) ∙ ap reverse is ∙ reverse-append p (reverse old) ∙ ap (λ (es : List Entry). es ++ reverse p) (reverse-reverse old) in
+      (choices atoms (reverse p), ap (choices atoms) whole ∙ filter_map-append (choice_of atoms) old (reverse p))

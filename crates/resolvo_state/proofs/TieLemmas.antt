@@ -1,0 +1,191 @@
+-- Clauses that tell the digits of places.
+use Rattle.std.proofs.Common.{◌≡◌, ℕ, ◌+◌, ◌<◌, ◌≤◌, inl, inr, Bool, not, List, [], ◌∷◌, ◌++◌, length, take, get_or, min, Some, refl, sym, ◌∙◌, ap, subst, arith}
+use Rattle.std.specs.Prelude.{slice_get}
+use Rattle.std.proofs.Math.Nat.{min-eq_left, min-eq_right}
+use Rattle.std.proofs.lemmas.List.{length-append, length-take-le, take_more, take_all}
+use Rattle.std.proofs.lemmas.Option.{slice_get-get_or}
+use Rattle.resolvo_pool_core.specs.declared.id.ClauseId.{ClauseId}
+use Rattle.resolvo_pool_core.specs.declared.id.VariableId.{VariableId}
+use Rattle.resolvo_store_core.specs.Signed.{Signed}
+use Rattle.resolvo_store_core.specs.AtMostOne.{digit}
+use Rattle.resolvo_store_core.specs.Clauses.{no}
+use Rattle.resolvo_sat.specs.declared.state.SatClause.{SatClause}
+use Rattle.resolvo_sat.specs.Known.{clause_at}
+use Rattle.resolvo_sat.specs.State.{lists, clauses_of}
+use Rattle.resolvo_sat.proofs.Literals.{not_not}
+use Rattle.resolvo_sat.proofs.Clauses.{length-lists}
+use Rattle.resolvo_sat.proofs.StepLemmas.{lists-append, clause_at_end}
+use Rattle.resolvo_soundness.specs.Encoding.{Rule}
+use Rattle.resolvo_state.specs.declared.atom.ProofAtom.TheVariants.{Solvable, Bit}
+use Rattle.resolvo_state.specs.declared.clause_kind.Stated.{Stated}
+use Rattle.resolvo_state.specs.declared.clause_kind.Stated.TheVariants.{Digit}
+use Rattle.resolvo_state.specs.declared.solver_state.SolverState.{SolverState}
+use Rattle.resolvo_state.specs.Atoms.{StandsFor, solvable_of, bit_of}
+use Rattle.resolvo_state.specs.Statements.{stated_at, rules_in}
+use Rattle.resolvo_state.specs.Coding.{IsCoding, Grows, States}
+use Rattle.resolvo_state.specs.Registered.{IsTie, place_from, StatesTie, StatesOne, StatesAll}
+use Rattle.resolvo_state.proofs.Positions.{get_front, get_last, get_push}
+use Rattle.resolvo_state.proofs.Origins.{stands_solvable, stands_same, bit_stands}
+use Rattle.resolvo_state.proofs.Rules.{rule_stated}
+use Rattle.resolvo_state.proofs.Growth.{grows_same, grows_then, trail_same, trail_then, stands_grow, stated_grows, clause_grows, below_or_not}
+
+abbrev Tie : Type 0
+Tie = VariableId × VariableId × Bool
+
+-- the literals of a tie
+abbrev pub tie_literals : VariableId → VariableId → Bool → List Signed
+tie_literals v w b = no v ∷ (let l : Signed = record { variable = w; positive = b } in l) ∷ []
+
+pub two_literals : (xs ys zs : List Signed) (a l : Signed) (v w : VariableId) (b : Bool) → xs ≡ [] → ys ≡ xs ++ a ∷ [] → zs ≡ ys ++ l ∷ [] → a ≡ no v → l ≡ record { variable = w; positive = not (not b) } → zs ≡ tie_literals v w b
+two_literals xs ys zs a l v w b none first second is other =
+    second
+    ∙ ap (λ (us : List Signed). us ++ l ∷ []) (first ∙ ap (λ (us : List Signed). us ++ a ∷ []) none)
+    ∙ ap (λ (x : Signed). x ∷ l ∷ []) is
+    ∙ ap (λ (x : Signed). no v ∷ x ∷ []) (other ∙ ap (λ c. let m : Signed = record { variable = w; positive = c } in m) (not_not b))
+
+-- the clause of a tie came
+pub tie_stated : {N S : Type 0} (name : N) (place : ℕ) (tie : Tie) (old new : SolverState N S) (s : S) (bit : ℕ) (id : ClauseId) (literals : List Signed) → IsCoding old → IsTie name old.atoms.keys place tie
+    → solvable_of old.atoms.keys tie.0.0 ≡ Some s → bit_of old.atoms.keys tie.1.0 ≡ Some bit → literals ≡ tie_literals tie.0 tie.1 tie.2 → States (Digit name s place bit) literals id old new → StatesOne name place tie old new
+tie_stated {N} {S} name place tie old new s bit id literals coding is solvable known_bit spelled states = record {
+  coding = states.coding;
+  grows = states.grows;
+  trail = states.trail;
+  atoms = states.atoms;
+  states = record { is = there; stated = said; clause = clause };
+  one = ap length states.added ∙ length-append old.search.clauses (states.clause ∷ []);
+}
+  where
+    same_bit : is.bit ≡ bit
+    same_bit = let known = bit_stands old.atoms.keys tie.1 name is.bit is.tells in cc
+
+    here : IsTie name old.atoms.keys place tie
+    here = record {
+      solvable = s;
+      bit = bit;
+      few = subst (λ k. k < 32) same_bit is.few;
+      stands = stands_solvable old.atoms.keys tie.0 s solvable;
+      tells = subst (λ k. StandsFor old.atoms.keys tie.1 (Bit name k)) same_bit is.tells;
+      value = is.value ∙ ap (digit place) same_bit;
+    }
+
+    there : IsTie name new.atoms.keys place tie
+    there = record {
+      solvable = s;
+      bit = bit;
+      few = here.few;
+      stands = stands_grow old new tie.0 (Solvable s) states.grows here.stands;
+      tells = stands_grow old new tie.1 (Bit name bit) states.grows here.tells;
+      value = here.value;
+    }
+
+    said : stated_at new.stated.items (length old.search.clauses) ≡ Some (Digit name s place bit)
+    said = subst (λ k. stated_at new.stated.items k ≡ Some (Digit name s place bit)) coding.each (subst (λ (xs : List (Stated N S)). stated_at xs (length old.stated.items) ≡ Some (Digit name s place bit)) (sym states.stated) (get_last old.stated.items (Digit name s place bit)))
+
+    clause : clause_at (clauses_of new.search) (length old.search.clauses) ≡ tie_literals tie.0 tie.1 tie.2
+    clause =
+        ap (λ (cs : List SatClause). clause_at (lists cs) (length old.search.clauses)) states.added
+        ∙ ap (λ (ls : List (List Signed)). clause_at ls (length old.search.clauses)) (lists-append old.search.clauses (states.clause ∷ []))
+        ∙ ap (λ k. clause_at (lists old.search.clauses ++ states.clause.literals.items ∷ []) k) (sym (length-lists old.search.clauses))
+        ∙ clause_at_end (lists old.search.clauses) states.clause.literals.items
+        ∙ states.literals ∙ spelled
+
+-- a tie stays one
+pub tie_grows : {N S : Type 0} (name : N) (place : ℕ) (tie : Tie) (old new : SolverState N S) → Grows old new → IsTie name old.atoms.keys place tie → IsTie name new.atoms.keys place tie
+tie_grows name place tie old new grows t = record {
+  solvable = t.solvable;
+  bit = t.bit;
+  few = t.few;
+  stands = stands_grow old new tie.0 (Solvable t.solvable) grows t.stands;
+  tells = stands_grow old new tie.1 (Bit name t.bit) grows t.tells;
+  value = t.value;
+}
+
+-- and stays stated
+pub tie_stays : {N S : Type 0} (name : N) (place : ℕ) (tie : Tie) (old new : SolverState N S) (n : ℕ) → Grows old new → n < length old.search.clauses → StatesTie name place tie old n → StatesTie name place tie new n
+unfolding tie_grows
+tie_stays name place tie old new n grows below t = record {
+  is = tie_grows name place tie old new grows t.is;
+  stated = stated_grows old new grows n (Digit name t.is.solvable place t.is.bit) t.stated;
+  clause = clause_grows old new grows n below ∙ t.clause;
+}
+
+pub all_none : {N S : Type 0} (name : N) (first last : ℕ) (c : SolverState N S) → IsCoding c → StatesAll name [] first last c c
+all_none name first last c coding = record {
+  coding = coding;
+  grows = grows_same c;
+  trail = trail_same c;
+  atoms = refl;
+  each = λ i tie h. absurd (nothing i tie h);
+  only = λ n a b. absurd (omega arith);
+  same = λ e. refl;
+}
+  where
+    nothing : (i : ℕ) (tie : Tie) → slice_get [] i ≡ Some tie → ⊥
+    nothing i tie h = absurd cc
+
+-- one tie more
+pub all_more : {N S : Type 0} (name : N) (ties : List Tie) (first last : ℕ) (tie : Tie) (a b c : SolverState N S) → StatesAll name ties first last a b → StatesOne name (place_from first last (length ties)) tie b c → StatesAll name (ties ++ tie ∷ []) first last a c
+all_more name ties first last tie a b c all one = record {
+  coding = one.coding;
+  grows = grows_then a b c all.grows one.grows;
+  trail = trail_then a b c all.trail one.trail;
+  atoms = one.atoms ∙ all.atoms;
+  each = λ i x h. elim (get_push ties tie x i h) [
+    | inl at ↦ let (n, below, t) = all.each i x at in (n, (let more : length c.search.clauses ≡ length b.search.clauses + 1 = one.one in omega arith), tie_stays name (place_from first last i) x b c n one.grows below t)
+    | inr (e, is) ↦ (
+      length b.search.clauses,
+      (let more : length c.search.clauses ≡ length b.search.clauses + 1 = one.one in omega arith),
+      subst (λ k. StatesTie name (place_from first last k) x c (length b.search.clauses)) (sym e) (subst (λ (y : Tie). StatesTie name (place_from first last (length ties)) y c (length b.search.clauses)) (sym is) one.states),
+    )
+  ];
+  only = λ n low below. elim (below_or_not n (length b.search.clauses)) [
+    | inl old ↦ let (i, x, at, t) = all.only n low old in (i, x, get_front ties (tie ∷ []) i x at, tie_stays name (place_from first last i) x b c n one.grows old t)
+    | inr past ↦
+        let more : length c.search.clauses ≡ length b.search.clauses + 1 = one.one in
+        let end : length b.search.clauses ≡ n = omega arith in
+        (length ties, tie, get_last ties tie, subst (λ k. StatesTie name (place_from first last (length ties)) tie c k) end one.states)
+  ];
+  same = λ e. (let long : length (ties ++ tie ∷ []) ≡ 0 = ap length e in let more : length (ties ++ tie ∷ []) ≡ length ties + 1 = length-append ties (tie ∷ []) in absurd (omega arith));
+}
+
+-- the rule of a tie that is stated
+pub tie_rule : {N S : Type 0} (name : N) (place : ℕ) (tie : Tie) (c : SolverState N S) (n : ℕ) (s : S) (i : ℕ) → StatesTie name place tie c n → StandsFor c.atoms.keys tie.0 (Solvable s) → StandsFor c.atoms.keys tie.1 (Bit name i) → rules_in c.stated.items (Rule.has_digit s i tie.2)
+tie_rule name place tie c n s i t stands tells =
+    let first = stands_same c.atoms.keys tie.0 (Solvable t.is.solvable) (Solvable s) t.is.stands stands in
+    let second = stands_same c.atoms.keys tie.1 (Bit name t.is.bit) (Bit name i) t.is.tells tells in
+    let one : t.is.solvable ≡ s = cc in
+    let bit : t.is.bit ≡ i = cc in
+    let value = sym t.is.value in
+    (n, rule_stated c.stated.items n (Digit name t.is.solvable place t.is.bit) t.stated ∙ (λ j. Some (Rule.has_digit (one j) (bit j) (value j))))
+
+-- the places go on up to the last one
+pub first_from : (first last : ℕ) → first ≤ last → first ≡ place_from first last 0
+first_from first last h = let e : first ≡ first + 0 = omega arith in sym (min-eq_left h) ∙ ap (λ k. min k last) e
+
+pub next_from : (first last i place next : ℕ) → place ≡ place_from first last i → next ≡ min (place + 1) last → next ≡ place_from first last (i + 1)
+next_from first last i place next e is = is ∙ elim (below_or_not (first + i) last) [
+  | inl below ↦
+      let here : place ≡ first + i = e ∙ min-eq_left (let h : first + i ≤ last = omega arith in h) in
+      let more : place + 1 ≡ first + (i + 1) = omega arith in
+      ap (λ k. min k last) more
+  | inr past ↦
+      let here : place ≡ last = e ∙ min-eq_right past in
+      min-eq_right (let h : last ≤ place + 1 = omega arith in h) ∙ sym (min-eq_right (let h : last ≤ first + (i + 1) = omega arith in h))
+]
+
+-- the next tie is of the next place
+pub tie_next : {N S : Type 0} (name : N) (ties : List Tie) (first last i : ℕ) (d : Tie) (place : ℕ) (a b : SolverState N S) → Grows a b → i < length ties → place ≡ place_from first last i
+    → ((k : ℕ) (tie : Tie) → slice_get ties k ≡ Some tie → IsTie name a.atoms.keys (place_from first last k) tie) → IsTie name b.atoms.keys place (get_or ties i d)
+tie_next name ties first last i d place a b grows below e are =
+    subst (λ k. IsTie name b.atoms.keys k (get_or ties i d)) (sym e) (tie_grows name (place_from first last i) (get_or ties i d) a b grows (are i (get_or ties i d) (slice_get-get_or ties i d below)))
+
+pub all_next : {N S : Type 0} (name : N) (ties : List Tie) (first last i : ℕ) (d : Tie) (place : ℕ) (a b c : SolverState N S) → i < length ties → place ≡ place_from first last i
+    → StatesAll name (take i ties) first last a b → StatesOne name place (get_or ties i d) b c → StatesAll name (take (i + 1) ties) first last a c
+all_next name ties first last i d place a b c below e all one =
+    let long : length (take i ties) ≡ i = length-take-le i ties (let h : i ≤ length ties = omega arith in h) in
+    let at : place ≡ place_from first last (length (take i ties)) = e ∙ ap (place_from first last) (sym long) in
+    subst (λ (xs : List Tie). StatesAll name xs first last a c) (sym (take_more ties i d below))
+    (all_more name (take i ties) first last (get_or ties i d) a b c all (subst (λ k. StatesOne name k (get_or ties i d) b c) at one))
+
+pub all_done : {N S : Type 0} (name : N) (ties : List Tie) (first last i : ℕ) (a b : SolverState N S) → length ties ≤ i → StatesAll name (take i ties) first last a b → StatesAll name ties first last a b
+all_done name ties first last i a b past all = subst (λ (xs : List Tie). StatesAll name xs first last a b) (take_all i ties past) all

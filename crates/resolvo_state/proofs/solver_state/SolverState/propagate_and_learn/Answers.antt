@@ -1,0 +1,10 @@
+use Rattle.std.proofs.Common.{refl, subst}
+use Rattle.resolvo_sat.specs.Advancing.{IsProgress}
+use Rattle.resolvo_state.proofs.Clauses.{learnt_is}
+use Rattle.resolvo_state.proofs.solver_state.SolverState.propagate_and_learn.Goals as goal
+
+pub returns-in_ok-push-in-Learnt-clause-advanced : goal.returns-in_ok-push-in-Learnt-clause-advanced
+returns-in_ok-push-in-Learnt-clause-advanced g c =
+    learnt_is c.args.self.now _ c.in-Learnt.clause c.requires
+    (subst (IsProgress c.args.self.now.search c.args.self.now.watching c.propagate_and_learn.new.self c.propagate_and_learn.new.watching) c.in-Learnt.is c.in_ok-progress.ensures.progress)
+    refl c.in_ok-push-in-Learnt.ensures.items

@@ -1,0 +1,11 @@
+use Rattle.std.proofs.Common.{refl, subst}
+use Rattle.resolvo_sat.specs.declared.state.VariableKind.{VariableKind}
+use Rattle.resolvo_sat.specs.Beginning.{AddsVariable}
+use Rattle.resolvo_state.proofs.Starting.{gives_added}
+use Rattle.resolvo_state.proofs.solver_state.SolverState.variable.Goals as goal
+
+pub returns-clause-given : goal.returns-clause-given
+returns-clause-given g c =
+    gives_added c.args.atom c.in_ok-variable.variable c.args.self.now _ c.requires c.in_default.ensures.found
+    (subst (λ (k : VariableKind). AddsVariable k c.in_ok-variable.variable c.args.self.now.search c.add_variable.new.self) c.kind.ensures c.in_ok-variable.ensures.added)
+    refl c.in_ok-push_key.ensures.pushed refl

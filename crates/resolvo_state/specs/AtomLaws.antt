@@ -1,0 +1,60 @@
+-- Equal atoms are one atom.
+use Rattle.std.specs.Prelude.{◌≡◌, ℕ, Bool, true, false}
+use Rattle.std.proofs.Common.{ap}
+use Rattle.std.proofs.lemmas.Bool.{both_ways}
+use Rattle.resolvo_pool_core.specs.declared.id.VersionSetId.{VersionSetId}
+use Rattle.resolvo_pool_core.specs.declared.id.VersionSetUnionId.{VersionSetUnionId}
+use Rattle.resolvo_pool_core.specs.declared.requirement.Requirement.{Requirement}
+use Rattle.resolvo_pool_core.specs.declared.requirement.Requirement.TheVariants.{Single, Union}
+use Rattle.resolvo_state.specs.declared.atom.ProofAtom.{ProofAtom}
+use Rattle.resolvo_state.specs.declared.atom.ProofAtom.TheVariants.{Solvable, AtLeastOne, Gate, Outside, Bit}
+
+-- a test of requirements holds of one requirement alone, by what it says of each kind
+pub one_requirement : (eq : Requirement → Requirement → Bool)
+    → ((v w : VersionSetId) → eq (Single v) (Single w) ≡ true → v.0 ≡ w.0)
+    → ((v w : VersionSetUnionId) → eq (Union v) (Union w) ≡ true → v.0 ≡ w.0)
+    → ((v : VersionSetId) (w : VersionSetUnionId) → (eq (Single v) (Union w) ≡ false) × (eq (Union w) (Single v) ≡ false))
+    → (q r : Requirement) → eq q r ≡ true → q ≡ r
+one_requirement eq single union apart (Single v) (Single w) h = ap (λ n. Single (record { 0 = n })) (single v w h)
+one_requirement eq single union apart (Single v) (Union w) h = absurd (both_ways _ (apart v w).0 h)
+one_requirement eq single union apart (Union v) (Single w) h = absurd (both_ways _ (apart w v).1 h)
+one_requirement eq single union apart (Union v) (Union w) h = ap (λ n. Union (record { 0 = n })) (union v w h)
+
+-- a test of atoms holds of one atom alone, by what it says of each kind and of different ones
+pub one_atom : {N S : Type 0} (eq : ProofAtom N S → ProofAtom N S → Bool)
+    → ((s t : S) → eq (Solvable s) (Solvable t) ≡ true → s ≡ t)
+    → ((m n : N) → eq (AtLeastOne m) (AtLeastOne n) ≡ true → m ≡ n)
+    → ((q r : Requirement) → eq (Gate q) (Gate r) ≡ true → q ≡ r)
+    → ((v w : VersionSetId) → eq (Outside v) (Outside w) ≡ true → v.0 ≡ w.0)
+    → ((m n : N) (a b : ℕ) → eq (Bit m a) (Bit n b) ≡ true → (m ≡ n) × (a ≡ b))
+    → ((s : S) → ((n : N) → eq (Solvable s) (AtLeastOne n) ≡ false) × ((r : Requirement) → eq (Solvable s) (Gate r) ≡ false) × ((v : VersionSetId) → eq (Solvable s) (Outside v) ≡ false) × ((n : N) (b : ℕ) → eq (Solvable s) (Bit n b) ≡ false))
+    → ((m : N) → ((s : S) → eq (AtLeastOne m) (Solvable s) ≡ false) × ((r : Requirement) → eq (AtLeastOne m) (Gate r) ≡ false) × ((v : VersionSetId) → eq (AtLeastOne m) (Outside v) ≡ false) × ((n : N) (b : ℕ) → eq (AtLeastOne m) (Bit n b) ≡ false))
+    → ((q : Requirement) → ((s : S) → eq (Gate q) (Solvable s) ≡ false) × ((n : N) → eq (Gate q) (AtLeastOne n) ≡ false) × ((v : VersionSetId) → eq (Gate q) (Outside v) ≡ false) × ((n : N) (b : ℕ) → eq (Gate q) (Bit n b) ≡ false))
+    → ((u : VersionSetId) → ((s : S) → eq (Outside u) (Solvable s) ≡ false) × ((n : N) → eq (Outside u) (AtLeastOne n) ≡ false) × ((r : Requirement) → eq (Outside u) (Gate r) ≡ false) × ((n : N) (b : ℕ) → eq (Outside u) (Bit n b) ≡ false))
+    → ((m : N) (a : ℕ) → ((s : S) → eq (Bit m a) (Solvable s) ≡ false) × ((n : N) → eq (Bit m a) (AtLeastOne n) ≡ false) × ((r : Requirement) → eq (Bit m a) (Gate r) ≡ false) × ((v : VersionSetId) → eq (Bit m a) (Outside v) ≡ false))
+    → (x y : ProofAtom N S) → eq x y ≡ true → x ≡ y
+one_atom eq solvable any gate outside bit a b c d e (Solvable s) (Solvable t) h = ap Solvable (solvable s t h)
+one_atom eq solvable any gate outside bit a b c d e (Solvable s) (AtLeastOne n) h = absurd (both_ways _ ((a s).0 n) h)
+one_atom eq solvable any gate outside bit a b c d e (Solvable s) (Gate r) h = absurd (both_ways _ ((a s).1 r) h)
+one_atom eq solvable any gate outside bit a b c d e (Solvable s) (Outside v) h = absurd (both_ways _ ((a s).2 v) h)
+one_atom eq solvable any gate outside bit a b c d e (Solvable s) (Bit n k) h = absurd (both_ways _ ((a s).3 n k) h)
+one_atom eq solvable any gate outside bit a b c d e (AtLeastOne m) (Solvable s) h = absurd (both_ways _ ((b m).0 s) h)
+one_atom eq solvable any gate outside bit a b c d e (AtLeastOne m) (AtLeastOne n) h = ap AtLeastOne (any m n h)
+one_atom eq solvable any gate outside bit a b c d e (AtLeastOne m) (Gate r) h = absurd (both_ways _ ((b m).1 r) h)
+one_atom eq solvable any gate outside bit a b c d e (AtLeastOne m) (Outside v) h = absurd (both_ways _ ((b m).2 v) h)
+one_atom eq solvable any gate outside bit a b c d e (AtLeastOne m) (Bit n k) h = absurd (both_ways _ ((b m).3 n k) h)
+one_atom eq solvable any gate outside bit a b c d e (Gate q) (Solvable s) h = absurd (both_ways _ ((c q).0 s) h)
+one_atom eq solvable any gate outside bit a b c d e (Gate q) (AtLeastOne n) h = absurd (both_ways _ ((c q).1 n) h)
+one_atom eq solvable any gate outside bit a b c d e (Gate q) (Gate r) h = ap Gate (gate q r h)
+one_atom eq solvable any gate outside bit a b c d e (Gate q) (Outside v) h = absurd (both_ways _ ((c q).2 v) h)
+one_atom eq solvable any gate outside bit a b c d e (Gate q) (Bit n k) h = absurd (both_ways _ ((c q).3 n k) h)
+one_atom eq solvable any gate outside bit a b c d e (Outside u) (Solvable s) h = absurd (both_ways _ ((d u).0 s) h)
+one_atom eq solvable any gate outside bit a b c d e (Outside u) (AtLeastOne n) h = absurd (both_ways _ ((d u).1 n) h)
+one_atom eq solvable any gate outside bit a b c d e (Outside u) (Gate r) h = absurd (both_ways _ ((d u).2 r) h)
+one_atom eq solvable any gate outside bit a b c d e (Outside u) (Outside v) h = ap (λ n. Outside (record { 0 = n })) (outside u v h)
+one_atom eq solvable any gate outside bit a b c d e (Outside u) (Bit n k) h = absurd (both_ways _ ((d u).3 n k) h)
+one_atom eq solvable any gate outside bit a b c d e (Bit m j) (Solvable s) h = absurd (both_ways _ ((e m j).0 s) h)
+one_atom eq solvable any gate outside bit a b c d e (Bit m j) (AtLeastOne n) h = absurd (both_ways _ ((e m j).1 n) h)
+one_atom eq solvable any gate outside bit a b c d e (Bit m j) (Gate r) h = absurd (both_ways _ ((e m j).2 r) h)
+one_atom eq solvable any gate outside bit a b c d e (Bit m j) (Outside v) h = absurd (both_ways _ ((e m j).3 v) h)
+one_atom eq solvable any gate outside bit a b c d e (Bit m j) (Bit n k) h = let p = bit m n j k h in λ i. Bit (p.0 i) (p.1 i)

@@ -1,0 +1,169 @@
+-- Which solvables of each package are registered, and what ties them to the digits of their places.
+use Rattle.std.specs.Prelude.{◌≡◌, ℕ, ◌+◌, ◌^◌, ◌==◌, ◌<◌, ◌≤◌, ◌⊎◌, Bool, min, List, [], ◌∷◌, length, slice_get, Option, Some, None, Contains}
+use Rattle.resolvo_pool_core.specs.declared.id.VariableId.{VariableId}
+use Rattle.resolvo_pool_core.specs.OnePass.{Literal}
+use Rattle.resolvo_store_core.specs.Clauses.{no}
+use Rattle.resolvo_store_core.specs.Signed.{Signed}
+use Rattle.resolvo_store_core.specs.AtMostOne.{Tracking, IsFrontOf, digit}
+use Rattle.resolvo_sat.specs.Known.{clause_at}
+use Rattle.resolvo_sat.specs.State.{clauses_of}
+use Rattle.resolvo_soundness.specs.Encoding.{Atom, Rule, minus}
+use Rattle.resolvo_soundness.specs.Numbered.{Spells}
+use Rattle.resolvo_state.specs.declared.atom.ProofAtom.{ProofAtom}
+use Rattle.resolvo_state.specs.declared.atom.ProofAtom.TheVariants.{Solvable, Bit}
+use Rattle.resolvo_state.specs.declared.clause_kind.Stated.TheVariants.{Digit}
+use Rattle.resolvo_state.specs.declared.solver_state.SolverState.{SolverState}
+use Rattle.resolvo_state.specs.declared.registry.Registry.{Registry}
+use Rattle.resolvo_state.specs.Atoms.{origin, StandsFor}
+use Rattle.resolvo_state.specs.Keys.{AreOnce}
+use Rattle.resolvo_state.specs.Statements.{stated_at, rules_in}
+use Rattle.resolvo_state.specs.Coding.{IsCoding, Grows, SameTrail}
+
+abbrev pub same_variable : VariableId → VariableId → Bool
+same_variable v w = v.0 == w.0
+
+-- the literals of a clause that tells a digit of a solvable's place
+abbrev pub digit_literals : {N S : Type 0} → N → S → ℕ → Bool → List (Literal (Atom N S))
+digit_literals {N} {S} name s bit value = minus (Atom.solvable s) ∷ (let l : Literal (Atom N S) = record { atom = Atom.digit name bit; positive = value } in l) ∷ []
+
+-- The tracker of a package: its variables stand for solvables, its helpers for the digits in order, as many as tell the
+-- places apart and fewer than 32, and a clause states each digit of each place.
+pub record IsTied {N S : Type 0} (name : N) (t : Tracking VariableId) (c : SolverState N S) : Type 0 where
+  pub solvables : (v : VariableId) → Contains t.variables v → (s : S) × StandsFor c.atoms.keys v (Solvable s)
+  pub digits : (i : ℕ) (v : VariableId) → slice_get t.helpers i ≡ Some v → StandsFor c.atoms.keys v (Bit name i)
+  pub room : length t.variables ≤ 2 ^ length t.helpers
+  pub few : length t.helpers < 32
+  pub once : AreOnce t.variables
+  pub told : (place i : ℕ) (v : VariableId) (s : S) → slice_get t.variables place ≡ Some v → StandsFor c.atoms.keys v (Solvable s) → i < length t.helpers → rules_in c.stated.items (Rule.has_digit s i (digit place i))
+
+-- at this place of the package's tracker stands the solvable's variable
+pub record IsPlaced {N S : Type 0} (r : Registry N) (c : SolverState N S) (name : N) (place : ℕ) (s : S) : Type 0 where
+  pub number : ℕ
+  pub tracker : Tracking VariableId
+  pub variable : VariableId
+  pub named : slice_get r.names.keys number ≡ Some name
+  pub tracked : slice_get r.trackers.items number ≡ Some tracker
+  pub stands : slice_get tracker.variables place ≡ Some variable
+  pub means : StandsFor c.atoms.keys variable (Solvable s)
+
+-- Each package has one tracker, and each is tied. A clause that states a digit of a place states it of the solvable there.
+pub record AreTied {N S : Type 0} (r : Registry N) (c : SolverState N S) : Type 0 where
+  pub each : length r.names.keys ≡ length r.trackers.items
+  pub once : AreOnce r.names.keys
+  pub tied : (k : ℕ) (name : N) (t : Tracking VariableId) → slice_get r.names.keys k ≡ Some name → slice_get r.trackers.items k ≡ Some t → IsTied name t c
+  pub placed : (n : ℕ) (name : N) (s : S) (place bit : ℕ) → stated_at c.stated.items n ≡ Some (Digit name s place bit) → IsPlaced r c name place s
+
+-- the variable is in the package's tracker
+pub record IsTracked {N : Type 0} (r : Registry N) (name : N) (v : VariableId) : Type 0 where
+  pub place : ℕ
+  pub tracker : Tracking VariableId
+  pub named : slice_get r.names.keys place ≡ Some name
+  pub tracked : slice_get r.trackers.items place ≡ Some tracker
+  pub stands : Contains tracker.variables v
+
+-- the solvable is registered as one of the package's
+abbrev pub IsRegistered : {N S : Type 0} → Registry N → SolverState N S → N → S → Type 0
+IsRegistered r c name s = (v : VariableId) × StandsFor c.atoms.keys v (Solvable s) × IsTracked r name v
+
+-- no solvable is registered
+pub record IsNothing {N : Type 0} (r : Registry N) : Type 0 where
+  pub names : r.names.keys ≡ []
+  pub trackers : r.trackers.items ≡ []
+
+-- the clause of this number tells a digit of a registered solvable of the package, one of 32
+pub record IsDigitClause {N S : Type 0} (r : Registry N) (c : SolverState N S) (name : N) (n : ℕ) : Type 0 where
+  pub solvable : S
+  pub place : ℕ
+  pub bit : ℕ
+  pub few : bit < 32
+  pub registered : IsRegistered r c name solvable
+  pub stated : stated_at c.stated.items n ≡ Some (Digit name solvable place bit)
+  pub spells : Spells (origin c.atoms.keys) (clause_at (clauses_of c.search) n) (digit_literals name solvable bit (digit place bit))
+
+-- The solvable is registered, with this variable; no other one came. Each clause that came tells a digit.
+pub record Registers {N S : Type 0} (name : N) (s : S) (v : VariableId) (r : Registry N) (old : SolverState N S) (t : Registry N) (new : SolverState N S) : Type 0 where
+  pub coding : IsCoding new
+  pub grows : Grows old new
+  pub trail : SameTrail old new
+  pub tied : AreTied t new
+  pub stands : StandsFor new.atoms.keys v (Solvable s)
+  pub registered : IsTracked t name v
+  pub keeps : (m : N) (u : VariableId) → IsTracked r m u → IsTracked t m u
+  pub only : (m : N) (u : VariableId) → IsTracked t m u → IsTracked r m u ⊎ ((m ≡ name) × (u ≡ v))
+  pub digits : (n : ℕ) → length old.search.clauses ≤ n → n < length new.search.clauses → IsDigitClause t new name n
+  pub same : IsRegistered r old name s → new ≡ old
+
+-- the place is the package's; if it is another one, it came behind the others, with nothing tracked
+pub record PlacesName {N : Type 0} (name : N) (place : ℕ) (old new : Registry N) : Type 0 where
+  pub names : IsFrontOf old.names.keys new.names.keys
+  pub trackers : IsFrontOf old.trackers.items new.trackers.items
+  pub each : length new.names.keys ≡ length new.trackers.items
+  pub stands : slice_get new.names.keys place ≡ Some name
+  pub once : AreOnce old.names.keys → AreOnce new.names.keys
+  pub fresh : (k : ℕ) (t : Tracking VariableId) → length old.trackers.items ≤ k → slice_get new.trackers.items k ≡ Some t → (t.variables ≡ []) × (t.helpers ≡ [])
+
+-- the variable of the next digit of the package, where one is made
+pub record GivesDigit {N S : Type 0} (name : N) (count : ℕ) (given : Option VariableId) (old new : SolverState N S) : Type 0 where
+  pub coding : IsCoding new
+  pub grows : Grows old new
+  pub trail : SameTrail old new
+  pub clauses : new.search.clauses ≡ old.search.clauses
+  pub stated : new.stated ≡ old.stated
+  pub stands : (v : VariableId) → given ≡ Some v → StandsFor new.atoms.keys v (Bit name count)
+  pub same : given ≡ None → new ≡ old
+
+-- the place that the first tie is of: the first one where a helper came, else that of the variable that comes
+abbrev pub first_of : {V : Type 0} → Option V → ℕ → ℕ
+first_of None count = count
+first_of (Some v) count = 0
+
+-- the place that a tie is of: from the first on one after another, up to the last
+abbrev pub place_from : ℕ → ℕ → ℕ → ℕ
+place_from first last i = min (first + i) last
+
+-- the two variables stand for a solvable and for a digit of the package, one of 32, and the value is that of the place's digit
+pub record IsTie {N S : Type 0} (name : N) (atoms : List (ProofAtom N S)) (place : ℕ) (tie : VariableId × VariableId × Bool) : Type 0 where
+  pub solvable : S
+  pub bit : ℕ
+  pub few : bit < 32
+  pub stands : StandsFor atoms tie.0 (Solvable solvable)
+  pub tells : StandsFor atoms tie.1 (Bit name bit)
+  pub value : tie.2 ≡ digit place bit
+
+-- the clause of this number states the tie
+pub record StatesTie {N S : Type 0} (name : N) (place : ℕ) (tie : VariableId × VariableId × Bool) (c : SolverState N S) (n : ℕ) : Type 0 where
+  pub is : IsTie name c.atoms.keys place tie
+  pub stated : stated_at c.stated.items n ≡ Some (Digit name is.solvable place is.bit)
+  pub clause : clause_at (clauses_of c.search) n ≡ no tie.0 ∷ (let l : Signed = record { variable = tie.1; positive = tie.2 } in l) ∷ []
+
+-- the tie came as a clause
+pub record StatesOne {N S : Type 0} (name : N) (place : ℕ) (tie : VariableId × VariableId × Bool) (old new : SolverState N S) : Type 0 where
+  pub coding : IsCoding new
+  pub grows : Grows old new
+  pub trail : SameTrail old new
+  pub atoms : new.atoms ≡ old.atoms
+  pub states : StatesTie name place tie new (length old.search.clauses)
+  pub one : length new.search.clauses ≡ length old.search.clauses + 1
+
+-- each tie came as a clause, and nothing else came
+pub record StatesAll {N S : Type 0} (name : N) (ties : List (VariableId × VariableId × Bool)) (first last : ℕ) (old new : SolverState N S) : Type 0 where
+  pub coding : IsCoding new
+  pub grows : Grows old new
+  pub trail : SameTrail old new
+  pub atoms : new.atoms ≡ old.atoms
+  pub each : (i : ℕ) (tie : VariableId × VariableId × Bool) → slice_get ties i ≡ Some tie → (n : ℕ) × (n < length new.search.clauses) × StatesTie name (place_from first last i) tie new n
+  pub only : (n : ℕ) → length old.search.clauses ≤ n → n < length new.search.clauses → (i : ℕ) × (tie : VariableId × VariableId × Bool) × (slice_get ties i ≡ Some tie) × StatesTie name (place_from first last i) tie new n
+  pub same : ties ≡ [] → new ≡ old
+
+-- The variable is tracked, behind the others, and no other one came. Each clause that came tells a digit of a tracked one,
+-- by its place.
+pub record Tracks {N S : Type 0} (name : N) (v : VariableId) (t : Tracking VariableId) (old : SolverState N S) (u : Tracking VariableId) (new : SolverState N S) : Type 0 where
+  pub coding : IsCoding new
+  pub grows : Grows old new
+  pub trail : SameTrail old new
+  pub tied : IsTied name u new
+  pub tracked : Contains u.variables v
+  pub front : IsFrontOf t.variables u.variables
+  pub only : (w : VariableId) → Contains u.variables w → Contains t.variables w ⊎ (w ≡ v)
+  pub digits : (n : ℕ) → length old.search.clauses ≤ n → n < length new.search.clauses → (place : ℕ) × (tie : VariableId × VariableId × Bool) × (slice_get u.variables place ≡ Some tie.0) × StatesTie name place tie new n
+  pub same : Contains t.variables v → new ≡ old

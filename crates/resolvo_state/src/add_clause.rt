@@ -1,0 +1,53 @@
+//! A clause comes that states a rule, or one that bars what can't stand together.
+ghost use Rattle.std.specs.Prelude.{◌≡◌, ◌<◌, length, IfOk, IsErrOf, IsSome};
+ghost use Rattle.resolvo_pool_core.specs.declared.want.Want.TheVariants.{Ids};
+ghost use Rattle.resolvo_sat.specs.State.{count_of};
+ghost use Rattle.resolvo_sat.specs.Steps.{AreInRange};
+ghost use Rattle.resolvo_sat.specs.Analysis.{IsBar};
+ghost use Rattle.resolvo_state.specs.Statements.{rule_of};
+ghost use Rattle.resolvo_state.specs.Coding.{IsCoding, States, Bars};
+
+use crate::clause_kind::Stated;
+use crate::solver_state::SolverState;
+use resolvo_pool_core::id::{ClauseId, Exact};
+use resolvo_pool_core::want::R;
+use resolvo_sat::analyze::FinalConflict;
+use resolvo_sat::state::SatClause;
+use resolvo_store_core::literal::Literal;
+use std::fmt::Debug;
+use std::hash::Hash;
+
+impl<N: Copy + Exact + Hash + Debug, S: Copy + Exact + Hash + Debug> SolverState<N, S> {
+    /// Adds a clause of some literals, which states a rule.
+    pub fn state(&mut self, stated: Stated<N, S>, literals: Vec<Literal>) -> R<ClauseId>
+        requires coding { IsCoding self.old }
+        requires rule { IsSome (rule_of stated) }
+        requires some { 0 < length literals.items }
+        requires in_range { AreInRange (count_of self.old.search) literals.items }
+        ensures states { IfOk result (λ id. States stated literals.items id self.old self.new) }
+        ensures ids { IsErrOf result Ids → length self.old.search.clauses ≡ 4294967295 }
+    {
+        let causes = Vec::new(*literals.allocator());
+        let clause = self
+            .search
+            .add_clause(&mut self.watching, SatClause { literals, causes })?;
+        self.stated.push(stated)?;
+        Ok(clause)
+    }
+
+    /// Adds a clause that follows from others, and only denies.
+    pub fn bar(&mut self, refusal: FinalConflict) -> R<ClauseId>
+        requires coding { IsCoding self.old }
+        requires some { 0 < length refusal.literals.items }
+        requires bar { IsBar self.old.search refusal.literals.items refusal.causes.items }
+        ensures barred { IfOk result (λ id. Bars refusal.literals.items refusal.causes.items id self.old self.new) }
+        ensures ids { IsErrOf result Ids → length self.old.search.clauses ≡ 4294967295 }
+    {
+        let FinalConflict { literals, causes } = refusal;
+        let clause = self
+            .search
+            .add_clause(&mut self.watching, SatClause { literals, causes })?;
+        self.stated.push(Stated::Learnt)?;
+        Ok(clause)
+    }
+}

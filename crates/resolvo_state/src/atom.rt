@@ -1,0 +1,51 @@
+//! What variables stand for.
+ghost use Rattle.std.specs.Prelude.{◌≡◌, refl};
+ghost use Rattle.std.proofs.lemmas.Bool.{and_parts, eqb-true};
+ghost use Rattle.resolvo_state.specs.AtomLaws.{one_atom, one_requirement};
+ghost use Rattle.resolvo_state.specs.Atoms.{kind_of};
+ghost use Rattle.resolvo_state.specs.declared.atom.ProofAtom.TheVariants.{Gate};
+
+use resolvo_pool_core::id::{Exact, VersionSetId};
+use resolvo_pool_core::requirement::Requirement;
+use resolvo_sat::state::VariableKind;
+
+/// What a variable other than the root's stands for.
+#[derive(Clone, Copy, PartialEq, Eq, Hash, Debug)]
+pub enum ProofAtom<N, S> {
+    /// The solvable is chosen.
+    Solvable(S),
+    /// A candidate of the package is chosen.
+    AtLeastOne(N),
+    /// A chosen solvable asks for the requirement, without condition.
+    Gate(Requirement),
+    /// A candidate that is outside the version set is chosen.
+    Outside(VersionSetId),
+    /// A binary digit of the place of the package's chosen solvable, counted from the lowest.
+    Bit(N, u32),
+}
+
+impl<N: Copy, S: Copy> ProofAtom<N, S> {
+    /// What the search is told of the variable.
+    pub fn kind(self) -> VariableKind
+        ensures { result ≡ kind_of self }
+    {
+        match self {
+            ProofAtom::Solvable(_) => VariableKind::Solvable,
+            _ => VariableKind::Helper,
+        }
+    }
+}
+
+impl<N: Exact, S: Exact> Exact for ProofAtom<N, S> {
+    ghost exact = { one_atom Self.eq
+        (λ s t h. S.exact s t h)
+        (λ m n h. N.exact m n h)
+        (λ q r h. one_requirement (λ a b. Self.eq (Gate a) (Gate b)) (λ v w e. eqb-true v.0 w.0 e) (λ v w e. eqb-true v.0 w.0 e) (λ v w. (refl, refl)) q r h)
+        (λ v w h. eqb-true v.0 w.0 h)
+        (λ m n a b h. (N.exact m n (and_parts _ _ h).0, eqb-true a b (and_parts _ _ h).1))
+        (λ s. (λ n. refl, λ r. refl, λ v. refl, λ n b. refl))
+        (λ m. (λ s. refl, λ r. refl, λ v. refl, λ n b. refl))
+        (λ q. (λ s. refl, λ n. refl, λ v. refl, λ n b. refl))
+        (λ u. (λ s. refl, λ n. refl, λ r. refl, λ n b. refl))
+        (λ m a. (λ s. refl, λ n. refl, λ r. refl, λ v. refl)) };
+}

@@ -1,0 +1,70 @@
+//! The search goes on: a step, a choice, a return to an earlier level, the first level of a turn.
+ghost use Rattle.std.specs.Prelude.{◌≡◌, ◌<◌, ◌≤◌, length, IfOk, OnOk, IsErrOf, IsOkUnless};
+ghost use Rattle.resolvo_pool_core.specs.declared.want.Want.TheVariants.{Memory, Ids};
+ghost use Rattle.resolvo_store_core.specs.Clauses.{yes};
+ghost use Rattle.resolvo_sat.specs.Known.{IsUndecided};
+ghost use Rattle.resolvo_sat.specs.Entries.{made_true};
+ghost use Rattle.resolvo_sat.specs.State.{count_of, history};
+ghost use Rattle.resolvo_sat.specs.Steps.{Chooses, Undoes};
+ghost use Rattle.resolvo_state.specs.Coding.{IsCoding, Advances, KeepsCode, SetsFloor};
+
+use crate::clause_kind::Stated;
+use crate::solver_state::SolverState;
+use resolvo_pool_core::id::{ClauseId, Exact, VariableId};
+use resolvo_pool_core::want::R;
+use resolvo_sat::propagate_and_learn::StepResult;
+use std::alloc::Global;
+use std::fmt::Debug;
+use std::hash::Hash;
+
+impl<N: Copy + Exact + Hash + Debug, S: Copy + Exact + Hash + Debug> SolverState<N, S> {
+    /// One step of the search: sets what the clauses force, and learns where one is broken.
+    pub fn propagate_and_learn(&mut self, alloc: Global) -> R<StepResult>
+        requires { IsCoding self.old }
+        ensures advanced { IfOk result (Advances self.old self.new) }
+        ensures ids { IsErrOf result Ids → length self.old.search.clauses ≡ 4294967295 }
+    {
+        let progress = self.search.propagate_and_learn(alloc, &mut self.watching)?;
+        match progress {
+            StepResult::Complete => Ok(StepResult::Complete),
+            StepResult::Refused(refusal) => Ok(StepResult::Refused(refusal)),
+            StepResult::Learnt(clause) => {
+                self.stated.push(Stated::Learnt)?;
+                Ok(StepResult::Learnt(clause))
+            }
+        }
+    }
+
+    /// Chooses a variable to be true, for a clause, at the next level.
+    pub fn choose(&mut self, variable: VariableId, clause: ClauseId) -> R<()>
+        requires coding { IsCoding self.old }
+        requires in_range { variable.0 < count_of self.old.search }
+        requires undecided { IsUndecided (made_true (history self.old.search)) (yes variable) }
+        ensures chosen { OnOk result (Chooses variable clause self.old.search self.new.search) }
+        ensures kept { OnOk result (KeepsCode self.old self.new) }
+        ensures refusal { IsOkUnless result Memory }
+    {
+        self.search.choose(variable, clause)
+    }
+
+    /// Takes the entries above a level away.
+    pub fn undo_until(&mut self, level: u32)
+        requires coding { IsCoding self.old }
+        requires one { 1 ≤ level }
+        ensures undone { Undoes level self.old.search self.new.search }
+        ensures kept { KeepsCode self.old self.new }
+    {
+        self.search.undo_until(level);
+    }
+
+    /// Begins a turn at a level: no jump goes below it.
+    pub fn set_floor(&mut self, level: u32)
+        requires coding { IsCoding self.old }
+        requires one { 1 ≤ level }
+        ensures set { SetsFloor level self.old.search self.new.search }
+        ensures is { self.new ≡ record self.old { search = record self.old.search { base_level = level } } }
+        ensures kept { KeepsCode self.old self.new }
+    {
+        self.search.base_level = level;
+    }
+}

@@ -1,0 +1,217 @@
+//! Which solvables of each package are registered: at most one of them is true.
+//! Each package has a tracker of its solvables' variables, whose places are told by binary digits, each
+//! digit a variable of its own. A clause says of each registered solvable, with its place, and of each
+//! digit of its package which value the digit has where the solvable is true.
+ghost use Rattle.std.specs.Prelude.{◌≡◌, ℕ, ◌≤◌, ◌+◌, Bool, Some, min, length, slice_get, is_some, IfOk, OnOk, Contains};
+ghost use Rattle.resolvo_pool_core.specs.declared.id.VariableId.{VariableId};
+ghost use Rattle.resolvo_store_core.specs.AtMostOne.{needs_helper};
+ghost use Rattle.resolvo_state.specs.declared.atom.ProofAtom.TheVariants.{Solvable, Bit};
+ghost use Rattle.resolvo_state.specs.Atoms.{StandsFor};
+ghost use Rattle.resolvo_state.specs.Coding.{IsCoding};
+ghost use Rattle.resolvo_state.specs.Keys.{AreOnce};
+ghost use Rattle.resolvo_state.specs.Registered.{same_variable, IsNothing, AreTied, IsTracked, Registers, PlacesName, IsTied, Tracks, GivesDigit, IsTie, first_of, place_from, StatesOne, StatesAll};
+
+use crate::atom::ProofAtom;
+use crate::clause_kind::Stated;
+use crate::keys::{place_in, push_key};
+use crate::solver_state::SolverState;
+use indexmap::IndexSet;
+use resolvo_pool_core::id::{Exact, VariableId};
+use resolvo_pool_core::want::R;
+use resolvo_store_core::binary_encoding::AtMostOnceTracker;
+use resolvo_store_core::literal::Literal;
+use std::alloc::Global;
+use std::fmt::Debug;
+use std::hash::Hash;
+
+/// The packages that have registered solvables, each with the tracker of its solvables' variables.
+pub struct Registry<N: Copy + Eq + Hash> {
+    names: IndexSet<N>,
+    trackers: Vec<AtMostOnceTracker<VariableId>>,
+}
+
+// split for the prover: what owns one calls this drop, and doesn't drop each field at each exit
+impl<N: Copy + Eq + Hash> Drop for Registry<N> {
+    fn drop(self) {
+        let Registry {
+            names: _,
+            trackers: _,
+        } = self;
+    }
+}
+
+/// A variable of a solvable, one of a digit of its package, and the digit's value where the solvable is
+/// true.
+type Tie = (VariableId, VariableId, bool);
+
+impl<N: Copy + Exact + Hash + Debug> Registry<N> {
+    /// No solvable.
+    pub fn new(alloc: Global) -> Registry<N>
+        ensures { IsNothing result }
+    {
+        Registry {
+            names: IndexSet::new(alloc),
+            trackers: Vec::new(alloc),
+        }
+    }
+
+    /// Registers a solvable of a package, and gives its variable, which is made where there is none.
+    /// A clause comes for each digit that tells it, or by now another one, apart.
+    pub fn register<S: Copy + Exact + Hash + Debug>(
+        &mut self,
+        coding: &mut SolverState<N, S>,
+        name: N,
+        solvable: S,
+    ) -> R<VariableId>
+        requires coding { IsCoding coding.old }
+        requires tied { AreTied self.old coding.old }
+        ensures registered { IfOk result (λ v. Registers name solvable v self.old coding.old self.new coding.new) }
+    {
+        let alloc = *self.trackers.allocator();
+        let variable = coding.variable(ProofAtom::Solvable(solvable))?;
+        let place = self.place_of(alloc, name)?;
+        track(alloc, &mut self.trackers[place], coding, name, variable)?;
+        Ok(variable)
+    }
+
+    /// The variables of the registered solvables of a package.
+    pub fn variables(&self, name: N) -> &[VariableId]
+        requires each { length self.now.names.keys ≡ length self.now.trackers.items }
+        requires once { AreOnce self.now.names.keys }
+        ensures tracked { (v : VariableId) → Contains result.now v → IsTracked self.now name v }
+        ensures all { (v : VariableId) → IsTracked self.now name v → Contains result.now v }
+    {
+        match place_in(&self.names, &name) {
+            Some(place) => self.trackers[place].variables(),
+            None => &[],
+        }
+    }
+
+    /// The place of a package, which comes behind the others where it has none.
+    fn place_of(&mut self, alloc: Global, name: N) -> R<usize>
+        requires { length self.old.names.keys ≡ length self.old.trackers.items }
+        ensures place { IfOk result (λ place. PlacesName name place self.old self.new) }
+    {
+        if let Some(place) = place_in(&self.names, &name) {
+            return Ok(place);
+        }
+        let place = self.trackers.len();
+        self.trackers.push(AtMostOnceTracker::new(alloc))?;
+        push_key(&mut self.names, name)?;
+        Ok(place)
+    }
+}
+
+/// Tracks the variable of a solvable, unless it is tracked, and states what ties it to the digits of
+/// its package.
+fn track<N: Copy + Exact + Hash + Debug, S: Copy + Exact + Hash + Debug>(
+    alloc: Global,
+    tracker: &mut AtMostOnceTracker<VariableId>,
+    coding: &mut SolverState<N, S>,
+    name: N,
+    variable: VariableId,
+) -> R<()>
+    requires coding { IsCoding coding.old }
+    requires tied { IsTied name tracker.old coding.old }
+    requires solvable { (s : S) × StandsFor coding.old.atoms.keys variable (Solvable s) }
+    ensures tracked { OnOk result (Tracks name variable tracker.old coding.old tracker.new coding.new) }
+{
+    let digit = next_digit(tracker, coding, name, variable)?;
+    let last = tracker.variables().len() as u32;
+    let first = first_place(digit, last);
+    let mut ties = Vec::new(alloc);
+    tracker.add(variable, digit, &mut ties)?;
+    state_ties(alloc, coding, name, ties.as_slice(), first, last)?;
+    Ok(())
+}
+
+/// The place that the first tie is of: with a new digit the first one, else that of the variable that
+/// comes, behind so many.
+fn first_place(digit: Option<VariableId>, count: u32) -> u32
+    ensures { result ≡ first_of digit count }
+{
+    match digit {
+        None => count,
+        Some(_) => 0,
+    }
+}
+
+/// The variable of the digit that a variable takes with it, if it takes one.
+fn next_digit<N: Copy + Exact + Hash + Debug, S: Copy + Exact + Hash + Debug>(
+    tracker: &AtMostOnceTracker<VariableId>,
+    coding: &mut SolverState<N, S>,
+    name: N,
+    variable: VariableId,
+) -> R<Option<VariableId>>
+    requires { IsCoding coding.old }
+    ensures digit { IfOk result (λ digit. GivesDigit name (length tracker.now.helpers) digit coding.old coding.new) }
+    ensures needed { IfOk result (λ digit. is_some digit ≡ needs_helper same_variable tracker.now variable) }
+{
+    if !tracker.needs_helper(variable) {
+        return Ok(None);
+    }
+    // A slice has fewer than 2^64 items, so 64 digits tell its places apart.
+    let _count = tracker.variables().len();
+    let bit = tracker.helpers().len() as u32;
+    let digit = coding.variable(ProofAtom::Bit(name, bit))?;
+    Ok(Some(digit))
+}
+
+/// States each tie of solvables of a package to its digits. The first tie is of this place, and each
+/// next one of the next place, up to the last place, of which all that are left are.
+fn state_ties<N: Copy + Exact + Hash + Debug, S: Copy + Exact + Hash + Debug>(
+    alloc: Global,
+    coding: &mut SolverState<N, S>,
+    name: N,
+    ties: &[Tie],
+    first: u32,
+    last: u32,
+) -> R<()>
+    requires coding { IsCoding coding.old }
+    requires places { first ≤ last }
+    requires ties { (i : ℕ) (tie : VariableId × VariableId × Bool) → slice_get ties.now i ≡ Some tie → IsTie name coding.old.atoms.keys (place_from first last i) tie }
+    ensures stated { OnOk result (StatesAll name ties.now first last coding.old coding.new) }
+{
+    let mut place = first;
+    for tie in ties {
+        state_tie(alloc, coding, name, *tie, place)?;
+        place = next_place(place, last);
+    }
+    Ok(())
+}
+
+/// The next place, up to the last one.
+fn next_place(place: u32, last: u32) -> u32
+    ensures { result ≡ min (place + 1) last }
+{
+    if place < last { place + 1 } else { last }
+}
+
+/// States what ties a solvable at a place to a digit of its package.
+fn state_tie<N: Copy + Exact + Hash + Debug, S: Copy + Exact + Hash + Debug>(
+    alloc: Global,
+    coding: &mut SolverState<N, S>,
+    name: N,
+    tie: Tie,
+    place: u32,
+) -> R<()>
+    requires coding { IsCoding coding.old }
+    requires tie { IsTie name coding.old.atoms.keys place tie }
+    ensures stated { OnOk result (StatesOne name place tie coding.old coding.new) }
+{
+    let (variable, digit, value) = tie;
+    let mut literals = Vec::new(alloc);
+    literals.push(Literal::new(variable, true))?;
+    literals.push(Literal::new(digit, !value))?;
+    let (Some(solvable), Some(bit)) = (coding.solvable(variable), coding.bit(digit)) else {
+        unreachable!()
+    };
+    let stated = Stated::Digit {
+        name,
+        solvable,
+        place,
+        bit,
+    };
+    coding.state(stated, literals)?;
+    Ok(())
+}

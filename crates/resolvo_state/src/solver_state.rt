@@ -1,0 +1,111 @@
+//! The search, with what its variables stand for and what its clauses state.
+//! Variable 0 is the root's; variable k + 1 stands for the k-th atom, and the n-th clause states the n-th
+//! of what is stated.
+ghost use Rattle.std.specs.Prelude.{◌≡◌, ◌<◌, IfOk, IfSome, IsErrOf, IsOkUnless};
+ghost use Rattle.resolvo_pool_core.specs.declared.want.Want.TheVariants.{Memory, Ids};
+ghost use Rattle.resolvo_sat.specs.State.{count_of};
+ghost use Rattle.resolvo_state.specs.Atoms.{IsFound, solvable_of, bit_of};
+ghost use Rattle.resolvo_state.specs.Coding.{IsCoding, IsBegun, Gives};
+
+use crate::atom::ProofAtom;
+use crate::clause_kind::Stated;
+use crate::keys::{place_in, push_key};
+use indexmap::IndexSet;
+use resolvo_pool_core::id::{Exact, VariableId};
+use resolvo_pool_core::want::R;
+use resolvo_sat::begin::begin;
+use resolvo_sat::state::SatState;
+use resolvo_sat::watch_lists::WatchLists;
+use std::alloc::Global;
+use std::fmt::Debug;
+use std::hash::Hash;
+
+/// The search, with what its variables stand for and what its clauses state.
+pub struct SolverState<N: Copy + Eq + Hash, S: Copy + Eq + Hash> {
+    pub search: SatState,
+    pub watching: WatchLists,
+    pub atoms: IndexSet<ProofAtom<N, S>>,
+    pub stated: Vec<Stated<N, S>>,
+}
+
+// split for the prover: what owns one calls this drop, and doesn't drop each field at each exit
+impl<N: Copy + Eq + Hash, S: Copy + Eq + Hash> Drop for SolverState<N, S> {
+    fn drop(self) {
+        let SolverState {
+            search: _,
+            watching: _,
+            atoms: _,
+            stated: _,
+        } = self;
+    }
+}
+
+impl<N: Copy + Exact + Hash + Debug, S: Copy + Exact + Hash + Debug> SolverState<N, S> {
+    /// The search at its start: the root alone.
+    pub fn begin(alloc: Global) -> R<SolverState<N, S>>
+        ensures begun { IfOk result IsBegun }
+        ensures refusal { IsOkUnless result Memory }
+    {
+        let (search, watching) = begin(alloc)?;
+        let mut stated = Vec::new(alloc);
+        stated.push(Stated::Root)?;
+        Ok(SolverState {
+            search,
+            watching,
+            atoms: IndexSet::new(alloc),
+            stated,
+        })
+    }
+
+    /// The variable that stands for the atom, if one does.
+    pub fn find(&self, atom: ProofAtom<N, S>) -> Option<VariableId>
+        requires { IsCoding self.now }
+        ensures found { IsFound self.now.atoms.keys atom result }
+        ensures in_range { IfSome result (λ v. v.0 < count_of self.now.search) }
+    {
+        match place_in(&self.atoms, &atom) {
+            Some(place) => Some(VariableId((place + 1) as u32)),
+            None => None,
+        }
+    }
+
+    /// The variable that stands for the atom: the one that did, or the next one by number.
+    pub fn variable(&mut self, atom: ProofAtom<N, S>) -> R<VariableId>
+        requires { IsCoding self.old }
+        ensures given { IfOk result (λ v. Gives atom v self.old self.new) }
+        ensures ids { IsErrOf result Ids → count_of self.old.search ≡ 2147483647 }
+    {
+        if let Some(variable) = self.find(atom) {
+            return Ok(variable);
+        }
+        let variable = self.search.add_variable(atom.kind())?;
+        push_key(&mut self.atoms, atom)?;
+        Ok(variable)
+    }
+
+    /// The solvable that a variable stands for, if it does for one.
+    pub fn solvable(&self, variable: VariableId) -> Option<S>
+        ensures { result ≡ solvable_of self.now.atoms.keys variable.0 }
+    {
+        match (variable.0 as usize).checked_sub(1) {
+            None => None,
+            Some(place) => match self.atoms.get_index(place) {
+                Some(ProofAtom::Solvable(solvable)) => Some(*solvable),
+                _ => None,
+            },
+        }
+    }
+
+    /// The place of the digit that a variable stands for, if it does for one.
+    pub fn bit(&self, variable: VariableId) -> Option<u32>
+        ensures { result ≡ bit_of self.now.atoms.keys variable.0 }
+    {
+        match (variable.0 as usize).checked_sub(1) {
+            None => None,
+            Some(place) => match self.atoms.get_index(place) {
+                Some(ProofAtom::Bit(_, bit)) => Some(*bit),
+                _ => None,
+            },
+        }
+    }
+}

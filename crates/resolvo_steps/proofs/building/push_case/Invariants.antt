@@ -1,9 +1,0 @@
-use Rattle.std.proofs.Common.{◌≡◌, ◌++◌, take}
-use Rattle.resolvo_text.specs.View.{specs_of}
-use Rattle.resolvo_catalogue.specs.Listed.{listed}
-use Rattle.resolvo_steps.specs.StepClauses.{case_fails}
-use Rattle.resolvo_steps.specs.Built.{literals_in, somes}
-use Rattle.resolvo_steps.proofs.building.push_case.Given as goal
-
-abbrev pub invariant-loop-spec : goal.invariant-loop-spec
-invariant-loop-spec l = literals_in (listed l.catalogue) l.out.items ≡ literals_in (listed l.catalogue) l.fn.out.items ++ somes (case_fails l.catalogue (specs_of (take l.spec-index l.specs)))

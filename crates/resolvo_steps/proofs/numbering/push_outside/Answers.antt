@@ -1,8 +1,0 @@
-use Rattle.std.proofs.Common.{ap, ◌∙◌, ◌++◌}
-use Rattle.resolvo_text.specs.View.{spec_of}
-use Rattle.resolvo_report.specs.Value.{OutsideOf}
-use Rattle.resolvo_steps.specs.Keys.{spec_key}
-use Rattle.resolvo_steps.proofs.numbering.push_outside.Goals as goal
-
-pub returns : goal.returns
-returns c = λ vs. c.in_ok-push_key.ensures vs (OutsideOf (spec_of c.args.spec.now)) (c.deref.ensures.value ∙ (c.in_ok-push_spec.ensures ∙ ap (λ k. k ++ spec_key (spec_of c.args.spec.now)) c.in_ok-key.ensures.items))

@@ -1,0 +1,91 @@
+-- What clauses name, in the lists that are kept by id and in plain lists.
+use Rattle.std.proofs.Common.{◌≡◌, ℕ, ◌&&◌, Bool, true, nat_lt, ◌∷◌, ◌++◌, Option, Some, None, is_some, option_map, Vec, Global, refl, sym, ◌∙◌, ap, ltb-true}
+use Rattle.std.proofs.lemmas.Bool.{and_parts}
+use Rattle.std.proofs.lemmas.List.{length-map}
+use Rattle.resolvo_pool_core.specs.declared.id.DenseId.{DenseId}
+use Rattle.resolvo_pool_core.specs.declared.id.DisjunctionTag.{DisjunctionTag}
+use Rattle.resolvo_pool_core.specs.declared.id.LearntClauseTag.{LearntClauseTag}
+use Rattle.resolvo_pool_core.specs.declared.requirement.Requirement.{Requirement}
+use Rattle.resolvo_pool_core.specs.ByRequirement.{slot_of}
+use Rattle.resolvo_store_core.specs.Signed.{Signed}
+use Rattle.resolvo_store_core.specs.Lists.{Named, has_candidates, has_disjunction, HasDisjunction, has_learnt}
+use Rattle.resolvo_store_core.specs.Clauses.{no, candidate_literals, literals_by, lists_there, has_lists, is_own_in_range, OwnInRange, HasLists, Fits}
+use Rattle.resolvo_store.specs.Stored.{Kept, plain}
+use Rattle.resolvo_store.specs.Calls.{has_condition, has_candidates_for, has_learnt_in}
+use Rattle.resolvo_store_core.specs.declared.lists.Disjunction.{Disjunction}
+use Rattle.resolvo_store_core.specs.declared.lists.FixedLists.{FixedLists}
+use Rattle.resolvo_store_core.specs.declared.clause.Clause.{Clause}
+use Rattle.resolvo_store_core.specs.declared.clause.Clause.TheVariants.{InstallRoot, Requires, ForbidMultipleInstances, Constrains, ConstrainsParent, ConstrainsExcluded, Lock, Learnt, Excluded, AnyOf}
+use Rattle.resolvo_store.proofs.Picks.{SameNames}
+
+-- equal names give equal literals
+pub literals_same : {N : Type 0} (n m : Named N) → SameNames n m → (c : Clause N) → literals_by n c ≡ literals_by m c
+literals_same n m same InstallRoot = refl
+literals_same n m same (Requires p d r) = ap (λ ls. no p ∷ (ls ++ candidate_literals (n.candidates r))) (same.condition d) ∙ ap (λ cs. no p ∷ (m.condition d ++ candidate_literals cs)) (same.candidates r)
+literals_same n m same (ForbidMultipleInstances v l p) = refl
+literals_same n m same (Constrains p c s) = refl
+literals_same n m same (ConstrainsParent p x s) = refl
+literals_same n m same (ConstrainsExcluded c x s) = refl
+literals_same n m same (Lock l o) = refl
+literals_same n m same (Learnt l) = same.learnt l
+literals_same n m same (Excluded v s) = refl
+literals_same n m same (AnyOf x v) = refl
+
+-- tests of ids that agree
+pub there_same : {N : Type 0} (f g : Option (DenseId DisjunctionTag ℕ) → Bool) (h k : Requirement → Bool) (i j : DenseId LearntClauseTag ℕ → Bool) → ((d : Option (DenseId DisjunctionTag ℕ)) → f d ≡ g d) → ((r : Requirement) → h r ≡ k r) → ((l : DenseId LearntClauseTag ℕ) → i l ≡ j l)
+    → (c : Clause N) → lists_there f h i c ≡ lists_there g k j c
+there_same f g h k i j fg hk ij InstallRoot = refl
+there_same f g h k i j fg hk ij (Requires p d r) = ap (λ b. b && h r) (fg d) ∙ ap (λ b. g d && b) (hk r)
+there_same f g h k i j fg hk ij (ForbidMultipleInstances v l p) = refl
+there_same f g h k i j fg hk ij (Constrains p c s) = refl
+there_same f g h k i j fg hk ij (ConstrainsParent p x s) = refl
+there_same f g h k i j fg hk ij (ConstrainsExcluded c x s) = refl
+there_same f g h k i j fg hk ij (Lock l o) = refl
+there_same f g h k i j fg hk ij (Learnt l) = ij l
+there_same f g h k i j fg hk ij (Excluded v s) = refl
+there_same f g h k i j fg hk ij (AnyOf x v) = refl
+
+some_mapped : {X Y : Type 0} (f : X → Y) (o : Option X) → is_some o ≡ is_some (option_map f o)
+some_mapped f None = refl
+some_mapped f (Some x) = refl
+
+-- the lists of a clause are kept where the plain lists have them
+pub lists_plain : {N S : Type 0} (score : S → N → ℕ) (k : Kept N S) (c : Clause N) → has_lists k.lists c ≡ lists_there (has_condition (plain score k)) (has_candidates_for (plain score k)) (has_learnt_in (plain score k)) c
+lists_plain score k c = there_same (has_disjunction k.lists) (has_condition (plain score k)) (has_candidates k.lists) (has_candidates_for (plain score k)) (has_learnt k.lists) (has_learnt_in (plain score k)) condition (λ r. some_mapped (λ v. v.items) (slot_of k.lists.candidates r))
+    (λ l. ap (nat_lt l.raw) (sym (length-map k.lists.learnt (λ (v : Vec Signed Global). v.items)))) c
+  where
+    condition : (d : Option (DenseId DisjunctionTag ℕ)) → has_disjunction k.lists d ≡ has_condition (plain score k) d
+    condition None = refl
+    condition (Some d) = ap (nat_lt d.raw) (sym (length-map k.lists.disjunctions (λ (e : Disjunction). e.literals.items)))
+
+-- what passes both tests fits
+pub fits_by_tests : {N : Type 0} (ls : FixedLists N) (c : Clause N) → is_own_in_range c ≡ true → has_lists ls c ≡ true → Fits ls c
+fits_by_tests {N} ls c own there = record { in_range = range c own; lists = lists c there }
+  where
+    range : (d : Clause N) → is_own_in_range d ≡ true → OwnInRange d
+    range InstallRoot h = record {}
+    range (Requires p d r) h = ltb-true _ _ h
+    range (ForbidMultipleInstances v l p) h = ltb-true _ _ h
+    range (Constrains p x s) h = let b = and_parts _ _ h in (ltb-true _ _ b.0, ltb-true _ _ b.1)
+    range (ConstrainsParent p x s) h = let b = and_parts _ _ h in (ltb-true _ _ b.0, ltb-true _ _ b.1)
+    range (ConstrainsExcluded x y s) h = let b = and_parts _ _ h in (ltb-true _ _ b.0, ltb-true _ _ b.1)
+    range (Lock l o) h = ltb-true _ _ h
+    range (Learnt l) h = record {}
+    range (Excluded v s) h = ltb-true _ _ h
+    range (AnyOf x v) h = let b = and_parts _ _ h in (ltb-true _ _ b.0, ltb-true _ _ b.1)
+
+    disjunction : (d : Option (DenseId DisjunctionTag ℕ)) → has_disjunction ls d ≡ true → HasDisjunction ls d
+    disjunction None h = record {}
+    disjunction (Some d) h = ltb-true _ _ h
+
+    lists : (d : Clause N) → has_lists ls d ≡ true → HasLists ls d
+    lists InstallRoot h = record {}
+    lists (Requires p d r) h = let b = and_parts _ _ h in (disjunction d b.0, b.1)
+    lists (ForbidMultipleInstances v l p) h = record {}
+    lists (Constrains p x s) h = record {}
+    lists (ConstrainsParent p x s) h = record {}
+    lists (ConstrainsExcluded x y s) h = record {}
+    lists (Lock l o) h = record {}
+    lists (Learnt l) h = ltb-true _ _ h
+    lists (Excluded v s) h = record {}
+    lists (AnyOf x v) h = record {}

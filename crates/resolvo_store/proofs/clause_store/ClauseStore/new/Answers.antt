@@ -1,0 +1,14 @@
+use Rattle.std.proofs.Common.{◌≡◌, ◌∷◌, ◌++◌, [], List, Option, None, sym, ◌∙◌, ap, subst, arith}
+use Rattle.resolvo_store_core.specs.declared.watched_literals.WatchedLiterals.{WatchedLiterals}
+use Rattle.resolvo_store_core.specs.Watches.{watchers, IsWatched}
+use Rattle.resolvo_store_core.proofs.Watched.{unwatched_well}
+use Rattle.resolvo_store.proofs.clause_store.ClauseStore.new.Goals as goal
+
+pub invariant_of-result : goal.invariant_of-result
+invariant_of-result g c =
+    let none : c.push-2.new.self.items ≡ [] ++ None ∷ [] = c.in_ok-push-2.ensures.items ∙ ap (λ (ps : List (Option WatchedLiterals)). ps ++ None ∷ []) c.new-watched.ensures.items in
+    let a = c.in_ok-push.ensures.len in
+    let b = c.in_ok-push-2.ensures.len in
+    let d = c.new-clauses.ensures.len in
+    let e = c.new-watched.ensures.len in
+    (subst (λ (ps : List (Option WatchedLiterals)). IsWatched ps (watchers c.new-2.result)) (sym none) (unwatched_well [] (watchers c.new-2.result) c.new-2.ensures.fits), omega arith, omega arith)

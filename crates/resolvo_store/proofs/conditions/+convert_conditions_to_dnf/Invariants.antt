@@ -1,4 +1,0 @@
-use Rattle.resolvo_store.proofs.conditions.+convert_conditions_to_dnf.Given as goal
-
-abbrev pub decreases-convert_conditions_to_dnf : goal.decreases-convert_conditions_to_dnf
-decreases-convert_conditions_to_dnf g l = l.condition.0

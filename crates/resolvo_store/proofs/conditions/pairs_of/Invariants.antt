@@ -1,6 +1,0 @@
-use Rattle.std.proofs.Common.{◌≡◌, take}
-use Rattle.resolvo_store.specs.Cases.{cases_of, pairs}
-use Rattle.resolvo_store.proofs.conditions.pairs_of.Given as goal
-
-abbrev pub invariant-loop-case : goal.invariant-loop-case
-invariant-loop-case l = cases_of l.all.items ≡ pairs (cases_of (take l.case-index l.left)) (cases_of l.right)

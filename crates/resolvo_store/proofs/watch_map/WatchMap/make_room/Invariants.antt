@@ -1,7 +1,0 @@
-use Rattle.std.proofs.Common.{length, take}
-use Rattle.resolvo_store.specs.Watches.{watchers, HasRoom, SameLists}
-use Rattle.resolvo_store.proofs.watch_map.WatchMap.make_room.Given as goal
-
--- there is room at each literal so far, and no list changed
-abbrev pub invariant-loop-target : goal.invariant-loop-target
-invariant-loop-target l = SameLists (watchers l.initial.self) (watchers l.self) × HasRoom (length l.moves) l.self (take l.target-index l.moves)

@@ -1,0 +1,383 @@
+//! A store of clauses: the lists that clauses name, the clauses with what they watch, the trail, the
+//! registered need clauses and the packages' scores.
+//! Its model is plain lists and functions (`plain`). Each call is told as what becomes of them, up to
+//! `Like`, which calls functions the same where they agree everywhere. `run` takes a list of calls.
+ghost use Rattle.std.specs.Prelude.{◌≡◌, ◌++◌, ◌∷◌, [], List, Option, Some, false, OnOk, OnErr, IfOk, IsErrOf, IsOkUnless, length, true, None};
+ghost use Rattle.std.specs.List.{list_all};
+ghost use Rattle.resolvo_pool_core.specs.declared.want.Want.TheVariants.{Memory, Ids};
+ghost use Rattle.resolvo_pool_core.specs.ByRequirement.{index_in};
+ghost use Rattle.resolvo_store_core.specs.Trail.{value_in};
+ghost use Rattle.resolvo_store_core.specs.Adding.{set_for};
+ghost use Rattle.resolvo_store_core.specs.Signed.{Signed, same_literal};
+ghost use Rattle.resolvo_store_core.specs.Watches.{watchers, IsWatched, SameLists};
+ghost use Rattle.resolvo_store_core.specs.declared.watched_literals.WatchedLiterals.{WatchedLiterals};
+ghost use Rattle.resolvo_store.specs.Stored.{Like, plain, new_store};
+ghost use Rattle.resolvo_store.specs.Changes.{versions_of, candidates_from, with_candidates, with_disjunction, with_learnt, watching, with_clause, with_need, with_decision, undone, last_undone, undone_until, bumped, decayed, walked};
+ghost use Rattle.resolvo_store_core.specs.Clauses.{Fits, is_in_range, literals_of};
+ghost use Rattle.resolvo_store.specs.Calls.{has_clause, can_watch, can_fix, can_add, can_register, can_assign, can_decay, broken_in, picked_in};
+
+use resolvo_pool_core::id::{ClauseId, DenseIndex, DisjunctionId, LearntClauseId, VariableId};
+use resolvo_pool_core::id_map::ScoreMap;
+use resolvo_pool_core::requirement::Requirement;
+use resolvo_pool_core::solver_id::SolverId;
+use resolvo_pool_core::want::{R, Want};
+use resolvo_store_core::clause::Clause;
+use resolvo_store_core::decide_queue::{DecideQueue, NeedClause, NextDecision};
+use resolvo_store_core::decision::Decision;
+use resolvo_store_core::decision_tracker::{DecisionTracker, Set};
+use resolvo_store_core::lists::{Candidate, Disjunction, FixedLists};
+use resolvo_store_core::literal::{Literal, is_in_range};
+use resolvo_store_core::watch_map::WatchMap;
+use resolvo_store_core::watched_literals::WatchedLiterals;
+use std::alloc::Global;
+use std::marker::Model;
+
+/// How many clauses there can be.
+const CLAUSES: usize = 4_294_967_295;
+
+/// Clauses with all that a decision rests on. `N` is the type of package names.
+pub struct ClauseStore<N: SolverId> {
+    lists: FixedLists<N>,
+    clauses: Vec<Clause<N>>,
+    watched: Vec<Option<WatchedLiterals>>,
+    watches: WatchMap,
+    tracker: DecisionTracker,
+    queue: DecideQueue,
+    scores: N::Scores,
+    alloc: Global,
+}
+
+// split for the prover: what owns one calls this drop, and doesn't drop each field at each exit
+impl<N: SolverId> Drop for ClauseStore<N> {
+    fn drop(self) {
+        let ClauseStore {
+            lists: _,
+            clauses: _,
+            watched: _,
+            watches: _,
+            tracker: _,
+            queue: _,
+            scores: _,
+            alloc: _,
+        } = self;
+    }
+}
+
+impl<N: SolverId> Model for ClauseStore<N> {
+    ghost use Rattle.std.specs.Prelude.{◌≡◌, ◌≤◌, length};
+    ghost use Rattle.resolvo_store.specs.Stored.{Kept};
+    ghost use Rattle.resolvo_store_core.specs.Watches.{watchers, IsWatched};
+
+    ghost Value = { Kept N N.Scores };
+
+    ghost view = { λ s. record { lists = s.lists; clauses = s.clauses.items; watched = s.watched.items; watches = s.watches; trail = s.tracker.trail; needs = s.queue; scores = s.scores } };
+
+    ghost invariant = { λ s. IsWatched s.watched.items (watchers s.watches) × (length s.watched.items ≡ length s.clauses.items) × (length s.clauses.items ≤ 4294967295) };
+}
+
+impl<N: SolverId + Drop> ClauseStore<N> {
+    /// A store that holds the clause of the root alone, which is clause 0.
+    pub fn new(alloc: Global) -> R<ClauseStore<N>>
+        ensures store { IfOk result (λ s. Like (plain N.Scores.score_of s) new_store) }
+        ensures refusal { IsOkUnless result Memory }
+    {
+        let mut clauses = Vec::new(alloc);
+        clauses.push(Clause::InstallRoot)?;
+        let mut watched = Vec::new(alloc);
+        watched.push(None)?;
+        Ok(ClauseStore {
+            lists: FixedLists::new(alloc)?,
+            clauses,
+            watched,
+            watches: WatchMap::new(alloc),
+            tracker: DecisionTracker::new(alloc),
+            queue: DecideQueue::new(alloc),
+            scores: <N::Scores as ScoreMap<N>>::new(alloc),
+            alloc,
+        })
+    }
+
+    /// Whether a requirement has no candidates yet, and literals can have these new ones.
+    pub fn can_fix(&self, requirement: Requirement, groups: &[(N, Vec<VariableId>)]) -> bool
+        ensures { result ≡ can_fix (plain N.Scores.score_of self.now) requirement groups.now }
+    {
+        let is_new = self.lists.candidates(requirement).is_none();
+        is_new && are_in_range(groups)
+    }
+
+    /// Gives a requirement its candidates: packages, each with versions.
+    pub fn fix_candidates(
+        &mut self,
+        requirement: Requirement,
+        groups: &[(N, Vec<VariableId>)],
+    ) -> R<()>
+        requires { can_fix (plain N.Scores.score_of self.old) requirement groups.now ≡ true }
+        ensures store { OnOk result (Like (plain N.Scores.score_of self.new) (with_candidates requirement (candidates_from groups.now) (plain N.Scores.score_of self.old))) }
+        ensures err { OnErr result (Like (plain N.Scores.score_of self.new) (plain N.Scores.score_of self.old)) }
+        ensures ids { IsErrOf result Ids → index_in requirement ≡ 4294967295 }
+    {
+        let candidates = candidates_of(self.alloc, groups)?;
+        self.lists.fix_candidates(requirement, candidates)
+    }
+
+    /// Adds the literals of a condition's case. The first has number 0.
+    pub fn fix_disjunction(&mut self, literals: Vec<Literal>) -> R<DisjunctionId>
+        ensures number { IfOk result (λ id. id.raw ≡ length (plain N.Scores.score_of self.old).disjunctions) }
+        ensures store { OnOk result (Like (plain N.Scores.score_of self.new) (with_disjunction literals.items (plain N.Scores.score_of self.old))) }
+        ensures err { OnErr result (Like (plain N.Scores.score_of self.new) (plain N.Scores.score_of self.old)) }
+        ensures ids { IsErrOf result Ids → length (plain N.Scores.score_of self.old).disjunctions ≡ 4294967295 }
+    {
+        self.lists.fix_disjunction(Disjunction { literals })
+    }
+
+    /// Adds the literals of a learnt clause. The first has number 0.
+    pub fn fix_learnt(&mut self, literals: Vec<Literal>) -> R<LearntClauseId>
+        ensures number { IfOk result (λ id. id.raw ≡ length (plain N.Scores.score_of self.old).learnt) }
+        ensures store { OnOk result (Like (plain N.Scores.score_of self.new) (with_learnt literals.items (plain N.Scores.score_of self.old))) }
+        ensures err { OnErr result (Like (plain N.Scores.score_of self.new) (plain N.Scores.score_of self.old)) }
+        ensures ids { IsErrOf result Ids → length (plain N.Scores.score_of self.old).learnt ≡ 4294967295 }
+    {
+        self.lists.fix_learnt(literals)
+    }
+
+    /// Whether what a clause names is there, and it watches two different literals of its own, or none.
+    pub fn can_add(&self, clause: &Clause<N>, watched: Option<WatchedLiterals>) -> bool
+        ensures { result ≡ can_add (plain N.Scores.score_of self.now) clause.now watched }
+    {
+        if !clause.is_in_range() {
+            return false;
+        }
+        if !clause.has_lists(&self.lists) {
+            return false;
+        }
+        is_watchable(clause, &self.lists, watched)
+    }
+
+    /// Adds a clause with what it watches. Clause 0 is that of the root.
+    pub fn add_clause(&mut self, clause: Clause<N>, watched: Option<WatchedLiterals>) -> R<ClauseId>
+        requires { can_add (plain N.Scores.score_of self.old) clause watched ≡ true }
+        ensures number { IfOk result (λ id. id.0 ≡ length (plain N.Scores.score_of self.old).clauses) }
+        ensures store { OnOk result (Like (plain N.Scores.score_of self.new) (with_clause clause watched (plain N.Scores.score_of self.old))) }
+        ensures err { OnErr result (Like (plain N.Scores.score_of self.new) (plain N.Scores.score_of self.old)) }
+        ensures ids { IsErrOf result Ids → length (plain N.Scores.score_of self.old).clauses ≡ 4294967295 }
+    {
+        if self.clauses.len() >= CLAUSES {
+            return Err(Want::Ids);
+        }
+        let id = ClauseId(self.clauses.len() as u32);
+        self.clauses.reserve(1)?;
+        self.watched.reserve(1)?;
+        begin(&mut self.watches, &watched, id)?;
+        self.watched.push(watched).unwrap();
+        self.clauses.push(clause).unwrap();
+        Ok(id)
+    }
+
+    /// Whether the clause, the candidates and the condition that a need clause names are there.
+    pub fn can_register(&self, need: &NeedClause) -> bool
+        ensures { result ≡ can_register (plain N.Scores.score_of self.now) need.now }
+    {
+        self.has_clause(need.clause)
+            && self.lists.candidates(need.requirement).is_some()
+            && self.lists.has_condition(need.condition)
+    }
+
+    /// Registers a need clause behind the others.
+    pub fn register(&mut self, need: NeedClause) -> R<()>
+        requires { can_register (plain N.Scores.score_of self.old) need ≡ true }
+        ensures store { OnOk result (Like (plain N.Scores.score_of self.new) (with_need need (plain N.Scores.score_of self.old))) }
+        ensures err { OnErr result (Like (plain N.Scores.score_of self.new) (plain N.Scores.score_of self.old)) }
+        ensures refusal { IsOkUnless result Memory }
+    {
+        self.queue.register_clause(need)
+    }
+
+    /// Lets the clauses that watch a literal watch others: the i-th that is met watches the i-th of
+    /// `moves` from then on, unless there is none or it watches that one already.
+    pub fn walk(&mut self, literal: Literal, moves: &[Option<Literal>]) -> R<Vec<ClauseId>>
+        ensures met { IfOk result (λ v. v.items ≡ (plain N.Scores.score_of self.old).watchers literal) }
+        ensures store { OnOk result (Like (plain N.Scores.score_of self.new) (walked literal moves.now (plain N.Scores.score_of self.old))) }
+        ensures err { OnErr result (Like (plain N.Scores.score_of self.new) (plain N.Scores.score_of self.old)) }
+        ensures refusal { IsOkUnless result Memory }
+    {
+        self.watches
+            .walk(self.alloc, &mut self.watched, literal, moves)
+    }
+
+    /// Whether a clause is there.
+    fn has_clause(&self, clause: ClauseId) -> bool
+        ensures { result ≡ has_clause (plain N.Scores.score_of self.now) clause }
+    {
+        clause.to_index() < self.clauses.len()
+    }
+
+    /// Whether a decision can come from a clause at a level: the clause is there, and the level isn't
+    /// below that of the last decision.
+    pub fn can_assign(&self, clause: ClauseId, level: u32) -> bool
+        ensures { result ≡ can_assign (plain N.Scores.score_of self.now) clause level }
+    {
+        self.has_clause(clause) && level >= self.tracker.last_level()
+    }
+
+    /// Adds a decision at the end of the trail, unless its variable has a value.
+    pub fn assign(&mut self, decision: Decision, level: u32) -> R<Set>
+        requires { can_assign (plain N.Scores.score_of self.old) decision.derived_from level ≡ true }
+        ensures answer { IfOk result (λ s. s ≡ set_for decision.value (value_in (plain N.Scores.score_of self.old).trail decision.variable.0)) }
+        ensures store { OnOk result (Like (plain N.Scores.score_of self.new) (with_decision decision level (plain N.Scores.score_of self.old))) }
+        ensures err { OnErr result (Like (plain N.Scores.score_of self.new) (plain N.Scores.score_of self.old)) }
+        ensures refusal { IsOkUnless result Memory }
+    {
+        self.tracker.try_add_decision(decision, level)
+    }
+
+    /// The clause of a decision's need whose literals are all false: the first one by position.
+    pub fn falsified(&self) -> Option<ClauseId>
+        ensures { result ≡ broken_in (plain N.Scores.score_of self.now) }
+    {
+        self.queue.falsified(&self.lists, self.tracker.map())
+    }
+
+    /// What is to be decided next, or none where no clause is eligible.
+    pub fn next_decision(&mut self) -> R<Option<NextDecision>>
+        requires { broken_in (plain N.Scores.score_of self.old) ≡ None }
+        ensures answer { IfOk result (λ d. d ≡ picked_in (plain N.Scores.score_of self.old)) }
+        ensures store { Like (plain N.Scores.score_of self.new) (plain N.Scores.score_of self.old) }
+        ensures refusal { IsOkUnless result Memory }
+    {
+        self.queue.sync(&self.lists, &mut self.tracker)?;
+        Ok(
+            self.queue
+                .next_decision(&self.lists, self.tracker.map(), &self.scores),
+        )
+    }
+
+    /// Tells whether scores are raised at all. No answer rests on it.
+    pub fn set_standard_activity_params(&mut self, is_standard: bool)
+        ensures { Like (plain N.Scores.score_of self.new) (plain N.Scores.score_of self.old) }
+    {
+        self.queue.set_standard_activity_params(is_standard);
+    }
+
+    /// Raises a package's score, not past the highest.
+    pub fn bump_name(&mut self, name: N, add: u64) -> R<()>
+        ensures store { OnOk result (Like (plain N.Scores.score_of self.new) (bumped N.eq name add (plain N.Scores.score_of self.old))) }
+        ensures err { OnErr result (Like (plain N.Scores.score_of self.new) (plain N.Scores.score_of self.old)) }
+        ensures refusal { IsOkUnless result Memory }
+    {
+        let score = self.scores.get(name).saturating_add(add);
+        self.queue.mark_name_hot(name)?;
+        match self.scores.set(name, score) {
+            Ok(()) => Ok(()),
+            Err(_) => Err(Want::Memory),
+        }
+    }
+
+    /// Scales each score by so many millionths, rounding down.
+    pub fn decay(&mut self, per_million: u64)
+        requires { can_decay per_million ≡ true }
+        ensures { Like (plain N.Scores.score_of self.new) (decayed per_million (plain N.Scores.score_of self.old)) }
+    {
+        self.scores.scale(per_million);
+    }
+
+    /// Takes the last decision away; answers it with the level of the one before it, or 0. None where
+    /// there is no decision.
+    pub fn undo_last(&mut self) -> Option<(Decision, u32)>
+        ensures answer { result ≡ last_undone (plain N.Scores.score_of self.old).trail }
+        ensures store { Like (plain N.Scores.score_of self.new) (undone (plain N.Scores.score_of self.old)) }
+    {
+        if self.tracker.stack().is_empty() {
+            return None;
+        }
+        Some(self.tracker.undo_last())
+    }
+
+    /// Takes the decisions above a level away, from the end to the first that is not above it.
+    pub fn undo_until(&mut self, level: u32)
+        ensures { Like (plain N.Scores.score_of self.new) (undone_until level (plain N.Scores.score_of self.old)) }
+    {
+        self.tracker.undo_until(level);
+    }
+}
+
+/// The versions of packages as candidates, package by package.
+fn candidates_of<N: Copy + Drop>(
+    alloc: Global,
+    groups: &[(N, Vec<VariableId>)],
+) -> R<Vec<Candidate<N>>>
+    requires { list_all (λ g. list_all is_in_range g.1.items) groups.now ≡ true }
+    ensures candidates { IfOk result (λ v. v.items ≡ candidates_from groups.now) }
+    ensures refusal { IsOkUnless result Memory }
+{
+    let mut candidates = Vec::new(alloc);
+    for (name, versions) in groups {
+        push_versions(&mut candidates, *name, versions)?;
+    }
+    Ok(candidates)
+}
+
+/// Adds the versions of a package behind the candidates.
+fn push_versions<N: Copy + Drop>(
+    candidates: &mut Vec<Candidate<N>>,
+    name: N,
+    versions: &[VariableId],
+) -> R<()>
+    requires { list_all is_in_range versions.now ≡ true }
+    ensures pushed { OnOk result (candidates.new.items ≡ candidates.old.items ++ versions_of name versions.now) }
+    ensures refusal { IsOkUnless result Memory }
+{
+    for version in versions {
+        let literal = Literal::new(*version, false);
+        candidates.push(Candidate {
+            literal,
+            package: name,
+        })?;
+    }
+    Ok(())
+}
+
+/// Whether literals can have all these variables.
+fn are_in_range<N>(groups: &[(N, Vec<VariableId>)]) -> bool
+    ensures { result ≡ list_all (λ g. list_all is_in_range g.1.items) groups.now }
+{
+    groups.iter().all(|group| are_all_in_range(&group.1))
+}
+
+fn are_all_in_range(variables: &[VariableId]) -> bool
+    ensures { result ≡ list_all is_in_range variables.now }
+{
+    variables.iter().all(|variable| is_in_range(*variable))
+}
+
+/// Whether these are two different literals of the clause, if it watches any.
+fn is_watchable<N: Copy>(
+    clause: &Clause<N>,
+    lists: &FixedLists<N>,
+    watched: Option<WatchedLiterals>,
+) -> bool
+    requires { Fits lists.now clause.now }
+    ensures { result ≡ can_watch (literals_of lists.now clause.now) watched }
+{
+    match watched {
+        None => true,
+        Some(pair) => {
+            clause.has_literal(lists, pair.first)
+                && clause.has_literal(lists, pair.second)
+                && pair.first != pair.second
+        }
+    }
+}
+
+/// Lets a new clause watch its two literals, if it watches any.
+fn begin(watches: &mut WatchMap, watched: &Option<WatchedLiterals>, clause: ClauseId) -> R<()>
+    requires { (p : WatchedLiterals) → watched.now ≡ Some p → same_literal p.first p.second ≡ false }
+    ensures lists { OnOk result ((l : Signed) → watchers watches.new l ≡ watching clause.0 watched.now (watchers watches.old) l) }
+    ensures fits { OnOk result ((pairs : List (Option WatchedLiterals)) → IsWatched pairs (watchers watches.old) → clause.0 ≡ length pairs → IsWatched (pairs ++ watched.now ∷ []) (watchers watches.new)) }
+    ensures err { OnErr result (SameLists (watchers watches.old) (watchers watches.new)) }
+    ensures refusal { IsOkUnless result Memory }
+{
+    match watched {
+        Some(pair) => watches.start_watching(*pair, clause),
+        None => Ok(()),
+    }
+}

@@ -1,0 +1,202 @@
+//! Lists of calls of a clause store: `run`, one call of a list, and the plain lists in the calls.
+ghost use Rattle.std.specs.Prelude.{◌≡◌, map, cond, length, IfOk, IfErr, OnOk, OnErr, IsErrOf, IsOkUnless};
+ghost use Rattle.resolvo_pool_core.specs.declared.want.Want.TheVariants.{Memory, Ids};
+ghost use Rattle.resolvo_store.specs.Stored.{Like, plain};
+ghost use Rattle.resolvo_pool_core.specs.ByRequirement.{index_in};
+ghost use Rattle.resolvo_store_core.specs.Trail.{value_in};
+ghost use Rattle.resolvo_store_core.specs.Adding.{set_for};
+ghost use Rattle.resolvo_store.specs.Changes.{candidates_from, with_candidates, with_disjunction, with_learnt, with_clause, with_need, with_decision, decayed};
+ghost use Rattle.resolvo_store.specs.Calls.{Done, Added, Became, Bad, told, can_fix, can_add, can_register, can_assign, can_decay, broken_in, picked_in, broken_or_next, step, answer_of, after, answers_of, LacksNumber, StopsAt};
+
+use crate::clause_store::ClauseStore;
+use crate::store_call::{StoreAnswer, StoreCall};
+use resolvo_pool_core::id::VariableId;
+use resolvo_pool_core::requirement::Requirement;
+use resolvo_pool_core::solver_id::SolverId;
+use resolvo_pool_core::want::R;
+use resolvo_store_core::clause::Clause;
+use resolvo_store_core::decide_queue::NeedClause;
+use resolvo_store_core::decision::Decision;
+use resolvo_store_core::literal::Literal;
+use resolvo_store_core::watched_literals::WatchedLiterals;
+use std::alloc::Global;
+
+/// The most millionths to which a decay scales a score.
+const MILLION: u64 = 1_000_000;
+
+impl<N: SolverId + Drop> ClauseStore<N> {
+    /// Does the calls in turn, and answers each. A call whose condition doesn't hold is answered `Bad`
+    /// and changes nothing: a requirement gets its candidates once; what a call names is there; watches
+    /// are two different literals of the added clause; no assignment is below the last one's level; no
+    /// score grows by a decay. After a refusal the store is as after the calls before the refused one.
+    pub fn run(&mut self, alloc: Global, calls: &[StoreCall<N>]) -> R<Vec<StoreAnswer>>
+        ensures answers { IfOk result (λ v. map told v.items ≡ answers_of N.eq (plain N.Scores.score_of self.old) calls.now) }
+        ensures store { OnOk result (Like (plain N.Scores.score_of self.new) (after N.eq (plain N.Scores.score_of self.old) calls.now)) }
+        ensures stop { IfErr result (StopsAt N.eq calls.now (plain N.Scores.score_of self.old) (plain N.Scores.score_of self.new)) }
+    {
+        let mut answers = Vec::new(alloc);
+        for call in calls {
+            answers.reserve(1)?;
+            answers.push(self.do_call(alloc, call)?).unwrap();
+        }
+        Ok(answers)
+    }
+
+    /// Does a call, and answers it.
+    fn do_call(&mut self, alloc: Global, call: &StoreCall<N>) -> R<StoreAnswer>
+        ensures answer { IfOk result (λ a. told a ≡ answer_of (plain N.Scores.score_of self.old) call.now) }
+        ensures store { OnOk result (Like (plain N.Scores.score_of self.new) (step N.eq (plain N.Scores.score_of self.old) call.now)) }
+        ensures err { OnErr result (Like (plain N.Scores.score_of self.new) (plain N.Scores.score_of self.old)) }
+        ensures ids { IsErrOf result Ids → LacksNumber (plain N.Scores.score_of self.old) call.now }
+    {
+        match call {
+            StoreCall::FixCandidates(requirement, groups) => self.try_fix(*requirement, groups),
+            StoreCall::FixDisjunction(literals) => self.copy_disjunction(alloc, literals),
+            StoreCall::FixLearnt(literals) => self.copy_learnt(alloc, literals),
+            StoreCall::AddClause(clause, watched) => self.try_add(*clause, *watched),
+            StoreCall::Register {
+                parent,
+                requirement,
+                condition,
+                clause,
+            } => self.try_register(NeedClause {
+                parent: *parent,
+                requirement: *requirement,
+                condition: *condition,
+                clause: *clause,
+            }),
+            StoreCall::Assign {
+                variable,
+                value,
+                clause,
+                level,
+            } => {
+                let decision = Decision {
+                    variable: *variable,
+                    value: *value,
+                    derived_from: *clause,
+                };
+                self.try_assign(decision, *level)
+            }
+            StoreCall::UndoLast => Ok(StoreAnswer::Undone(self.undo_last())),
+            StoreCall::UndoUntil(level) => {
+                self.undo_until(*level);
+                Ok(StoreAnswer::Done)
+            }
+            StoreCall::BumpName(name, add) => {
+                self.bump_name(*name, *add)?;
+                Ok(StoreAnswer::Done)
+            }
+            StoreCall::Decay(per_million) => Ok(self.try_decay(*per_million)),
+            StoreCall::Walk { literal, moves } => {
+                Ok(StoreAnswer::Met(self.walk(*literal, moves)?))
+            }
+            StoreCall::Falsified => Ok(StoreAnswer::Falsified(self.falsified())),
+            StoreCall::NextDecision => self.decide(),
+        }
+    }
+
+    /// Gives a requirement its candidates, if it may get these.
+    fn try_fix(
+        &mut self,
+        requirement: Requirement,
+        groups: &[(N, Vec<VariableId>)],
+    ) -> R<StoreAnswer>
+        ensures answer { IfOk result (λ a. told a ≡ cond (can_fix (plain N.Scores.score_of self.old) requirement groups.now) (Done) Bad) }
+        ensures store { OnOk result (Like (plain N.Scores.score_of self.new) (cond (can_fix (plain N.Scores.score_of self.old) requirement groups.now) (with_candidates requirement (candidates_from groups.now) (plain N.Scores.score_of self.old)) (plain N.Scores.score_of self.old))) }
+        ensures err { OnErr result (Like (plain N.Scores.score_of self.new) (plain N.Scores.score_of self.old)) }
+        ensures ids { IsErrOf result Ids → index_in requirement ≡ 4294967295 }
+    {
+        if !self.can_fix(requirement, groups) {
+            return Ok(StoreAnswer::Bad);
+        }
+        self.fix_candidates(requirement, groups)?;
+        Ok(StoreAnswer::Done)
+    }
+
+    /// Adds a copy of the literals of a condition's case.
+    fn copy_disjunction(&mut self, alloc: Global, literals: &[Literal]) -> R<StoreAnswer>
+        ensures answer { IfOk result (λ a. told a ≡ Done) }
+        ensures store { OnOk result (Like (plain N.Scores.score_of self.new) (with_disjunction literals.now (plain N.Scores.score_of self.old))) }
+        ensures err { OnErr result (Like (plain N.Scores.score_of self.new) (plain N.Scores.score_of self.old)) }
+        ensures ids { IsErrOf result Ids → length (plain N.Scores.score_of self.old).disjunctions ≡ 4294967295 }
+    {
+        self.fix_disjunction(Vec::from_slice(alloc, literals)?)?;
+        Ok(StoreAnswer::Done)
+    }
+
+    /// Adds a copy of the literals of a learnt clause.
+    fn copy_learnt(&mut self, alloc: Global, literals: &[Literal]) -> R<StoreAnswer>
+        ensures answer { IfOk result (λ a. told a ≡ Done) }
+        ensures store { OnOk result (Like (plain N.Scores.score_of self.new) (with_learnt literals.now (plain N.Scores.score_of self.old))) }
+        ensures err { OnErr result (Like (plain N.Scores.score_of self.new) (plain N.Scores.score_of self.old)) }
+        ensures ids { IsErrOf result Ids → length (plain N.Scores.score_of self.old).learnt ≡ 4294967295 }
+    {
+        self.fix_learnt(Vec::from_slice(alloc, literals)?)?;
+        Ok(StoreAnswer::Done)
+    }
+
+    /// Adds a clause, if what it names is there and it watches literals of its own.
+    fn try_add(&mut self, clause: Clause<N>, watched: Option<WatchedLiterals>) -> R<StoreAnswer>
+        ensures answer { IfOk result (λ a. told a ≡ cond (can_add (plain N.Scores.score_of self.old) clause watched) (Added (record { 0 = length (plain N.Scores.score_of self.old).clauses })) Bad) }
+        ensures store { OnOk result (Like (plain N.Scores.score_of self.new) (cond (can_add (plain N.Scores.score_of self.old) clause watched) (with_clause clause watched (plain N.Scores.score_of self.old)) (plain N.Scores.score_of self.old))) }
+        ensures err { OnErr result (Like (plain N.Scores.score_of self.new) (plain N.Scores.score_of self.old)) }
+        ensures ids { IsErrOf result Ids → length (plain N.Scores.score_of self.old).clauses ≡ 4294967295 }
+    {
+        if !self.can_add(&clause, watched) {
+            return Ok(StoreAnswer::Bad);
+        }
+        Ok(StoreAnswer::Added(self.add_clause(clause, watched)?))
+    }
+
+    /// Registers a need clause, if what it names is there.
+    fn try_register(&mut self, need: NeedClause) -> R<StoreAnswer>
+        ensures answer { IfOk result (λ a. told a ≡ cond (can_register (plain N.Scores.score_of self.old) need) (Done) Bad) }
+        ensures store { OnOk result (Like (plain N.Scores.score_of self.new) (cond (can_register (plain N.Scores.score_of self.old) need) (with_need need (plain N.Scores.score_of self.old)) (plain N.Scores.score_of self.old))) }
+        ensures err { OnErr result (Like (plain N.Scores.score_of self.new) (plain N.Scores.score_of self.old)) }
+        ensures refusal { IsOkUnless result Memory }
+    {
+        if !self.can_register(&need) {
+            return Ok(StoreAnswer::Bad);
+        }
+        self.register(need)?;
+        Ok(StoreAnswer::Done)
+    }
+
+    /// Adds a decision, if its clause is there and no decision is at a higher level.
+    fn try_assign(&mut self, decision: Decision, level: u32) -> R<StoreAnswer>
+        ensures answer { IfOk result (λ a. told a ≡ cond (can_assign (plain N.Scores.score_of self.old) decision.derived_from level) (Became (set_for decision.value (value_in (plain N.Scores.score_of self.old).trail decision.variable.0))) Bad) }
+        ensures store { OnOk result (Like (plain N.Scores.score_of self.new) (cond (can_assign (plain N.Scores.score_of self.old) decision.derived_from level) (with_decision decision level (plain N.Scores.score_of self.old)) (plain N.Scores.score_of self.old))) }
+        ensures err { OnErr result (Like (plain N.Scores.score_of self.new) (plain N.Scores.score_of self.old)) }
+        ensures refusal { IsOkUnless result Memory }
+    {
+        if !self.can_assign(decision.derived_from, level) {
+            return Ok(StoreAnswer::Bad);
+        }
+        Ok(StoreAnswer::Set(self.assign(decision, level)?))
+    }
+
+    /// Scales each score, if none grows by it.
+    fn try_decay(&mut self, per_million: u64) -> StoreAnswer
+        ensures answer { told result ≡ cond (can_decay per_million) Done Bad }
+        ensures store { Like (plain N.Scores.score_of self.new) (cond (can_decay per_million) (decayed per_million (plain N.Scores.score_of self.old)) (plain N.Scores.score_of self.old)) }
+    {
+        if per_million > MILLION {
+            return StoreAnswer::Bad;
+        }
+        self.decay(per_million);
+        StoreAnswer::Done
+    }
+
+    /// The next decision, or in its place a clause whose literals are all false.
+    fn decide(&mut self) -> R<StoreAnswer>
+        ensures answer { IfOk result (λ a. told a ≡ broken_or_next (broken_in (plain N.Scores.score_of self.old)) (picked_in (plain N.Scores.score_of self.old))) }
+        ensures store { Like (plain N.Scores.score_of self.new) (plain N.Scores.score_of self.old) }
+        ensures refusal { IsOkUnless result Memory }
+    {
+        match self.falsified() {
+            Some(clause) => Ok(StoreAnswer::Broken(clause)),
+            None => Ok(StoreAnswer::Next(self.next_decision()?)),
+        }
+    }
+}

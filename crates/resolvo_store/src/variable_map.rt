@@ -1,0 +1,205 @@
+//! Which variable stands for what.
+//! Its model is the list of what each variable was made for, from the root on; a variable's place is
+//! its index. Solvables get theirs once, helpers get a new one each time.
+ghost use Rattle.std.specs.Prelude.{◌≡◌, ◌<◌, ◌++◌, ◌∷◌, [], ◌≤◌, ◌+◌, length, slice_get, Some, IfOk, OnErr, IsErrOf, IsOkUnless};
+ghost use Rattle.std.specs.Option.{option_map};
+ghost use Rattle.resolvo_pool_core.specs.declared.want.Want.TheVariants.{Ids};
+ghost use Rattle.resolvo_store.specs.Origins.{place_of, Interns, InternsOrRoot};
+ghost use Rattle.resolvo_store.specs.declared.variable_map.VariableOrigin.TheVariants.{Root, Solvable, ForbidMultiple, AtLeastOne, ConstrainsViolation, RequiresGate};
+
+use resolvo_pool_core::id::{VariableId, VersionSetId};
+use resolvo_pool_core::id_map::{IdMap, OptionalNumber};
+use resolvo_pool_core::requirement::Requirement;
+use resolvo_pool_core::solver_id::{SolvableIdOrRoot, SolverId};
+use resolvo_pool_core::want::{R, Want};
+use std::alloc::Global;
+use std::marker::Model;
+
+/// How many variables there can be beside the root.
+const OTHERS: usize = 2_147_483_646;
+
+/// What a variable was made for.
+#[derive(Clone, Copy, Debug, Drop)]
+pub enum VariableOrigin<N, S> {
+    /// The problem itself.
+    Root,
+    /// A solvable.
+    Solvable(S),
+    /// A digit of the places of a package's versions.
+    ForbidMultiple(N),
+    /// Some version of the package is chosen.
+    AtLeastOne(N),
+    /// Some version outside the version set is chosen.
+    ConstrainsViolation(VersionSetId),
+    /// Some parent has this requirement.
+    RequiresGate(Requirement),
+}
+
+/// Which variable stands for what.
+#[derive(Drop)]
+pub struct VariableMap<N, S: SolverId> {
+    origins: Vec<VariableOrigin<N, S>>,
+    numbers: S::OptionalIds,
+}
+
+impl<N, S: SolverId> Model for VariableMap<N, S> {
+    ghost use Rattle.std.specs.Prelude.{List, ◌≤◌, ◌∷◌, length};
+    ghost use Rattle.resolvo_store.specs.declared.variable_map.VariableOrigin.{VariableOrigin};
+    ghost use Rattle.resolvo_store.specs.declared.variable_map.VariableOrigin.TheVariants.{Root};
+    ghost use Rattle.resolvo_store.specs.Origins.{AreNumbers};
+
+    ghost Value = { List (VariableOrigin N S) };
+
+    ghost view = { λ m. Root ∷ m.origins.items };
+
+    ghost invariant = { λ m. (length m.origins.items ≤ 2147483646) × AreNumbers S.eq (Root ∷ m.origins.items) (S.OptionalIds.value_of m.numbers) };
+}
+
+impl<N: Copy + Drop, S: SolverId> VariableMap<N, S> {
+    /// A map that has the root alone.
+    pub fn new(alloc: Global) -> VariableMap<N, S>
+        ensures { result ≡ Root ∷ [] }
+    {
+        VariableMap {
+            origins: Vec::new(alloc),
+            numbers: S::OptionalIds::new(alloc),
+        }
+    }
+
+    /// How many variables there are, the root among them.
+    pub fn count(&self) -> usize
+        ensures { result ≡ length self.now }
+    {
+        self.origins.len() + 1
+    }
+
+    /// What a variable was made for.
+    pub fn origin(&self, variable: VariableId) -> VariableOrigin<N, S>
+        requires { variable.0 < length self.now }
+        ensures { slice_get self.now variable.0 ≡ Some result }
+    {
+        match (variable.0 as usize).checked_sub(1) {
+            Some(index) => self.origins[index],
+            None => VariableOrigin::Root,
+        }
+    }
+
+    /// What a variable was made for, if it is there.
+    pub fn find_origin(&self, variable: VariableId) -> Option<VariableOrigin<N, S>>
+        ensures { result ≡ slice_get self.now variable.0 }
+    {
+        if (variable.0 as usize) < self.count() {
+            Some(self.origin(variable))
+        } else {
+            None
+        }
+    }
+
+    /// The variable of a solvable, if it has one.
+    pub fn lookup_solvable(&self, solvable: S) -> Option<VariableId>
+        ensures { option_map (λ v. v.0) result ≡ place_of S.eq solvable self.now }
+    {
+        match self.numbers.get(solvable).0 {
+            Some(number) => Some(VariableId(number)),
+            None => None,
+        }
+    }
+
+    /// The variable of a solvable, which gets a new one where it has none.
+    pub fn intern_solvable(&mut self, solvable: S) -> R<VariableId>
+        ensures interned { IfOk result (λ v. Interns S.eq solvable v self.old self.new) }
+        ensures err { OnErr result (self.new ≡ self.old) }
+        ensures ids { IsErrOf result Ids → length self.old ≡ 2147483647 }
+    {
+        if let Some(number) = self.numbers.get(solvable).0 {
+            return Ok(VariableId(number));
+        }
+        let variable = next_variable(self.origins.len())?;
+        self.origins.reserve(1)?;
+        let number = OptionalNumber(Some(variable.0));
+        match self.numbers.set(solvable, number) {
+            Ok(()) => {}
+            Err(_) => return Err(Want::Memory),
+        }
+        self.origins
+            .push(VariableOrigin::Solvable(solvable))
+            .unwrap();
+        Ok(variable)
+    }
+
+    /// The variable of a solvable or of the root.
+    pub fn intern_solvable_or_root(&mut self, id: SolvableIdOrRoot<S>) -> R<VariableId>
+        ensures interned { IfOk result (λ v. InternsOrRoot S.eq id v self.old self.new) }
+        ensures err { OnErr result (self.new ≡ self.old) }
+        ensures ids { IsErrOf result Ids → length self.old ≡ 2147483647 }
+    {
+        match id {
+            SolvableIdOrRoot::Root => Ok(VariableId::root()),
+            SolvableIdOrRoot::Solvable(solvable) => self.intern_solvable(solvable),
+        }
+    }
+
+    /// A new variable for a digit of the places of a package's versions.
+    pub fn alloc_forbid_multiple_variable(&mut self, name: N) -> R<VariableId>
+        ensures new { IfOk result (λ v. (v.0 ≡ length self.old) × (self.new ≡ self.old ++ ForbidMultiple name ∷ [])) }
+        ensures err { OnErr result (self.new ≡ self.old) }
+        ensures ids { IsErrOf result Ids → length self.old ≡ 2147483647 }
+    {
+        self.alloc(VariableOrigin::ForbidMultiple(name))
+    }
+
+    /// A new variable that says that some version of a package is chosen.
+    pub fn alloc_at_least_one_variable(&mut self, name: N) -> R<VariableId>
+        ensures new { IfOk result (λ v. (v.0 ≡ length self.old) × (self.new ≡ self.old ++ AtLeastOne name ∷ [])) }
+        ensures err { OnErr result (self.new ≡ self.old) }
+        ensures ids { IsErrOf result Ids → length self.old ≡ 2147483647 }
+    {
+        self.alloc(VariableOrigin::AtLeastOne(name))
+    }
+
+    /// A new variable that says that some version outside a version set is chosen.
+    pub fn alloc_constrains_violation_variable(&mut self, via: VersionSetId) -> R<VariableId>
+        ensures new { IfOk result (λ v. (v.0 ≡ length self.old) × (self.new ≡ self.old ++ ConstrainsViolation via ∷ [])) }
+        ensures err { OnErr result (self.new ≡ self.old) }
+        ensures ids { IsErrOf result Ids → length self.old ≡ 2147483647 }
+    {
+        self.alloc(VariableOrigin::ConstrainsViolation(via))
+    }
+
+    /// A new variable that stands between a requirement and its candidates.
+    pub fn alloc_requires_gate_variable(&mut self, requirement: Requirement) -> R<VariableId>
+        ensures new { IfOk result (λ v. (v.0 ≡ length self.old) × (self.new ≡ self.old ++ RequiresGate requirement ∷ [])) }
+        ensures err { OnErr result (self.new ≡ self.old) }
+        ensures ids { IsErrOf result Ids → length self.old ≡ 2147483647 }
+    {
+        self.alloc(VariableOrigin::RequiresGate(requirement))
+    }
+}
+
+impl<N: Copy + Drop, S: SolverId> VariableMap<N, S> {
+    ghost use Rattle.resolvo_store.specs.Origins.{IsHelper};
+
+    /// A new variable.
+    fn alloc(&mut self, origin: VariableOrigin<N, S>) -> R<VariableId>
+        requires { IsHelper origin }
+        ensures new { IfOk result (λ v. (v.0 ≡ length self.old) × (self.new ≡ self.old ++ origin ∷ [])) }
+        ensures err { OnErr result (self.new ≡ self.old) }
+        ensures ids { IsErrOf result Ids → length self.old ≡ 2147483647 }
+    {
+        let variable = next_variable(self.origins.len())?;
+        self.origins.push(origin)?;
+        Ok(variable)
+    }
+}
+
+/// The variable that follows the root and so many others, unless all were given.
+fn next_variable(count: usize) -> R<VariableId>
+    ensures next { IfOk result (λ v. (v.0 ≡ count + 1) × (count < 2147483646)) }
+    ensures ids { IsErrOf result Ids → 2147483646 ≤ count }
+    ensures refusal { IsOkUnless result Ids }
+{
+    if count >= OTHERS {
+        return Err(Want::Ids);
+    }
+    Ok(VariableId((count + 1) as u32))
+}

@@ -1,0 +1,11 @@
+pub mod CaseLaws
+pub mod ClauseLists
+pub mod ClauseValues
+pub mod Digits
+pub mod Rooms
+pub mod Seconds
+pub mod Ties
+pub mod Trails
+pub mod Walks
+pub mod Watched
+pub mod Watching

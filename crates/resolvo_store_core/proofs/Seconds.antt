@@ -1,0 +1,52 @@
+-- Lemmas on the literals that a new clause watches.
+use Rattle.std.proofs.Common.{◌≡◌, ℕ, zero, suc, ◌-◌, ◌<◌, ◌≤◌, Bool, true, false, ◌||◌, List, [], ◌∷◌, ◌++◌, length, get_or, Option, Some, None, All, sym, ◌∙◌, ap, subst, arith}
+use Rattle.std.specs.Prelude.{slice_get}
+use Rattle.std.proofs.lemmas.Bool.{or_left, or_right}
+use Rattle.std.proofs.lemmas.List.Elements.{All-push, All-weaker, All-contains, Contains-push, Contains-append_left}
+use Rattle.resolvo_store_core.specs.Signed.{Signed, same_literal, is_false}
+use Rattle.resolvo_store_core.specs.SignLaws.{same_literal_true}
+use Rattle.resolvo_store_core.specs.Watchable.{CanWatch, IsSecond, IsSecondSoFar, AreEnds}
+use Rattle.resolvo_store_core.proofs.Watched.{differs_sym}
+
+all_so_far : (value : Signed → Option Bool) (first : Signed) (xs : List Signed) (o : Option Signed) → IsSecondSoFar value first xs o → All (λ m. (same_literal m first || is_false (value m)) ≡ true) xs
+all_so_far value first xs None h = All-weaker (λ m. same_literal m first ≡ true) (λ m. (same_literal m first || is_false (value m)) ≡ true) (λ m e. or_left (same_literal m first) (is_false (value m)) e) xs h
+all_so_far value first xs (Some l) h = h.2
+
+-- the first literal again
+pub again : (value : Signed → Option Bool) (first : Signed) (xs : List Signed) (x : Signed) (o : Option Signed) → IsSecondSoFar value first xs o → same_literal x first ≡ true → IsSecondSoFar value first (xs ++ x ∷ []) o
+again value first xs x None h e = All-push (λ m. same_literal m first ≡ true) xs x h e
+again value first xs x (Some l) h e = (Contains-append_left xs (x ∷ []) l h.0, h.1, All-push (λ m. (same_literal m first || is_false (value m)) ≡ true) xs x h.2 (or_left (same_literal x first) (is_false (value x)) e))
+
+-- another literal, which is false
+pub other_false : (value : Signed → Option Bool) (first : Signed) (xs : List Signed) (x : Signed) (o : Option Signed) → IsSecondSoFar value first xs o → same_literal x first ≡ false → is_false (value x) ≡ true → IsSecondSoFar value first (xs ++ x ∷ []) (Some x)
+other_false value first xs x o h n e = (Contains-push xs x, differs_sym x first n, All-push (λ m. (same_literal m first || is_false (value m)) ≡ true) xs x (all_so_far value first xs o h) (or_right (same_literal x first) (is_false (value x)) e))
+
+-- at the end
+pub second_found : (value : Signed → Option Bool) (first : Signed) (xs ys : List Signed) (o : Option Signed) → IsSecondSoFar value first xs o → xs ≡ ys → IsSecond value first ys o
+second_found value first xs ys None h e = subst (λ (zs : List Signed). All (λ m. same_literal m first ≡ true) zs) e h
+second_found value first xs ys (Some l) h e =
+    let h' = subst (λ (zs : List Signed). IsSecondSoFar value first zs (Some l)) e h in
+    (h'.0, h'.1, λ _. h'.2)
+
+-- a clause whose literals are all one has nothing to watch
+pub all_one : (first : Signed) (xs : List Signed) → All (λ m. same_literal m first ≡ true) xs → CanWatch xs None
+all_one first xs h l m a b =
+    same_literal_true l first (All-contains (λ x. same_literal x first ≡ true) xs l h a) ∙ sym (same_literal_true m first (All-contains (λ x. same_literal x first ≡ true) xs m h b))
+
+pub short_one : (xs : List Signed) → length xs < 2 → CanWatch xs None
+short_one xs h l m a b =
+    let i : a.0 ≡ 0 = let x = a.1 in omega arith in
+    let j : b.0 ≡ 0 = let x = b.1 in omega arith in
+    go xs h (subst (λ (n : ℕ). get_or xs n l ≡ l) i a.2) (subst (λ (n : ℕ). get_or xs n m ≡ m) j b.2) (let x = a.1 in let t : 0 < length xs = omega arith in t)
+  where
+    go : (ys : List Signed) → length ys < 2 → get_or ys 0 l ≡ l → get_or ys 0 m ≡ m → 0 < length ys → l ≡ m
+    go [] k p q t = absurd (omega arith)
+    go (y ∷ ys) k p q t = sym p ∙ q
+
+pub get_at : (xs : List Signed) (i : ℕ) (x : Signed) → i < length xs → x ≡ get_or xs i x → slice_get xs i ≡ Some x
+get_at [] i x h e = absurd (omega arith)
+get_at (y ∷ xs) zero x h e = ap (λ (z : Signed). Some z) (sym e)
+get_at (y ∷ xs) (suc i) x h e = get_at xs i x (omega arith) e
+
+pub ends_watch : (xs : List Signed) (f l : Signed) → AreEnds xs → 2 ≤ length xs → f ≡ get_or xs 0 f → l ≡ get_or xs (length xs - 1) l → CanWatch xs (Some (record { first = f; second = l }))
+ends_watch xs f l ends long a b = ((0, omega arith, sym a), (length xs - 1, omega arith, sym b), ends f l long (get_at xs 0 f (omega arith) a) (get_at xs (length xs - 1) l (omega arith) b))

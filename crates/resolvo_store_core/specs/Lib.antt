@@ -1,0 +1,17 @@
+pub mod Adding
+pub mod ClauseParts
+pub mod Clauses
+pub mod Lists
+pub mod Pairs
+pub mod Reading
+pub mod SignLaws
+pub mod Signed
+pub mod Trail
+pub mod Values
+pub mod Watches
+pub mod Watchable
+pub mod AtMostOne
+pub mod Pick
+pub mod Cases
+pub mod Deferred
+pub mod Walk

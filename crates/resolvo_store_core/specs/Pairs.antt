@@ -1,0 +1,23 @@
+-- The two literals that a clause watches.
+use Rattle.std.specs.Prelude.{Bool, false, ◌||◌, if◌then◌else◌, Option, Some, None}
+use Rattle.resolvo_store_core.specs.Signed.{Signed, same_literal}
+use Rattle.resolvo_store_core.specs.declared.watched_literals.WatchedLiterals.{WatchedLiterals}
+use Rattle.resolvo_store_core.specs.declared.watched_literals.Watch.{Watch}
+use Rattle.resolvo_store_core.specs.declared.watched_literals.Watch.TheVariants.{First, Second}
+
+-- the literal is one of the two
+abbrev pub watches : Option WatchedLiterals → Signed → Bool
+watches None l = false
+watches (Some p) l = same_literal p.first l || same_literal p.second l
+
+-- which of the two the literal is: the second, unless it is the first
+abbrev pub side_of : WatchedLiterals → Signed → Watch
+side_of p l = if same_literal p.first l then First else Second
+
+-- the one of the two that is not the literal
+abbrev pub other_of : WatchedLiterals → Signed → Signed
+other_of p l = if same_literal p.first l then p.second else p.first
+
+-- the two with one literal in another's place
+abbrev pub moved_pair : WatchedLiterals → Signed → Signed → WatchedLiterals
+moved_pair p from to = if same_literal p.first from then record p { first = to } else record p { second = to }

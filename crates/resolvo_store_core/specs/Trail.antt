@@ -1,0 +1,79 @@
+-- The trail: the decisions in the order in which they were taken.
+use Rattle.std.specs.Prelude.{◌≡◌, ℕ, ◌<◌, ◌≤◌, ◌==◌, ⊤, Bool, List, [], ◌∷◌, ◌++◌, length, map, min, if◌then◌else◌, Option, Some, None, All}
+use Rattle.std.specs.Option.{option_map}
+use Rattle.resolvo_pool_core.specs.declared.id.VariableId.{VariableId}
+use Rattle.resolvo_pool_core.specs.declared.id.ClauseId.{ClauseId}
+use Rattle.resolvo_pool_core.specs.Slots.{at}
+use Rattle.resolvo_store_core.specs.declared.decision.Decision.{Decision}
+use Rattle.resolvo_store_core.specs.declared.decision.Entry.{Entry}
+use Rattle.resolvo_store_core.specs.declared.decision_map.Assignment.{Assignment}
+
+-- the level of an assignment, or 0 where there is none
+abbrev pub level_or : Option Assignment → ℕ
+level_or None = 0
+level_or (Some a) = a.level
+
+-- what an entry says of its variable
+abbrev pub assignment_of : Entry → Assignment
+assignment_of e = record { value = e.decision.value; level = e.level }
+
+-- what the trail says of the variable of this index
+abbrev pub assigned : List Entry → ℕ → Option Assignment
+assigned [] v = None
+assigned (e ∷ es) v = if e.decision.variable.0 == v then Some (assignment_of e) else assigned es v
+
+-- the value of a variable under the trail
+abbrev pub value_in : List Entry → ℕ → Option Bool
+value_in es v = option_map (λ a. a.value) (assigned es v)
+
+-- the clause that the variable's entry came from
+abbrev pub clause_for : List Entry → ℕ → Option ClauseId
+clause_for [] v = None
+clause_for (e ∷ es) v = if e.decision.variable.0 == v then Some e.decision.derived_from else clause_for es v
+
+-- the variables with their values, in order
+abbrev pub values_of : List Entry → List (VariableId × Bool)
+values_of es = map (λ e. (e.decision.variable, e.decision.value)) es
+
+-- each variable stands at most once
+abbrev pub EachOnce : List Entry → Type 0
+EachOnce [] = ⊤
+EachOnce (e ∷ es) = (assigned es e.decision.variable.0 ≡ None) × EachOnce es
+
+-- the level of the last entry, or 0 where there is none
+abbrev pub last_level : List Entry → ℕ
+last_level [] = 0
+last_level (e ∷ []) = e.level
+last_level (e ∷ d ∷ es) = last_level (d ∷ es)
+
+-- the trail, how many of its entries were propagated, and its least length since it was last asked for
+pub record Tracked : Type 0 where
+  pub trail : List Entry
+  pub front : ℕ
+  pub floor : ℕ
+
+-- the last entry was taken away, which held this decision
+pub record PopsLast (old new : Tracked) (d : Decision) : Type 0 where
+  pub level : ℕ
+  pub trail : old.trail ≡ new.trail ++ record { decision = d; level = level } ∷ []
+  pub front : new.front ≡ min old.front (length new.trail)
+  pub floor : new.floor ≡ min old.floor (length new.trail)
+
+-- entries above the level were taken away from the end
+pub record TakesAway (level : ℕ) (old new : Tracked) : Type 0 where
+  pub undone : List Entry
+  pub trail : old.trail ≡ new.trail ++ undone
+  pub above : All (λ e. level < e.level) undone
+  pub front : new.front ≡ min old.front (length new.trail)
+  pub floor : new.floor ≡ min old.floor (length new.trail)
+
+-- the entries above the level were taken away from the end, up to the first that is not above it
+abbrev pub Undoes : ℕ → Tracked → Tracked → Type 0
+Undoes level old new = TakesAway level old new × (last_level new.trail ≤ level)
+
+-- the map says of each variable what the trail does, each variable stands once, and both numbers are within the trail
+pub record IsTrail (map : List (Option Assignment)) (trail : List Entry) (front floor : ℕ) : Type 0 where
+  pub mapped : (v : ℕ) → at map v ≡ assigned trail v
+  pub once : EachOnce trail
+  pub front_within : front ≤ length trail
+  pub floor_within : floor ≤ length trail

@@ -1,0 +1,186 @@
+//! Clauses that keep all but one of some variables false, by the binary digits of their places.
+//! The model is the list of tracked variables and the list of helpers; the k-th variable, counted from
+//! 0, is tied to the digits of k: where it is true, each helper has the value of its digit. There are
+//! as many helpers as it takes to tell the places apart.
+ghost use Rattle.std.specs.Prelude.{◌≡◌, ◌==◌, ◌&&◌, ◌+◌, ◌*◌, ◌^◌, ◌++◌, ◌∷◌, [], ◌↔◌, Bool, ℕ, not, true, false, is_some, length, map, IfOk, OnOk, OnErr, IsOkUnless};
+ghost use Rattle.std.specs.List.{list_any, count_by};
+ghost use Rattle.resolvo_pool_core.specs.declared.want.Want.TheVariants.{Memory};
+ghost use Rattle.resolvo_store_core.specs.AtMostOne.{among, needs_helper, tracked, ties, tie_all, new_ties, all_ties, IsLeastCount, IsFrontOf, IsMet, IsAtMostOne};
+
+use indexmap::IndexSet;
+use resolvo_pool_core::want::R;
+use std::alloc::Global;
+use std::hash::Hash;
+use std::marker::Model;
+
+/// The variables of which at most one may be true, with their helpers.
+#[derive(Drop)]
+pub struct AtMostOnceTracker<V: Eq + Hash> {
+    variables: IndexSet<V>,
+    helpers: Vec<V>,
+    /// How many places the helpers tell apart.
+    room: u128,
+}
+
+impl<V: Eq + Hash> Model for AtMostOnceTracker<V> {
+    ghost use Rattle.std.specs.Prelude.{◌≡◌, ◌^◌, length};
+    ghost use Rattle.resolvo_store_core.specs.AtMostOne.{Tracking, IsLeastCount};
+
+    ghost Value = { Tracking V };
+
+    ghost view = { λ t. record { variables = t.variables.keys; helpers = t.helpers.items } };
+
+    ghost invariant = { λ t. (t.room ≡ 2 ^ length t.helpers.items) × IsLeastCount (length t.helpers.items) (length t.variables.keys) };
+}
+
+impl<V: Copy + Eq + Hash + Drop> AtMostOnceTracker<V> {
+    /// No variable.
+    pub fn new(alloc: Global) -> AtMostOnceTracker<V>
+        ensures { result ≡ record { variables = []; helpers = [] } }
+    {
+        AtMostOnceTracker {
+            variables: IndexSet::new(alloc),
+            helpers: Vec::new(alloc),
+            room: 1,
+        }
+    }
+
+    /// The tracked variables, in the order in which they came.
+    pub fn variables(&self) -> &[V]
+        ensures { result.now ≡ self.now.variables }
+    {
+        self.variables.as_slice()
+    }
+
+    /// The helpers, from the lowest digit on: no more than it takes.
+    pub fn helpers(&self) -> &[V]
+        ensures helpers { result.now ≡ self.now.helpers }
+        ensures least { IsLeastCount (length self.now.helpers) (length self.now.variables) }
+    {
+        self.helpers.as_slice()
+    }
+
+    /// Whether a variable takes a new helper with it: it is new, and the helpers tell no more places apart.
+    pub fn needs_helper(&self, variable: V) -> bool
+        ensures { result ≡ needs_helper V.eq self.now variable }
+    {
+        let full = self.variables.len() as u128 == self.room;
+        !self.variables.contains(&variable) && full
+    }
+
+    /// Tracks a variable, with a new helper where it needs one. The clauses that tie it, and the others
+    /// to the new helper, come behind `out`: a variable, a helper, and the helper's value where the
+    /// variable is true. False where the variable is tracked already.
+    pub fn add(&mut self, variable: V, helper: Option<V>, out: &mut Vec<(V, V, bool)>) -> R<bool>
+        requires { is_some helper ≡ needs_helper V.eq self.old variable }
+        ensures answer { IfOk result (λ new. new ≡ not (among V.eq self.old variable)) }
+        ensures tracker { OnOk result (self.new ≡ tracked V.eq self.old variable helper) }
+        ensures ties { OnOk result (out.new.items ≡ out.old.items ++ new_ties V.eq self.old variable helper) }
+        ensures err { OnErr result (self.new ≡ self.old) }
+        ensures err_out { OnErr result (out.new.items ≡ out.old.items) }
+        ensures refusal { IsOkUnless result Memory }
+    {
+        if self.variables.contains(&variable) {
+            return Ok(false);
+        }
+        let before = out.len();
+        self.helpers.reserve(1)?;
+        let variables = self.variables.as_slice();
+        match tie(variables, self.helpers.as_slice(), variable, helper, out) {
+            Ok(()) => {}
+            Err(want) => {
+                out.truncate(before);
+                return Err(want);
+            }
+        }
+        match self.variables.insert(variable) {
+            Ok(_) => {}
+            Err(refused) => {
+                out.truncate(before);
+                return Err(refused.into());
+            }
+        }
+        match helper {
+            None => Ok(true),
+            Some(helper) => {
+                self.helpers.push(helper).unwrap();
+                self.room *= 2;
+                Ok(true)
+            }
+        }
+    }
+}
+
+impl<V: Copy + Eq + Hash + Drop> AtMostOnceTracker<V> {
+    /// The law of the clauses: there are as many as variables times helpers, and some values of the
+    /// helpers meet them exactly if at most one of the variables is true.
+    pub fn say_at_most_one(&self)
+        ensures count { length (all_ties self.now) ≡ length self.now.variables * length self.now.helpers }
+        ensures exact { (value : V → Bool) → ((w : ℕ → Bool) × IsMet value w self.now) ↔ IsAtMostOne value self.now.variables }
+    {
+        let _room = self.room;
+    }
+
+    /// The law of `add`: the clauses of the tracker after it are those before it and the ones that
+    /// came, each as often.
+    pub fn come_to_all(&self, variable: V, helper: Option<V>)
+        requires { is_some helper ≡ needs_helper V.eq self.now variable }
+        ensures { (p : V × V × Bool → Bool) → count_by p (all_ties (tracked V.eq self.now variable helper)) ≡ count_by p (all_ties self.now) + count_by p (new_ties V.eq self.now variable helper) }
+    {
+        let _room = self.room;
+    }
+}
+
+/// The clauses that tie a new variable to the helpers, and all variables to a new helper.
+fn tie<V: Copy + Drop>(
+    variables: &[V],
+    helpers: &[V],
+    variable: V,
+    helper: Option<V>,
+    out: &mut Vec<(V, V, bool)>,
+) -> R<()>
+    ensures front { IsFrontOf out.old.items out.new.items }
+    ensures ties { OnOk result (out.new.items ≡ out.old.items ++ tie_all variables.now helpers.now variable helper) }
+    ensures refusal { IsOkUnless result Memory }
+{
+    match helper {
+        None => tie_variable(variable, variables.len(), helpers, out),
+        Some(helper) => {
+            tie_to_helper(variables, helper, out)?;
+            tie_variable(variable, variables.len(), helpers, out)?;
+            out.push((variable, helper, true))?;
+            Ok(())
+        }
+    }
+}
+
+/// The digit of each of these places at the new helper is 0.
+fn tie_to_helper<V: Copy + Drop>(variables: &[V], helper: V, out: &mut Vec<(V, V, bool)>) -> R<()>
+    ensures front { IsFrontOf out.old.items out.new.items }
+    ensures ties { OnOk result (out.new.items ≡ out.old.items ++ map (λ x. (x, helper, false)) variables.now) }
+    ensures refusal { IsOkUnless result Memory }
+{
+    for variable in variables {
+        out.push((*variable, helper, false))?;
+    }
+    Ok(())
+}
+
+/// The digits of a variable's place, from the lowest on.
+fn tie_variable<V: Copy + Drop>(
+    variable: V,
+    place: usize,
+    helpers: &[V],
+    out: &mut Vec<(V, V, bool)>,
+) -> R<()>
+    ensures front { IsFrontOf out.old.items out.new.items }
+    ensures ties { OnOk result (out.new.items ≡ out.old.items ++ ties place variable helpers.now) }
+    ensures refusal { IsOkUnless result Memory }
+{
+    let mut rest = place;
+    for helper in helpers {
+        out.push((variable, *helper, rest % 2 == 1))?;
+        rest /= 2;
+    }
+    Ok(())
+}

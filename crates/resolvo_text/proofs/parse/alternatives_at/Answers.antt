@@ -1,0 +1,28 @@
+use Rattle.std.proofs.Common.{◌≡◌, List, ◌∷◌, [], ◌++◌, Some, sym, ap, ◌∙◌}
+use Rattle.resolvo_text.specs.Line as says
+use Rattle.resolvo_text.specs.View.{specs_of, spec_of}
+use Rattle.resolvo_text.specs.Reading.{words_in, alternatives_at}
+use Rattle.std.proofs.lemmas.List.{map_push}
+use Rattle.std.proofs.lemmas.Result.{err_from_is_err_and}
+use Rattle.resolvo_text.proofs.AlternativeLemmas.{with_front, goes_on, ends, fails_so}
+use Rattle.resolvo_text.proofs.parse.alternatives_at.Goals as goal
+
+pub returns-in_err-spec : goal.returns-in_err-spec
+returns-in_err-spec c =
+    let inv = c.loop-specs.invariant in
+    let p = err_from_is_err_and c.from_residual-in_err-spec.result c.from_residual-in_err-spec.ensures.1 in
+    rw (p.1, p.2) (fails_so c.in_err-spec.field-0.0 (specs_of c.loop-specs.specs.items) inv.0 (words_in c.loop-specs.rest.now) _ c.in_err-spec.ensures.words inv.2)
+
+pub returns-then-not-more : goal.returns-then-not-more
+returns-then-not-more c =
+    let inv = c.loop-specs.invariant in
+    let total = ends (specs_of c.loop-specs.specs.items) inv.0 (words_in c.loop-specs.rest.now) (spec_of c.in_ok-spec.spec) (words_in c.in_ok-spec.after.now) c.skip-more.result.0 (words_in c.skip-more.result.1.now) _ inv.1 c.in_ok-spec.ensures.words (sym c.skip-more.ensures.words) c.if-not-more.true inv.2 in
+    let pushed : specs_of c.push.new.self.items ≡ specs_of c.loop-specs.specs.items ++ spec_of c.in_ok-spec.spec ∷ [] = ap specs_of c.in_ok-push.ensures.items ∙ map_push spec_of c.loop-specs.specs.items c.in_ok-spec.spec in
+    total ∙ ap (λ (ss : List says.Spec). Some (ss, words_in c.skip-more.result.1.now)) (sym pushed)
+
+pub loop-specs-preserved : goal.loop-specs-preserved
+loop-specs-preserved c =
+    let inv = c.loop-specs.invariant in
+    let on = goes_on (specs_of c.loop-specs.specs.items) inv.0 (words_in c.loop-specs.rest.now) (spec_of c.in_ok-spec.spec) (words_in c.in_ok-spec.after.now) c.skip-more.result.0 (words_in c.skip-more.result.1.now) _ inv.1 c.in_ok-spec.ensures.words (sym c.skip-more.ensures.words) c.if-not-more.false inv.2 in
+    let pushed : specs_of c.push.new.self.items ≡ specs_of c.loop-specs.specs.items ++ spec_of c.in_ok-spec.spec ∷ [] = ap specs_of c.in_ok-push.ensures.items ∙ map_push spec_of c.loop-specs.specs.items c.in_ok-spec.spec in
+    (on.0, on.1, ap (λ (ss : List says.Spec). with_front ss (alternatives_at on.0 (words_in c.skip-more.result.1.now))) pushed ∙ on.2)

@@ -1,0 +1,54 @@
+//! A device that keeps all that it takes. The program builds its answer in one, whole before the first byte goes out.
+
+ghost use Rattle.std.specs.Prelude.{◌≡◌, [], Some};
+
+use crate::device::{IoFault, Sink, Tally, empty_after};
+use std::alloc::Global;
+
+/// Takes all bytes of each call; a call for which there is no memory fails, and takes none.
+#[derive(Drop)]
+pub struct GrowingSink {
+    bytes: Vec<u8>,
+    tally: Tally,
+    empty_writes: u64,
+}
+
+impl GrowingSink {
+    /// A device that took nothing yet.
+    pub fn new(alloc: Global) -> Self
+        ensures empty { result.bytes.items ≡ [] }
+    {
+        GrowingSink {
+            bytes: Vec::new(alloc),
+            tally: Tally::new(),
+            empty_writes: 0,
+        }
+    }
+
+    /// What it took.
+    pub fn into_bytes(self) -> Vec<u8>
+        ensures { result ≡ self.bytes }
+    {
+        let GrowingSink { bytes, .. } = self;
+        bytes
+    }
+}
+
+impl Sink for GrowingSink {
+    ghost contents = { λ s. Some s.bytes.items };
+
+    ghost failures = { λ s. s.tally.failures };
+
+    ghost interruptions = { λ s. s.tally.interruptions };
+
+    ghost empty_writes = { λ s. s.empty_writes };
+
+    fn write(&mut self, buf: &[u8]) -> Result<usize, IoFault> {
+        if self.tally.is_full() || self.bytes.extend_from_slice(buf).is_err() {
+            return Err(self.tally.failed());
+        }
+        self.tally.moved();
+        self.empty_writes = empty_after(self.empty_writes, buf.len());
+        Ok(buf.len())
+    }
+}

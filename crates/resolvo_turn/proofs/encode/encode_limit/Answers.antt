@@ -1,0 +1,26 @@
+use Rattle.std.proofs.Common.{subst}
+use Rattle.std.specs.Prelude.{Contains}
+use Rattle.resolvo_pool_core.specs.declared.requirement.Requirement.TheVariants.{Single}
+use Rattle.resolvo_pool_core.specs.RuleKeeping.{Rules, rules_for}
+use Rattle.resolvo_soundness.specs.Encoding.{IsExact}
+use Rattle.resolvo_encoder.specs.Encoded.{IsLimitEncoded, rules_of}
+use Rattle.resolvo_encoder.proofs.Requiring.{guard_grows}
+use Rattle.resolvo_turn.specs.Encoder.{IsInOrder}
+use Rattle.resolvo_turn.proofs.Adding.{needs_then}
+use Rattle.resolvo_turn.proofs.encode.encode_limit.Goals as goal
+
+pub returns-clause-encoded : goal.returns-clause-encoded
+returns-clause-encoded g c = λ root e limited.
+    let same = g.A.SolvableId.PartialEq.eq in
+    let exact : IsExact same = record { one = g.met.A.SolvableId.Exact.exact; own = g.met.A.SolvableId.Eq.laws.refl } in
+    let p = g.A.PackageSource.packages c.args.answers.now in
+    let middle = c.guard.new.encoding in
+    let new = c.limit.new.encoding in
+    let (first, guarded) = c.in_ok-guard.ensures.encoded root e in
+    let came = subst (λ (a : g.row.A.Denot). (root : Rules) → IsInOrder same (g.A.PackageSource.packages a) (g.A.PackageSource.orders a) root middle → Contains (rules_for same (g.A.PackageSource.packages a) root c.args.parent).constraints c.args.version_set
+    → IsInOrder same (g.A.PackageSource.packages a) (g.A.PackageSource.orders a) root new × IsLimitEncoded same (g.A.PackageSource.packages a) (rules_of new) c.args.parent c.args.version_set) c.in_ok-guard.ensures.same c.in_ok-limit.ensures.encoded in
+    let (last, done) = came root first limited in
+    (last, done, guard_grows same exact p root middle new (Single c.args.version_set) c.in_ok-limit.ensures.kept.grows guarded)
+
+pub returns-clause-kept : goal.returns-clause-kept
+returns-clause-kept g c = needs_then c.args.encoding.now c.guard.new.encoding c.limit.new.encoding c.in_ok-guard.ensures.kept c.in_ok-limit.ensures.kept

@@ -1,0 +1,20 @@
+use Rattle.std.proofs.Common.{[], subst}
+use Rattle.resolvo_pool_core.specs.RuleKeeping.{Rules}
+use Rattle.resolvo_soundness.specs.Ending.{IsNeedEncoded}
+use Rattle.resolvo_encoder.specs.Encoded.{IsGuarded, rules_of}
+use Rattle.resolvo_encoder.specs.Steps.{Needs}
+use Rattle.resolvo_turn.specs.Encoder.{IsInOrder}
+use Rattle.resolvo_turn.proofs.Adding.{needs_then}
+use Rattle.resolvo_turn.proofs.encode.encode_plain_need.Goals as goal
+
+pub returns-clause-encoded : goal.returns-clause-encoded
+returns-clause-encoded g c = λ root e needs.
+    let same = g.A.SolvableId.PartialEq.eq in
+    let middle = c.guard.new.encoding in
+    let new = c.require.new.encoding in
+    let (first, guarded) = c.in_ok-guard.ensures.encoded root e in
+    (subst (λ (a : g.row.A.Denot). (root : Rules) → IsInOrder same (g.A.PackageSource.packages a) (g.A.PackageSource.orders a) root middle → IsGuarded same (g.A.PackageSource.packages a) (rules_of middle) c.args.need.requirement → Needs same (g.A.PackageSource.packages a) root c.args.parent c.args.need
+    → IsInOrder same (g.A.PackageSource.packages a) (g.A.PackageSource.orders a) root new × IsNeedEncoded same (g.A.PackageSource.packages a) (rules_of new) c.args.parent c.args.need []) c.in_ok-guard.ensures.same c.in_ok-require.ensures.encoded) root first guarded needs
+
+pub returns-clause-kept : goal.returns-clause-kept
+returns-clause-kept g c = needs_then c.args.encoding.now c.guard.new.encoding c.require.new.encoding c.in_ok-guard.ensures.kept c.in_ok-require.ensures.kept

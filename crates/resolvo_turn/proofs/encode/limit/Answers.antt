@@ -1,0 +1,18 @@
+use Rattle.std.proofs.Common.{List, subst, sym}
+use Rattle.resolvo_packages.specs.declared.package_source.Offered.{Offered}
+use Rattle.resolvo_packages.specs.Answering.{AreOutside}
+use Rattle.resolvo_encoder.proofs.Picking.{ordered_stays}
+use Rattle.resolvo_turn.proofs.Adding.{extends_needs}
+use Rattle.resolvo_turn.proofs.encode.limit.Goals as goal
+
+pub returns-clause-encoded : goal.returns-clause-encoded
+returns-clause-encoded g c = λ root e limited.
+    let same = g.A.SolvableId.PartialEq.eq in
+    let p = g.A.PackageSource.packages c.args.answers.now in
+    let orders = g.A.PackageSource.orders c.args.answers.now in
+    let outside : AreOutside same p c.args.version_set c.as_slice.result.now = subst (λ (xs : List (Offered _ _)). AreOutside same p c.args.version_set xs) (sym c.as_slice.ensures.value) c.in_ok-outside.ensures.outside in
+    let (last, done) = c.in_ok-limit.ensures.encoded p root (g.met.A.PackageSource.lawful c.args.answers.now) e.encoding outside limited in
+    (record { encoding = last; ordered = ordered_stays orders c.args.encoding.now c.limit.new.self c.in_ok-limit.ensures.kept.grows c.in_ok-limit.ensures.lists e.ordered }, done)
+
+pub returns-clause-kept : goal.returns-clause-kept
+returns-clause-kept g c = extends_needs c.args.encoding.now c.limit.new.self c.in_ok-limit.ensures.kept

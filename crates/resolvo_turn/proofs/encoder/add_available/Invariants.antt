@@ -1,6 +1,0 @@
-use Rattle.resolvo_encoding.specs.Steps.{AddsParent}
-use Rattle.resolvo_turn.proofs.encoder.add_available.Given as goal
-
--- parents came
-abbrev pub invariant-loop-one : goal.invariant-loop-one
-invariant-loop-one g l = AddsParent l.initial.encoding l.encoding

@@ -1,0 +1,340 @@
+//! What parents need and limit becomes clauses, in the order in which the parents came. Each question to the packages is asked
+//! as its turn comes.
+ghost use Rattle.std.specs.Prelude.{◌≡◌, ◌≤◌, [], length, IfErr, OnOk, Contains};
+ghost use Rattle.resolvo_pool.specs.Cached.{IsCancelledBy};
+ghost use Rattle.resolvo_pool_core.specs.RuleKeeping.{Rules, rules_for};
+ghost use Rattle.resolvo_pool_core.specs.Text.{solvable_of};
+ghost use Rattle.resolvo_pool_core.specs.declared.requirement.ConditionalRequirement.{ConditionalRequirement};
+ghost use Rattle.resolvo_pool_core.specs.declared.requirement.Requirement.TheVariants.{Single};
+ghost use Rattle.resolvo_soundness.specs.Encoding.{IsBarredIn, HasBar};
+ghost use Rattle.resolvo_soundness.specs.Ending.{IsNeedEncoded};
+ghost use Rattle.resolvo_encoder.specs.Encoded.{IsGuarded, IsLimitEncoded, IsParentEncoded, rules_of};
+ghost use Rattle.resolvo_encoder.specs.Base.{KeepsTurns};
+ghost use Rattle.resolvo_encoder.specs.Steps.{IsBuilt, Needs, AddsParent};
+ghost use Rattle.resolvo_turn.specs.Encoder.{IsRoot, AreRulesOf, IsInOrder, AddsNeeds, AddsAll, IsConditionalEncoded};
+
+use crate::defer::defer_need;
+use resolvo_encoder::encoder::Encoder;
+use resolvo_packages::package_source::{Offered, PackageSource};
+use resolvo_pool::cache::CacheFault;
+use resolvo_pool_core::id::VersionSetId;
+use resolvo_pool_core::provider::Dependencies;
+use resolvo_pool_core::requirement::{ConditionalRequirement, Requirement};
+use resolvo_pool_core::solver_id::SolvableIdOrRoot;
+use resolvo_pool_core::want::R;
+use std::alloc::Global;
+
+/// Lets those candidates be encoded in their turn whose dependencies are at hand.
+pub fn add_available<A: PackageSource>(
+    answers: &A,
+    encoding: &mut Encoder<A::NameId, A::SolvableId>,
+    offered: &[Offered<A::NameId, A::SolvableId>],
+) -> R<()>
+    ensures { OnOk result (AddsParent encoding.old encoding.new) }
+{
+    for one in offered {
+        if answers.are_dependencies_available_for(one.solvable) {
+            encoding.add_parent(one.solvable)?;
+        }
+    }
+    Ok(())
+}
+
+/// States what locks and exclusions keep out of a package, once.
+fn bar_package<A: PackageSource>(
+    alloc: Global,
+    answers: &mut A,
+    encoding: &mut Encoder<A::NameId, A::SolvableId>,
+    name: A::NameId,
+) -> Result<(), CacheFault<A::Cancel>>
+    requires { IsBuilt encoding.old }
+    ensures same { answers.new ≡ answers.old }
+    ensures encoded { OnOk result ((root : Rules) → IsInOrder A.SolvableId.eq (A.packages answers.old) (A.orders answers.old) root encoding.old → IsInOrder A.SolvableId.eq (A.packages answers.old) (A.orders answers.old) root encoding.new × ((s : A.SolvableId) → IsBarredIn A.SolvableId.eq (A.packages answers.old) name s → HasBar (rules_of encoding.new) s)) }
+    ensures kept { OnOk result (AddsNeeds encoding.old encoding.new) }
+    ensures fired { OnOk result (encoding.new.fired ≡ encoding.old.fired) }
+    ensures built { OnOk result (IsBuilt encoding.new) }
+    ensures cancelled { IfErr result (IsCancelledBy (A.may_cancel answers.old)) }
+{
+    if encoding.is_encoded(name) {
+        return Ok(());
+    }
+    let barred = answers.barred(name)?;
+    encoding.bar(alloc, name, barred.as_slice())?;
+    Ok(())
+}
+
+/// States what locks and exclusions keep out of these packages.
+fn bar_packages<A: PackageSource>(
+    alloc: Global,
+    answers: &mut A,
+    encoding: &mut Encoder<A::NameId, A::SolvableId>,
+    names: &[A::NameId],
+) -> Result<(), CacheFault<A::Cancel>>
+    requires { IsBuilt encoding.old }
+    ensures same { answers.new ≡ answers.old }
+    ensures encoded { OnOk result ((root : Rules) → IsInOrder A.SolvableId.eq (A.packages answers.old) (A.orders answers.old) root encoding.old → IsInOrder A.SolvableId.eq (A.packages answers.old) (A.orders answers.old) root encoding.new × ((name : A.NameId) (s : A.SolvableId) → Contains names.now name → IsBarredIn A.SolvableId.eq (A.packages answers.old) name s → HasBar (rules_of encoding.new) s)) }
+    ensures kept { OnOk result (AddsNeeds encoding.old encoding.new) }
+    ensures fired { OnOk result (encoding.new.fired ≡ encoding.old.fired) }
+    ensures built { OnOk result (IsBuilt encoding.new) }
+    ensures cancelled { IfErr result (IsCancelledBy (A.may_cancel answers.old)) }
+{
+    for name in names {
+        bar_package(alloc, answers, encoding, *name)?;
+    }
+    Ok(())
+}
+
+/// States what locks and exclusions keep out of the packages of a requirement.
+pub fn guard<A: PackageSource>(
+    alloc: Global,
+    answers: &mut A,
+    encoding: &mut Encoder<A::NameId, A::SolvableId>,
+    requirement: Requirement,
+) -> Result<(), CacheFault<A::Cancel>>
+    requires { IsBuilt encoding.old }
+    ensures same { answers.new ≡ answers.old }
+    ensures encoded { OnOk result ((root : Rules) → IsInOrder A.SolvableId.eq (A.packages answers.old) (A.orders answers.old) root encoding.old → IsInOrder A.SolvableId.eq (A.packages answers.old) (A.orders answers.old) root encoding.new × IsGuarded A.SolvableId.eq (A.packages answers.old) (rules_of encoding.new) requirement) }
+    ensures kept { OnOk result (AddsNeeds encoding.old encoding.new) }
+    ensures fired { OnOk result (encoding.new.fired ≡ encoding.old.fired) }
+    ensures built { OnOk result (IsBuilt encoding.new) }
+    ensures cancelled { IfErr result (IsCancelledBy (A.may_cancel answers.old)) }
+{
+    let names = answers.named(requirement)?;
+    bar_packages(alloc, answers, encoding, names.as_slice())?;
+    Ok(())
+}
+
+/// States that a parent needs one of the candidates of a requirement, whose packages are guarded.
+fn require<A: PackageSource>(
+    alloc: Global,
+    answers: &mut A,
+    encoding: &mut Encoder<A::NameId, A::SolvableId>,
+    parent: Option<A::SolvableId>,
+    need: ConditionalRequirement,
+) -> Result<(), CacheFault<A::Cancel>>
+    requires { IsBuilt encoding.old }
+    ensures same { answers.new ≡ answers.old }
+    ensures encoded { OnOk result ((root : Rules) → IsInOrder A.SolvableId.eq (A.packages answers.old) (A.orders answers.old) root encoding.old → IsGuarded A.SolvableId.eq (A.packages answers.old) (rules_of encoding.old) need.requirement → Needs A.SolvableId.eq (A.packages answers.old) root parent need → IsInOrder A.SolvableId.eq (A.packages answers.old) (A.orders answers.old) root encoding.new × IsNeedEncoded A.SolvableId.eq (A.packages answers.old) (rules_of encoding.new) parent need []) }
+    ensures kept { OnOk result (AddsNeeds encoding.old encoding.new) }
+    ensures built { OnOk result (IsBuilt encoding.new) }
+    ensures cancelled { IfErr result (IsCancelledBy (A.may_cancel answers.old)) }
+{
+    let offered = answers.candidates(need.requirement)?;
+    encoding.require(alloc, parent, need, offered.as_slice())?;
+    add_available(answers, encoding, offered.as_slice())?;
+    Ok(())
+}
+
+/// States that a parent needs one of the candidates of a requirement without a condition, and what bars them.
+fn encode_plain_need<A: PackageSource>(
+    alloc: Global,
+    answers: &mut A,
+    encoding: &mut Encoder<A::NameId, A::SolvableId>,
+    parent: Option<A::SolvableId>,
+    need: ConditionalRequirement,
+) -> Result<(), CacheFault<A::Cancel>>
+    requires { IsBuilt encoding.old }
+    ensures same { answers.new ≡ answers.old }
+    ensures encoded { OnOk result ((root : Rules) → IsInOrder A.SolvableId.eq (A.packages answers.old) (A.orders answers.old) root encoding.old → Needs A.SolvableId.eq (A.packages answers.old) root parent need → IsInOrder A.SolvableId.eq (A.packages answers.old) (A.orders answers.old) root encoding.new × IsNeedEncoded A.SolvableId.eq (A.packages answers.old) (rules_of encoding.new) parent need []) }
+    ensures kept { OnOk result (AddsNeeds encoding.old encoding.new) }
+    ensures built { OnOk result (IsBuilt encoding.new) }
+    ensures cancelled { IfErr result (IsCancelledBy (A.may_cancel answers.old)) }
+{
+    guard(alloc, answers, encoding, need.requirement)?;
+    require(alloc, answers, encoding, parent, need)?;
+    Ok(())
+}
+
+/// States what a parent needs of a requirement, or lets it wait where it has a condition.
+fn encode_need<A: PackageSource>(
+    alloc: Global,
+    answers: &mut A,
+    encoding: &mut Encoder<A::NameId, A::SolvableId>,
+    parent: Option<A::SolvableId>,
+    need: ConditionalRequirement,
+) -> Result<(), CacheFault<A::Cancel>>
+    requires { IsBuilt encoding.old }
+    ensures same { answers.new ≡ answers.old }
+    ensures encoded { OnOk result ((root : Rules) → IsInOrder A.SolvableId.eq (A.packages answers.old) (A.orders answers.old) root encoding.old → Contains (rules_for A.SolvableId.eq (A.packages answers.old) root parent).requirements need → IsInOrder A.SolvableId.eq (A.packages answers.old) (A.orders answers.old) root encoding.new × IsConditionalEncoded A.SolvableId.eq (A.packages answers.old) encoding.new parent need) }
+    ensures kept { OnOk result (AddsNeeds encoding.old encoding.new) }
+    ensures built { OnOk result (IsBuilt encoding.new) }
+    ensures cancelled { IfErr result (IsCancelledBy (A.may_cancel answers.old)) }
+{
+    match need.condition {
+        None => {
+            encode_plain_need(alloc, answers, encoding, parent, need)?;
+            Ok(())
+        }
+        Some(condition) => {
+            defer_need(alloc, answers, encoding, parent, need, condition)?;
+            Ok(())
+        }
+    }
+}
+
+/// States what a parent needs.
+fn encode_needs<A: PackageSource>(
+    alloc: Global,
+    answers: &mut A,
+    encoding: &mut Encoder<A::NameId, A::SolvableId>,
+    parent: Option<A::SolvableId>,
+    needs: &[ConditionalRequirement],
+) -> Result<(), CacheFault<A::Cancel>>
+    requires { IsBuilt encoding.old }
+    ensures same { answers.new ≡ answers.old }
+    ensures encoded { OnOk result ((root : Rules) → IsInOrder A.SolvableId.eq (A.packages answers.old) (A.orders answers.old) root encoding.old → ((need : ConditionalRequirement) → Contains needs.now need → Contains (rules_for A.SolvableId.eq (A.packages answers.old) root parent).requirements need) → IsInOrder A.SolvableId.eq (A.packages answers.old) (A.orders answers.old) root encoding.new × ((need : ConditionalRequirement) → Contains needs.now need → IsConditionalEncoded A.SolvableId.eq (A.packages answers.old) encoding.new parent need)) }
+    ensures kept { OnOk result (AddsNeeds encoding.old encoding.new) }
+    ensures built { OnOk result (IsBuilt encoding.new) }
+    ensures cancelled { IfErr result (IsCancelledBy (A.may_cancel answers.old)) }
+{
+    for need in needs {
+        encode_need(alloc, answers, encoding, parent, *need)?;
+    }
+    Ok(())
+}
+
+/// States that a parent's version set keeps out the candidates outside it.
+fn limit<A: PackageSource>(
+    alloc: Global,
+    answers: &mut A,
+    encoding: &mut Encoder<A::NameId, A::SolvableId>,
+    parent: Option<A::SolvableId>,
+    version_set: VersionSetId,
+) -> Result<(), CacheFault<A::Cancel>>
+    requires { IsBuilt encoding.old }
+    ensures same { answers.new ≡ answers.old }
+    ensures encoded { OnOk result ((root : Rules) → IsInOrder A.SolvableId.eq (A.packages answers.old) (A.orders answers.old) root encoding.old → Contains (rules_for A.SolvableId.eq (A.packages answers.old) root parent).constraints version_set → IsInOrder A.SolvableId.eq (A.packages answers.old) (A.orders answers.old) root encoding.new × IsLimitEncoded A.SolvableId.eq (A.packages answers.old) (rules_of encoding.new) parent version_set) }
+    ensures kept { OnOk result (AddsNeeds encoding.old encoding.new) }
+    ensures built { OnOk result (IsBuilt encoding.new) }
+    ensures cancelled { IfErr result (IsCancelledBy (A.may_cancel answers.old)) }
+{
+    let outside = answers.outside(version_set)?;
+    encoding.limit(alloc, parent, version_set, outside.as_slice())?;
+    Ok(())
+}
+
+/// States that a parent's version set keeps out the candidates outside it, and what bars the others.
+fn encode_limit<A: PackageSource>(
+    alloc: Global,
+    answers: &mut A,
+    encoding: &mut Encoder<A::NameId, A::SolvableId>,
+    parent: Option<A::SolvableId>,
+    version_set: VersionSetId,
+) -> Result<(), CacheFault<A::Cancel>>
+    requires { IsBuilt encoding.old }
+    ensures same { answers.new ≡ answers.old }
+    ensures encoded { OnOk result ((root : Rules) → IsInOrder A.SolvableId.eq (A.packages answers.old) (A.orders answers.old) root encoding.old → Contains (rules_for A.SolvableId.eq (A.packages answers.old) root parent).constraints version_set → IsInOrder A.SolvableId.eq (A.packages answers.old) (A.orders answers.old) root encoding.new × IsLimitEncoded A.SolvableId.eq (A.packages answers.old) (rules_of encoding.new) parent version_set × IsGuarded A.SolvableId.eq (A.packages answers.old) (rules_of encoding.new) (Single version_set)) }
+    ensures kept { OnOk result (AddsNeeds encoding.old encoding.new) }
+    ensures built { OnOk result (IsBuilt encoding.new) }
+    ensures cancelled { IfErr result (IsCancelledBy (A.may_cancel answers.old)) }
+{
+    guard(alloc, answers, encoding, Requirement::Single(version_set))?;
+    limit(alloc, answers, encoding, parent, version_set)?;
+    Ok(())
+}
+
+/// States what a parent limits.
+fn encode_limits<A: PackageSource>(
+    alloc: Global,
+    answers: &mut A,
+    encoding: &mut Encoder<A::NameId, A::SolvableId>,
+    parent: Option<A::SolvableId>,
+    constraints: &[VersionSetId],
+) -> Result<(), CacheFault<A::Cancel>>
+    requires { IsBuilt encoding.old }
+    ensures same { answers.new ≡ answers.old }
+    ensures encoded { OnOk result ((root : Rules) → IsInOrder A.SolvableId.eq (A.packages answers.old) (A.orders answers.old) root encoding.old → ((version_set : VersionSetId) → Contains constraints.now version_set → Contains (rules_for A.SolvableId.eq (A.packages answers.old) root parent).constraints version_set) → IsInOrder A.SolvableId.eq (A.packages answers.old) (A.orders answers.old) root encoding.new × ((version_set : VersionSetId) → Contains constraints.now version_set → IsLimitEncoded A.SolvableId.eq (A.packages answers.old) (rules_of encoding.new) parent version_set × IsGuarded A.SolvableId.eq (A.packages answers.old) (rules_of encoding.new) (Single version_set))) }
+    ensures kept { OnOk result (AddsNeeds encoding.old encoding.new) }
+    ensures built { OnOk result (IsBuilt encoding.new) }
+    ensures cancelled { IfErr result (IsCancelledBy (A.may_cancel answers.old)) }
+{
+    for version_set in constraints {
+        encode_limit(alloc, answers, encoding, parent, *version_set)?;
+    }
+    Ok(())
+}
+
+/// States what a parent, whose dependencies are known, needs and limits.
+fn encode_rules<A: PackageSource>(
+    alloc: Global,
+    answers: &mut A,
+    encoding: &mut Encoder<A::NameId, A::SolvableId>,
+    parent: Option<A::SolvableId>,
+    requirements: &[ConditionalRequirement],
+    constraints: &[VersionSetId],
+) -> Result<(), CacheFault<A::Cancel>>
+    requires { IsBuilt encoding.old }
+    ensures same { answers.new ≡ answers.old }
+    ensures encoded { OnOk result ((root : Rules) → AreRulesOf A.SolvableId.eq (A.packages answers.old) root parent requirements.now constraints.now → IsInOrder A.SolvableId.eq (A.packages answers.old) (A.orders answers.old) root encoding.old → IsInOrder A.SolvableId.eq (A.packages answers.old) (A.orders answers.old) root encoding.new × IsParentEncoded A.SolvableId.eq (A.packages answers.old) encoding.new root parent) }
+    ensures kept { OnOk result (AddsNeeds encoding.old encoding.new) }
+    ensures built { OnOk result (IsBuilt encoding.new) }
+    ensures cancelled { IfErr result (IsCancelledBy (A.may_cancel answers.old)) }
+{
+    encode_needs(alloc, answers, encoding, parent, requirements)?;
+    encode_limits(alloc, answers, encoding, parent, constraints)?;
+    Ok(())
+}
+
+/// States what a solvable, or the root, whose rules are given, needs and limits.
+fn encode_parent<A: PackageSource>(
+    alloc: Global,
+    answers: &mut A,
+    encoding: &mut Encoder<A::NameId, A::SolvableId>,
+    requirements: &[ConditionalRequirement],
+    constraints: &[VersionSetId],
+    parent: SolvableIdOrRoot<A::SolvableId>,
+) -> Result<(), CacheFault<A::Cancel>>
+    requires { IsBuilt encoding.old }
+    ensures same { answers.new ≡ answers.old }
+    ensures encoded { OnOk result ((root : Rules) → IsRoot requirements.now constraints.now root → IsInOrder A.SolvableId.eq (A.packages answers.old) (A.orders answers.old) root encoding.old → IsInOrder A.SolvableId.eq (A.packages answers.old) (A.orders answers.old) root encoding.new × IsParentEncoded A.SolvableId.eq (A.packages answers.old) encoding.new root (solvable_of parent)) }
+    ensures kept { OnOk result (AddsNeeds encoding.old encoding.new) }
+    ensures built { OnOk result (IsBuilt encoding.new) }
+    ensures cancelled { IfErr result (IsCancelledBy (A.may_cancel answers.old)) }
+{
+    match parent {
+        SolvableIdOrRoot::Root => {
+            encode_rules(alloc, answers, encoding, None, requirements, constraints)?;
+            Ok(())
+        }
+        SolvableIdOrRoot::Solvable(solvable) => match answers.dependencies(solvable)? {
+            Dependencies::Known(known) => {
+                encode_rules(
+                    alloc,
+                    answers,
+                    encoding,
+                    Some(solvable),
+                    known.requirements.as_slice(),
+                    known.constrains.as_slice(),
+                )?;
+                Ok(())
+            }
+            Dependencies::Unknown(reason) => {
+                encoding.exclude(alloc, solvable, reason)?;
+                Ok(())
+            }
+        },
+    }
+}
+
+/// States what each parent needs and limits that wasn't encoded yet.
+pub fn encode_parents<A: PackageSource>(
+    alloc: Global,
+    answers: &mut A,
+    encoding: &mut Encoder<A::NameId, A::SolvableId>,
+    requirements: &[ConditionalRequirement],
+    constraints: &[VersionSetId],
+) -> Result<(), CacheFault<A::Cancel>>
+    requires { IsBuilt encoding.old }
+    ensures same { answers.new ≡ answers.old }
+    ensures encoded { OnOk result ((root : Rules) → IsRoot requirements.now constraints.now root → IsInOrder A.SolvableId.eq (A.packages answers.old) (A.orders answers.old) root encoding.old → IsInOrder A.SolvableId.eq (A.packages answers.old) (A.orders answers.old) root encoding.new) }
+    ensures all { OnOk result (AddsAll encoding.old encoding.new) }
+    ensures turn { OnOk result (KeepsTurns encoding.old encoding.new) }
+    ensures built { OnOk result (IsBuilt encoding.new) }
+    ensures cancelled { IfErr result (IsCancelledBy (A.may_cancel answers.old)) }
+{
+    while let Some(parent) = encoding.next_parent() {
+        encode_parent(alloc, answers, encoding, requirements, constraints, parent)?;
+        encoding.end_parent();
+    }
+    Ok(())
+}

@@ -1,0 +1,175 @@
+//! Cases of conditions that hold become clauses. Each was deferred until each of its version sets had a chosen match.
+ghost use Rattle.std.specs.Prelude.{◌≡◌, ◌<◌, ℕ, true, false, length, IfOk, IfErr, OnOk, Contains};
+ghost use Rattle.resolvo_pool.specs.Cached.{IsCancelledBy};
+ghost use Rattle.resolvo_pool_core.specs.RuleKeeping.{Rules, rules_for};
+ghost use Rattle.resolvo_soundness.specs.Encoding.{cases_for};
+ghost use Rattle.resolvo_soundness.specs.Ending.{IsNeedEncoded};
+ghost use Rattle.resolvo_encoder.specs.Casing.{IsSet, AreSets, sets_case};
+ghost use Rattle.resolvo_encoder.specs.Casing.{IsSpent, AreSpent};
+ghost use Rattle.resolvo_encoder.specs.Encoded.{rules_of, IsGuarded};
+ghost use Rattle.resolvo_encoder.specs.Steps.{IsBuilt};
+ghost use Rattle.resolvo_turn.specs.Encoder.{IsInOrder, AddsNeeds};
+ghost use Rattle.resolvo_turn.specs.Turn.{FiresMore};
+
+use crate::encode::{add_available, guard};
+use resolvo_encoder::conditions::{ConditionSet, DeferredRequirement};
+use resolvo_encoder::encoder::Encoder;
+use resolvo_packages::package_source::PackageSource;
+use resolvo_pool::cache::CacheFault;
+use resolvo_pool_core::id::VersionSetId;
+use resolvo_pool_core::requirement::ConditionalRequirement;
+use std::alloc::Global;
+
+/// A version set of a case, with its package and the candidates of that which don't match it.
+fn set_of<A: PackageSource>(
+    answers: &mut A,
+    version_set: VersionSetId,
+) -> Result<ConditionSet<A::NameId, A::SolvableId>, CacheFault<A::Cancel>>
+    ensures same { answers.new ≡ answers.old }
+    ensures set { IfOk result (IsSet A.SolvableId.eq (A.packages answers.old)) }
+    ensures version_set { IfOk result (λ c. c.version_set ≡ version_set) }
+    ensures cancelled { IfErr result (IsCancelledBy (A.may_cancel answers.old)) }
+{
+    let outside = answers.outside(version_set)?;
+    Ok(ConditionSet {
+        version_set,
+        name: answers.set_package(version_set),
+        outside,
+    })
+}
+
+/// The version sets of a case, each with its package and the candidates of that which don't match it.
+fn sets_of<A: PackageSource>(
+    alloc: Global,
+    answers: &mut A,
+    case: &[VersionSetId],
+) -> Result<Vec<ConditionSet<A::NameId, A::SolvableId>>, CacheFault<A::Cancel>>
+    ensures same { answers.new ≡ answers.old }
+    ensures sets { IfOk result (λ v. AreSets A.SolvableId.eq (A.packages answers.old) v.items) }
+    ensures case { IfOk result (λ v. sets_case v.items ≡ case.now) }
+    ensures cancelled { IfErr result (IsCancelledBy (A.may_cancel answers.old)) }
+{
+    let mut sets = Vec::new(alloc);
+    for version_set in case {
+        let set = set_of(answers, *version_set)?;
+        sets.push(set)?;
+    }
+    Ok(sets)
+}
+
+/// States a case of a parent's need, whose packages are guarded.
+fn state_case<A: PackageSource>(
+    alloc: Global,
+    answers: &mut A,
+    encoding: &mut Encoder<A::NameId, A::SolvableId>,
+    parent: Option<A::SolvableId>,
+    need: ConditionalRequirement,
+    sets: &[ConditionSet<A::NameId, A::SolvableId>],
+) -> Result<(), CacheFault<A::Cancel>>
+    requires { IsBuilt encoding.old }
+    ensures same { answers.new ≡ answers.old }
+    ensures encoded { OnOk result ((root : Rules) → IsInOrder A.SolvableId.eq (A.packages answers.old) (A.orders answers.old) root encoding.old → IsGuarded A.SolvableId.eq (A.packages answers.old) (rules_of encoding.old) need.requirement → AreSets A.SolvableId.eq (A.packages answers.old) sets.now → Contains (rules_for A.SolvableId.eq (A.packages answers.old) root parent).requirements need → Contains (cases_for A.SolvableId.eq (A.packages answers.old) need) (sets_case sets.now) → IsInOrder A.SolvableId.eq (A.packages answers.old) (A.orders answers.old) root encoding.new × IsNeedEncoded A.SolvableId.eq (A.packages answers.old) (rules_of encoding.new) parent need (sets_case sets.now)) }
+    ensures kept { OnOk result (AddsNeeds encoding.old encoding.new) }
+    ensures fired { OnOk result (encoding.new.fired ≡ encoding.old.fired) }
+    ensures built { OnOk result (IsBuilt encoding.new) }
+    ensures cancelled { IfErr result (IsCancelledBy (A.may_cancel answers.old)) }
+{
+    let offered = answers.candidates(need.requirement)?;
+    encoding.require_case(alloc, parent, need, sets, offered.as_slice())?;
+    add_available(answers, encoding, offered.as_slice())?;
+    Ok(())
+}
+
+/// States a case of a parent's need, and what bars its candidates.
+fn encode_case<A: PackageSource>(
+    alloc: Global,
+    answers: &mut A,
+    encoding: &mut Encoder<A::NameId, A::SolvableId>,
+    parent: Option<A::SolvableId>,
+    need: ConditionalRequirement,
+    case: &[VersionSetId],
+) -> Result<(), CacheFault<A::Cancel>>
+    requires { IsBuilt encoding.old }
+    ensures same { answers.new ≡ answers.old }
+    ensures encoded { OnOk result ((root : Rules) → IsInOrder A.SolvableId.eq (A.packages answers.old) (A.orders answers.old) root encoding.old → Contains (rules_for A.SolvableId.eq (A.packages answers.old) root parent).requirements need → Contains (cases_for A.SolvableId.eq (A.packages answers.old) need) case.now → IsInOrder A.SolvableId.eq (A.packages answers.old) (A.orders answers.old) root encoding.new × IsNeedEncoded A.SolvableId.eq (A.packages answers.old) (rules_of encoding.new) parent need case.now) }
+    ensures kept { OnOk result (AddsNeeds encoding.old encoding.new) }
+    ensures fired { OnOk result (encoding.new.fired ≡ encoding.old.fired) }
+    ensures built { OnOk result (IsBuilt encoding.new) }
+    ensures cancelled { IfErr result (IsCancelledBy (A.may_cancel answers.old)) }
+{
+    guard(alloc, answers, encoding, need.requirement)?;
+    let sets = sets_of(alloc, answers, case)?;
+    state_case(alloc, answers, encoding, parent, need, sets.as_slice())?;
+    Ok(())
+}
+
+/// States the case that waits at this place.
+fn fire<A: PackageSource>(
+    alloc: Global,
+    answers: &mut A,
+    encoding: &mut Encoder<A::NameId, A::SolvableId>,
+    index: usize,
+) -> Result<(), CacheFault<A::Cancel>>
+    requires built { IsBuilt encoding.old }
+    requires within { index < length encoding.old.deferred.items }
+    requires waits { Contains encoding.old.fired.keys index → ⊥ }
+    ensures same { answers.new ≡ answers.old }
+    ensures stays { OnOk result ((root : Rules) → IsInOrder A.SolvableId.eq (A.packages answers.old) (A.orders answers.old) root encoding.old → IsInOrder A.SolvableId.eq (A.packages answers.old) (A.orders answers.old) root encoding.new) }
+    ensures kept { OnOk result (AddsNeeds encoding.old encoding.new) }
+    ensures fires { OnOk result (FiresMore encoding.old encoding.new) }
+    ensures built { OnOk result (IsBuilt encoding.new) }
+    ensures cancelled { IfErr result (IsCancelledBy (A.may_cancel answers.old)) }
+{
+    let DeferredRequirement { parent, need, case } = encoding.waiting(alloc, index)?;
+    encode_case(alloc, answers, encoding, parent, need, case.as_slice())?;
+    encoding.end_case(index)?;
+    Ok(())
+}
+
+/// States the case that waits at this place, if it holds. Whether it was stated.
+fn fire_if_due<A: PackageSource>(
+    alloc: Global,
+    answers: &mut A,
+    encoding: &mut Encoder<A::NameId, A::SolvableId>,
+    index: usize,
+) -> Result<bool, CacheFault<A::Cancel>>
+    requires built { IsBuilt encoding.old }
+    ensures same { answers.new ≡ answers.old }
+    ensures stays { OnOk result ((root : Rules) → IsInOrder A.SolvableId.eq (A.packages answers.old) (A.orders answers.old) root encoding.old → IsInOrder A.SolvableId.eq (A.packages answers.old) (A.orders answers.old) root encoding.new) }
+    ensures kept { OnOk result (AddsNeeds encoding.old encoding.new) }
+    ensures fires { IfOk result (λ b. b ≡ true → FiresMore encoding.old encoding.new) }
+    ensures spent { IfOk result (λ b. b ≡ false → (encoding.new ≡ encoding.old) × IsSpent A.SolvableId.eq encoding.new index) }
+    ensures built { OnOk result (IsBuilt encoding.new) }
+    ensures cancelled { IfErr result (IsCancelledBy (A.may_cancel answers.old)) }
+{
+    if !encoding.is_due(index) {
+        return Ok(false);
+    }
+    fire(alloc, answers, encoding, index)?;
+    Ok(true)
+}
+
+/// States each case that waits and holds, in the order in which they came. Whether there was one; if there was none, nothing
+/// changed.
+pub fn fire_cases<A: PackageSource>(
+    alloc: Global,
+    answers: &mut A,
+    encoding: &mut Encoder<A::NameId, A::SolvableId>,
+) -> Result<bool, CacheFault<A::Cancel>>
+    requires { IsBuilt encoding.old }
+    ensures same { answers.new ≡ answers.old }
+    ensures stays { OnOk result ((root : Rules) → IsInOrder A.SolvableId.eq (A.packages answers.old) (A.orders answers.old) root encoding.old → IsInOrder A.SolvableId.eq (A.packages answers.old) (A.orders answers.old) root encoding.new) }
+    ensures kept { OnOk result (AddsNeeds encoding.old encoding.new) }
+    ensures fires { IfOk result (λ b. b ≡ true → FiresMore encoding.old encoding.new) }
+    ensures spent { IfOk result (λ b. b ≡ false → (encoding.new ≡ encoding.old) × AreSpent A.SolvableId.eq encoding.new) }
+    ensures built { OnOk result (IsBuilt encoding.new) }
+    ensures cancelled { IfErr result (IsCancelledBy (A.may_cancel answers.old)) }
+{
+    let mut has_fired = false;
+    for index in 0..encoding.deferred.len() {
+        if fire_if_due(alloc, answers, encoding, index)? {
+            has_fired = true;
+        }
+    }
+    Ok(has_fired)
+}
