@@ -5,7 +5,7 @@ use Rattle.std.specs.List.{list_any}
 use Rattle.std.proofs.lemmas.List.{append-nil}
 use Rattle.std.proofs.lemmas.Option.{get_or_from_slice_get}
 use Rattle.resolvo_text.specs.Line.{Version, Spec, Line, Listed, Needs}
-use Rattle.resolvo_text.specs.Matching.{Set, matches}
+use Rattle.resolvo_text.specs.Matches.{Set, matches}
 use Rattle.resolvo_catalogue_core.specs.Listed.{listed}
 use Rattle.resolvo_catalogue_core.specs.Questions.{Said}
 use Rattle.resolvo_catalogue_core.specs.Sets as sets
@@ -21,12 +21,12 @@ use Rattle.resolvo_soundness.specs.First.{IsTriedBefore, IsUnbeaten, ArePreferre
 use Rattle.resolvo_catalogue.specs.Ids.{Ids, SolvableId, AreEach, IsSpec, AreAlternatives}
 use Rattle.resolvo_catalogue.specs.Known.{set_at, members_of}
 use Rattle.resolvo_catalogue.specs.Provider.{Provider, candidates_of, packages_of, IsSorted}
-use Rattle.resolvo_catalogue.specs.Trying.{matching, IsOrder}
+use Rattle.resolvo_catalogue.specs.CandidateOrder.{matching, IsOrder}
 use Rattle.resolvo_catalogue.specs.Over.{IsOver, AreAsked}
-use Rattle.resolvo_catalogue.specs.Keeping.{StandsFor, TellsApart, root_of}
+use Rattle.resolvo_catalogue.specs.KeptSets.{StandsFor, TellsApart, root_of}
 use Rattle.resolvo_catalogue.specs.declared.provider.RequestIds.{RequestIds}
-use Rattle.resolvo_catalogue.proofs.Marking.{one_some}
-use Rattle.resolvo_catalogue.proofs.Passing.{any_from}
+use Rattle.resolvo_catalogue.proofs.MarkLemmas.{one_some}
+use Rattle.resolvo_catalogue.proofs.PassLemmas.{any_from}
 use Rattle.resolvo_catalogue.proofs.Places.{no_element, element_cases}
 use Rattle.resolvo_catalogue.proofs.RulesKept.{not_false}
 use Rattle.resolve_answer.specs.Flat.{AllLines}

@@ -2,11 +2,11 @@
 use Rattle.std.proofs.Common.{◌≡◌, inr, inl, ℕ, zero, suc, ◌≤◌, List, [], ◌∷◌, Option, Some, None, refl, sym, ap, subst, ◌∙◌, arith}
 use Rattle.std.specs.Prelude.{◌↔◌, Contains, slice_get, IsTrue}
 use Rattle.resolvo_text.specs.Line.{Version, Spec, Line, Listed, Needs, Favour}
-use Rattle.resolvo_text.specs.Matching.{Set}
+use Rattle.resolvo_text.specs.Matches.{Set}
 use Rattle.resolvo_text.specs.declared.spec.Span.TheVariants.{Any}
 use Rattle.resolvo_catalogue_core.specs.Grammar.{line_at}
 use Rattle.resolvo_catalogue_core.specs.Rules.{keeps, keeps_in_request}
-use Rattle.resolvo_catalogue_core.proofs.Placing.{at_from_contains, contains_from_at}
+use Rattle.resolvo_catalogue_core.proofs.PlaceLemmas.{at_from_contains, contains_from_at}
 use Rattle.resolve_answer.specs.First.{IsFirstMatch, IsFirstMatchOf, IsLineOf, IsNeeded, IsFirstChoices, AreFirstChosen}
 
 abbrev a : ℕ → Version

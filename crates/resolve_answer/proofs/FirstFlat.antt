@@ -6,14 +6,14 @@ use Rattle.std.specs.Option.{option_map_or}
 use Rattle.std.proofs.lemmas.Bool.{false≢true, and_parts, and_from}
 use Rattle.std.proofs.lemmas.Slice.Eq.{bytes_eq-Decides}
 use Rattle.resolvo_text.specs.Line.{Version, Spec, Cond, Line, Skipped, Listed, Needs, Limits, Unknown, Lock, Favour, Exclude, Wish}
-use Rattle.resolvo_text.specs.Matching.{Set, matches, is_met}
+use Rattle.resolvo_text.specs.Matches.{Set, matches, is_met}
 use Rattle.resolvo_catalogue_core.specs.Grammar.{line_at, owner_of}
 use Rattle.resolvo_catalogue_core.specs.Listed.{listed}
 use Rattle.resolvo_catalogue_core.specs.Rules.{obeys}
 use Rattle.resolvo_catalogue_core.specs.Sets.{IsRuleKeeping}
-use Rattle.resolvo_catalogue_core.proofs.Placing.{at_from_contains, contains_from_line}
+use Rattle.resolvo_catalogue_core.proofs.PlaceLemmas.{at_from_contains, contains_from_line}
 use Rattle.resolvo_catalogue.proofs.Places.{no_element, first_element, later_element, element_cases}
-use Rattle.resolvo_catalogue.proofs.Passing.{any_to, all_from, all_to}
+use Rattle.resolvo_catalogue.proofs.PassLemmas.{any_to, all_from, all_to}
 use Rattle.resolvo_catalogue.proofs.Elements.{flat_from, flat_to, option_from}
 use Rattle.resolvo_catalogue.proofs.RulesKept.{bound_by, binding_by}
 use Rattle.resolve_answer.specs.Flat.{AllLines}

@@ -4,14 +4,14 @@ use Rattle.std.specs.Prelude.{Contains, slice_get}
 use Rattle.std.specs.List.{list_any}
 use Rattle.std.proofs.lemmas.Bool.{cases_lt, false≢true, and_parts, and_from, or_cases, or_left, or_right}
 use Rattle.resolvo_text.specs.Line.{Version, Spec, Cond, Is, And, Or, Line, Skipped, Listed, Needs, Limits, Unknown, Lock, Favour, Exclude, Wish}
-use Rattle.resolvo_text.specs.Matching.{Set, matches, is_met, holds, condition_holds}
+use Rattle.resolvo_text.specs.Matches.{Set, matches, is_met, holds, condition_holds}
 use Rattle.resolvo_catalogue_core.specs.Grammar.{AreCatalogueLines}
 use Rattle.resolvo_catalogue_core.specs.Listed.{listed}
 use Rattle.resolvo_catalogue_core.specs.Rules.{binds}
 use Rattle.resolvo_catalogue_core.proofs.TableLemmas.{listed_from, listed_has}
-use Rattle.resolvo_catalogue_core.proofs.Placing.{at_from_contains, contains_from_at}
+use Rattle.resolvo_catalogue_core.proofs.PlaceLemmas.{at_from_contains, contains_from_at}
 use Rattle.resolvo_catalogue.proofs.Places.{no_element, first_element, later_element, element_cases}
-use Rattle.resolvo_catalogue.proofs.Passing.{any_from, any_to}
+use Rattle.resolvo_catalogue.proofs.PassLemmas.{any_from, any_to}
 use Rattle.resolvo_catalogue.proofs.RulesKept.{below_take, in_front, member_from, member_to}
 use Rattle.resolve_answer.specs.First.{IsFavoured, IsMatch, IsFirstMatch, IsNeeded}
 

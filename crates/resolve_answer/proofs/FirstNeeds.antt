@@ -3,14 +3,14 @@ use Rattle.std.proofs.Common.{◌≡◌, inl, inr, ℕ, zero, suc, Bool, true, f
 use Rattle.std.specs.Prelude.{Contains, slice_get, ◌||◌, not, bytes_eq}
 use Rattle.std.specs.List.{list_any, flat_map}
 use Rattle.resolvo_text.specs.Line.{Version, Spec, Cond, Line, Listed, Needs, Limits}
-use Rattle.resolvo_text.specs.Matching as texts
-use Rattle.resolvo_text.specs.Matching.{Set}
+use Rattle.resolvo_text.specs.Matches as texts
+use Rattle.resolvo_text.specs.Matches.{Set}
 use Rattle.resolvo_catalogue_core.specs.Grammar.{line_at, AreRequestLines}
 use Rattle.resolvo_catalogue_core.specs.Listed.{listed}
 use Rattle.resolvo_catalogue_core.specs.Questions.{Said}
 use Rattle.resolvo_catalogue_core.specs.Rules.{keeps_in_request, obeys, binds as binds_of}
 use Rattle.resolvo_catalogue_core.specs.Sets as sets
-use Rattle.resolvo_catalogue_core.proofs.Placing.{at_from_contains}
+use Rattle.resolvo_catalogue_core.proofs.PlaceLemmas.{at_from_contains}
 use Rattle.resolvo_catalogue_core.proofs.TableLemmas.{listed_has}
 use Rattle.resolvo_pool_core.specs.declared.id.VersionSetId.{VersionSetId}
 use Rattle.resolvo_pool_core.specs.declared.requirement.ConditionalRequirement.{ConditionalRequirement}
@@ -20,13 +20,13 @@ use Rattle.resolvo_catalogue.specs.Known.{name_of}
 use Rattle.resolvo_catalogue.specs.Told.{need_in, limit_in, lines_at}
 use Rattle.resolvo_catalogue.specs.Provider.{Provider, told_at, packages_of}
 use Rattle.resolvo_catalogue.specs.Over.{IsOver, AreAsked}
-use Rattle.resolvo_catalogue.specs.Keeping.{StandsFor, TellsApart, root_of}
+use Rattle.resolvo_catalogue.specs.KeptSets.{StandsFor, TellsApart, root_of}
 use Rattle.resolvo_catalogue.specs.declared.provider.RequestIds.{RequestIds}
 use Rattle.resolvo_catalogue.proofs.Alike.{is_package, in_from, in_to, need_binds, meets_same, outside_same}
 use Rattle.resolvo_catalogue.proofs.Elements.{flat_from, flat_to, each_from_left, each_from_right, need_from, limit_from, from_lines, to_lines}
 use Rattle.resolvo_catalogue.proofs.KeptAlike.{told_of_it, kept_alike}
-use Rattle.resolvo_catalogue.proofs.Marking.{one_some}
-use Rattle.resolvo_catalogue.proofs.Passing.{all_from}
+use Rattle.resolvo_catalogue.proofs.MarkLemmas.{one_some}
+use Rattle.resolvo_catalogue.proofs.PassLemmas.{all_from}
 use Rattle.resolvo_catalogue.proofs.Places.{no_element, first_element, later_element, element_cases}
 use Rattle.resolvo_catalogue.proofs.RulesKept.{bound, member_from, member_to, met_member, within_from, req_from, req_to}
 use Rattle.resolve_answer.specs.First.{IsLineOf, IsNeeded}

@@ -8,7 +8,7 @@ use Rattle.std.proofs.lemmas.List.Elements.{Contains-append_right}
 use Rattle.std.proofs.lemmas.List.Sorted.{Contains-permutation}
 use Rattle.std.proofs.lemmas.Option.{slice_get-get_or, slice_get_within}
 use Rattle.resolvo_text.specs.Line.{Version, Spec, Line}
-use Rattle.resolvo_text.specs.Matching as texts
+use Rattle.resolvo_text.specs.Matches as texts
 use Rattle.resolvo_catalogue_core.specs.Listed.{listed}
 use Rattle.resolvo_pool_core.specs.declared.id.VersionSetId.{VersionSetId}
 use Rattle.resolvo_pool_core.specs.Provider as pool
@@ -19,16 +19,16 @@ use Rattle.resolvo_catalogue.specs.Ids.{NameId, SolvableId, solvable_id, solvabl
 use Rattle.resolvo_catalogue.specs.Known.{set_at}
 use Rattle.resolvo_catalogue.specs.Marked.{IsMarked}
 use Rattle.resolvo_catalogue.specs.Provider.{Provider, candidates_of, listing_if_any, matches, marks_at, no_marks, packages_of}
-use Rattle.resolvo_catalogue.specs.Keeping.{TellsApart}
+use Rattle.resolvo_catalogue.specs.KeptSets.{TellsApart}
 use Rattle.resolvo_catalogue.specs.Over.{IsOver}
-use Rattle.resolvo_catalogue.specs.Trying.{matching, IsOrder}
+use Rattle.resolvo_catalogue.specs.CandidateOrder.{matching, IsOrder}
 use Rattle.resolvo_catalogue.proofs.Alike.{in_from, listed_is, match_same}
 use Rattle.resolvo_catalogue.proofs.KeptAlike.{its_version}
-use Rattle.resolvo_catalogue.proofs.Marking.{one_some}
-use Rattle.resolvo_catalogue.proofs.Passing.{any_to}
+use Rattle.resolvo_catalogue.proofs.MarkLemmas.{one_some}
+use Rattle.resolvo_catalogue.proofs.PassLemmas.{any_to}
 use Rattle.resolvo_catalogue.proofs.Places.{no_element, first_element, later_element, element_cases}
 use Rattle.resolvo_catalogue.proofs.RulesKept.{found_in, find_some}
-use Rattle.resolvo_catalogue.proofs.Trying.{tried_match, tried_sooner}
+use Rattle.resolvo_catalogue.proofs.TryLemmas.{tried_match, tried_sooner}
 use Rattle.resolve_answer.specs.First.{IsFavoured}
 use Rattle.resolve_answer.proofs.FirstMatches.{one_favour, IsSooner}
 

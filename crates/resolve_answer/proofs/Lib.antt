@@ -1,4 +1,4 @@
-pub mod Telling
+pub mod TellLemmas
 pub mod CaseForms
 pub mod FirstMatches
 pub mod FirstTried
@@ -7,11 +7,11 @@ pub mod FirstFlat
 pub mod FirstChosen
 pub mod FirstExample
 pub mod Atoms
-pub mod Knowing
-pub mod Walking
-pub mod Using
-pub mod Serving
+pub mod KnowLemmas
+pub mod WalkLemmas
+pub mod UseLemmas
+pub mod ServeLemmas
 pub mod Upheld
-pub mod Joining
-pub mod Messaging
+pub mod JoinLemmas
+pub mod MessageLemmas
 pub mod Verdicts

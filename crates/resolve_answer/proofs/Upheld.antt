@@ -19,7 +19,7 @@ use Rattle.resolvo_pool_core.specs.declared.requirement.ConditionalRequirement.{
 use Rattle.resolvo_pool_core.specs.RuleKeeping.{Rules}
 use Rattle.resolvo_soundness.specs.Encoding.{IsExact}
 use Rattle.resolvo_catalogue.specs.Ids.{Ids, NameId, SolvableId}
-use Rattle.resolvo_catalogue.specs.Keeping.{root_of}
+use Rattle.resolvo_catalogue.specs.KeptSets.{root_of}
 use Rattle.resolvo_catalogue.specs.Provider.{Provider, packages_of}
 use Rattle.resolvo_catalogue.specs.Over.{IsOver, AreAsked}
 use Rattle.resolvo_catalogue.specs.declared.provider.RequestIds.{RequestIds}
@@ -41,28 +41,28 @@ use Rattle.resolvo.specs.Conflicts.{AreOffers}
 use Rattle.resolve_install.specs.Numbers.{numbers_of}
 use Rattle.resolve_install.specs.Install.{AreWishes, Serve, IsInstallOf}
 use Rattle.resolve_refusal.specs.Refusal.{IsProofOver, IsToldBy, Refutes, IsRefusalOf}
-use Rattle.resolve_refusal.specs.Installing.{AreInstallSteps}
+use Rattle.resolve_refusal.specs.InstallSteps.{AreInstallSteps}
 use Rattle.resolvo.specs.declared.prove.Solved.{Solved}
 use Rattle.resolvo.specs.declared.search.SearchResult.{SearchResult}
 use Rattle.resolvo.specs.declared.search.SearchResult.TheVariants.{Chosen, Clash}
 use Rattle.resolvo_turn.specs.Encoder.{IsRoot}
-use Rattle.resolvo.specs.Solving.{HaveProofs, Holds, IsPreferred, IsSolved, EndsSo}
+use Rattle.resolvo.specs.Solve.{HaveProofs, Holds, IsPreferred, IsSolved, EndsSo}
 use Rattle.resolvo.specs.Wished.{AreCandidates}
 use Rattle.resolvo.specs.declared.turns.Turn as Solver
 use Rattle.resolvo.proofs.Forward.{one_each}
 use Rattle.resolvo.specs.Turns.{first_of}
 use Rattle.resolve_answer.specs.Wishes.{AreWishesAt, AreWishesOf, free_of}
-use Rattle.resolve_answer.specs.Turning.{AreTold, AreWanted, IsFirstTurn}
+use Rattle.resolve_answer.specs.ReportTurns.{AreTold, AreWanted, IsFirstTurn}
 use Rattle.resolve_answer.specs.declared.wishes.Wish.{Wish}
 use Rattle.resolve_answer.specs.First.{orders_of, AreFirstChosen}
 use Rattle.resolve_answer.specs.Message.{IsMessageOf, IsPlain, IsTextOf, with_message}
 use Rattle.resolve_answer.specs.Solved.{IsInstalledOver, IsRefutedOver, IsSolvedOver}
 use Rattle.resolve_answer.specs.Reported.{AreNamed, AreUsed, AreWishTurns, IsAnswer, IsReportOf}
 use Rattle.resolve_answer.proofs.Atoms.{same_atom, exact_atom}
-use Rattle.resolve_answer.proofs.Knowing.{known_kept}
-use Rattle.resolve_answer.proofs.Serving.{AreSteps, first_entries, free_candidates, one_step_more, refused_bars, serve_is, steps_hold, written_steps}
-use Rattle.resolve_answer.proofs.Using.{told_later, wish_turns, steps_used, zip_length}
-use Rattle.resolve_answer.proofs.Telling.{steps_front}
+use Rattle.resolve_answer.proofs.KnowLemmas.{known_kept}
+use Rattle.resolve_answer.proofs.ServeLemmas.{AreSteps, first_entries, free_candidates, one_step_more, refused_bars, serve_is, steps_hold, written_steps}
+use Rattle.resolve_answer.proofs.UseLemmas.{told_later, wish_turns, steps_used, zip_length}
+use Rattle.resolve_answer.proofs.TellLemmas.{steps_front}
 
 pub if_ok : {A E : Type 0} {P Q : A → Type 0} (r : Result A E) → ((a : A) → P a → Q a) → IfOk r P → IfOk r Q
 if_ok (Ok a) f h = f a h

@@ -1,11 +1,11 @@
 -- The verdict over a catalogue's provider is that of the texts.
 use Rattle.std.proofs.Common.{◌≡◌, true, List, [], Ok, Err, subst}
 use Rattle.resolvo_text.specs.Line.{Line}
-use Rattle.resolvo_text.specs.Matching.{Set}
+use Rattle.resolvo_text.specs.Matches.{Set}
 use Rattle.resolvo_catalogue_core.specs.Questions.{Said}
 use Rattle.resolvo_catalogue_core.specs.Sets as texts
 use Rattle.resolvo_soundness.proofs.Lists.{contains_none}
-use Rattle.resolvo_catalogue.specs.Keeping.{TellsApart, root_of}
+use Rattle.resolvo_catalogue.specs.KeptSets.{TellsApart, root_of}
 use Rattle.resolvo_catalogue.specs.Provider.{Provider, packages_of}
 use Rattle.resolvo_catalogue.proofs.KeptAlike.{kept_alike}
 use Rattle.resolvo.specs.Solver.{IsAnswer}
@@ -14,7 +14,7 @@ use Rattle.resolvo.specs.declared.solver.UnsolvableOrCancelled.TheVariants.{Unso
 use Rattle.resolve_answer.specs.First.{orders_of}
 use Rattle.resolve_answer.specs.Verdict.{IsChosen, IsGivenOver, IsRefused, Verdict}
 use Rattle.resolve_answer.proofs.FirstNeeds.{solvables_for}
-use Rattle.resolve_answer.proofs.Walking.{keeps_lines}
+use Rattle.resolve_answer.proofs.WalkLemmas.{keeps_lines}
 
 module _ (catalogue : List Line) (said : Said) (provider : Provider) (verdict : Verdict) (given : IsGivenOver catalogue said provider verdict) where
   apart : TellsApart given.same

@@ -1,7 +1,7 @@
 -- Which versions are chosen: for each need the first match; and of flat texts the newest versions that fit.
 use Rattle.std.specs.Prelude.{◌≡◌, ◌↔◌, ◌⊎◌, ℕ, ◌≤◌, IsTrue, Bool, true, false, not, ◌&&◌, ◌||◌, is_some, List, [], ◌∷◌, Option, Some, None, Contains}
 use Rattle.resolvo_text.specs.Line.{Version, Spec, Cond, Line, Listed, Needs, Favour}
-use Rattle.resolvo_text.specs.Matching.{Set, matches, condition_holds}
+use Rattle.resolvo_text.specs.Matches.{Set, matches, condition_holds}
 use Rattle.resolvo_catalogue_core.specs.Grammar.{line_at, owner_of}
 use Rattle.resolvo_catalogue_core.specs.Questions.{is_rule}
 use Rattle.resolvo_catalogue_core.specs.Rules.{binds}
@@ -12,7 +12,7 @@ use Rattle.resolvo_pool_core.specs.Text.{alternatives_of}
 use Rattle.resolvo_catalogue.specs.Ids.{SolvableId}
 use Rattle.resolvo_catalogue.specs.Known.{set_at, members_of}
 use Rattle.resolvo_catalogue.specs.Provider.{Provider, candidates_of, IsSorted}
-use Rattle.resolvo_catalogue.specs.Trying.{matching}
+use Rattle.resolvo_catalogue.specs.CandidateOrder.{matching}
 use Rattle.resolve_answer.specs.Flat.{AllLines, wishes_nothing}
 
 -- ---- the first match of a SPEC

@@ -1,5 +1,5 @@
 pub mod Wishes
-pub mod Turning
+pub mod ReportTurns
 pub mod Flat
 pub mod First
 pub mod Solved

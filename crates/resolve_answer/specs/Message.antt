@@ -5,7 +5,7 @@ use Rattle.resolvo_text.specs.Line.{Line}
 use Rattle.resolvo_text.specs.Lines.{is_newline}
 use Rattle.resolvo_catalogue_core.specs.Questions.{Said}
 use Rattle.resolvo_graph.specs.Message.{IsMessage, text_of}
-use Rattle.resolvo_graph.specs.Wording.{Meaning}
+use Rattle.resolvo_graph.specs.Words.{Meaning}
 use Rattle.resolvo_graph.specs.declared.line.MessageLine.{MessageLine}
 use Rattle.resolvo_pool_core.specs.declared.requirement.Requirement.{Requirement}
 use Rattle.resolvo_soundness.specs.Encoding.{IsExact}
@@ -16,7 +16,7 @@ use Rattle.resolvo_catalogue.specs.Known.{name_of, set_at, members_of}
 use Rattle.resolvo_catalogue.specs.Provider.{Provider, packages_of}
 use Rattle.resolvo_report.specs.Value.{Report, Step, Install, Refused}
 use Rattle.resolve_refusal.specs.Refusal.{IsProofOver, IsToldBy}
-use Rattle.resolvo_conflict.specs.Drawing.{conflict_drawing}
+use Rattle.resolvo_conflict.specs.Draw.{conflict_drawing}
 use Rattle.resolvo_conflict.specs.Order.{conflict_rules}
 use Rattle.resolvo_conflict.specs.Offered.{offered_by}
 use Rattle.resolvo_conflict.specs.declared.offers.Offers.{Offers}

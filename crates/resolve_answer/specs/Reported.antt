@@ -1,7 +1,7 @@
 -- What the report of the solver's answer says.
 use Rattle.std.specs.Prelude.{◌≡◌, ◌↔◌, ◌⊎◌, ℕ, suc, ◌<◌, List, [], ◌∷◌, map, length, slice_get, Option, None, Some, Contains}
 use Rattle.resolvo_text.specs.Line.{Version, Line, Wish}
-use Rattle.resolvo_text.specs.Matching.{Set}
+use Rattle.resolvo_text.specs.Matches.{Set}
 use Rattle.resolvo_catalogue_core.specs.Answers.{Answer, LeftOut, entries_of}
 use Rattle.resolvo_catalogue_core.specs.Grammar.{line_at}
 use Rattle.resolvo_catalogue_core.specs.Questions.{AreAll, LineIs, IsWish}

@@ -6,7 +6,7 @@ use Rattle.resolvo_soundness.specs.Encoding.{IsExact}
 use Rattle.resolvo_catalogue.specs.Ids.{NameId, SolvableId}
 use Rattle.resolvo_catalogue.specs.Provider.{Provider, packages_of}
 use Rattle.resolvo_catalogue.specs.Over.{IsOver, AreAsked}
-use Rattle.resolvo_catalogue.specs.Keeping.{root_of}
+use Rattle.resolvo_catalogue.specs.KeptSets.{root_of}
 use Rattle.resolvo_catalogue.specs.declared.provider.RequestIds.{RequestIds}
 use Rattle.resolvo_soundness.specs.First.{ArePreferred}
 use Rattle.resolve_install.specs.Install.{AreWishes}
@@ -16,7 +16,7 @@ use Rattle.resolvo_proof.specs.Proof.{EndsEmpty}
 use Rattle.resolvo_proof.specs.declared.step.ProofStep.{ProofStep}
 use Rattle.resolvo.specs.declared.prove.Solved.{Solved}
 use Rattle.resolvo.specs.declared.turns.Turn.{Turn}
-use Rattle.resolvo.specs.Solving.{AreProved, HasProof, IsSolved, EndsSo}
+use Rattle.resolvo.specs.Solve.{AreProved, HasProof, IsSolved, EndsSo}
 use Rattle.resolvo.specs.Turns.{AreWished, first_of}
 use Rattle.resolve_answer.specs.First.{orders_of}
 use Rattle.resolve_answer.specs.Wishes.{AreWishesOf, free_of}

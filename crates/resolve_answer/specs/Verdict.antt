@@ -8,7 +8,7 @@ use Rattle.resolvo_soundness.specs.Encoding.{IsExact}
 use Rattle.resolvo_catalogue.specs.Ids.{NameId, SolvableId}
 use Rattle.resolvo_catalogue.specs.Provider.{Provider, packages_of}
 use Rattle.resolvo_catalogue.specs.Over.{IsOver, AreAsked}
-use Rattle.resolvo_catalogue.specs.Keeping.{root_of}
+use Rattle.resolvo_catalogue.specs.KeptSets.{root_of}
 use Rattle.resolvo_catalogue.specs.declared.impls.Never.{Never}
 use Rattle.resolvo_catalogue.specs.declared.provider.RequestIds.{RequestIds}
 use Rattle.resolvo.specs.Solver.{IsAnswer, Kept}

@@ -9,7 +9,7 @@ use Rattle.resolvo_catalogue_core.specs.declared.rule.VersionNo.{VersionNo}
 use Rattle.resolvo_catalogue.specs.Ids.{SolvableId, solvable_id}
 use Rattle.resolvo_report.specs.View.{step_of}
 use Rattle.resolvo_report.specs.declared.step.Step.{Step}
-use Rattle.resolve_refusal.specs.Installing.{IsBarringStepOf}
+use Rattle.resolve_refusal.specs.InstallSteps.{IsBarringStepOf}
 use Rattle.resolve_answer.specs.declared.wishes.Wish.{Wish}
 
 -- a wish, by its line and its version

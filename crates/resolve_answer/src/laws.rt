@@ -1,7 +1,7 @@
 //! What a solver's verdict over the provider of a catalogue shows, for those who rest on it. Each is a function that does nothing.
 ghost use Rattle.std.specs.Prelude.{List};
 ghost use Rattle.resolvo_text.specs.Line.{Line};
-ghost use Rattle.resolvo_text.specs.Matching.{Set};
+ghost use Rattle.resolvo_text.specs.Matches.{Set};
 ghost use Rattle.resolvo_catalogue_core.specs.Questions.{Said};
 ghost use Rattle.resolvo_catalogue_core.specs.Sets.{IsRuleKeeping};
 ghost use Rattle.resolvo_catalogue.specs.Provider.{Provider};

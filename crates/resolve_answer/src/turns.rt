@@ -2,7 +2,7 @@
 
 ghost use Rattle.std.specs.Prelude.{◌≡◌, ◌<◌, ◌++◌, ◌∷◌, [], length, slice_get, IfOk, OnOk};
 ghost use Rattle.resolvo_report.specs.View.{steps_of};
-ghost use Rattle.resolve_answer.specs.Turning.{number_at, AreReportTurns, AreWanted, IsBetween, IsFirstTurn, IsWishedTurn, Wants};
+ghost use Rattle.resolve_answer.specs.ReportTurns.{number_at, AreReportTurns, AreWanted, IsBetween, IsFirstTurn, IsWishedTurn, Wants};
 
 use crate::wishes::Wish;
 use resolve_order as report;

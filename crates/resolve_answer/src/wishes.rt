@@ -4,7 +4,7 @@ ghost use Rattle.std.specs.Prelude.{◌≡◌, map, IfOk, OnOk};
 ghost use Rattle.resolvo_catalogue_core.specs.Questions.{AreAll, IsWish, LineIs};
 ghost use Rattle.std.specs.Option.{option_map};
 ghost use Rattle.resolvo_report.specs.View.{step_of};
-ghost use Rattle.resolve_refusal.specs.Installing.{IsBarringStepOf};
+ghost use Rattle.resolve_refusal.specs.InstallSteps.{IsBarringStepOf};
 ghost use Rattle.resolve_answer.specs.Wishes.{AreWishesOf, asked_by, free_of};
 
 use resolve_refusal::barring_step;

@@ -1,5 +1,5 @@
 pub mod Elements
-pub mod Splitting
+pub mod SplitLemmas
 pub mod Pieces
 pub mod Results
 pub mod CheckLemmas

@@ -1,6 +1,6 @@
 pub mod SameSets
-pub mod Turning
-pub mod Reaching
-pub mod Fitting
-pub mod Accepting
-pub mod Installing
+pub mod TurnLemmas
+pub mod ReachLemmas
+pub mod FitLemmas
+pub mod AcceptLemmas
+pub mod InstallLemmas

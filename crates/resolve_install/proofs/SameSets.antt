@@ -6,7 +6,7 @@ use Rattle.std.specs.Option.{option_map_or, option_and_then}
 use Rattle.std.specs.Str.{bytes_eq}
 use Rattle.std.proofs.lemmas.Bool.{and_from, and_parts}
 use Rattle.resolvo_text.specs.Line.{Version, Spec, Cond, Is, And, Or, Line, Skipped, Listed, Needs, Limits, Unknown, Lock, Favour, Exclude, Wish}
-use Rattle.resolvo_text.specs.Matching.{Set, same_package, same_version, matches, is_met_by_one, holds, condition_holds}
+use Rattle.resolvo_text.specs.Matches.{Set, same_package, same_version, matches, is_met_by_one, holds, condition_holds}
 use Rattle.resolvo_catalogue_core.specs.Grammar.{line_at, owner_of}
 use Rattle.resolvo_catalogue_core.specs.Rules.{binds, obeys}
 use Rattle.resolvo_catalogue_core.specs.Sets.{IsRuleKeeping}

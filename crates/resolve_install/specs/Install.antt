@@ -2,7 +2,7 @@
 use Rattle.std.specs.Prelude.{◌≡◌, ◌↔◌, ◌<◌, ℕ, suc, IsTrue, List, [], ◌∷◌, Option, None, Some, Contains, map, length, take, slice_get}
 use Rattle.std.specs.List.{AllByRecursion}
 use Rattle.resolvo_text.specs.Line.{Version, Line}
-use Rattle.resolvo_text.specs.Matching.{Set}
+use Rattle.resolvo_text.specs.Matches.{Set}
 use Rattle.resolvo_text.specs.Spelling.{IsNumber}
 use Rattle.resolvo_catalogue_core.specs.Answers.{entries_of}
 use Rattle.resolvo_catalogue_core.specs.Listed.{listed}

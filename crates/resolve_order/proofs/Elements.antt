@@ -6,7 +6,7 @@ use Rattle.std.proofs.lemmas.Bool.{false≢true, cases_Bool, or_cases, or_left, 
 use Rattle.std.proofs.lemmas.List.Elements.{Contains-append_left, Contains-append_right, Contains-append_cases, Contains-push, Contains-push_cases}
 use Rattle.std.proofs.lemmas.Map.Views.{Contains-from_any}
 use Rattle.resolvo_text.specs.Line.{Version}
-use Rattle.resolvo_text.specs.Matching.{Set, same_version, is_member}
+use Rattle.resolvo_text.specs.Matches.{Set, same_version, is_member}
 use Rattle.resolvo_catalogue_core.proofs.TableSteps.{same_version_is}
 
 pub no_element : {X : Type 0} (x : X) → Contains [] x → ⊥

@@ -1,10 +1,10 @@
 pub mod Elements
-pub mod Picking
-pub mod Remaining
+pub mod PickLemmas
+pub mod RemainLemmas
 pub mod LineLemmas
-pub mod Following
-pub mod Giving
-pub mod Looking
+pub mod FollowLemmas
+pub mod GiveLemmas
+pub mod LookLemmas
 pub mod TurnLemmas
-pub mod Parting
-pub mod Finishing
+pub mod PartLemmas
+pub mod FinishLemmas

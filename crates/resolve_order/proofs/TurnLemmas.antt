@@ -6,7 +6,7 @@ use Rattle.std.proofs.lemmas.Grind.{flat_map-append}
 use Rattle.std.proofs.lemmas.List.{append-nil}
 use Rattle.std.proofs.lemmas.List.Elements.{Contains-append_left, Contains-append_right, Contains-append_cases}
 use Rattle.resolvo_text.specs.Line.{Version, Line, Wish}
-use Rattle.resolvo_text.specs.Matching.{Set, is_member}
+use Rattle.resolvo_text.specs.Matches.{Set, is_member}
 use Rattle.resolvo_catalogue_core.specs.Answers.{Reason, ForRequest, ForVersion, Wished, Answer, Entry, LeftOut, entry_of, entries_of, IsReason, IsReasoned, IsNeededBy}
 use Rattle.resolvo_catalogue_core.specs.Grammar.{line_at}
 use Rattle.resolve_order.specs.Order.{line_named, IsAsked, MayGive, IsNext, AreInOrder, IsComplete, Turn, Chose, LeavesOut, chosen_by, chosen_in, wish_entry, IsOneTurn, AreTurns, accepted_by, wished_by, wishes_in, IsClosed, AreReached}

@@ -4,7 +4,7 @@ use Rattle.std.specs.Option.{option_map_or}
 use Rattle.std.specs.HashMap.{get_by_text}
 use Rattle.std.specs.List.{list_any, sum_by}
 use Rattle.resolvo_text.specs.Line.{Version, Spec, Cond, Line, Needs}
-use Rattle.resolvo_text.specs.Matching.{Set, is_member, matches, condition_holds}
+use Rattle.resolvo_text.specs.Matches.{Set, is_member, matches, condition_holds}
 use Rattle.resolvo_catalogue_core.specs.Answers as answers
 use Rattle.resolvo_catalogue_core.specs.Answers.{entries_of, IsNeededBy}
 use Rattle.resolvo_catalogue_core.specs.Listed.{listed, AreDistinct}

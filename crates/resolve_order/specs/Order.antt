@@ -2,7 +2,7 @@
 use Rattle.std.specs.Prelude.{◌≡◌, ℕ, ◌<◌, ◌⊎◌, IsTrue, ⊤, List, [], ◌∷◌, ◌++◌, Option, Some, None, Contains, if◌then◌else◌}
 use Rattle.std.specs.List.{flat_map}
 use Rattle.resolvo_text.specs.Line.{Version, Spec, Cond, Line, Needs}
-use Rattle.resolvo_text.specs.Matching.{Set, matches, is_member}
+use Rattle.resolvo_text.specs.Matches.{Set, matches, is_member}
 use Rattle.resolvo_catalogue_core.specs.Grammar.{line_at, owner_of}
 use Rattle.resolvo_catalogue_core.specs.Answers.{Reason, ForRequest, ForVersion, Wished, Answer, Entry, LeftOut, entries_of, IsNeededBy}
 

@@ -2,7 +2,7 @@
 use Rattle.std.specs.Prelude.{◌≡◌, ◌<◌, ℕ, List, [], ◌∷◌, ◌++◌, map, length, ⊤, Option, Some, None, Contains, slice_get}
 use Rattle.std.specs.Option.{option_map}
 use Rattle.resolvo_text.specs.Line.{Version, Line}
-use Rattle.resolvo_text.specs.Matching.{Set}
+use Rattle.resolvo_text.specs.Matches.{Set}
 use Rattle.resolvo_catalogue_core.specs.Answers as answers
 use Rattle.resolvo_catalogue_core.specs.Listed.{listed, members}
 use Rattle.resolvo_catalogue_core.specs.Sets.{IsSingle}

@@ -6,7 +6,7 @@
 ghost use Rattle.std.specs.Prelude.{◌≡◌, ◌↔◌, ◌++◌, ◌∷◌, [], ◌+◌, ◌<◌, length, true, List, Option, Contains, map, slice_get, Some, IfOk, IfSome, OnOk};
 ghost use Rattle.std.specs.Option.{option_copied, option_map};
 ghost use Rattle.resolvo_text.specs.Line as says;
-ghost use Rattle.resolvo_text.specs.Matching.{Set};
+ghost use Rattle.resolvo_text.specs.Matches.{Set};
 ghost use Rattle.resolvo_catalogue_core.specs.Answers.{IsReasoned, entries_of};
 ghost use Rattle.resolvo_catalogue_core.specs.Listed.{listed, members};
 ghost use Rattle.resolvo_catalogue_core.specs.Table.{nth};

@@ -7,10 +7,10 @@ use Rattle.std.proofs.lemmas.Bool.Decides.{Decides-ltb}
 use Rattle.std.proofs.lemmas.Option.{slice_get-get_or, slice_get_within, get_or_from_slice_get, unwrap_or-slice_get}
 use Rattle.std.proofs.lemmas.Nat.Bits.{bit_at_lowest, bit_at-suc}
 use Rattle.resolvo_text.specs.Line.{Version, Spec, Cond, Line, Needs, Limits}
-use Rattle.resolvo_text.specs.Matching as lines
+use Rattle.resolvo_text.specs.Matches as lines
 use Rattle.resolvo_catalogue_core.specs.Listed.{listed}
 use Rattle.resolvo_catalogue_core.specs.Questions.{Said}
-use Rattle.resolvo_catalogue_core.proofs.Placing.{at_from_contains, contains_from_at}
+use Rattle.resolvo_catalogue_core.proofs.PlaceLemmas.{at_from_contains, contains_from_at}
 use Rattle.resolvo_pool_core.specs.declared.id.VersionSetId.{VersionSetId}
 use Rattle.resolvo_pool_core.specs.declared.id.StringId.{StringId}
 use Rattle.resolvo_pool_core.specs.declared.pool.Solvable.{Solvable}
@@ -36,22 +36,22 @@ use Rattle.resolvo_catalogue.specs.Known.{name_text, name_of, set_at, spec_at, m
 use Rattle.resolvo_catalogue.specs.Told.{Told}
 use Rattle.resolvo_catalogue.specs.Provider.{Provider, packages_of, candidates_of, matches, told_at, no_lines, needs_of, dependencies_of}
 use Rattle.resolvo_catalogue.specs.Over.{IsOver, AreAsked}
-use Rattle.resolvo_catalogue.specs.Keeping.{TellsApart, root_of}
+use Rattle.resolvo_catalogue.specs.KeptSets.{TellsApart, root_of}
 use Rattle.resolvo_catalogue.specs.declared.provider.RequestIds.{RequestIds}
 use Rattle.resolvo_catalogue.specs.declared.id_table.Numbers.{Numbers}
 use Rattle.resolvo_catalogue.proofs.Alike.{member_place, listed_is, is_package, match_same, in_from, in_to, outside_same}
 use Rattle.resolvo_catalogue.proofs.KeptAlike.{its_version}
 use Rattle.resolvo_catalogue.proofs.RulesKept.{con_from}
-use Rattle.resolvo_catalogue.proofs.Marking.{one_some}
+use Rattle.resolvo_catalogue.proofs.MarkLemmas.{one_some}
 use Rattle.resolvo_catalogue.proofs.Places.{each_left}
 use Rattle.resolvo_report.specs.Value as told
 use Rattle.resolvo_checker.specs.StepClauses as judge
 use Rattle.resolvo_checker.proofs.Sets.{is_contained}
-use Rattle.resolve_refusal.specs.Writing.{version_at, place_at}
+use Rattle.resolve_refusal.specs.RefusedReport.{version_at, place_at}
 use Rattle.resolve_refusal.specs.Lines.{NeedsAs}
 use Rattle.resolve_refusal.specs.Refusal.{IsVersion, IsRequirement, IsKnownAtom, atom_at, literal_at, AreLiterals, IsOfPlace, IsBarredBy}
-use Rattle.resolve_refusal.proofs.Barring.{bar_clause}
-use Rattle.resolve_refusal.proofs.Renaming.{IsKnown, IsKnownClause, name, name_literal, name_clause, version_is, name_is, spec_is, specs_are, members_known}
+use Rattle.resolve_refusal.proofs.BarLemmas.{bar_clause}
+use Rattle.resolve_refusal.proofs.RenameLemmas.{IsKnown, IsKnownClause, name, name_literal, name_clause, version_is, name_is, spec_is, specs_are, members_known}
 
 -- the digit of a place is its bit
 digit_bit : (k i : ℕ) → digit k i ≡ (bit_at k i == 1)

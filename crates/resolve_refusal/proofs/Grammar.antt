@@ -8,8 +8,8 @@ use Rattle.std.specs.Ordering.{nat_cmp, is_lt, ordering_reverse}
 use Rattle.std.specs.Str.{bytes_eq}
 use Rattle.std.specs.Cmp.Lexicographic.{slice_cmp, bytes_decides, nat_list_cmp_total}
 use Rattle.std.proofs.lemmas.Bool.{and_from, and_parts, eq-eqb, lt-ltb}
-use Rattle.resolvo_catalogue_core.proofs.Placing.{contains_from_at}
-use Rattle.resolvo_catalogue.proofs.Marking.{one_some}
+use Rattle.resolvo_catalogue_core.proofs.PlaceLemmas.{contains_from_at}
+use Rattle.resolvo_catalogue.proofs.MarkLemmas.{one_some}
 use Rattle.resolvo_soundness.proofs.Lists.{contains_none, contains_cases, contains_first, contains_later, contains_map, map_contains, any_contained}
 use Rattle.resolvo_report.specs.Value.{Literal, Step, Report, ReportLine, RefusedHead, CatalogueLine, RequestLine, Numbered, Refused}
 use Rattle.resolvo_report.specs.Value as told
@@ -17,8 +17,8 @@ use Rattle.resolvo_report.specs.Text.{atom_text, literal_text, numbered, are_ris
 use Rattle.resolvo_report.specs.Grammar.{next_part, part_after, AreLines, IsReport}
 use Rattle.resolvo_report.specs.declared.place.Part.{Part}
 use Rattle.resolvo_report.specs.declared.place.Part.TheVariants as part
-use Rattle.resolve_refusal.proofs.Sorting.{one_literal}
-use Rattle.resolve_refusal.proofs.Accepting.{lines_are}
+use Rattle.resolve_refusal.proofs.SortLemmas.{one_literal}
+use Rattle.resolve_refusal.proofs.AcceptLemmas.{lines_are}
 
 -- ---- each atom once
 

@@ -6,7 +6,7 @@ use Rattle.resolvo_text.specs.Spelling.{is_name}
 use Rattle.resolvo_text.specs.Spelling as form
 use Rattle.resolvo_catalogue_core.specs.Grammar.{AreCatalogueLines}
 use Rattle.resolvo_catalogue_core.specs.Listed.{listed}
-use Rattle.resolvo_catalogue_core.proofs.Placing.{at_from_contains}
+use Rattle.resolvo_catalogue_core.proofs.PlaceLemmas.{at_from_contains}
 use Rattle.resolvo_catalogue_core.proofs.TableLemmas.{listed_from}
 use Rattle.resolvo_state.specs.declared.atom.ProofAtom.{ProofAtom}
 use Rattle.resolvo_state.specs.declared.atom.ProofAtom.TheVariants as atom
@@ -15,11 +15,11 @@ use Rattle.resolvo_catalogue.specs.Ids.{NameId, SolvableId}
 use Rattle.resolvo_catalogue.specs.Known.{name_text}
 use Rattle.resolvo_catalogue.specs.Provider.{Provider}
 use Rattle.resolvo_catalogue.specs.Over.{IsOver}
-use Rattle.resolvo_catalogue.proofs.Covering.{alternatives_stand}
+use Rattle.resolvo_catalogue.proofs.CoverLemmas.{alternatives_stand}
 use Rattle.resolvo_report.specs.Text.{AreAlternatives, IsAtom}
-use Rattle.resolve_refusal.specs.Writing.{version_at}
+use Rattle.resolve_refusal.specs.RefusedReport.{version_at}
 use Rattle.resolve_refusal.specs.Refusal.{IsVersion, IsSpelledName, IsKnownAtom, atom_at, HaveForm}
-use Rattle.resolve_refusal.proofs.Renaming.{version_is, name_is, spec_is}
+use Rattle.resolve_refusal.proofs.RenameLemmas.{version_is, name_is, spec_is}
 
 -- a listed version has a text
 pub listed_fits : (catalogue : List Line) → AreCatalogueLines catalogue → (number : ℕ) (v : Version) → slice_get (listed catalogue) number ≡ Some v → form.IsVersion v

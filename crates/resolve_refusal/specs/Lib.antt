@@ -1,6 +1,6 @@
 pub mod Named
-pub mod Writing
+pub mod RefusedReport
 pub mod Lines
 pub mod Refusal
-pub mod Telling
-pub mod Installing
+pub mod StepRules
+pub mod InstallSteps

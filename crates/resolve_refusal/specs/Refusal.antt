@@ -24,7 +24,7 @@ use Rattle.resolvo_catalogue.specs.Ids.{Ids, NameId, SolvableId, IsPackage, IsSp
 use Rattle.resolvo_catalogue.specs.Known.{name_text, spec_at, alternatives_at}
 use Rattle.resolvo_catalogue.specs.Provider.{Provider, packages_of}
 use Rattle.resolvo_catalogue.specs.Over.{IsOver, AreAsked}
-use Rattle.resolvo_catalogue.specs.Keeping.{root_of}
+use Rattle.resolvo_catalogue.specs.KeptSets.{root_of}
 use Rattle.resolvo_catalogue.specs.declared.provider.RequestIds.{RequestIds}
 use Rattle.resolvo_report.specs.Value.{Place, OfVersion, Literal, Step, Report, Refused}
 use Rattle.resolvo_report.specs.Value as told
@@ -34,7 +34,7 @@ use Rattle.resolvo_report.specs.Grammar.{IsReport}
 use Rattle.resolvo_checker.specs.StepClauses.{line_of}
 use Rattle.resolvo_judge.specs.Judgement.{IsClaimTrue}
 use Rattle.resolvo_judge.specs.Refusal.{IsAccepted}
-use Rattle.resolve_refusal.specs.Writing.{version_at, place_at}
+use Rattle.resolve_refusal.specs.RefusedReport.{version_at, place_at}
 use Rattle.resolve_refusal.specs.Lines.{NeedsIn, NeedsAs}
 
 -- ---- ids that the provider knows

@@ -5,7 +5,7 @@ ghost use Rattle.std.specs.Prelude.{IfOk};
 ghost use Rattle.std.specs.Option.{option_map};
 ghost use Rattle.resolvo_report.specs.View.{step_of, steps_of};
 ghost use Rattle.resolve_refusal.specs.Refusal.{IsProofOver};
-ghost use Rattle.resolve_refusal.specs.Installing.{AreInstallSteps, IsBarringStepOf};
+ghost use Rattle.resolve_refusal.specs.InstallSteps.{AreInstallSteps, IsBarringStepOf};
 
 use crate::lines::{BarringLine, Texts, barred_line};
 use crate::literals::version_of;

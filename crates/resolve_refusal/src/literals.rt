@@ -5,7 +5,7 @@ ghost use Rattle.std.specs.Prelude.{◌≡◌, IfOk, IsTrue, map};
 ghost use Rattle.resolvo_text.specs.View.{version_of};
 ghost use Rattle.resolvo_report.specs.View.{atom_of, literals_of};
 ghost use Rattle.resolvo_report.specs.Text.{are_rising, literal_text};
-ghost use Rattle.resolve_refusal.specs.Writing.{version_at};
+ghost use Rattle.resolve_refusal.specs.RefusedReport.{version_at};
 ghost use Rattle.resolve_refusal.specs.Refusal.{atom_at, AreLiterals, HaveForm};
 
 use resolvo_catalogue::provider::CatalogueProvider;

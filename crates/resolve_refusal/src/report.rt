@@ -3,8 +3,8 @@
 ghost use Rattle.std.specs.Prelude.{IfOk};
 ghost use Rattle.std.specs.List.{AllZip};
 ghost use Rattle.resolvo_report.specs.View.{report_of, steps_of};
-ghost use Rattle.resolve_refusal.specs.Writing.{IsWritten, IsRefusedBy};
-ghost use Rattle.resolve_refusal.specs.Telling.{Tells};
+ghost use Rattle.resolve_refusal.specs.RefusedReport.{IsWritten, IsRefusedBy};
+ghost use Rattle.resolve_refusal.specs.StepRules.{Tells};
 ghost use Rattle.resolve_refusal.specs.Refusal.{Refutes, IsRefusalOf};
 
 use crate::lines::Texts;

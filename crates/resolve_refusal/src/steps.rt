@@ -9,9 +9,9 @@ ghost use Rattle.resolvo_report.specs.View.{step_of, place_of};
 ghost use Rattle.resolvo_proof.specs.declared.step.ProofStep.TheVariants.{Rule as RuleStep};
 ghost use Rattle.resolvo_proof.specs.declared.step.ProofRule.TheVariants.{Limit};
 ghost use Rattle.resolvo_catalogue.specs.Known.{spec_at, alternatives_at};
-ghost use Rattle.resolve_refusal.specs.Writing.{version_at, place_at, number_of, IsBar, IsWritten};
+ghost use Rattle.resolve_refusal.specs.RefusedReport.{version_at, place_at, number_of, IsBar, IsWritten};
 ghost use Rattle.resolve_refusal.specs.Lines.{IsLeast, text_of, IsLineOf, SaysAt};
-ghost use Rattle.resolve_refusal.specs.Telling.{version_no, IsFirstLine, IsNeedLineOf, TellsNeed, TellsBar, Tells};
+ghost use Rattle.resolve_refusal.specs.StepRules.{version_no, IsFirstLine, IsNeedLineOf, TellsNeed, TellsBar, Tells};
 
 use crate::lines::{BarringLine, NeedLine, Texts};
 use crate::literals::{sorted_literals, version_of};

@@ -2,7 +2,7 @@
 use Rattle.std.proofs.Common.{◌≡◌, ℕ, List, sym, ◌∙◌}
 use Rattle.std.specs.Prelude.{◌↔◌}
 use Rattle.resolvo_text.specs.Line.{Line}
-use Rattle.resolvo_text.specs.Matching.{Set}
+use Rattle.resolvo_text.specs.Matches.{Set}
 use Rattle.resolvo_catalogue_core.specs.Answers.{entries_of}
 use Rattle.resolvo_catalogue_core.specs.Sets.{IsRuleKeeping}
 use Rattle.resolvo_report.specs.Value.{Report, Install, Refused}

@@ -18,7 +18,7 @@ use Rattle.resolve_check.specs.declared.outcome.RunFault.TheVariants.{Reader, To
 use Rattle.resolve_check.specs.Devices.{Device, StopsReading}
 use Rattle.resolve_check.specs.Faults.{TellsFault}
 use Rattle.resolve_check.proofs.Results.{if_ok, if_err, never_ids}
-use Rattle.resolve_run.specs.Running.{AnswersTexts, AreRead, IsLack, StopsBefore, StopsRun}
+use Rattle.resolve_run.specs.Run.{AnswersTexts, AreRead, IsLack, StopsBefore, StopsRun}
 
 pub of_texts : (c r : Option (List ℕ)) (catalogue request : List Line) (outcome : Outcome) (output : List ℕ) → IfKnown c (λ t. IsGrammatical IsCatalogueLine t catalogue) → IfKnown r (λ t. IsGrammatical (IsRequestLine catalogue) t request)
     → IsAnswerOfLines catalogue request outcome output → AnswersTexts c r outcome output

@@ -1,7 +1,7 @@
 //! What an answer of two texts shows, for those who rest on it. Each is a function that does nothing.
 ghost use Rattle.std.specs.Prelude.{◌≡◌, ◌↔◌, ℕ, List};
 ghost use Rattle.resolvo_text.specs.Line.{Line};
-ghost use Rattle.resolvo_text.specs.Matching.{Set};
+ghost use Rattle.resolvo_text.specs.Matches.{Set};
 ghost use Rattle.resolvo_catalogue_core.specs.Sets.{IsRuleKeeping};
 ghost use Rattle.resolve_check.specs.declared.outcome.Outcome.{Outcome};
 ghost use Rattle.resolve_check.specs.declared.outcome.Outcome.TheVariants.{Installed};

@@ -6,7 +6,7 @@ ghost use Rattle.resolvo_catalogue_core.specs.Grammar.{AreRequestLines};
 ghost use Rattle.resolvo_report.specs.View.{report_of};
 ghost use Rattle.resolve_answer.specs.Wishes.{AreWishesAt};
 ghost use Rattle.resolve_run.specs.Answer.{IsAnswerOfLines, outcome_of};
-ghost use Rattle.resolve_run.specs.Running.{AnswersTexts, IsLack, StopsBefore, StopsRun, Writes};
+ghost use Rattle.resolve_run.specs.Run.{AnswersTexts, IsLack, StopsBefore, StopsRun, Writes};
 ghost use Rattle.resolve_check.specs.Devices.{reader_of, writer_of};
 
 use crate::report::report_text;

@@ -12,7 +12,7 @@ use Rattle.resolvo.specs.declared.search.SearchResult.TheVariants.{Chosen, Clash
 use Rattle.resolvo.specs.declared.prove.Solved.{Solved}
 use Rattle.resolvo.specs.declared.solver.UnsolvableOrCancelled.{UnsolvableOrCancelled}
 use Rattle.resolvo.specs.declared.solver.UnsolvableOrCancelled.TheVariants.{Unsolvable, Cancelled, Memory, Ids}
-use Rattle.resolvo.specs.Solving.{Holds, HaveProofs, IsPreferred, IsSolved, EndsSo, Counts}
+use Rattle.resolvo.specs.Solve.{Holds, HaveProofs, IsPreferred, IsSolved, EndsSo, Counts}
 use Rattle.resolvo.specs.Conflicts.{Left, left_of, IsLeft}
 use Rattle.resolvo.specs.declared.conflict.KeptConflict.{KeptConflict}
 use Rattle.resolvo.specs.Solver.{Kept, HasNothing, IfEnded, IsAnswer, IsStopped, Keeps, Leaves, stopped_by}

@@ -14,18 +14,18 @@ use Rattle.resolvo_sat.specs.Analysis.{IsRefusal}
 use Rattle.resolvo_sat.specs.Entries.{made_true}
 use Rattle.resolvo_sat.specs.State.{history}
 use Rattle.resolvo_soundness.specs.Encoding.{IsExact}
-use Rattle.resolvo_soundness.specs.Ending.{IsAccepted}
+use Rattle.resolvo_soundness.specs.SearchEnd.{IsAccepted}
 use Rattle.resolvo_soundness.specs.First.{ArePreferred}
 use Rattle.resolvo_soundness.proofs.Lists.{contains_none}
 use Rattle.resolvo_state.specs.Chosen.{AreChosen}
-use Rattle.resolvo_state.specs.Coding.{IsCoding}
+use Rattle.resolvo_state.specs.SolverState.{IsCoding}
 use Rattle.resolvo_state.specs.Keys.{AreOnce}
 use Rattle.resolvo_state.specs.declared.solver_state.SolverState.{SolverState}
 use Rattle.resolvo_proof.specs.Proof.{DenyRoot}
 use Rattle.resolvo_encoder.specs.declared.encoder.Encoder.{Encoder}
 use Rattle.resolvo_encoder.specs.Encoded.{IsEncoding}
 use Rattle.resolvo_encoder.specs.Steps.{IsBegunEncoding}
-use Rattle.resolvo_encoder.proofs.Turning.{turn_keeps, turn_preferred, refused, root_denied}
+use Rattle.resolvo_encoder.proofs.TurnLemmas.{turn_keeps, turn_preferred, refused, root_denied}
 use Rattle.resolvo.specs.declared.search.SearchResult.{SearchResult}
 use Rattle.resolvo.specs.declared.search.SearchResult.TheVariants.{Chosen, Clash}
 use Rattle.resolvo.specs.declared.turns.Turn.{Turn}
@@ -34,9 +34,9 @@ use Rattle.resolvo_turn.specs.Turn.{IsRooted, IsTurn}
 use Rattle.resolvo.specs.Turns.{AreRight, AreTurns, AreWished, HasReason, HaveReasons, IsNextRight, StandSo, accepted_of, end_of, first_of}
 use Rattle.resolvo_turn.specs.Encoder.{IsInOrder}
 use Rattle.resolvo.specs.Solution.{IsSolution, IsUnsolvable}
-use Rattle.resolvo.specs.Solving.{IsFoundIn, IsFound, IsListedIn, IsPreferred, IsDenial}
+use Rattle.resolvo.specs.Solve.{IsFoundIn, IsFound, IsListedIn, IsPreferred, IsDenial}
 use Rattle.resolvo.proofs.Next.{chosen_accepted}
-use Rattle.resolvo.proofs.Trailing.{trail_once}
+use Rattle.resolvo.proofs.TrailLemmas.{trail_once}
 
 -- the root is the first parent
 pub begun_rooted : {N S : Type 0} (e : Encoder N S) → IsBegunEncoding e → IsRooted e

@@ -2,10 +2,10 @@ pub mod Found
 pub mod Solved
 pub mod Answered
 pub mod Wishes
-pub mod Trailing
-pub mod Listing
+pub mod TrailLemmas
+pub mod ListLemmas
 pub mod Next
 pub mod Outcomes
 pub mod Reasons
 pub mod Forward
-pub mod Offering
+pub mod OfferLemmas

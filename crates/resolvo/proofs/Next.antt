@@ -15,17 +15,17 @@ use Rattle.resolvo_sat.specs.Entries.{made_true}
 use Rattle.resolvo_sat.specs.State.{history}
 use Rattle.resolvo_sat.proofs.StepLemmas.{reverse_push}
 use Rattle.resolvo_soundness.specs.Encoding.{IsExact}
-use Rattle.resolvo_soundness.specs.Ending.{IsAccepted}
+use Rattle.resolvo_soundness.specs.SearchEnd.{IsAccepted}
 use Rattle.resolvo_soundness.proofs.Lists.{contains_one, contains_parts}
 use Rattle.resolvo_soundness.proofs.Members.{in_contained, contained_in}
 use Rattle.resolvo_state.specs.declared.atom.ProofAtom.TheVariants.{Solvable}
 use Rattle.resolvo_state.specs.Chosen.{AreChosen}
-use Rattle.resolvo_state.specs.Coding.{IsCoding}
+use Rattle.resolvo_state.specs.SolverState.{IsCoding}
 use Rattle.resolvo_state.specs.declared.solver_state.SolverState.{SolverState}
 use Rattle.resolvo_state.specs.declared.clause_kind.Stated.TheVariants.{Learnt}
 use Rattle.resolvo_state.proofs.Origins.{means_solvable, solvable_means, stands_front}
 use Rattle.resolvo_encoder.specs.declared.encoder.Encoder.{Encoder}
-use Rattle.resolvo_encoder.proofs.Turning.{turn_accepts}
+use Rattle.resolvo_encoder.proofs.TurnLemmas.{turn_accepts}
 use Rattle.resolvo_turn.specs.Encoder.{IsInOrder}
 use Rattle.resolvo_turn.specs.Turn.{IsTurn}
 use Rattle.resolvo.specs.Turns.{AreAt, AreRight, HasReason, HaveReasons, IsDeniable, Records, accepted_of, on_trail, step_of, was_accepted}
@@ -35,9 +35,9 @@ use Rattle.resolvo.specs.declared.soft_requirements.SoftOutcome.TheVariants as W
 use Rattle.resolvo.specs.declared.turns.Turn.{Turn}
 use Rattle.resolvo.specs.declared.turns.Turns.{Turns}
 use Rattle.resolvo_state.proofs.Positions.{front_get, front_same}
-use Rattle.resolvo.proofs.Listing.{accepted_more, accepted_next, next_right, refused_next}
-use Rattle.resolvo_turn.proofs.Ending.{contains_longer}
-use Rattle.resolvo.proofs.Trailing.{listed_are_chosen, listed_on_trail, trail_stays}
+use Rattle.resolvo.proofs.ListLemmas.{accepted_more, accepted_next, next_right, refused_next}
+use Rattle.resolvo_turn.proofs.EndLemmas.{contains_longer}
+use Rattle.resolvo.proofs.TrailLemmas.{listed_are_chosen, listed_on_trail, trail_stays}
 
 -- ---- the accepted wishes and reasons
 

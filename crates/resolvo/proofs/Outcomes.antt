@@ -26,7 +26,7 @@ use Rattle.resolvo_packages.specs.declared.package_source.Offered.{Offered}
 use Rattle.resolvo_state.specs.declared.atom.ProofAtom.TheVariants.{Solvable}
 use Rattle.resolvo_state.specs.declared.solver_state.SolverState.{SolverState}
 use Rattle.resolvo_state.specs.Atoms.{StandsFor}
-use Rattle.resolvo_state.specs.Coding.{Bars, Grows, IsCoding}
+use Rattle.resolvo_state.specs.SolverState.{Bars, Grows, IsCoding}
 use Rattle.resolvo_state.specs.Statements.{stated_at}
 use Rattle.resolvo_state.specs.declared.clause_kind.Stated.{Stated}
 use Rattle.resolvo_state.specs.declared.clause_kind.Stated.TheVariants.{Learnt, Root}
@@ -37,16 +37,16 @@ use Rattle.resolvo_encoder.specs.declared.encoder.Encoder.{Encoder}
 use Rattle.resolvo_encoder.specs.declared.encoder.EncodedOnce.{EncodedOnce}
 use Rattle.resolvo_encoder.specs.Base.{base_of, IsOpen, KeepsTurns}
 use Rattle.resolvo_encoder.specs.Encoded.{IsEncoding}
-use Rattle.resolvo_encoder.specs.Going.{GoesOn}
+use Rattle.resolvo_encoder.specs.Progress.{GoesOn}
 use Rattle.resolvo_encoder.specs.Steps.{IsBuilt, IsListed}
-use Rattle.resolvo_encoder.specs.Wishing.{turn_of, IsUntaken, IsWish, Notes, TakesBack}
+use Rattle.resolvo_encoder.specs.SoftRequirement.{turn_of, IsUntaken, IsWish, Notes, TakesBack}
 use Rattle.resolvo_encoder.proofs.Bases.{below_all, below_ends}
-use Rattle.resolvo_encoder.proofs.Picking.{ordered_stays}
+use Rattle.resolvo_encoder.proofs.PickLemmas.{ordered_stays}
 use Rattle.resolvo_turn.specs.Encoder.{IsInOrder, AddsParents}
 use Rattle.resolvo_turn.specs.Turn.{IsRooted, IsTurn}
 use Rattle.resolvo.specs.Wished.{IsLearntAs, IsOutcome, IsReasonOf, IsRefusable, IsTold, IsTrue, IsTurnedDown, KeepsRest, KeepsTrail}
 use Rattle.resolvo.specs.declared.soft_requirements.SoftOutcome.{SoftOutcome}
-use Rattle.resolvo_turn.proofs.Ending.{still_rooted}
+use Rattle.resolvo_turn.proofs.EndLemmas.{still_rooted}
 use Rattle.resolvo.proofs.Wishes.{refused_all, refused_bars, refused_blamed, refused_denied, refused_empty, taken_true}
 
 -- ---- a turn is taken back

@@ -23,7 +23,7 @@ use Rattle.resolvo_proof.specs.Written.{AreSteps, IsDerivation, IsStepAt, IsStep
 use Rattle.resolvo.specs.declared.turns.Turn.{Turn}
 use Rattle.resolvo.specs.Wished.{DeniesOne, IsReasonOf}
 use Rattle.resolvo.specs.Turns.{HasReason, IsDeniable}
-use Rattle.resolvo.specs.Solving.{DeniesOnly, HasProof}
+use Rattle.resolvo.specs.Solve.{DeniesOnly, HasProof}
 
 module _ {N S : Type 0} (c : SolverState N S) (steps : List (ProofStep N S)) (are : AreSteps c steps) where
   -- a literal whose meaning is that of one that denies a solvable denies it

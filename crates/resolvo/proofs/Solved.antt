@@ -14,7 +14,7 @@ use Rattle.resolvo_proof.specs.declared.step.ProofStep.{ProofStep}
 use Rattle.resolvo.specs.declared.search.SearchResult.{SearchResult}
 use Rattle.resolvo.specs.declared.search.SearchResult.TheVariants.{Chosen, Clash}
 use Rattle.resolvo.specs.declared.prove.Solved.{Solved}
-use Rattle.resolvo.specs.Solving.{HasSteps, HaveProofs, IsFound, IsPreferred, IsSearch, Holds, IsSolved}
+use Rattle.resolvo.specs.Solve.{HasSteps, HaveProofs, IsFound, IsPreferred, IsSearch, Holds, IsSolved}
 use Rattle.resolvo.proofs.Reasons.{reason_proof}
 
 -- what follows from what is so of an answer

@@ -19,19 +19,19 @@ use Rattle.resolvo_sat.proofs.Trails.{known_in_range, level_le_last, root_stands
 use Rattle.resolvo_soundness.specs.Encoding.{IsExact}
 use Rattle.resolvo_state.specs.declared.atom.ProofAtom.TheVariants.{Solvable}
 use Rattle.resolvo_state.specs.Atoms.{StandsFor}
-use Rattle.resolvo_state.specs.Coding.{IsCoding}
+use Rattle.resolvo_state.specs.SolverState.{IsCoding}
 use Rattle.resolvo_state.proofs.Origins.{count_is, stands_front, stands_other, stands_same, stands_some}
 use Rattle.resolvo_encoder.specs.declared.encoder.Encoder.{Encoder}
 use Rattle.resolvo_encoder.specs.Base.{base_of, IsBlamed, IsOpen, IsTaken}
 use Rattle.resolvo_encoder.specs.Encoded.{IsEncoding}
 use Rattle.resolvo_encoder.specs.Steps.{IsBuilt, AddsParent}
-use Rattle.resolvo_encoder.specs.Wishing.{turn_of, IsWish}
+use Rattle.resolvo_encoder.specs.SoftRequirement.{turn_of, IsWish}
 use Rattle.resolvo_encoder.proofs.Bases.{turn_begun}
-use Rattle.resolvo_encoder.proofs.Blaming.{blame_refuses, empty_refuses, reason_blames, refusal_blames}
+use Rattle.resolvo_encoder.proofs.BlameLemmas.{blame_refuses, empty_refuses, reason_blames, refusal_blames}
 use Rattle.resolvo_turn.specs.Encoder.{IsInOrder, AddsParents}
 use Rattle.resolvo_turn.specs.Turn.{IsRefusedBy}
 use Rattle.resolvo.specs.Wished.{IsDenied, IsTrue}
-use Rattle.resolvo_turn.proofs.Adding.{all_then, needs_parents, parents_in_order, parents_needs}
+use Rattle.resolvo_turn.proofs.AddLemmas.{all_then, needs_parents, parents_in_order, parents_needs}
 
 -- the root stands at the first level
 pub above_root : {N S : Type 0} (e : Encoder N S) → IsBuilt e → 1 ≤ top_level (history e.coding.search)

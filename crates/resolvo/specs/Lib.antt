@@ -1,6 +1,6 @@
 pub mod Solution
 pub mod Wished
 pub mod Turns
-pub mod Solving
+pub mod Solve
 pub mod Conflicts
 pub mod Solver

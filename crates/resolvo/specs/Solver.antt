@@ -12,13 +12,13 @@ use Rattle.resolvo.specs.Solution.{IsUnsolvable}
 use Rattle.resolvo_graph.specs.Graph.{Graph}
 use Rattle.resolvo_graph.specs.Message.{IsMessage}
 use Rattle.resolvo_graph.specs.declared.line.MessageLine.{MessageLine}
-use Rattle.resolvo_conflict.specs.Drawing.{conflict_drawing}
+use Rattle.resolvo_conflict.specs.Draw.{conflict_drawing}
 use Rattle.resolvo_conflict.specs.Offered.{offered_by}
 use Rattle.resolvo_conflict.specs.Order.{conflict_rules}
 use Rattle.resolvo_conflict.specs.Truth.{TellsTruth}
 use Rattle.resolvo.specs.Conflicts.{Left, AreOffers}
 use Rattle.resolvo.specs.Turns.{AreWished, first_of}
-use Rattle.resolvo.specs.Solving.{AreProved, HasProof}
+use Rattle.resolvo.specs.Solve.{AreProved, HasProof}
 use Rattle.resolvo.specs.declared.prove.Solved.{Solved}
 use Rattle.resolvo.specs.declared.turns.Turn.{Turn}
 use Rattle.resolvo_pool.specs.declared.cache.CacheFault.{CacheFault}

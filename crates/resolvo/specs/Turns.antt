@@ -3,7 +3,7 @@ use Rattle.std.specs.Prelude.{◌≡◌, ℕ, suc, ◌-◌, ◌≤◌, ◌⊎◌
 use Rattle.resolvo_pool_core.specs.RuleKeeping.{Packages, Rules, is_in, IsRuleKeeping}
 use Rattle.resolvo_sat.specs.declared.analyze.FinalConflict.{FinalConflict}
 use Rattle.resolvo_sat.specs.Analysis.{IsRefusal}
-use Rattle.resolvo_soundness.specs.Ending.{IsAccepted}
+use Rattle.resolvo_soundness.specs.SearchEnd.{IsAccepted}
 use Rattle.resolvo_state.specs.Chosen.{choices}
 use Rattle.resolvo_state.specs.declared.solver_state.SolverState.{SolverState}
 use Rattle.resolvo_encoder.specs.declared.encoder.Encoder.{Encoder}

@@ -13,7 +13,7 @@ use Rattle.resolvo_sat.specs.Entries.{made_true, EndsWith}
 use Rattle.resolvo_sat.specs.State.{history}
 use Rattle.resolvo_state.specs.declared.atom.ProofAtom.TheVariants.{Solvable}
 use Rattle.resolvo_state.specs.Atoms.{StandsFor}
-use Rattle.resolvo_state.specs.Coding.{Grows}
+use Rattle.resolvo_state.specs.SolverState.{Grows}
 use Rattle.resolvo_state.specs.declared.solver_state.SolverState.{SolverState}
 use Rattle.resolvo_state.specs.Statements.{stated_at}
 use Rattle.resolvo_state.specs.declared.clause_kind.Stated.TheVariants.{Learnt}

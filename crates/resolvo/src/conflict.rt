@@ -1,12 +1,12 @@
 //! The conflict of a search that found no solution: its clauses, and the graph that tells people of them.
 ghost use Rattle.std.specs.Prelude.{◌≡◌, length, IfOk, IfErr};
 ghost use Rattle.resolvo_pool_core.specs.RuleKeeping.{Rules};
-ghost use Rattle.resolvo_packages.specs.Answering.{offered_solvables};
+ghost use Rattle.resolvo_packages.specs.PackageSource.{offered_solvables};
 ghost use Rattle.resolvo_pool.specs.Cached.{IsCancelledBy};
 ghost use Rattle.resolvo.specs.Conflicts.{AreOffers, IsLeft};
 ghost use Rattle.resolvo.specs.Solver.{HoldsConflict, IsGraphOf, IsTrueOf, TellsConflict};
 ghost use Rattle.resolvo_turn.specs.Encoder.{IsRoot};
-ghost use Rattle.resolvo.specs.Solving.{IsSolved, EndsSo, Counts};
+ghost use Rattle.resolvo.specs.Solve.{IsSolved, EndsSo, Counts};
 ghost use Rattle.resolvo.specs.Wished.{AreCandidates};
 
 use crate::prove::{Solved, solve};

@@ -7,7 +7,7 @@ ghost use Rattle.resolvo_encoder.specs.Steps.{IsBegunEncoding, IsBuilt};
 ghost use Rattle.resolvo_turn.specs.Encoder.{IsInOrder, IsRoot};
 ghost use Rattle.resolvo_turn.specs.Turn.{IsRooted, IsTurn};
 ghost use Rattle.resolvo.specs.Wished.{AreCandidates};
-ghost use Rattle.resolvo.specs.Solving.{IsFound, IsFoundIn, IsListedIn, IsPreferred, IsSearch, IsDenial, IsProvable};
+ghost use Rattle.resolvo.specs.Solve.{IsFound, IsFoundIn, IsListedIn, IsPreferred, IsSearch, IsDenial, IsProvable};
 
 use crate::soft_requirements::run_soft_requirements;
 use crate::turns::{Turn, Turns};

@@ -11,7 +11,7 @@ ghost use Rattle.resolvo_sat.specs.State.{history};
 ghost use Rattle.resolvo_encoder.specs.Base.{base_of, IsOpen};
 ghost use Rattle.resolvo_encoder.specs.Encoded.{IsEncoding};
 ghost use Rattle.resolvo_encoder.specs.Steps.{IsBuilt};
-ghost use Rattle.resolvo_encoder.specs.Wishing.{turn_of, IsWish};
+ghost use Rattle.resolvo_encoder.specs.SoftRequirement.{turn_of, IsWish};
 ghost use Rattle.resolvo_turn.specs.Encoder.{IsInOrder, IsRoot, AddsParents};
 ghost use Rattle.resolvo_turn.specs.Turn.{IsRooted, IsTurn};
 ghost use Rattle.resolvo.specs.Turns.{AreAt, AreRight, HaveReasons, IsNextRight, StandSo};

@@ -4,7 +4,7 @@ ghost use Rattle.std.specs.Bool.{Decides};
 ghost use Rattle.std.specs.Option.{option_map};
 ghost use Rattle.std.specs.Iterator.{IsFinite};
 ghost use Rattle.std.specs.Iterator.Runs.{WholeRun};
-ghost use Rattle.resolvo_packages.specs.Answering.{packages_by, orders_by};
+ghost use Rattle.resolvo_packages.specs.PackageSource.{packages_by, orders_by};
 ghost use Rattle.resolvo.specs.Wished.{AreCandidates};
 ghost use Rattle.resolvo.specs.Conflicts.{Left, left_of};
 ghost use Rattle.resolvo.specs.Solver.{HoldsConflict, Kept, IfEnded, IsAnswer, IsStopped, Keeps, Leaves, root_of, stopped_by};

@@ -7,8 +7,8 @@ use Rattle.std.proofs.lemmas.Bool.Decides.{Decides-eqb, Decides-ltb}
 use Rattle.std.proofs.lemmas.Slice.Eq.{bytes_eq-Decides}
 use Rattle.std.proofs.lemmas.Option.{get_or_from_slice_get}
 use Rattle.resolvo_text.specs.Line.{Version, Spec, Cond, Is, And, Or}
-use Rattle.resolvo_text.specs.Matching as lines
-use Rattle.resolvo_text.specs.Matching.{Set}
+use Rattle.resolvo_text.specs.Matches as lines
+use Rattle.resolvo_text.specs.Matches.{Set}
 use Rattle.resolvo_pool_core.specs.declared.id.VersionSetId.{VersionSetId}
 use Rattle.resolvo_pool_core.specs.declared.id.ConditionId.{ConditionId}
 use Rattle.resolvo_pool_core.specs.declared.pool.Solvable.{Solvable}
@@ -17,7 +17,7 @@ use Rattle.resolvo_pool_core.specs.declared.condition.Condition.TheVariants.{Bin
 use Rattle.resolvo_pool_core.specs.declared.requirement.Requirement as needs
 use Rattle.resolvo_pool_core.specs.declared.requirement.Requirement.TheVariants.{Single, Union}
 use Rattle.resolvo_pool_core.specs.declared.requirement.ConditionalRequirement.{ConditionalRequirement}
-use Rattle.resolvo_pool_core.specs.Interning.{AreBelow}
+use Rattle.resolvo_pool_core.specs.Intern.{AreBelow}
 use Rattle.resolvo_pool_core.specs.Provider as pool
 use Rattle.resolvo_pool_core.specs.RuleKeeping.{IsLawful, is_in, is_match, is_outside, is_met, meets, holds, binds, binds_under}
 use Rattle.resolvo_pool_core.proofs.Conditions.{holds_by_cases}
@@ -25,10 +25,10 @@ use Rattle.resolvo_catalogue.specs.Ids.{Ids, NameId, SolvableId, solvable_id, so
 use Rattle.resolvo_catalogue.specs.Known.{solvable_at, name_of, set_at, condition_at}
 use Rattle.resolvo_catalogue.specs.Laws.{operands_below, candidates_named}
 use Rattle.resolvo_catalogue.specs.Provider.{Provider, candidates_of, listing_if_any, matches, packages_of}
-use Rattle.resolvo_catalogue.specs.Keeping.{StandsFor, TellsApart}
+use Rattle.resolvo_catalogue.specs.KeptSets.{StandsFor, TellsApart}
 use Rattle.resolvo_catalogue.proofs.Places.{each_right}
-use Rattle.resolvo_catalogue.proofs.Marking.{one_some}
-use Rattle.resolvo_catalogue.proofs.Passing.{any_from, any_to, same_bool}
+use Rattle.resolvo_catalogue.proofs.MarkLemmas.{one_some}
+use Rattle.resolvo_catalogue.proofs.PassLemmas.{any_from, any_to, same_bool}
 use Rattle.resolvo_catalogue.proofs.Places.{no_element, first_element, later_element, element_cases}
 
 -- ---- names

@@ -7,11 +7,11 @@ use Rattle.std.proofs.lemmas.List.Elements.{Contains-append_left, Contains-appen
 use Rattle.resolvo_text.specs.Line.{Version, Spec, Cond, Line, Skipped, Listed, Needs, Limits, Unknown, Lock, Favour, Exclude, Wish}
 use Rattle.resolvo_catalogue_core.specs.Grammar.{line_at, owner_of}
 use Rattle.resolvo_catalogue_core.specs.Questions.{AreAll, SaysOf, BelongsTo}
-use Rattle.resolvo_catalogue_core.proofs.Placing.{at_from_contains, contains_from_at}
+use Rattle.resolvo_catalogue_core.proofs.PlaceLemmas.{at_from_contains, contains_from_at}
 use Rattle.resolvo_catalogue.specs.Ids.{AreEach}
 use Rattle.resolvo_catalogue.specs.Told.{need_in, limit_in, reason_in, lines_at}
 use Rattle.resolvo_catalogue.proofs.Places.{no_element, first_element, later_element, element_cases, each_left, each_right}
-use Rattle.resolvo_catalogue.proofs.Marking.{one_some}
+use Rattle.resolvo_catalogue.proofs.MarkLemmas.{one_some}
 
 -- ---- pieces
 

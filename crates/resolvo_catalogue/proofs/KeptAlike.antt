@@ -8,15 +8,15 @@ use Rattle.std.proofs.lemmas.Bool.Decides.{Decides-eqb}
 use Rattle.std.proofs.lemmas.Slice.Eq.{bytes_eq-Decides}
 use Rattle.std.proofs.lemmas.Option.{slice_get-get_or, slice_get_within}
 use Rattle.resolvo_text.specs.Line.{Version, Spec, Cond, Line, Skipped, Listed, Needs, Limits, Unknown, Lock, Favour, Exclude, Wish}
-use Rattle.resolvo_text.specs.Matching as lines
-use Rattle.resolvo_text.specs.Matching.{Set, same_version, same_package}
+use Rattle.resolvo_text.specs.Matches as lines
+use Rattle.resolvo_text.specs.Matches.{Set, same_version, same_package}
 use Rattle.resolvo_catalogue_core.specs.Grammar.{line_at, owner_of, AreRequestLines}
 use Rattle.resolvo_catalogue_core.specs.Listed.{listed}
 use Rattle.resolvo_catalogue_core.specs.Rules as texts
 use Rattle.resolvo_catalogue_core.specs.Sets as texts_sets
 use Rattle.resolvo_catalogue_core.proofs.CatalogueFacts.{keeps_rule}
 use Rattle.resolvo_catalogue_core.proofs.TableLemmas.{listed_from}
-use Rattle.resolvo_catalogue_core.proofs.Placing.{at_from_contains, contains_from_line}
+use Rattle.resolvo_catalogue_core.proofs.PlaceLemmas.{at_from_contains, contains_from_line}
 use Rattle.resolvo_pool_core.specs.declared.pool.Solvable.{Solvable}
 use Rattle.resolvo_pool_core.specs.declared.id.StringId.{StringId}
 use Rattle.resolvo_pool_core.specs.declared.id.VersionSetId.{VersionSetId}
@@ -30,16 +30,16 @@ use Rattle.resolvo_catalogue.specs.Told.{need_in, limit_in, reason_in, lines_at}
 use Rattle.resolvo_catalogue.specs.Marked.{IsMarked}
 use Rattle.resolvo_catalogue.specs.Provider.{Provider, candidates_of, listing_of, exclusion_of, marks_at, told_at, dependencies_of, no_lines, no_marks, packages_of}
 use Rattle.resolvo_catalogue.specs.Over.{IsOver, TellsOf}
-use Rattle.resolvo_catalogue.specs.Keeping.{StandsFor, TellsApart, KeepsAlike, KeepsAlikeExempt}
-use Rattle.resolvo_catalogue.proofs.Marking.{one_some}
+use Rattle.resolvo_catalogue.specs.KeptSets.{StandsFor, TellsApart, KeepsAlike, KeepsAlikeExempt}
+use Rattle.resolvo_catalogue.proofs.MarkLemmas.{one_some}
 use Rattle.resolvo_catalogue.proofs.Places.{first_element, each_left}
-use Rattle.resolvo_catalogue.proofs.Passing.{any_from, any_to, all_from, all_to}
+use Rattle.resolvo_catalogue.proofs.PassLemmas.{any_from, any_to, all_from, all_to}
 use Rattle.resolvo_catalogue.proofs.Elements.{flat_from, flat_to, option_to, each_from_left, each_from_right, need_from, limit_from, reason_from, from_lines, to_lines}
 use Rattle.resolvo_catalogue.proofs.Alike.{listed_is, member_place, is_package, in_from, in_to, candidate, outside_same, need_binds, meets_same}
 use Rattle.resolvo_catalogue.specs.Ids.{Interns, AreSound}
-use Rattle.resolvo_catalogue.proofs.Listing.{versions_stay}
-use Rattle.resolvo_catalogue.proofs.Covering.{told_stays}
-use Rattle.resolvo_catalogue.proofs.Marking.{marked_stays}
+use Rattle.resolvo_catalogue.proofs.ListLemmas.{versions_stay}
+use Rattle.resolvo_catalogue.proofs.CoverLemmas.{told_stays}
+use Rattle.resolvo_catalogue.proofs.MarkLemmas.{marked_stays}
 use Rattle.resolvo_catalogue.proofs.RulesKept.{bound, binding, bound_by, binding_by, not_true, not_false, is_not, member_from, member_to, met_member, member_met, within_from, within_to, found_in, find_some, one_lock, owner_there, owner_there_limit, owner_there_unknown, lock_listed, req_from, con_from, req_to, con_to, unknown_from, unknown_to, listing_is, locked_by, excluded_by, exclusion_word, exclusion_there}
 
 module _ (p : Provider) (catalogue : List Line) (over : IsOver catalogue p) (same : SolvableId → SolvableId → Bool) (apart : TellsApart same) where

@@ -15,14 +15,14 @@ use Rattle.resolvo_pool_core.specs.declared.id.StringId.{StringId}
 use Rattle.resolvo_pool_core.specs.declared.id.ConditionId.{ConditionId}
 use Rattle.resolvo_pool_core.specs.declared.condition.Condition.{Condition}
 use Rattle.resolvo_pool_core.specs.declared.want.Want.{Want}
-use Rattle.resolvo_pool_core.specs.Interning.{Interned, AreBelow}
+use Rattle.resolvo_pool_core.specs.Intern.{Interned, AreBelow}
 use Rattle.resolvo_pool_core.specs.Provider.{OperandsBelow}
 use Rattle.resolvo_pool_core.proofs.Interned.{place_of_text, texts_with}
 use Rattle.resolvo_catalogue.specs.declared.id_table.Numbers.{Numbers}
 use Rattle.resolvo_catalogue.specs.Ids.{Ids, NameId, ids_of, IsPackage, IsWord, IsPlaced, Grows, Interns, AreSound, AreSeveral}
 use Rattle.resolvo_catalogue.proofs.Equal.{set_eq, set_exact, set_own, condition_eq, condition_exact, condition_own, lists_eq, lists_exact, lists_own}
-use Rattle.resolvo_catalogue.proofs.Interning.{placed, at_insert, extends_insert, once_insert}
-use Rattle.resolvo_catalogue.proofs.Standing.{interns_own}
+use Rattle.resolvo_catalogue.proofs.InternLemmas.{placed, at_insert, extends_insert, once_insert}
+use Rattle.resolvo_catalogue.proofs.StandLemmas.{interns_own}
 
 -- The second table has more, each value still has one id, and the answer, if there is one, is right.
 pub record Step {X : Type 0} (r : Result X Want) (a b : Ids) (P : X → Type 0) : Type 0 where

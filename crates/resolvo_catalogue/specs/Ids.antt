@@ -15,7 +15,7 @@ use Rattle.resolvo_pool_core.specs.declared.requirement.Requirement as needs
 use Rattle.resolvo_pool_core.specs.declared.requirement.Requirement.TheVariants.{Single, Union}
 use Rattle.resolvo_pool_core.specs.declared.requirement.ConditionalRequirement.{ConditionalRequirement}
 use Rattle.resolvo_catalogue.specs.declared.id_table.Numbers.{Numbers}
-use Rattle.resolvo_pool_core.specs.Interning.{Interned, AreBelow}
+use Rattle.resolvo_pool_core.specs.Intern.{Interned, AreBelow}
 use Rattle.std.specs.Global.{Global, Vec}
 use Rattle.std.specs.String.{string_bytes}
 use Rattle.std.specs.declared.string.String.{String}

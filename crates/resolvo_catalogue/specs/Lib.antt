@@ -5,5 +5,5 @@ pub mod Known
 pub mod Provider
 pub mod Laws
 pub mod Over
-pub mod Keeping
-pub mod Trying
+pub mod KeptSets
+pub mod CandidateOrder

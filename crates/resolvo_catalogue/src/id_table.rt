@@ -108,7 +108,7 @@ impl IdTable {
     }
 
     /// The id of a SPEC.
-    #[tactic(auto, using(crate::proofs::Standing::interns_on))]
+    #[tactic(auto, using(crate::proofs::StandLemmas::interns_on))]
     pub fn spec(&mut self, spec: &Spec) -> R<VersionSetId>
         ensures spec { IfOk result (λ v. IsSpec self.new v (spec_of spec.now)) }
         ensures interns { Interns self.old self.new }
@@ -148,7 +148,7 @@ impl IdTable {
     }
 
     /// The requirement that one of the alternatives is matched.
-    #[tactic(auto, using(crate::proofs::Standing::interns_on, crate::proofs::Standing::specs_stay))]
+    #[tactic(auto, using(crate::proofs::StandLemmas::interns_on, crate::proofs::StandLemmas::specs_stay))]
     pub fn alternatives(&mut self, alternatives: &[Spec]) -> R<Requirement>
         ensures alternatives { IfOk result (λ r. AreAlternatives self.new r (specs_of alternatives.now)) }
         ensures interns { Interns self.old self.new }
@@ -161,7 +161,7 @@ impl IdTable {
     }
 
     /// The id of the condition that a SPEC is met.
-    #[tactic(auto, using(crate::proofs::Standing::spec_stays, crate::proofs::Standing::interns_on))]
+    #[tactic(auto, using(crate::proofs::StandLemmas::spec_stays, crate::proofs::StandLemmas::interns_on))]
     fn condition_of_spec(&mut self, spec: &Spec) -> R<ConditionId>
         ensures condition { IfOk result (λ c. IsCondition self.new c (Is (spec_of spec.now))) }
         ensures interns { Interns self.old self.new }
@@ -179,7 +179,7 @@ impl IdTable {
     }
 
     /// The id of a condition, whose operands are interned first.
-    #[tactic(auto, using(crate::proofs::Standing::interns_on, crate::proofs::Standing::condition_stays, crate::proofs::Standing::condition_within))]
+    #[tactic(auto, using(crate::proofs::StandLemmas::interns_on, crate::proofs::StandLemmas::condition_stays, crate::proofs::StandLemmas::condition_within))]
     pub fn condition(&mut self, condition: &Cond) -> R<ConditionId>
         ensures condition { IfOk result (λ c. IsCondition self.new c (cond_of condition.now)) }
         ensures interns { Interns self.old self.new }
@@ -215,7 +215,7 @@ impl IdTable {
     }
 
     /// The requirement of a need.
-    #[tactic(auto, using(crate::proofs::Standing::interns_on, crate::proofs::Standing::alternatives_stay))]
+    #[tactic(auto, using(crate::proofs::StandLemmas::interns_on, crate::proofs::StandLemmas::alternatives_stay))]
     pub fn need(
         &mut self,
         alternatives: &[Spec],

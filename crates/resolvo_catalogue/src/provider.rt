@@ -88,7 +88,7 @@ impl CatalogueProvider {
     ghost use Rattle.resolvo_catalogue.specs.Ids.{IsSpec, AreAlternatives, solvable_id};
     ghost use Rattle.resolvo_catalogue.specs.Known.{spec_at, alternatives_at, name_text, word_text};
     ghost use Rattle.resolvo_catalogue.specs.Over.{AreAsked, ChangesIds};
-    ghost use Rattle.resolvo_catalogue.specs.Keeping.{KeepsAlike, KeepsAlikeExempt, root_of};
+    ghost use Rattle.resolvo_catalogue.specs.KeptSets.{KeepsAlike, KeepsAlikeExempt, root_of};
     ghost use Rattle.resolvo_catalogue_core.specs.Grammar.{AreRequestLines};
 
     /// The provider of a catalogue.
@@ -155,7 +155,7 @@ impl CatalogueProvider {
     }
 
     /// The SPEC of a version set.
-    #[tactic(auto, using(crate::proofs::Covering::spec_stands))]
+    #[tactic(auto, using(crate::proofs::CoverLemmas::spec_stands))]
     pub fn spec_of(&self, version_set: VersionSetId) -> R<Spec>
         ensures spec { IfOk result (λ found. spec_of found ≡ spec_at self.now.ids version_set) }
         ensures stands { (s : says.Spec) → IsSpec self.now.ids version_set s → spec_at self.now.ids version_set ≡ s }
@@ -169,7 +169,7 @@ impl CatalogueProvider {
     }
 
     /// The alternatives of a requirement, in order.
-    #[tactic(auto, using(crate::proofs::Covering::alternatives_stand))]
+    #[tactic(auto, using(crate::proofs::CoverLemmas::alternatives_stand))]
     pub fn alternatives_of(&self, requirement: Requirement) -> R<Vec<Spec>>
         ensures specs { IfOk result (λ found. specs_of found.items ≡ alternatives_at self.now.ids requirement) }
         ensures stands { (ss : List says.Spec) → AreAlternatives self.now.ids requirement ss → alternatives_at self.now.ids requirement ≡ ss }

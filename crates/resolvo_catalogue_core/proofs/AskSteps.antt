@@ -14,7 +14,7 @@ use Rattle.resolvo_catalogue_core.specs.Grammar.{line_at, owner_below, MayFollow
 use Rattle.resolvo_catalogue_core.specs.Listed.{listed, AreDistinct}
 use Rattle.resolvo_catalogue_core.specs.Questions.{AreAll, LineIs, SaysOf, Wishes, WishesAt, IsWish, States, is_rule, wished_in}
 use Rattle.resolvo_catalogue_core.specs.Table.{rule_line}
-use Rattle.resolvo_catalogue_core.specs.Asks.{asked, asked_lines, IsAsk, IsAskedRule, KeepsAsks, AreAsks, AddsAsk, ask_at, rule_asked, wish_asked}
+use Rattle.resolvo_catalogue_core.specs.RequestLines.{asked, asked_lines, IsAsk, IsAskedRule, KeepsAsks, AreAsks, AddsAsk, ask_at, rule_asked, wish_asked}
 use Rattle.resolvo_catalogue_core.specs.declared.rule.VersionNo.{VersionNo}
 use Rattle.resolvo_catalogue_core.specs.declared.rule.Rule.{Rule}
 use Rattle.resolvo_catalogue_core.specs.declared.rule.Rule.TheVariants as rule
@@ -23,7 +23,7 @@ use Rattle.resolvo_catalogue_core.specs.declared.request_lines.RequestLine.TheVa
 use Rattle.resolvo_catalogue_core.specs.declared.request_lines.RequestLines.{RequestLines}
 use Rattle.resolvo_catalogue_core.proofs.Pushed.{get_new, get_push, at_kept, Grows, only_other, all_other, all_new, keyed_new, line_grows, line_within, says_grows}
 use Rattle.resolvo_catalogue_core.proofs.TableLemmas.{listed_from}
-use Rattle.resolvo_catalogue_core.proofs.Placing.{none_from, some_from, line_from_contains, contains_from_line}
+use Rattle.resolvo_catalogue_core.proofs.PlaceLemmas.{none_from, some_from, line_from_contains, contains_from_line}
 
 -- ---- any line
 

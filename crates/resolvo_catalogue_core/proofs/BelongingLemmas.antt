@@ -6,7 +6,7 @@ use Rattle.std.proofs.lemmas.Bool.Decides.{Decides-eqb}
 use Rattle.std.specs.List.{slice_range, slice_set}
 use Rattle.std.proofs.lemmas.List.{drop-append-le, take-append-le, length-append, length-drop, take_all}
 use Rattle.resolvo_catalogue_core.specs.declared.lines_by_version.Place.{Place}
-use Rattle.resolvo_catalogue_core.specs.Belonging.{kept_of, lists_of, ArePlaces}
+use Rattle.resolvo_catalogue_core.specs.LinesByVersion.{kept_of, lists_of, ArePlaces}
 
 all_same : (f g : Place → List ℕ) (places : List Place) → ((k : ℕ) (r : Place) → slice_get places k ≡ Some r → g r ≡ f r) → (k : ℕ) → kept_of (map g places) k ≡ kept_of (map f places) k
 all_same f g [] same k = refl

@@ -4,9 +4,9 @@ pub mod HeldLemmas
 pub mod NumberedLemmas
 pub mod TableLemmas
 pub mod TableSteps
-pub mod Placing
+pub mod PlaceLemmas
 pub mod Members
 pub mod CatalogueFacts
-pub mod Barring
+pub mod BarLemmas
 pub mod AskSteps
 pub mod GrammarLaws

@@ -8,7 +8,7 @@ use Rattle.std.proofs.lemmas.Bool.Decides.{Decides-eqb}
 use Rattle.std.proofs.lemmas.List.Concat.{flat_map-cons}
 use Rattle.std.proofs.lemmas.List.Folds.{list_any-append, list_all-append}
 use Rattle.resolvo_text.specs.Line.{Version}
-use Rattle.resolvo_text.specs.Matching.{same_version, is_member}
+use Rattle.resolvo_text.specs.Matches.{same_version, is_member}
 use Rattle.resolvo_catalogue_core.specs.Listed.{members, AreDistinct}
 use Rattle.resolvo_catalogue_core.specs.declared.rule.VersionNo.{VersionNo}
 use Rattle.resolvo_catalogue_core.proofs.TableSteps.{same_version_is}

@@ -10,7 +10,7 @@ use Rattle.std.specs.Str.{bytes_eq}
 use Rattle.std.proofs.lemmas.Bool.{and_parts, and_from, cases_Bool}
 use Rattle.std.proofs.lemmas.Bool.Decides.{Decides-eqb}
 use Rattle.std.specs.Bool.{Decides}
-use Rattle.resolvo_text.specs.Matching.{same_version}
+use Rattle.resolvo_text.specs.Matches.{same_version}
 use Rattle.std.proofs.lemmas.List.{length-append, length-map, map_push}
 use Rattle.std.proofs.lemmas.Option.{get_or_from_slice_get, slice_get_within}
 use Rattle.std.proofs.lemmas.Slice.Eq.{bytes_eq-Decides}
@@ -23,7 +23,7 @@ use Rattle.resolvo_text.specs.Line.{Version, Line, Skipped, Listed, Needs, Limit
 use Rattle.resolvo_catalogue_core.specs.Grammar.{owner_below}
 use Rattle.resolvo_catalogue_core.specs.Questions.{IsOnly, AreAll, LineIs, BelongsTo, MarksUnknownOf, Locks, Favours, Excludes, IsFavour}
 use Rattle.resolvo_catalogue_core.specs.Table.{nth, nowhere, told, Keeps, IsTable, Adds, lines_in, versions_in, saids_in, number_in}
-use Rattle.resolvo_catalogue_core.specs.Belonging.{kept_of}
+use Rattle.resolvo_catalogue_core.specs.LinesByVersion.{kept_of}
 use Rattle.resolvo_catalogue_core.specs.Numbered.{beside, IsNumbered}
 use Rattle.resolvo_catalogue_core.specs.Questions.{SaysOf, FavoursAt}
 use Rattle.resolvo_catalogue_core.specs.declared.rule.VersionNo.{VersionNo}
@@ -32,7 +32,7 @@ use Rattle.resolvo_catalogue_core.specs.declared.line_table.LineKind.{LineKind}
 use Rattle.resolvo_catalogue_core.specs.declared.line_table.LineKind.TheVariants as said
 use Rattle.resolvo_catalogue_core.specs.declared.table.Table.{Table}
 use Rattle.resolvo_catalogue_core.proofs.Pushed.{get_new, get_kept, get_push, Grows, only_other, all_other, all_new, keyed_new, keyed_more, line_grows, line_within, says_grows, says_within, says_of_listed, get_grows}
-use Rattle.resolvo_catalogue_core.proofs.Placing.{none_from, excluded_listed, no_number}
+use Rattle.resolvo_catalogue_core.proofs.PlaceLemmas.{none_from, excluded_listed, no_number}
 use Rattle.resolvo_catalogue_core.proofs.TableLemmas.{listed_same, listed_more, are_said_push, are_said_more, all_told_more, favours_kept, favours_more, owner_listed, belongs_owner, marks_owner}
 
 -- ---- any line

@@ -5,7 +5,7 @@ use Rattle.std.specs.List.Sorted.{IsStrictlyIncreasing}
 use Rattle.resolvo_text.specs.Line.{Version, Spec, Cond, Line, Needs, Wish}
 use Rattle.resolvo_catalogue_core.specs.Grammar.{line_at, owner_of}
 use Rattle.resolvo_catalogue_core.specs.Sets.{IsRuleKeeping, AreRefuted}
-use Rattle.resolvo_text.specs.Matching.{Set, condition_holds, matches}
+use Rattle.resolvo_text.specs.Matches.{Set, condition_holds, matches}
 use Rattle.std.specs.List.{list_any}
 
 -- why a version is chosen: line n of the request, line n of the catalogue, which belongs to a version

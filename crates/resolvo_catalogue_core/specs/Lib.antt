@@ -7,6 +7,6 @@ pub mod Listed
 pub mod Numbered
 pub mod Questions
 pub mod Codes
-pub mod Belonging
+pub mod LinesByVersion
 pub mod Table
-pub mod Asks
+pub mod RequestLines

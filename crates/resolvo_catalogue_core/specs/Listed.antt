@@ -5,7 +5,7 @@ use Rattle.std.specs.Global.{Global}
 use Rattle.std.specs.declared.string.String.{String}
 use Rattle.std.specs.List.{filter_map, flat_map, slice_get}
 use Rattle.resolvo_text.specs.Line.{Version, Spec, Line}
-use Rattle.resolvo_text.specs.Matching.{Set, matches}
+use Rattle.resolvo_text.specs.Matches.{Set, matches}
 use Rattle.resolvo_catalogue_core.specs.Grammar.{version_of}
 use Rattle.resolvo_catalogue_core.specs.declared.rule.VersionNo.{VersionNo}
 

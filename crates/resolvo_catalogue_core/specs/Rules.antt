@@ -4,7 +4,7 @@ use Rattle.std.specs.List.{list_all}
 use Rattle.std.specs.Option.{option_map_or}
 use Rattle.std.specs.Str.{bytes_eq}
 use Rattle.resolvo_text.specs.Line.{Version, Line, Skipped, Listed, Needs, Limits, Unknown, Lock, Favour, Exclude, Wish}
-use Rattle.resolvo_text.specs.Matching.{Set, same_package, is_member, matches, is_met_by_one, condition_holds}
+use Rattle.resolvo_text.specs.Matches.{Set, same_package, is_member, matches, is_met_by_one, condition_holds}
 use Rattle.resolvo_catalogue_core.specs.Grammar.{line_at, owner_of}
 
 -- A line of a request has no owner, and always binds. A line of a catalogue binds where its owner is a member.

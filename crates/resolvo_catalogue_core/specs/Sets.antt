@@ -1,7 +1,7 @@
 -- Sets of versions that keep to a catalogue and a request, and lines that no such set obeys.
 use Rattle.std.specs.Prelude.{◌≡◌, ℕ, IsTrue, List, Contains}
 use Rattle.resolvo_text.specs.Line.{Version, Line, Listed}
-use Rattle.resolvo_text.specs.Matching.{Set}
+use Rattle.resolvo_text.specs.Matches.{Set}
 use Rattle.resolvo_catalogue_core.specs.Rules.{keeps, keeps_in_request}
 
 -- listed versions only, at most one of a package

@@ -2,7 +2,7 @@
 //! The model is a list of lines for each version. Used by `table`.
 
 ghost use Rattle.std.specs.Prelude.{◌≡◌, ℕ, ◌+◌, [], ◌∷◌, ◌++◌, ◌==◌, if◌then◌else◌, length, OnOk};
-ghost use Rattle.resolvo_catalogue_core.specs.Belonging.{kept_of};
+ghost use Rattle.resolvo_catalogue_core.specs.LinesByVersion.{kept_of};
 
 use crate::rule::VersionNo;
 use std::alloc::{AllocError, Global};
@@ -23,7 +23,7 @@ pub struct LinesByVersion {
 
 impl Model for LinesByVersion {
     ghost use Rattle.std.specs.Prelude.{ℕ, List, length};
-    ghost use Rattle.resolvo_catalogue_core.specs.Belonging.{lists_of, ArePlaces};
+    ghost use Rattle.resolvo_catalogue_core.specs.LinesByVersion.{lists_of, ArePlaces};
 
     ghost Value = { List (List ℕ) };
 

@@ -6,7 +6,7 @@ ghost use Rattle.std.specs.List.{list_any, list_all};
 ghost use Rattle.std.specs.Str.{bytes_eq};
 ghost use Rattle.std.specs.Option.{option_map_or, option_map, option_copied};
 ghost use Rattle.resolvo_text.specs.View.{spec_of, specs_of, cond_of, condition_of};
-ghost use Rattle.resolvo_text.specs.Matching.{matches, is_met, is_met_by_one, is_member, holds, condition_holds, same_package};
+ghost use Rattle.resolvo_text.specs.Matches.{matches, is_met, is_met_by_one, is_member, holds, condition_holds, same_package};
 ghost use Rattle.resolvo_catalogue_core.specs.Rules.{binds, obeys};
 ghost use Rattle.resolvo_catalogue_core.specs.Listed.{pair_version, pair_versions, members, AreDistinct, is_match};
 ghost use Rattle.resolvo_text.specs.Line.{Version, Line, Lock};

@@ -31,7 +31,7 @@ impl Model for Request {
 
     ghost coded = { said_code };
 
-    ghost use Rattle.resolvo_catalogue_core.specs.Asks.{asked_lines, IsAsk};
+    ghost use Rattle.resolvo_catalogue_core.specs.RequestLines.{asked_lines, IsAsk};
     ghost use Rattle.resolvo_catalogue_core.specs.declared.request_lines.RequestLine.{RequestLine};
 
     ghost view = { λ r. record { lines = asked_lines r.asks; wishes = r.asks.wishes.items } };

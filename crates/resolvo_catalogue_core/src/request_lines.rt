@@ -42,7 +42,7 @@ impl Drop for RequestLines {
 }
 
 impl RequestLines {
-    ghost use Rattle.resolvo_catalogue_core.specs.Asks.{AreAsks, AddsAsk, asked_lines, ask_at, rule_asked, wish_asked};
+    ghost use Rattle.resolvo_catalogue_core.specs.RequestLines.{AreAsks, AddsAsk, asked_lines, ask_at, rule_asked, wish_asked};
 
     pub fn new(alloc: Global) -> Self
         ensures asks { (versions : List says.Version) → AreAsks versions result }

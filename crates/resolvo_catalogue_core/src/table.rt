@@ -78,7 +78,7 @@ fn add_version(
 }
 
 impl Table {
-    ghost use Rattle.resolvo_catalogue_core.specs.Belonging.{kept_of};
+    ghost use Rattle.resolvo_catalogue_core.specs.LinesByVersion.{kept_of};
     ghost use Rattle.resolvo_catalogue_core.specs.Table.{IsTable, Adds, lines_in, versions_in, saids_in, numbers_in, is_lock_of_another};
     ghost use Rattle.resolvo_catalogue_core.specs.Held.{said_at, rule_of};
 

@@ -9,7 +9,7 @@ use Rattle.std.proofs.lemmas.Bool.{and_parts}
 use Rattle.std.proofs.lemmas.List.{append_assoc, append-nil, map-append, take_more}
 use Rattle.std.proofs.lemmas.List.Concat.{flat_map-append}
 use Rattle.resolvo_text.specs.Line.{Version, Spec}
-use Rattle.resolvo_text.specs.Matching.{matches}
+use Rattle.resolvo_text.specs.Matches.{matches}
 use Rattle.resolvo_text.specs.View.{specs_of, spec_of}
 use Rattle.resolvo_text.specs.declared.spec.Spec as code
 use Rattle.resolvo_catalogue_core.specs.Questions.{AreAll, IsOfPackage, number_of}
@@ -23,7 +23,7 @@ use Rattle.resolvo_checker.specs.Built.{member_of, told, literals_in, literal_of
 use Rattle.resolvo_checker.specs.Keys.{IsKey, Extends}
 use Rattle.resolvo_checker.proofs.Atoms.{bytes_is, bytes_own}
 use Rattle.resolvo_checker.proofs.Packages.{of_package}
-use Rattle.resolvo_checker.proofs.Naming.{extends_none, extends_then}
+use Rattle.resolvo_checker.proofs.NameLemmas.{extends_none, extends_then}
 
 -- a clause of one literal
 pub one_some : (clause : Clause) (o : Option (pass.Literal Atom)) → somes clause ≡ o ∷ [] → (l : pass.Literal Atom) × (o ≡ Some l) × (clause ≡ l ∷ [])

@@ -8,7 +8,7 @@ use Rattle.std.proofs.lemmas.Option.{same_Some}
 use Rattle.std.proofs.lemmas.List.{take_more, map-append}
 use Rattle.std.proofs.lemmas.List.Folds.{list_all-append}
 use Rattle.resolvo_text.specs.Line.{Version, Line}
-use Rattle.resolvo_text.specs.Matching.{same_version}
+use Rattle.resolvo_text.specs.Matches.{same_version}
 use Rattle.resolvo_catalogue_core.specs.Listed.{listed, AreDistinct}
 use Rattle.resolvo_pool_core.specs.OnePass as pass
 use Rattle.resolvo_pool_core.specs.OnePass.{AreNamed, AreNamedClauses, one_pass}
@@ -24,14 +24,14 @@ use Rattle.resolvo_text.specs.declared.spec.Version.{Version as CodeVersion}
 use Rattle.resolvo_checker.specs.declared.literal.Literal.{Literal}
 use Rattle.resolvo_checker.specs.Literals.{literals_of, clause_at}
 use Rattle.resolvo_checker.specs.Numbers.{AreNumbers, Keeps}
-use Rattle.resolvo_checker.specs.Passing.{is_earlier}
+use Rattle.resolvo_checker.specs.Rup.{is_earlier}
 use Rattle.resolvo_checker.specs.StepClauses.{Clause, is_listed, is_atom, literal, literal_of, not_in, digit_clause, clause_of}
 use Rattle.resolvo_checker.specs.Helpers.{same_atom}
 use Rattle.resolvo_checker.specs.Proof.{allows_place, cause_of, follows}
 use Rattle.resolvo_checker.specs.Keys.{Names, Numbered, Extends}
-use Rattle.resolvo_checker.specs.Checking.{allows, clause_or_none, Given, AtomIds, StandFor}
+use Rattle.resolvo_checker.specs.CheckStep.{allows, clause_or_none, Given, AtomIds, StandFor}
 use Rattle.resolvo_checker.proofs.Sets.{same_own, same_is}
-use Rattle.resolvo_checker.proofs.Naming.{tells, clauses_kept, clauses_push, extends_then, extends_all}
+use Rattle.resolvo_checker.proofs.NameLemmas.{tells, clauses_kept, clauses_push, extends_then, extends_all}
 
 -- ---- literals of a derived clause
 

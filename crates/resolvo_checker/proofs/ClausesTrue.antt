@@ -10,7 +10,7 @@ use Rattle.std.proofs.lemmas.Bool.{false≢true, cases_Bool, or_cases, or_left, 
 use Rattle.std.proofs.lemmas.Option.{cond_some, same_Some, none-some}
 use Rattle.std.proofs.lemmas.List.Folds.{list_any-append}
 use Rattle.resolvo_text.specs.Line.{Version, Spec, Cond, Line, Skipped, Listed, Needs, Limits, Unknown, Lock, Favour, Exclude, Wish}
-use Rattle.resolvo_text.specs.Matching.{Set, same_package, is_member, matches, is_met, is_met_by_one, condition_holds}
+use Rattle.resolvo_text.specs.Matches.{Set, same_package, is_member, matches, is_met, is_met_by_one, condition_holds}
 use Rattle.resolvo_text.specs.Cases.{condition_cases, all_met}
 use Rattle.resolvo_text.proofs.CaseLaws.{condition_holds-cases}
 use Rattle.resolvo_catalogue_core.specs.Rules.{binds, obeys}

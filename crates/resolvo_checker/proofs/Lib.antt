@@ -8,7 +8,7 @@ pub mod ListedLemmas
 pub mod ClausesTrue
 pub mod ProofTrue
 pub mod Packages
-pub mod Naming
+pub mod NameLemmas
 pub mod BuiltLemmas
 pub mod StatedLemmas
 pub mod StepLines

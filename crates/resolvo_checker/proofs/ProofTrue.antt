@@ -9,7 +9,7 @@ use Rattle.std.proofs.lemmas.Option.{cond_some, none-some, same_Some}
 use Rattle.std.proofs.lemmas.List.Folds.{list_all-append}
 use Rattle.std.proofs.lemmas.List.{append_assoc, append-nil}
 use Rattle.resolvo_text.specs.Line.{Version, Line, Listed}
-use Rattle.resolvo_text.specs.Matching.{Set, same_version, is_member}
+use Rattle.resolvo_text.specs.Matches.{Set, same_version, is_member}
 use Rattle.resolvo_catalogue_core.specs.Grammar.{line_at, owner_of}
 use Rattle.resolvo_catalogue_core.specs.Rules.{obeys}
 use Rattle.resolvo_catalogue_core.specs.Listed.{listed}
@@ -18,7 +18,7 @@ use Rattle.resolvo_pool_core.specs.OnePass.{is_true_at, clause_true, one_pass}
 use Rattle.resolvo_pool_core.proofs.PassSound.{one_pass_true}
 use Rattle.resolvo_report.specs.Value.{Place, OfRequest, OfVersion, Atom, Chosen, AnyOf, SharedBy, OutsideOf, BitOf, Literal, Step}
 use Rattle.resolvo_report.specs.Value as step
-use Rattle.resolvo_checker.specs.Passing.{is_earlier}
+use Rattle.resolvo_checker.specs.Rup.{is_earlier}
 use Rattle.resolvo_checker.specs.StepClauses.{Clause, clause_of, literal_of, is_atom, is_owner, line_of, need_clause, gate_clause, limit_bars_clause, limit_clause, lock_clause, exclude_clause, unknown_clause}
 use Rattle.resolvo_checker.specs.Helpers.{value_of, same_atom}
 use Rattle.resolvo_checker.specs.Proof.{rests_on, rests_on_named, allows_place, cause_of, follows, may_stand, IsProof, derives_empty, ends_empty, is_among, bars, AreApart, ObeysTested}

@@ -10,7 +10,7 @@ use Rattle.resolvo_pool_core.specs.OnePass as pass
 use Rattle.resolvo_pool_core.specs.OnePass.{is_denied, is_broken, same_literal, rest_of, without_false, reading, refutes, learn}
 use Rattle.resolvo_checker.specs.declared.literal.Literal.{Literal}
 use Rattle.resolvo_checker.specs.Literals.{literal_of, literals_of, clause_at}
-use Rattle.resolvo_checker.specs.Passing.{meet}
+use Rattle.resolvo_checker.specs.Rup.{meet}
 
 pub filter-append : {X : Type 0} (p : X → Bool) (xs ys : List X) → filter p (xs ++ ys) ≡ filter p xs ++ filter p ys
 filter-append p [] ys = refl

@@ -6,7 +6,7 @@ use Rattle.std.specs.Option.{option_map, option_copied}
 use Rattle.std.proofs.lemmas.Bool.{false≢true, cases_Bool, or_left, or_right}
 use Rattle.std.proofs.lemmas.Option.{slice_get-map}
 use Rattle.resolvo_text.specs.Line.{Version, Cond, Line, Skipped, Listed, Needs, Limits, Unknown, Lock, Favour, Exclude, Wish}
-use Rattle.resolvo_text.specs.Matching.{same_version, is_member}
+use Rattle.resolvo_text.specs.Matches.{same_version, is_member}
 use Rattle.resolvo_text.specs.Cases.{cases}
 use Rattle.resolvo_text.specs.View.{specs_of, cases_of}
 use Rattle.resolvo_text.specs.declared.spec.Spec as code

@@ -12,7 +12,7 @@ use Rattle.resolvo_report.specs.View.{step_of, steps_of}
 use Rattle.resolvo_report.specs.declared.step.Step.{Step as CodeStep}
 use Rattle.resolvo_checker.specs.declared.literal.Literal.{Literal}
 use Rattle.resolvo_checker.specs.Proof.{may_stand, IsProof, IsWrongAt}
-use Rattle.resolvo_checker.specs.Checking.{allows, causes_in, count_causes, StandFor}
+use Rattle.resolvo_checker.specs.CheckStep.{allows, causes_in, count_causes, StandFor}
 
 -- at first every place is allowed
 none_given : (n v place : ℕ) → allows (slice_get (replicate n None) v) place ≡ true

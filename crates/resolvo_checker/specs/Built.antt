@@ -5,7 +5,7 @@ use Rattle.std.specs.Option.{option_map}
 use Rattle.std.specs.Bool.{beq}
 use Rattle.resolvo_catalogue_core.specs.Listed.{is_match}
 use Rattle.resolvo_text.specs.Line.{Version, Spec, Line}
-use Rattle.resolvo_text.specs.Matching.{matches}
+use Rattle.resolvo_text.specs.Matches.{matches}
 use Rattle.resolvo_text.specs.View.{spec_of, specs_of}
 use Rattle.resolvo_pool_core.specs.OnePass as pass
 use Rattle.resolvo_report.specs.Value as says

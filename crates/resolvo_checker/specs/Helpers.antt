@@ -6,7 +6,7 @@ use Rattle.std.specs.Str.{bytes_eq}
 use Rattle.resolvo_text.specs.declared.spec.Span.{Span}
 use Rattle.resolvo_text.specs.declared.spec.Span.TheVariants as span
 use Rattle.resolvo_text.specs.Line.{Version, Spec}
-use Rattle.resolvo_text.specs.Matching.{Set, is_member, is_met_by_one, same_version}
+use Rattle.resolvo_text.specs.Matches.{Set, is_member, is_met_by_one, same_version}
 use Rattle.resolvo_report.specs.Value.{Atom, Chosen, AnyOf, SharedBy, OutsideOf, BitOf}
 use Rattle.resolvo_checker.specs.StepClauses.{is_of, is_outside}
 

@@ -1,7 +1,7 @@
 pub mod Truth
 pub mod Pieces
 pub mod Literals
-pub mod Passing
+pub mod Rup
 pub mod Numbers
 pub mod StepClauses
 pub mod Helpers
@@ -9,4 +9,4 @@ pub mod Proof
 pub mod Built
 pub mod Keys
 pub mod Stated
-pub mod Checking
+pub mod CheckStep

@@ -3,13 +3,13 @@ use Rattle.std.specs.Prelude.{◌≡◌, ℕ, zero, suc, Bool, true, false, not,
 use Rattle.std.specs.List.{list_all, list_any}
 use Rattle.std.specs.Option.{option_and_then}
 use Rattle.resolvo_text.specs.Line.{Version, Line}
-use Rattle.resolvo_text.specs.Matching.{Set, same_version, is_member}
+use Rattle.resolvo_text.specs.Matches.{Set, same_version, is_member}
 use Rattle.resolvo_catalogue_core.specs.Rules.{keeps, keeps_in_request}
 use Rattle.resolvo_catalogue_core.specs.Sets.{IsRuleKeeping}
 use Rattle.resolvo_pool_core.specs.OnePass.{one_pass, clause_true}
 use Rattle.resolvo_report.specs.Value.{Place, OfRequest, OfVersion, Atom, Chosen, AnyOf, SharedBy, OutsideOf, BitOf, Step}
 use Rattle.resolvo_report.specs.Value as step
-use Rattle.resolvo_checker.specs.Passing.{is_earlier}
+use Rattle.resolvo_checker.specs.Rup.{is_earlier}
 use Rattle.resolvo_checker.specs.Helpers.{same_atom, value_of}
 use Rattle.resolvo_checker.specs.StepClauses.{Clause, clause_of, literal_of}
 

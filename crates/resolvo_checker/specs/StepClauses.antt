@@ -5,7 +5,7 @@ use Rattle.std.specs.Option.{option_map, option_map_or}
 use Rattle.std.specs.Int.{bit_at}
 use Rattle.std.specs.Str.{bytes_eq}
 use Rattle.resolvo_text.specs.Line.{Version, Spec, Cond, Line, Needs, Limits, Unknown, Lock, Exclude}
-use Rattle.resolvo_text.specs.Matching.{same_package, same_version, is_member, matches}
+use Rattle.resolvo_text.specs.Matches.{same_package, same_version, is_member, matches}
 use Rattle.resolvo_text.specs.Cases.{condition_cases}
 use Rattle.resolvo_catalogue_core.specs.Grammar.{line_at, owner_of}
 use Rattle.resolvo_catalogue_core.specs.Listed.{listed}

@@ -11,12 +11,12 @@ ghost use Rattle.resolvo_pool_core.specs.OnePass.{one_pass};
 ghost use Rattle.resolvo_report.specs.Value.{Step as SaidStep};
 ghost use Rattle.resolvo_report.specs.View.{step_of, atom_of, literal_of, literals_of as said_literals};
 ghost use Rattle.resolvo_checker.specs.Literals.{literals_of, clause_at};
-ghost use Rattle.resolvo_checker.specs.Passing.{is_earlier};
+ghost use Rattle.resolvo_checker.specs.Rup.{is_earlier};
 ghost use Rattle.resolvo_checker.specs.StepClauses.{is_atom, is_listed, literal_of as plain_literal, clause_of as clause_of_lem};
 ghost use Rattle.resolvo_checker.specs.Proof.{rests_on_named, allows_place, follows as follows_lem, may_stand};
 ghost use Rattle.resolvo_checker.specs.Keys.{Extends, Numbered};
 ghost use Rattle.resolvo_checker.specs.Numbers.{AreNumbers};
-ghost use Rattle.resolvo_checker.specs.Checking.{flag_at, names_catalogue, names_request, allows, causes_in, clause_or_none, AtomIds as NumbersOf, StandFor, Given};
+ghost use Rattle.resolvo_checker.specs.CheckStep.{flag_at, names_catalogue, names_request, allows, causes_in, clause_or_none, AtomIds as NumbersOf, StandFor, Given};
 ghost use Rattle.resolvo_checker.specs.Built.{rule_clause_of};
 
 use crate::assignment::Assignment;

@@ -2,14 +2,14 @@
 
 ghost use Rattle.std.specs.Prelude.{◌≡◌, ◌+◌, ◌^◌, ◌<◌, ◌≤◌, ℕ, [], List, Some, IfOk, IfSome, IfNone, length, replicate, None, true, slice_get};
 ghost use Rattle.resolvo_text.specs.Line.{Version};
-ghost use Rattle.resolvo_text.specs.Matching.{Set};
+ghost use Rattle.resolvo_text.specs.Matches.{Set};
 ghost use Rattle.resolvo_catalogue_core.specs.Listed.{listed};
 ghost use Rattle.resolvo_catalogue_core.specs.Sets.{IsSingle};
 ghost use Rattle.resolvo_report.specs.Value.{Step as SaidStep};
 ghost use Rattle.resolvo_report.specs.View.{step_of, steps_of};
 ghost use Rattle.resolvo_checker.specs.StepClauses.{Clause, clause_of};
 ghost use Rattle.resolvo_checker.specs.Proof.{IsProof, IsWrongAt, ObeysTested, ends_empty, bars, AreApart};
-ghost use Rattle.resolvo_checker.specs.Checking.{names_catalogue, names_request, causes_in as causes_in_lem, count_causes, StandFor};
+ghost use Rattle.resolvo_checker.specs.CheckStep.{names_catalogue, names_request, causes_in as causes_in_lem, count_causes, StandFor};
 
 use crate::assignment::Assignment;
 use crate::atom_ids::AtomIds;

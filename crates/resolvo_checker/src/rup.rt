@@ -6,7 +6,7 @@ ghost use Rattle.std.specs.List.{list_all};
 ghost use Rattle.resolvo_pool_core.specs.OnePass.{is_denied, reading, is_broken, learn, deny, one_pass};
 ghost use Rattle.resolvo_checker.specs.Truth.{known_in};
 ghost use Rattle.resolvo_checker.specs.Literals.{literal_of, literals_of, rest_of as rest_of_lem, clause_at};
-ghost use Rattle.resolvo_checker.specs.Passing.{is_earlier, meet as meet_lem};
+ghost use Rattle.resolvo_checker.specs.Rup.{is_earlier, meet as meet_lem};
 
 use crate::assignment::Assignment;
 use crate::clauses::{Clauses, Readings};

@@ -1,7 +1,7 @@
 //! The rule that a step takes from a line.
 
 ghost use Rattle.std.specs.Prelude.{◌≡◌, IfSome, None, List, slice_get};
-ghost use Rattle.resolvo_text.specs.Matching.{same_version};
+ghost use Rattle.resolvo_text.specs.Matches.{same_version};
 ghost use Rattle.std.specs.Option.{option_and_then, option_copied};
 ghost use Rattle.resolvo_text.specs.Line as says;
 ghost use Rattle.resolvo_text.specs.View.{version_of};

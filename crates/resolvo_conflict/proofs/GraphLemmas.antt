@@ -17,7 +17,7 @@ use Rattle.resolvo_graph.specs.declared.graph.Edge.{Edge}
 use Rattle.resolvo_conflict.specs.declared.link.Link.{Link}
 use Rattle.resolvo_conflict.specs.Tests.{same_node}
 use Rattle.resolvo_conflict.specs.Links.{source_of, target_of, weight_of, ends_of}
-use Rattle.resolvo_conflict.specs.Drawing.{nodes_of, index_among, edge_from, edges_in}
+use Rattle.resolvo_conflict.specs.Draw.{nodes_of, index_among, edge_from, edges_in}
 
 -- a key that is found lies before the end
 pub position_within : {X : Type 0} (p : X → Bool) (xs : List X) → list_any p xs ≡ true → position_or_len p xs < length xs

@@ -11,7 +11,7 @@ use Rattle.resolvo_proof.specs.declared.step.ProofRule.{ProofRule}
 use Rattle.resolvo_proof.specs.declared.step.ProofStep.{ProofStep}
 use Rattle.resolvo_conflict.specs.declared.link.Link.{Link}
 use Rattle.resolvo_conflict.specs.Order.{rules_at}
-use Rattle.resolvo_conflict.specs.Linking.{gate_in, limit_in, outside_in, instance_in, named, last_instance, before_in, links_at, links_after, limited_in, is_new, once_after}
+use Rattle.resolvo_conflict.specs.LinkRules.{gate_in, limit_in, outside_in, instance_in, named, last_instance, before_in, links_at, links_after, limited_in, is_new, once_after}
 use Rattle.resolvo_conflict.proofs.RuleLemmas.{rule_of, rules_more}
 
 pub turned_test : {X : Type 0} (b : Bool) (x y : X) → cond b x y ≡ cond (not b) y x

@@ -30,8 +30,8 @@ use Rattle.resolvo_conflict.specs.declared.link.Link.TheVariants as Links
 use Rattle.resolvo_conflict.specs.Order.{rule_in, named_by, conflict_order, conflict_rules, requirements_in}
 use Rattle.resolvo_conflict.specs.Tests.{same_node}
 use Rattle.resolvo_conflict.specs.Links.{parent_node, target_of, weight_of, ends_of}
-use Rattle.resolvo_conflict.specs.Linking.{all_links, each_limit_once}
-use Rattle.resolvo_conflict.specs.Drawing.{nodes_of, edge_from, edges_in, drawn, conflict_drawing}
+use Rattle.resolvo_conflict.specs.LinkRules.{all_links, each_limit_once}
+use Rattle.resolvo_conflict.specs.Draw.{nodes_of, edge_from, edges_in, drawn, conflict_drawing}
 use Rattle.resolvo_conflict.specs.Truth.{IsTrue, IsTrueEdge, IsTrueGraph, TellsTruth}
 use Rattle.resolvo_conflict.proofs.GraphLemmas.{position_within, Has, HasAll, has_all_inserted, has_all_left, has_all_right, has_all-at, own_test}
 use Rattle.resolvo_conflict.proofs.TruthLemmas.{AreRules, AreNamed, IsTrueLink, all_filter_map, all_true, kept_true}

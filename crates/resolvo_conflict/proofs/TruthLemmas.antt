@@ -19,7 +19,7 @@ use Rattle.resolvo_proof.specs.declared.step.ProofRule.{ProofRule}
 use Rattle.resolvo_proof.specs.declared.step.ProofRule.TheVariants.{Needs, GateOf, Shared, Limit, Outside, Locked, Excluded, Digit, AtLeastOne}
 use Rattle.resolvo_conflict.specs.declared.link.Link.{Link}
 use Rattle.resolvo_conflict.specs.declared.link.Link.TheVariants as Links
-use Rattle.resolvo_conflict.specs.Linking.{gate_in, limit_in, outside_in, instance_in, named, last_instance, before_in, requirers, under_set, needed, links_at, links_after, all_links, limited_in, is_new, once_after, each_limit_once}
+use Rattle.resolvo_conflict.specs.LinkRules.{gate_in, limit_in, outside_in, instance_in, named, last_instance, before_in, requirers, under_set, needed, links_at, links_after, all_links, limited_in, is_new, once_after, each_limit_once}
 use Rattle.resolvo_conflict.specs.Order.{named_by}
 use Rattle.resolvo_conflict.specs.Truth.{Asks}
 use Rattle.resolvo_proof.specs.Steps.{rule_under}

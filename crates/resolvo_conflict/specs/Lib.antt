@@ -2,6 +2,6 @@ pub mod Tests
 pub mod Offered
 pub mod Order
 pub mod Links
-pub mod Linking
-pub mod Drawing
+pub mod LinkRules
+pub mod Draw
 pub mod Truth

@@ -9,7 +9,7 @@ ghost use Rattle.resolvo_conflict.specs.Order.{conflict_rules};
 ghost use Rattle.resolvo_conflict.specs.Tests.{same_node};
 ghost use Rattle.resolvo_conflict.specs.Links.{ends_of};
 ghost use Rattle.resolvo_conflict.specs.Truth.{TellsTruth};
-ghost use Rattle.resolvo_conflict.specs.Drawing.{index_among, edges_in, drawn, conflict_drawing};
+ghost use Rattle.resolvo_conflict.specs.Draw.{index_among, edges_in, drawn, conflict_drawing};
 
 use crate::link::Link;
 use crate::link_rules::{each_limit_once, links_of};

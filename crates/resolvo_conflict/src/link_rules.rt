@@ -7,7 +7,7 @@ ghost use Rattle.resolvo_pool_core.specs.declared.want.Want.TheVariants.{Memory}
 ghost use Rattle.resolvo_conflict.specs.declared.link.Link.TheVariants.{Constrains};
 ghost use Rattle.resolvo_conflict.specs.Offered.{offered_by};
 ghost use Rattle.resolvo_conflict.specs.Order.{rules_at};
-ghost use Rattle.resolvo_conflict.specs.Linking.{gate_in, limit_in, outside_in, instance_in, named, before_in, requirers, under_set, needed, links_at, all_links, limited_in, is_new, each_limit_once};
+ghost use Rattle.resolvo_conflict.specs.LinkRules.{gate_in, limit_in, outside_in, instance_in, named, before_in, requirers, under_set, needed, links_at, all_links, limited_in, is_new, each_limit_once};
 
 use crate::link::Link;
 use crate::offers::Offers;

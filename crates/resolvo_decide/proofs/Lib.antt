@@ -1,3 +1,3 @@
 pub mod Positions
 pub mod Seen
-pub mod Fitting
+pub mod FitLemmas

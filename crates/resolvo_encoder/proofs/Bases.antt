@@ -8,21 +8,21 @@ use Rattle.resolvo_store_core.specs.Signed.{Signed, has}
 use Rattle.resolvo_store_core.specs.Clauses.{yes}
 use Rattle.resolvo_store_core.specs.declared.decision.Entry.{Entry}
 use Rattle.resolvo_sat.specs.declared.propagate_and_learn.StepResult.{StepResult}
-use Rattle.resolvo_sat.specs.Advancing.{IsProgress}
+use Rattle.resolvo_sat.specs.PropagateAndLearn.{IsProgress}
 use Rattle.resolvo_sat.specs.Entries.{made_true, top_level, StandsOn, IsTrail, IsUndone, EndsWith}
 use Rattle.resolvo_sat.specs.State.{count_of, history, clauses_of}
 use Rattle.resolvo_sat.specs.Steps.{Chooses, Undoes, choice_entry}
-use Rattle.resolvo_sat.proofs.Improving.{extends_earlier, choice_earlier}
+use Rattle.resolvo_sat.proofs.ImproveLemmas.{extends_earlier, choice_earlier}
 use Rattle.resolvo_sat.proofs.Trails.{level_steps}
 use Rattle.resolvo_sat.proofs.StepLemmas.{reverse_push}
 use Rattle.resolvo_state.specs.declared.solver_state.SolverState.{SolverState}
-use Rattle.resolvo_state.specs.Coding.{Advances, Grows, SameTrail}
+use Rattle.resolvo_state.specs.SolverState.{Advances, Grows, SameTrail}
 use Rattle.resolvo_state.proofs.Growth.{below_or_not, stands_grow}
 use Rattle.resolvo_encoder.specs.declared.encoder.Encoder.{Encoder}
 use Rattle.resolvo_encoder.specs.declared.encoder.EncodedOnce.{EncodedOnce}
 use Rattle.resolvo_encoder.specs.Base.{below, base_of, IsFirst, IsOpen, HasTurn, KeepsTurn, KeepsTurns, KeepsFirst}
-use Rattle.resolvo_encoder.specs.Going.{GoesOn}
-use Rattle.resolvo_encoder.specs.Wishing.{turn_of, IsWish}
+use Rattle.resolvo_encoder.specs.Progress.{GoesOn}
+use Rattle.resolvo_encoder.specs.SoftRequirement.{turn_of, IsWish}
 
 -- ---- the part of a trail below a level
 

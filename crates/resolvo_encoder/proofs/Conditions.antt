@@ -17,13 +17,13 @@ use Rattle.resolvo_sat.proofs.Literals.{has-cons, has_here, has_later, has-appen
 use Rattle.resolvo_soundness.specs.Encoding.{Atom, case_literals}
 use Rattle.resolvo_soundness.specs.Numbered.{meaning, Spells}
 use Rattle.resolvo_soundness.proofs.Lists.{contains_left, contains_right, contains_parts}
-use Rattle.resolvo_soundness.proofs.Growing.{spells_agree}
+use Rattle.resolvo_soundness.proofs.GrowLemmas.{spells_agree}
 use Rattle.resolvo_state.specs.declared.atom.ProofAtom.TheVariants.{Solvable, Gate}
 use Rattle.resolvo_state.specs.declared.solver_state.SolverState.{SolverState}
 use Rattle.resolvo_state.specs.declared.clause_kind.Stated.{Stated}
 use Rattle.resolvo_state.specs.declared.clause_kind.Stated.TheVariants as Says
 use Rattle.resolvo_state.specs.Atoms.{origin}
-use Rattle.resolvo_state.specs.Coding.{Grows}
+use Rattle.resolvo_state.specs.SolverState.{Grows}
 use Rattle.resolvo_state.proofs.Growth.{stands_grow}
 use Rattle.resolvo_state.proofs.Origins.{origin_front}
 use Rattle.resolvo_state.proofs.Positions.{get_below, front_get, front_long}

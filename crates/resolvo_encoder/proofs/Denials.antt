@@ -16,8 +16,8 @@ use Rattle.resolvo_state.specs.declared.clause_kind.Stated.{Stated}
 use Rattle.resolvo_state.specs.declared.clause_kind.Stated.TheVariants as Says
 use Rattle.resolvo_state.specs.Statements.{rule_of}
 use Rattle.resolvo_encoder.specs.Encoded.{Asks}
-use Rattle.resolvo_encoder.proofs.Requiring.{some_one}
-use Rattle.resolvo_encoder.specs.Telling.{IsRestraint, IsPair}
+use Rattle.resolvo_encoder.proofs.RequireLemmas.{some_one}
+use Rattle.resolvo_encoder.specs.ClauseRules.{IsRestraint, IsPair}
 
 -- whether the literal is that a solvable is chosen
 abbrev is_choice_of : {N S : Type 0} → Atom N S → Bool → Bool

@@ -8,7 +8,7 @@ use Rattle.resolvo_state.specs.declared.clause_kind.Stated.{Stated}
 use Rattle.resolvo_state.specs.Statements.{rule_of, rule_at, rules_in}
 use Rattle.resolvo_state.specs.Registered.{IsPlaced}
 use Rattle.resolvo_state.proofs.Rules.{digit_stated}
-use Rattle.resolvo_state.proofs.Registering.{placed_registered, one_place}
+use Rattle.resolvo_state.proofs.RegisterLemmas.{placed_registered, one_place}
 use Rattle.resolvo_encoder.specs.Encoded.{IsEncoding, rules_of}
 use Rattle.resolvo_encoder.specs.declared.encoder.Encoder.{Encoder}
 

@@ -16,10 +16,10 @@ use Rattle.resolvo_sat.specs.State.{count_of}
 use Rattle.resolvo_sat.specs.Steps.{AreInRange}
 use Rattle.resolvo_sat.proofs.Literals.{has-cons, has_here, has_later, has-append}
 use Rattle.resolvo_packages.specs.declared.package_source.Offered.{Offered}
-use Rattle.resolvo_packages.specs.Answering.{offered_solvables}
+use Rattle.resolvo_packages.specs.PackageSource.{offered_solvables}
 use Rattle.resolvo_soundness.specs.Encoding.{IsExact, Atom, Rule, plus, minus, case_literals, IsRule}
 use Rattle.resolvo_soundness.specs.Numbered.{meaning, Means, Spells}
-use Rattle.resolvo_soundness.proofs.Growing.{spells_agree}
+use Rattle.resolvo_soundness.proofs.GrowLemmas.{spells_agree}
 use Rattle.resolvo_soundness.proofs.Lists.{contains_none, contains_only, contains_one, contains_left, contains_right, contains_parts, contains_map, map_contains}
 use Rattle.resolvo_soundness.proofs.Members.{in_contained, contained_in, candidate_named, in_case, any_in_case, outside_in_case}
 use Rattle.resolvo_state.specs.declared.atom.ProofAtom.TheVariants.{Solvable, AtLeastOne}
@@ -27,7 +27,7 @@ use Rattle.resolvo_state.specs.declared.solver_state.SolverState.{SolverState}
 use Rattle.resolvo_state.specs.declared.registry.Registry.{Registry}
 use Rattle.resolvo_state.specs.declared.atom.ProofAtom.{ProofAtom}
 use Rattle.resolvo_state.specs.Atoms.{origin, solvable_of, StandsFor}
-use Rattle.resolvo_state.specs.Coding.{IsCoding, Grows}
+use Rattle.resolvo_state.specs.SolverState.{IsCoding, Grows}
 use Rattle.resolvo_state.specs.Registered.{IsTracked, IsRegistered}
 use Rattle.resolvo_state.proofs.Growth.{origin_grows, rules_grow, stands_grow, stands_in_range}
 use Rattle.resolvo_state.proofs.Origins.{count_is, means_atom, solvable_means, solvable_stands, stands_solvable}
@@ -37,14 +37,14 @@ use Rattle.resolvo_encoder.specs.Encoded.{IsEncoding}
 use Rattle.resolvo_encoder.specs.Encoded as E
 use Rattle.resolvo_encoder.specs.Helped.{AreThose, SaysThere, Admits, HelpsPackage, IsHelped, Helps}
 use Rattle.resolvo_encoder.specs.Steps.{IsBuilt, Extends, IsOfferedAs, IsListed, Enrols}
-use Rattle.resolvo_encoder.specs.Telling.{Tells}
+use Rattle.resolvo_encoder.specs.ClauseRules.{Tells}
 use Rattle.resolvo_encoder.specs.declared.conditions.ConditionSet.{ConditionSet}
 use Rattle.resolvo_encoder.specs.declared.encoder.Encoder.{Encoder}
 use Rattle.resolvo_encoder.specs.declared.encoder.EncodedOnce.{EncodedOnce}
 use Rattle.resolvo_encoder.proofs.Conditions.{spells_join}
-use Rattle.resolvo_encoder.proofs.Needing.{literal_in, in_literals}
-use Rattle.resolvo_encoder.proofs.Requiring.{each_of, some_one, extends_then, extends_same, registered_before, registered_stays}
-use Rattle.resolvo_encoder.proofs.Telling.{built_noted, helped_noted, there_noted}
+use Rattle.resolvo_encoder.proofs.NeedLemmas.{literal_in, in_literals}
+use Rattle.resolvo_encoder.proofs.RequireLemmas.{each_of, some_one, extends_then, extends_same, registered_before, registered_stays}
+use Rattle.resolvo_encoder.proofs.TellLemmas.{built_noted, helped_noted, there_noted}
 
 -- where only what is noted changes, what came came
 pub extends_noted : {N S : Type 0} (old middle : Encoder N S) (x : EncodedOnce N S) → Extends old middle → x.wishes.items ≡ middle.noted.wishes.items → Extends old (record middle { noted = x })

@@ -9,7 +9,7 @@ use Rattle.resolvo_pool_core.specs.RuleKeeping.{Packages, Rules}
 use Rattle.resolvo_store_core.specs.AtMostOne.{IsFrontOf}
 use Rattle.resolvo_soundness.proofs.Lists.{any_contained, contains_first, contains_left, contains_right, contains_one, contains_parts}
 use Rattle.resolvo_state.proofs.Positions.{get_old, front_long, front_same}
-use Rattle.resolvo_encoder.proofs.Carrying.{split_at}
+use Rattle.resolvo_encoder.proofs.CarryLemmas.{split_at}
 use Rattle.resolvo_encoder.specs.Encoded.{IsParentEncoded, IsEncoding}
 use Rattle.resolvo_encoder.specs.Steps.{AddsParent, IsNextEncoded}
 use Rattle.resolvo_encoder.specs.declared.encoder.Encoder.{Encoder}

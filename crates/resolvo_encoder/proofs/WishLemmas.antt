@@ -16,13 +16,13 @@ use Rattle.resolvo_soundness.specs.Encoding.{IsExact, Atom}
 use Rattle.resolvo_soundness.specs.Numbered.{meaning}
 use Rattle.resolvo_soundness.proofs.Members.{contained_in}
 use Rattle.resolvo_state.specs.Atoms.{origin}
-use Rattle.resolvo_state.specs.Coding.{IsCoding}
+use Rattle.resolvo_state.specs.SolverState.{IsCoding}
 use Rattle.resolvo_state.specs.Registered.{AreTied}
 use Rattle.resolvo_state.proofs.Origins.{solvable_means}
 use Rattle.resolvo_encoder.specs.declared.encoder.Encoder.{Encoder}
 use Rattle.resolvo_encoder.specs.Encoded.{IsChosenFor, IsEncoding}
 use Rattle.resolvo_encoder.specs.Steps.{IsBuilt}
-use Rattle.resolvo_encoder.specs.Wishing.{IsWish}
+use Rattle.resolvo_encoder.specs.SoftRequirement.{IsWish}
 
 -- ---- a turn's first level
 

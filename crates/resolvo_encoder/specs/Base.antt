@@ -6,7 +6,7 @@ use Rattle.resolvo_store_core.specs.Clauses.{yes, no, root as root_variable}
 use Rattle.resolvo_store_core.specs.Signed.{Signed, has}
 use Rattle.resolvo_store_core.specs.declared.decision.Entry.{Entry}
 use Rattle.resolvo_sat.specs.declared.analyze.FinalConflict.{FinalConflict}
-use Rattle.resolvo_sat.specs.Advancing.{KeepsUpTo}
+use Rattle.resolvo_sat.specs.PropagateAndLearn.{KeepsUpTo}
 use Rattle.resolvo_sat.specs.Analysis.{AreFromClauses, IsReason}
 use Rattle.resolvo_sat.specs.Entries.{made_true, top_level, EndsWith}
 use Rattle.resolvo_sat.specs.State.{history, clauses_of, IsDerived}
@@ -14,7 +14,7 @@ use Rattle.resolvo_sat.specs.Steps.{choice_entry}
 use Rattle.resolvo_state.specs.declared.atom.ProofAtom.TheVariants.{Solvable}
 use Rattle.resolvo_state.specs.Atoms.{StandsFor}
 use Rattle.resolvo_encoder.specs.declared.encoder.Encoder.{Encoder}
-use Rattle.resolvo_encoder.specs.Wishing.{IsWish}
+use Rattle.resolvo_encoder.specs.SoftRequirement.{IsWish}
 
 -- the part of a trail, newest first, that stands below a level
 abbrev pub below : ℕ → List Entry → List Entry

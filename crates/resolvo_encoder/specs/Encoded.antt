@@ -21,7 +21,7 @@ use Rattle.resolvo_sat.specs.State.{history}
 use Rattle.resolvo_sat.specs.Steps.{AreInRange}
 use Rattle.resolvo_pool_core.specs.OnePass.{Literal}
 use Rattle.resolvo_soundness.specs.Encoding.{Atom, Rule, case_literals, cases_for, IsRule, IsBarredIn, HasBar}
-use Rattle.resolvo_soundness.specs.Ending.{IsNeedEncoded, HasClause, IsWished}
+use Rattle.resolvo_soundness.specs.SearchEnd.{IsNeedEncoded, HasClause, IsWished}
 use Rattle.resolvo_soundness.specs.First.{IsFirstPick}
 use Rattle.resolvo_soundness.specs.Numbered.{Spells, AreCalledFor}
 use Rattle.resolvo_state.specs.declared.atom.ProofAtom.{ProofAtom}
@@ -30,7 +30,7 @@ use Rattle.resolvo_state.specs.declared.clause_kind.Stated.{Stated}
 use Rattle.resolvo_state.specs.declared.clause_kind.Stated.TheVariants as Says
 use Rattle.resolvo_state.specs.Atoms.{origin, StandsFor}
 use Rattle.resolvo_state.specs.Statements.{stated_at, rule_at, rules_in}
-use Rattle.resolvo_state.specs.Coding.{IsCoding}
+use Rattle.resolvo_state.specs.SolverState.{IsCoding}
 use Rattle.resolvo_state.specs.Registered.{AreTied, IsTracked, IsRegistered}
 use Rattle.resolvo_state.specs.Spelled.{Spelled, AreRegistered}
 use Rattle.resolvo_encoder.specs.declared.encoder.Deferred.{Deferred}

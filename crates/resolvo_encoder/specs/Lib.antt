@@ -1,10 +1,10 @@
 pub mod Cases
 pub mod Encoded
 pub mod Steps
-pub mod Telling
+pub mod ClauseRules
 pub mod Helped
-pub mod Casing
-pub mod Turning
-pub mod Going
-pub mod Wishing
+pub mod Conditions
+pub mod TurnLevels
+pub mod Progress
+pub mod SoftRequirement
 pub mod Base

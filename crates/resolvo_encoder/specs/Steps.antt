@@ -14,7 +14,7 @@ use Rattle.resolvo_store_core.specs.Lists.{has_candidates, candidates_in, condit
 use Rattle.resolvo_pool_core.specs.ByRequirement.{slot_of}
 use Rattle.resolvo_pool_core.specs.declared.solver_id.SolvableIdOrRoot.TheVariants.{Root}
 use Rattle.resolvo_packages.specs.declared.package_source.Offered.{Offered}
-use Rattle.resolvo_packages.specs.Answering.{offered_solvables}
+use Rattle.resolvo_packages.specs.PackageSource.{offered_solvables}
 use Rattle.resolvo_pool_core.specs.Provider.{listed}
 use Rattle.resolvo_pool_core.specs.RuleKeeping.{Packages, Rules, IsLawful, is_in, rules_for}
 use Rattle.resolvo_pool_core.specs.declared.id.VersionSetId.{VersionSetId}
@@ -32,7 +32,7 @@ use Rattle.resolvo_state.specs.declared.clause_kind.Stated.{Stated}
 use Rattle.resolvo_state.specs.declared.solver_state.SolverState.{SolverState}
 use Rattle.resolvo_state.specs.declared.registry.Registry.{Registry}
 use Rattle.resolvo_state.specs.Atoms.{StandsFor}
-use Rattle.resolvo_state.specs.Coding.{IsCoding, IsBegun, Grows, SameTrail, States}
+use Rattle.resolvo_state.specs.SolverState.{IsCoding, IsBegun, Grows, SameTrail, States}
 use Rattle.resolvo_state.specs.Registered.{AreTied, IsTracked, IsDigitClause, IsNothing, Registers}
 use Rattle.resolvo_encoder.specs.declared.encoder.Encoder.{Encoder}
 

@@ -4,7 +4,7 @@ ghost use Rattle.std.specs.Prelude.{◌≡◌, ◌<◌, ◌∷◌, [], OnOk, IfO
 ghost use Rattle.resolvo_store_core.specs.Clauses.{no, candidate_literals};
 ghost use Rattle.resolvo_soundness.specs.Encoding.{Rule};
 ghost use Rattle.resolvo_encoder.specs.Steps.{IsBuilt};
-ghost use Rattle.resolvo_encoder.specs.Telling.{Tells};
+ghost use Rattle.resolvo_encoder.specs.ClauseRules.{Tells};
 ghost use Rattle.resolvo_encoder.specs.Helped.{AreThose, SaysThere, HelpsPackage, Helps};
 
 use crate::conditions::ConditionSet;

@@ -6,7 +6,7 @@ ghost use Rattle.resolvo_decide.specs.Needs.{KeepsFitting};
 ghost use Rattle.resolvo_sat.specs.Steps.{Undoes};
 ghost use Rattle.resolvo_encoder.specs.Encoded.{IsEncoding};
 ghost use Rattle.resolvo_encoder.specs.Steps.{IsBuilt};
-ghost use Rattle.resolvo_encoder.specs.Going.{IsNext, GoesOn, IsStep, IsChoice};
+ghost use Rattle.resolvo_encoder.specs.Progress.{IsNext, GoesOn, IsStep, IsChoice};
 ghost use Rattle.resolvo_encoder.specs.Base.{KeepsFirst, KeepsTurns};
 
 use crate::encoder::Encoder;

@@ -11,14 +11,14 @@ ghost use Rattle.resolvo_store_core.specs.Clauses.{no, candidate_literals};
 ghost use Rattle.resolvo_store_core.specs.Lists.{has_candidates, candidates_in, condition_in, IsEmpty};
 ghost use Rattle.resolvo_sat.specs.State.{count_of};
 ghost use Rattle.resolvo_sat.specs.Steps.{AreInRange};
-ghost use Rattle.resolvo_packages.specs.Answering.{AreOffered};
+ghost use Rattle.resolvo_packages.specs.PackageSource.{AreOffered};
 ghost use Rattle.resolvo_soundness.specs.Encoding.{Rule, IsRule};
-ghost use Rattle.resolvo_soundness.specs.Ending.{IsNeedEncoded};
+ghost use Rattle.resolvo_soundness.specs.SearchEnd.{IsNeedEncoded};
 ghost use Rattle.resolvo_state.specs.declared.atom.ProofAtom.TheVariants.{Gate};
 ghost use Rattle.resolvo_state.specs.Atoms.{StandsFor};
 ghost use Rattle.resolvo_encoder.specs.Encoded.{rules_of, IsGuarded, IsEncoding};
 ghost use Rattle.resolvo_state.specs.Statements.{rule_of};
-ghost use Rattle.resolvo_state.specs.Coding.{IsBegun, IsCoding};
+ghost use Rattle.resolvo_state.specs.SolverState.{IsBegun, IsCoding};
 ghost use Rattle.resolvo_encoder.specs.Steps.{Fixes, StatesNeed, IsBuilt, Needs, Extends, NeedsDirectly, Opens, AddsCandidates, IsBegunEncoding, AddsParent, IsNextEncoded};
 
 use indexmap::IndexSet;

@@ -1,11 +1,11 @@
 //! Solvables are registered, as the candidates of a requirement, since they are outside a case's version set, or as wishes. Where
 //! a case names their package, a clause says first that one of it is there.
 ghost use Rattle.std.specs.Prelude.{◌≡◌, ◌∷◌, [], OnOk, IfOk};
-ghost use Rattle.resolvo_state.specs.Coding.{IsCoding};
+ghost use Rattle.resolvo_state.specs.SolverState.{IsCoding};
 ghost use Rattle.resolvo_state.specs.Registered.{AreTied};
 ghost use Rattle.resolvo_encoder.specs.Steps.{RegistersOne, RegistersAll, IsBuilt, Enrols};
 ghost use Rattle.resolvo_encoder.specs.Helped.{SaysThere, Admits};
-ghost use Rattle.resolvo_encoder.specs.Wishing.{RegistersWish};
+ghost use Rattle.resolvo_encoder.specs.SoftRequirement.{RegistersWish};
 
 use crate::encoder::Encoder;
 use resolvo_packages::package_source::Offered;

@@ -5,11 +5,11 @@ ghost use Rattle.resolvo_pool_core.specs.RuleKeeping.{Packages, Rules, IsLawful}
 ghost use Rattle.resolvo_sat.specs.Analysis.{IsBar};
 ghost use Rattle.resolvo_sat.specs.Entries.{top_level};
 ghost use Rattle.resolvo_sat.specs.State.{history};
-ghost use Rattle.resolvo_state.specs.Coding.{Bars};
+ghost use Rattle.resolvo_state.specs.SolverState.{Bars};
 ghost use Rattle.resolvo_encoder.specs.Encoded.{IsEncoding};
 ghost use Rattle.resolvo_encoder.specs.Steps.{IsBuilt};
-ghost use Rattle.resolvo_encoder.specs.Going.{GoesOn};
-ghost use Rattle.resolvo_encoder.specs.Wishing.{turn_of, Notes, IsUntaken, TakesBack};
+ghost use Rattle.resolvo_encoder.specs.Progress.{GoesOn};
+ghost use Rattle.resolvo_encoder.specs.SoftRequirement.{turn_of, Notes, IsUntaken, TakesBack};
 ghost use Rattle.resolvo_encoder.specs.Base.{HasTurn, IsTried, KeepsTurn, KeepsTurns};
 
 use crate::encoder::Encoder;

@@ -15,7 +15,7 @@ use Rattle.resolvo_pool_core.specs.declared.requirement.Requirement.TheVariants.
 use Rattle.resolvo_pool_core.specs.contracts.requirement.RequirementPartialEq.TheImpl as Requirements
 use Rattle.resolvo_graph.specs.declared.merge.Likeness.{Likeness}
 use Rattle.resolvo_graph.specs.declared.merge.Member.{Member}
-use Rattle.resolvo_graph.specs.Merging.{Profile, alike, same_neighbour, numbered, group, AreMembers, together, told_together, group_in}
+use Rattle.resolvo_graph.specs.Merge.{Profile, alike, same_neighbour, numbered, group, AreMembers, together, told_together, group_in}
 use Rattle.resolvo_graph.proofs.LinkLemmas.{or_true}
 
 and_assoc : (a b c : Bool) → (a && (b && c)) ≡ ((a && b) && c)

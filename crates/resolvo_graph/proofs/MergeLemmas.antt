@@ -10,7 +10,7 @@ use Rattle.resolvo_graph.specs.declared.graph.NodeIndex.{NodeIndex}
 use Rattle.resolvo_graph.specs.declared.graph.ConflictNode.{ConflictNode}
 use Rattle.resolvo_graph.specs.declared.merge.MergedConflictNode.{MergedConflictNode}
 use Rattle.resolvo_graph.specs.Kept.{ids_at}
-use Rattle.resolvo_graph.specs.Merging.{solvable_of, with_version, versions_from}
+use Rattle.resolvo_graph.specs.Merge.{solvable_of, with_version, versions_from}
 
 pub zip_one : {A B : Type 0} (R : A → B → Type 0) (xs : List A) (ys : List B) (x : A) (y : B) → AllZip R xs ys → R x y → AllZip R (xs ++ x ∷ []) (ys ++ y ∷ [])
 zip_one R [] [] x y h r = (r, tt)

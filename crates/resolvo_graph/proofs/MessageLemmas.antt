@@ -6,7 +6,7 @@ use Rattle.resolvo_graph.specs.declared.graph.NodeIndex.{NodeIndex}
 use Rattle.resolvo_graph.specs.declared.graph.Edge.{Edge}
 use Rattle.resolvo_graph.specs.declared.line.MessageLine.{MessageLine}
 use Rattle.resolvo_graph.specs.Graph.{Graph, edges_of}
-use Rattle.resolvo_graph.specs.Merging.{IsMerged}
+use Rattle.resolvo_graph.specs.Merge.{IsMerged}
 use Rattle.resolvo_graph.specs.Outlook.{installable_in, missing_in}
 use Rattle.resolvo_graph.specs.Walk.{IsPostOrder}
 use Rattle.resolvo_graph.specs.Message.{heading, conflict_lines, misses, fits, IsSecondPart, AreParts, IsMessage}

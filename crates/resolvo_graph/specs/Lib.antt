@@ -2,7 +2,7 @@ pub mod Graph
 pub mod Indent
 pub mod Kept
 pub mod Links
-pub mod Merging
+pub mod Merge
 pub mod Message
 pub mod Outlook
 pub mod Removal
@@ -10,4 +10,4 @@ pub mod Runs
 pub mod Steps
 pub mod Tree
 pub mod Walk
-pub mod Wording
+pub mod Words

@@ -11,12 +11,12 @@ use Rattle.resolvo_graph.specs.declared.line.Sentence.TheVariants as Says
 use Rattle.resolvo_graph.specs.declared.line.MessageLine.{MessageLine}
 use Rattle.resolvo_graph.specs.Graph.{Graph, edges_of}
 use Rattle.resolvo_graph.specs.Indent.{Indent}
-use Rattle.resolvo_graph.specs.Merging.{IsMerged}
+use Rattle.resolvo_graph.specs.Merge.{IsMerged}
 use Rattle.resolvo_graph.specs.Outlook.{installable_in, missing_in}
 use Rattle.resolvo_graph.specs.Runs.{runs_of}
 use Rattle.resolvo_graph.specs.Tree.{Findings, IsTree, order_before}
 use Rattle.resolvo_graph.specs.Walk.{IsPostOrder, is_among}
-use Rattle.resolvo_graph.specs.Wording.{Meaning, line_text}
+use Rattle.resolvo_graph.specs.Words.{Meaning, line_text}
 
 -- the line of a conflict of the problem itself: of a constraint, or of a lock
 abbrev pub conflict_line : {S : Type 0} → ConflictEdge S → Indent → List (MessageLine S)

@@ -21,7 +21,7 @@ use Rattle.resolvo_graph.specs.declared.tree.DisplayOp.{DisplayOp}
 use Rattle.resolvo_graph.specs.declared.tree.DisplayOp.TheVariants.{Requirement, Candidate}
 use Rattle.resolvo_graph.specs.Graph.{Graph, edges_of, is_unresolved_at, is_forbidden, is_exclusion, admitted_by}
 use Rattle.resolvo_graph.specs.Indent.{Indent, level_below}
-use Rattle.resolvo_graph.specs.Merging.{solvable_of}
+use Rattle.resolvo_graph.specs.Merge.{solvable_of}
 use Rattle.resolvo_graph.specs.Outlook.{has_target_in}
 use Rattle.resolvo_graph.specs.Runs.{Run, runs_of}
 use Rattle.resolvo_graph.specs.Walk.{is_among}

@@ -2,7 +2,7 @@
 //! on a constraint. docs/MESSAGES.md explains the sentences to those who read them.
 ghost use Rattle.std.specs.Prelude.{◌≡◌, ◌==◌, Some, length};
 ghost use Rattle.std.specs.Fmt.{WritesOnOk};
-ghost use Rattle.resolvo_graph.specs.Wording.{line_text, sentence_words, requirement_words, versions_words, set_words, admitted_words, constraint_words, words_before, words_behind, words_of};
+ghost use Rattle.resolvo_graph.specs.Words.{line_text, sentence_words, requirement_words, versions_words, set_words, admitted_words, constraint_words, words_before, words_behind, words_of};
 
 use crate::indenter::Indenter;
 use resolvo_pool_core::id::{SolvableId, StringId, VersionSetId};
@@ -41,7 +41,7 @@ pub enum Verdict {
 
 impl Outlook {
     /// What stands before a requirement, at the top and below.
-    #[tactic(auto, unfolding(crate::specs::Wording::words_before))]
+    #[tactic(auto, unfolding(crate::specs::Words::words_before))]
     fn words_before(self, top: bool) -> &'static str
         ensures { result.now ≡ words_before top self }
     {
@@ -52,7 +52,7 @@ impl Outlook {
     }
 
     /// What stands behind a requirement, at the top and below.
-    #[tactic(auto, unfolding(crate::specs::Wording::words_behind))]
+    #[tactic(auto, unfolding(crate::specs::Words::words_behind))]
     fn words_behind(self, top: bool) -> &'static str
         ensures { result.now ≡ words_behind top self }
     {
@@ -77,7 +77,7 @@ impl Outlook {
 
 impl Verdict {
     /// What stands behind versions, before a reason.
-    #[tactic(auto, unfolding(crate::specs::Wording::words_of))]
+    #[tactic(auto, unfolding(crate::specs::Words::words_of))]
     fn words(self) -> &'static str
         ensures { result.now ≡ words_of self }
     {

@@ -2,7 +2,7 @@
 //! `simplify` numbers what versions have in common, the sorted lists of their neighbours among it, each
 //! neighbour with its requirement; versions of one number are told as one.
 ghost use Rattle.std.specs.Prelude.{◌≡◌, ℕ, ◌<◌, ◌==◌, ◌++◌, ◌∷◌, [], IfOk, OnOk, Some, cond, length, map, nat_lt, ◌&&◌, vec_len};
-ghost use Rattle.resolvo_graph.specs.Merging.{before, after, IsInOrder, IsProfile, AreProfiles, AreMembers, numbered, told_together, solvable_of, IsMerged};
+ghost use Rattle.resolvo_graph.specs.Merge.{before, after, IsInOrder, IsProfile, AreProfiles, AreMembers, numbered, told_together, solvable_of, IsMerged};
 ghost use Rattle.resolvo_graph.specs.Graph.{requirement_of};
 ghost use Rattle.resolvo_graph.specs.Kept.{kept_with, ids_at};
 
@@ -43,7 +43,7 @@ struct Profile<N, S> {
 }
 
 impl<N, S> Model for Profile<N, S> {
-    ghost use Rattle.resolvo_graph.specs.Merging.{Profile};
+    ghost use Rattle.resolvo_graph.specs.Merge.{Profile};
 
     ghost Value = { Profile N S };
 

@@ -10,7 +10,7 @@ use Rattle.std.proofs.lemmas.Option.{same_Some}
 use Rattle.std.proofs.lemmas.List.{append_assoc, append-nil}
 use Rattle.std.proofs.lemmas.List.Concat.{flat_map-append}
 use Rattle.resolvo_text.specs.Line.{Version, Line, Skipped, Listed, Needs, Limits, Unknown, Lock, Favour, Exclude, Wish}
-use Rattle.resolvo_text.specs.Matching.{Set, same_package, same_version, is_member, matches, condition_holds}
+use Rattle.resolvo_text.specs.Matches.{Set, same_package, same_version, is_member, matches, condition_holds}
 use Rattle.resolvo_catalogue_core.specs.Grammar.{line_at, owner_of}
 use Rattle.resolvo_catalogue_core.specs.Sets.{IsSingle, IsRuleKeeping}
 use Rattle.resolvo_catalogue_core.specs.Answers.{Answer, Reason, Entry, LeftOut, ForRequest, ForVersion, Wished, entry_of, entries_of, wish_line_of, IsNeededBy, IsReason, IsReasoned, IsLeftOut, ClaimsInstall, ClaimsRefusal}
@@ -22,7 +22,7 @@ use Rattle.resolvo_checker.specs.Proof.{may_stand, rests_on_named, follows, is_n
 use Rattle.resolvo_judge.specs.Refusal.{answer_in, step_in, answers_in, answers_claimed, steps_in, catalogue_lines_in, request_lines_in, catalogue_line_in, request_line_in, may_rest, passes, step_bars, ArePassed, IsAccepted}
 use Rattle.resolvo_judge.specs.Entries.{answer_fits}
 use Rattle.resolvo_judge.proofs.AnswerTests.{is_needed, is_wish, has_reason, leaves_out, is_left_out, rises, answer_passes, leaves_out_at, AnswersEnd}
-use Rattle.resolvo_judge.proofs.Fitting.{AnswersPass, answers_pass, ends_so}
+use Rattle.resolvo_judge.proofs.FitLemmas.{AnswersPass, answers_pass, ends_so}
 use Rattle.resolvo_checker.proofs.Sets.{contained, is_contained, same_own, same_is, found}
 use Rattle.resolvo_checker.proofs.Atoms.{bytes_own}
 use Rattle.resolvo_checker.proofs.ListedLemmas.{contains_listed}

@@ -2,7 +2,7 @@
 use Rattle.std.specs.Prelude.{◌≡◌, ℕ, Bool, false, not, ◌&&◌, ◌||◌, ◌==◌, nat_lt, IsTrue, List, ◌∷◌, ◌++◌, Option, Some}
 use Rattle.std.specs.List.{list_any, list_all, flat_map}
 use Rattle.resolvo_text.specs.Line.{Version, Line, Needs, Wish}
-use Rattle.resolvo_text.specs.Matching.{Set, same_package, same_version, is_member, matches, condition_holds}
+use Rattle.resolvo_text.specs.Matches.{Set, same_package, same_version, is_member, matches, condition_holds}
 use Rattle.resolvo_catalogue_core.specs.Grammar.{line_at, owner_of}
 use Rattle.resolvo_catalogue_core.specs.Rules.{keeps, keeps_in_request}
 use Rattle.resolvo_catalogue_core.specs.Answers as answer

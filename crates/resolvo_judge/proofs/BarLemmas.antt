@@ -7,7 +7,7 @@ use Rattle.std.specs.Option.{option_map_or, option_and_then}
 use Rattle.std.proofs.lemmas.Bool.{false≢true, and_parts, eqb-true, false_from_ne_true}
 use Rattle.std.proofs.lemmas.Option.{slice_get_within}
 use Rattle.resolvo_text.specs.Line.{Version, Line}
-use Rattle.resolvo_text.specs.Matching.{Set, same_version, is_member}
+use Rattle.resolvo_text.specs.Matches.{Set, same_version, is_member}
 use Rattle.resolvo_catalogue_core.specs.Listed.{listed}
 use Rattle.resolvo_pool_core.specs.OnePass.{AreNamed, AreNamedClauses}
 use Rattle.resolvo_report.specs.Value.{Atom, Chosen, AnyOf, SharedBy, OutsideOf, BitOf, Step}
@@ -18,9 +18,9 @@ use Rattle.resolvo_checker.specs.StepClauses.{Clause, clause_of}
 use Rattle.resolvo_checker.specs.Proof.{is_among, bars, IsProof}
 use Rattle.resolvo_judge.specs.Refusal.{step_bars}
 use Rattle.resolvo_checker.specs.Keys.{IsKey, Names}
-use Rattle.resolvo_checker.specs.Checking.{clause_or_none, StandFor}
+use Rattle.resolvo_checker.specs.CheckStep.{clause_or_none, StandFor}
 use Rattle.resolvo_judge.specs.KeptAnswers.{BarredWish}
-use Rattle.resolvo_judge.specs.Barring.{number_told, TellsVersions, version_told, is_barring, are_barring, clause_bars, is_barred}
+use Rattle.resolvo_judge.specs.LeftOut.{number_told, TellsVersions, version_told, is_barring, are_barring, clause_bars, is_barred}
 
 -- the version that the atom says to be in the set
 abbrev version_in : Atom → Option Version

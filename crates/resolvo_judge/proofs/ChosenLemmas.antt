@@ -9,7 +9,7 @@ use Rattle.std.proofs.lemmas.Bool.{cases_Bool, or_right, lt-ltb, ltb-true}
 use Rattle.std.proofs.lemmas.Slice.Eq.{bytes_eq-Decides}
 use Rattle.std.proofs.lemmas.Bool.Decides.{Decides-eqb}
 use Rattle.resolvo_text.specs.Line.{Version, Spec}
-use Rattle.resolvo_text.specs.Matching.{Set, same_package, same_version, is_member, is_met, is_in_span, matches}
+use Rattle.resolvo_text.specs.Matches.{Set, same_package, same_version, is_member, is_met, is_in_span, matches}
 use Rattle.resolvo_judge.specs.Chosen.{number_for, pick_from, AreOfOwnPackages, Holds}
 use Rattle.resolvo_judge.specs.declared.chosen.Chosen.{Chosen}
 use Rattle.std.specs.HashMap.{get_by_text}

@@ -8,7 +8,7 @@ use Rattle.std.proofs.lemmas.Bool.{and_parts, lt-ltb, ltb-true}
 use Rattle.resolvo_text.specs.Line.{Version, Line, Skipped, Listed, Needs, Limits, Unknown, Lock, Favour, Exclude, Wish}
 use Rattle.resolvo_checker.specs.Stated.{owned_line}
 use Rattle.resolvo_catalogue_core.specs.Questions.{wished_in}
-use Rattle.resolvo_text.specs.Matching.{Set, same_package, same_version, is_member}
+use Rattle.resolvo_text.specs.Matches.{Set, same_package, same_version, is_member}
 use Rattle.resolvo_report.specs.Value.{AnswerLine, Entry, Wished, LeftOut}
 use Rattle.resolvo_judge.specs.Entries.{entry_of, entries_of, left_out_of, left_out, wish_line_of, wish_lines, may_enter, gives, wishes, is_wish}
 use Rattle.resolvo_judge.specs.Refusal.{leaves_out}

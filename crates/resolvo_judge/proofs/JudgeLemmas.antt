@@ -34,10 +34,10 @@ use Rattle.resolvo_checker.specs.declared.clauses.Readings.{Readings}
 use Rattle.resolvo_judge.specs.declared.judge_state.JudgeState.{JudgeState}
 use Rattle.resolvo_judge.specs.declared.judgement.Verdict.{Verdict}
 use Rattle.resolvo_judge.specs.declared.judgement.Verdict.TheVariants.{Yes, No}
-use Rattle.resolvo_checker.specs.Checking.{causes_in, count_causes}
+use Rattle.resolvo_checker.specs.CheckStep.{causes_in, count_causes}
 use Rattle.resolvo_judge.specs.Refusal.{answer_of, answer_in, answers_in, answers_claimed, step_in, steps_in, catalogue_line_in, catalogue_lines_in, request_line_in, request_lines_in, is_refusal, passes, Ends, ArePassed, IsAccepted}
 use Rattle.resolvo_judge.specs.Log.{is_head, causes_of_line}
-use Rattle.resolvo_judge.specs.Judging.{Stands, EndsSo}
+use Rattle.resolvo_judge.specs.JudgeState.{Stands, EndsSo}
 use Rattle.resolvo_judge.specs.Judgement.{IsClaimTrue, IsUpheld, causes_named, HoldsOn, IsRefusedAt, IsVerdict, ClaimsTruth, CountsReadings, CameRight, IsStop}
 use Rattle.resolvo_checker.proofs.WholeProofs.{take_front, count_push}
 use Rattle.resolvo_judge.proofs.LogLemmas.{one_more}

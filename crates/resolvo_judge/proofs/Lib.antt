@@ -1,7 +1,7 @@
 pub mod ChosenLemmas
 pub mod ProofLaws
 pub mod AnswerTests
-pub mod Fitting
+pub mod FitLemmas
 pub mod Accepted
 pub mod BarLemmas
 pub mod NamedLemmas

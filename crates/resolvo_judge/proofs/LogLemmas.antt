@@ -11,7 +11,7 @@ use Rattle.resolvo_report.specs.Value as line
 use Rattle.resolvo_checker.specs.declared.literal.Literal.{Literal}
 use Rattle.resolvo_checker.specs.declared.check_step.Premises.{Premises}
 use Rattle.resolvo_checker.specs.Proof.{may_stand, is_named, derives_empty, ends_empty}
-use Rattle.resolvo_checker.specs.Checking.{names_catalogue, names_request, StandFor}
+use Rattle.resolvo_checker.specs.CheckStep.{names_catalogue, names_request, StandFor}
 use Rattle.resolvo_judge.specs.Refusal.{answer_in, answers_in, step_in, steps_in, catalogue_line_in, catalogue_lines_in, request_line_in, request_lines_in, is_refusal, may_rest, passes}
 use Rattle.resolvo_judge.specs.Log.{LogStands}
 

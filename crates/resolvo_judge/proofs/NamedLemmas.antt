@@ -7,7 +7,7 @@ use Rattle.resolvo_text.specs.Line.{Version, Line}
 use Rattle.resolvo_catalogue_core.specs.Questions.{States, is_rule}
 use Rattle.resolvo_catalogue_core.specs.declared.rule.Rule.{Rule}
 use Rattle.resolvo_catalogue_core.specs.declared.rule.Rule.TheVariants as rule
-use Rattle.resolvo_checker.specs.Checking.{flag_at}
+use Rattle.resolvo_checker.specs.CheckStep.{flag_at}
 use Rattle.resolvo_judge.specs.Refusal.{states_rule}
 
 pub flag_push : (marks : List Bool) (n : ℕ) → flag_at (marks ++ false ∷ []) n ≡ flag_at marks n

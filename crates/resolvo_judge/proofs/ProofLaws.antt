@@ -3,7 +3,7 @@ use Rattle.std.proofs.Common.{◌≡◌, ℕ, suc, true, List, [], ◌∷◌, sy
 use Rattle.std.specs.Prelude.{unwrap_or, Contains}
 use Rattle.std.proofs.lemmas.Bool.{false≢true, or_cases, eqb-true}
 use Rattle.resolvo_text.specs.Line.{Line}
-use Rattle.resolvo_text.specs.Matching.{Set}
+use Rattle.resolvo_text.specs.Matches.{Set}
 use Rattle.resolvo_catalogue_core.specs.Sets.{IsSingle, AreRefuted}
 use Rattle.resolvo_pool_core.specs.OnePass.{clause_true}
 use Rattle.resolvo_report.specs.Value.{Step}

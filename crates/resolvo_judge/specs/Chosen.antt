@@ -4,7 +4,7 @@ use Rattle.std.specs.HashMap.{get_by_text}
 use Rattle.std.specs.List.{list_any}
 use Rattle.std.specs.Str.{bytes_eq}
 use Rattle.resolvo_text.specs.Line.{Version}
-use Rattle.resolvo_text.specs.Matching.{Set, same_package}
+use Rattle.resolvo_text.specs.Matches.{Set, same_package}
 use Rattle.resolvo_judge.specs.declared.chosen.Chosen.{Chosen}
 use Rattle.resolvo_judge.specs.declared.chosen.Pick.{Pick}
 

@@ -2,7 +2,7 @@
 use Rattle.std.specs.Prelude.{ℕ, Bool, true, false, not, ◌&&◌, nat_lt, List, [], ◌∷◌, Option, Some}
 use Rattle.std.specs.List.{list_any, list_all, flat_map}
 use Rattle.resolvo_text.specs.Line.{Version, Line, Needs, Wish}
-use Rattle.resolvo_text.specs.Matching.{Set, same_package, same_version, is_member, matches, condition_holds}
+use Rattle.resolvo_text.specs.Matches.{Set, same_package, same_version, is_member, matches, condition_holds}
 use Rattle.resolvo_catalogue_core.specs.Grammar.{line_at}
 use Rattle.resolvo_report.specs.Value.{Place, OfRequest, OfVersion, AnswerLine, Entry, Wished, LeftOut}
 use Rattle.resolvo_checker.specs.StepClauses.{is_listed, line_of}

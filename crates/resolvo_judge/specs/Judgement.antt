@@ -15,7 +15,7 @@ use Rattle.resolvo_judge.specs.declared.judgement.Verdict.{Verdict}
 use Rattle.resolvo_judge.specs.declared.judgement.Verdict.TheVariants.{Yes, No}
 use Rattle.resolvo_judge.specs.declared.judgement.JudgeFault.{JudgeFault}
 use Rattle.resolvo_judge.specs.declared.judgement.JudgeFault.TheVariants.{Reader, TooLong, Memory}
-use Rattle.resolvo_checker.specs.Checking.{count_causes}
+use Rattle.resolvo_checker.specs.CheckStep.{count_causes}
 use Rattle.resolvo_judge.specs.Refusal.{answer_of, steps_in, passes, Ends, ArePassed, IsAccepted}
 
 -- ---- what holds

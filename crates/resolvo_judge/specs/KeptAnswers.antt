@@ -3,7 +3,7 @@ use Rattle.std.specs.Prelude.{◌≡◌, ℕ, ◌+◌, ◌||◌, Bool, true, fal
 use Rattle.std.specs.HashMap.{get}
 use Rattle.std.specs.List.{list_any, list_all}
 use Rattle.resolvo_text.specs.Line.{Version, Line, Wish}
-use Rattle.resolvo_text.specs.Matching.{is_member}
+use Rattle.resolvo_text.specs.Matches.{is_member}
 use Rattle.resolvo_catalogue_core.specs.Grammar.{line_at}
 use Rattle.resolvo_text.specs.View.{version_of}
 use Rattle.resolvo_report.specs.Value.{AnswerLine, Entry, Wished, LeftOut}

@@ -3,8 +3,8 @@ pub mod Chosen
 pub mod Refusal
 pub mod Log
 pub mod Versions
-pub mod Ending
+pub mod EndRules
 pub mod KeptAnswers
-pub mod Barring
-pub mod Judging
+pub mod LeftOut
+pub mod JudgeState
 pub mod Judgement

@@ -6,7 +6,7 @@ use Rattle.resolvo_report.specs.Value.{ReportLine, InstallHead, RefusedHead, Num
 use Rattle.resolvo_checker.specs.declared.literal.Literal.{Literal}
 use Rattle.resolvo_checker.specs.declared.check_step.Premises.{Premises}
 use Rattle.resolvo_checker.specs.Proof.{ends_empty}
-use Rattle.resolvo_checker.specs.Checking.{names_catalogue, names_request, causes_in, StandFor}
+use Rattle.resolvo_checker.specs.CheckStep.{names_catalogue, names_request, causes_in, StandFor}
 use Rattle.resolvo_judge.specs.Refusal.{steps_in, catalogue_lines_in, request_lines_in, may_rest}
 
 -- What is kept stands for these lines: their steps, the lines that steps may rest on, and whether the last step

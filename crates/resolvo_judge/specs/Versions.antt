@@ -4,7 +4,7 @@ use Rattle.std.specs.Global.{Vec}
 use Rattle.std.specs.HashMap.{get_by_text}
 use Rattle.std.specs.Str.{bytes_eq}
 use Rattle.resolvo_text.specs.Line.{Version}
-use Rattle.resolvo_text.specs.Matching.{Set}
+use Rattle.resolvo_text.specs.Matches.{Set}
 use Rattle.resolvo_judge.specs.declared.versions.Versions.{Versions}
 
 -- the numbers of the package's versions, in order

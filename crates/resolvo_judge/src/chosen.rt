@@ -9,7 +9,7 @@ ghost use Rattle.resolvo_catalogue_core.specs.Listed.{pair_version};
 ghost use Rattle.std.specs.Option.{option_map_or};
 ghost use Rattle.std.specs.String.{string_bytes};
 ghost use Rattle.resolvo_text.specs.Line as says;
-ghost use Rattle.resolvo_text.specs.Matching.{Set, is_in_span, same_package, matches, is_member, is_met, is_met_by_one, holds, condition_holds};
+ghost use Rattle.resolvo_text.specs.Matches.{Set, is_in_span, same_package, matches, is_member, is_met, is_met_by_one, holds, condition_holds};
 ghost use Rattle.resolvo_text.specs.View.{version_of, spec_of, specs_of, cond_of, condition_of};
 ghost use Rattle.resolvo_judge.specs.Chosen.{Holds, number_for};
 

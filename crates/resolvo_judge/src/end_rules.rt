@@ -3,12 +3,12 @@
 ghost use Rattle.std.specs.Prelude.{◌≡◌, ℕ, List, Option, Some, None, IsTrue, false, slice_get, option_map};
 ghost use Rattle.resolvo_text.specs.Line as says;
 ghost use Rattle.resolvo_text.specs.Line.{Lock};
-ghost use Rattle.resolvo_text.specs.Matching.{Set, is_member};
+ghost use Rattle.resolvo_text.specs.Matches.{Set, is_member};
 ghost use Rattle.resolvo_catalogue_core.specs.Listed.{pair_version, pair_versions};
 ghost use Rattle.resolvo_catalogue_core.specs.Questions.{States, IsOwner};
 ghost use Rattle.resolvo_catalogue_core.specs.Rules.{binds as binds_lem, obeys as obeys_lem, keeps, keeps_in_request};
 ghost use Rattle.resolvo_judge.specs.Chosen.{Holds};
-ghost use Rattle.resolvo_judge.specs.Ending.{KeepsAll};
+ghost use Rattle.resolvo_judge.specs.EndRules.{KeepsAll};
 
 use crate::chosen::Chosen;
 use resolvo_catalogue_core::{Catalogue, Request, Rule, VersionNo};

@@ -9,7 +9,7 @@ ghost use Rattle.resolvo_report.specs.View.{report_line_of};
 ghost use Rattle.resolvo_judge.specs.Refusal.{passes, answers_in, is_refusal as is_refusal_lem, ArePassed};
 ghost use Rattle.resolvo_judge.specs.Log.{LogStands, is_head, causes_of_line as causes_of_line_lem};
 ghost use Rattle.resolvo_judge.specs.KeptAnswers.{KeepsAnswers, KeepsLines};
-ghost use Rattle.resolvo_judge.specs.Judging.{Stands, EndsSo};
+ghost use Rattle.resolvo_judge.specs.JudgeState.{Stands, EndsSo};
 
 use crate::end_rules::keeps_all;
 use crate::entries::Entries;

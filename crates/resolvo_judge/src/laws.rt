@@ -3,7 +3,7 @@
 ghost use Rattle.std.specs.Prelude.{◌≡◌, ℕ, List, Some, true, slice_get, ◌∷◌, map};
 ghost use Rattle.std.specs.List.{AllByRecursion};
 ghost use Rattle.resolvo_text.specs.Line.{Version, Line};
-ghost use Rattle.resolvo_text.specs.Matching.{Set};
+ghost use Rattle.resolvo_text.specs.Matches.{Set};
 ghost use Rattle.resolvo_catalogue_core.specs.Sets.{AreRefuted};
 ghost use Rattle.resolvo_catalogue_core.specs.Answers.{ClaimsInstall, ClaimsRefusal};
 ghost use Rattle.resolvo_report.specs.Value.{Step, ReportLine, InstallHead, RefusedHead, Message, Refused};

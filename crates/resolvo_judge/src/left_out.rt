@@ -3,15 +3,15 @@
 ghost use Rattle.std.specs.Prelude.{◌≡◌, ℕ, Bool, List, IfOk, length, map, option_map, take};
 ghost use Rattle.std.specs.List.{list_all};
 ghost use Rattle.resolvo_text.specs.Line as says;
-ghost use Rattle.resolvo_text.specs.Matching.{Set, same_version};
+ghost use Rattle.resolvo_text.specs.Matches.{Set, same_version};
 ghost use Rattle.resolvo_text.specs.View.{version_of};
 ghost use Rattle.resolvo_catalogue_core.specs.Listed.{pair_version, pair_versions};
 ghost use Rattle.resolvo_report.specs.Value.{Step as SaidStep};
 ghost use Rattle.resolvo_checker.specs.Proof.{IsProof};
 ghost use Rattle.resolvo_judge.specs.Chosen.{Holds};
-ghost use Rattle.resolvo_checker.specs.Checking.{StandFor};
+ghost use Rattle.resolvo_checker.specs.CheckStep.{StandFor};
 ghost use Rattle.resolvo_judge.specs.KeptAnswers.{barred_of};
-ghost use Rattle.resolvo_judge.specs.Barring.{TellsVersions, version_told as version_told_lem, is_barring as is_barring_lem, clause_bars as clause_bars_lem, is_barred};
+ghost use Rattle.resolvo_judge.specs.LeftOut.{TellsVersions, version_told as version_told_lem, is_barring as is_barring_lem, clause_bars as clause_bars_lem, is_barred};
 
 use crate::chosen::Chosen;
 use crate::entries::Barred;

@@ -5,7 +5,7 @@ ghost use Rattle.std.specs.Prelude.{◌≡◌, ◌+◌, ◌^◌, ◌<◌, ◌≤
 ghost use Rattle.resolvo_catalogue_core.specs.Listed.{listed};
 ghost use Rattle.resolvo_report.specs.Value.{ReportLine, InstallHead, RefusedHead, CatalogueLine, RequestLine, Numbered};
 ghost use Rattle.resolvo_report.specs.View.{step_of};
-ghost use Rattle.resolvo_checker.specs.Checking.{causes_in, names_catalogue, names_request};
+ghost use Rattle.resolvo_checker.specs.CheckStep.{causes_in, names_catalogue, names_request};
 ghost use Rattle.resolvo_checker.specs.Proof.{derives_empty as derives_empty_lem};
 ghost use Rattle.resolvo_judge.specs.Refusal.{passes, states_rule};
 ghost use Rattle.resolvo_catalogue_core.specs.Grammar.{line_at};

@@ -2,7 +2,7 @@
 
 ghost use Rattle.std.specs.Prelude.{◌≡◌, ◌==◌, ◌||◌, ◌<◌, ℕ, IfOk, OnOk, IsTrue, vec_len};
 ghost use Rattle.resolvo_catalogue_core.specs.Grammar.{line_at};
-ghost use Rattle.resolvo_checker.specs.Checking.{flag_at};
+ghost use Rattle.resolvo_checker.specs.CheckStep.{flag_at};
 ghost use Rattle.resolvo_judge.specs.Refusal.{states_rule};
 
 use resolvo_catalogue_core::{Catalogue, Request};

@@ -4,7 +4,7 @@
 ghost use Rattle.std.specs.Prelude.{◌≡◌, ◌++◌, ◌∷◌, [], OnOk};
 ghost use Rattle.std.specs.HashMap.{get_by_text};
 ghost use Rattle.std.specs.List.{list_any};
-ghost use Rattle.resolvo_text.specs.Matching.{Set, is_member};
+ghost use Rattle.resolvo_text.specs.Matches.{Set, is_member};
 ghost use Rattle.resolvo_text.specs.View.{version_of};
 ghost use Rattle.resolvo_judge.specs.Versions.{HoldsAll, numbers_kept, AddsNumber};
 

@@ -1,2 +1,2 @@
-pub mod Offering
-pub mod Barring
+pub mod OfferLemmas
+pub mod BarLemmas

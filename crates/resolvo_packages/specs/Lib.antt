@@ -1,2 +1,2 @@
-pub mod Answering
-pub mod Barring
+pub mod PackageSource
+pub mod Forbidden

@@ -1,8 +1,8 @@
 //! Answers by value, over a cache of the provider's.
 ghost use Rattle.std.specs.Prelude.{◌≡◌, ◌++◌, IfOk, OnOk, map};
 ghost use Rattle.resolvo_pool_core.specs.Provider.{listing, needs_of};
-ghost use Rattle.resolvo_packages.specs.Answering.{packages_by, orders_by, offer_by};
-ghost use Rattle.resolvo_packages.specs.Barring.{excluded_by, locked_out, kept_out};
+ghost use Rattle.resolvo_packages.specs.PackageSource.{packages_by, orders_by, offer_by};
+ghost use Rattle.resolvo_packages.specs.Forbidden.{excluded_by, locked_out, kept_out};
 
 use crate::package_source::{Barred, Offered, PackageSource, Why};
 use resolvo_pool::cache::{CacheFault, SolverCache};

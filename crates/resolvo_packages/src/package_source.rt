@@ -6,8 +6,8 @@ ghost use Rattle.resolvo_pool_core.specs.RuleKeeping.{Packages, IsLawful};
 ghost use Rattle.resolvo_pool_core.specs.declared.requirement.Requirement.{Requirement};
 ghost use Rattle.resolvo_pool_core.specs.Text.{alternatives_of};
 ghost use Rattle.resolvo_store_core.specs.Cases.{cases, cases_of};
-ghost use Rattle.resolvo_packages.specs.Answering.{AreOffered, AreOutside, offered_solvables};
-ghost use Rattle.resolvo_packages.specs.Barring.{AreBarred};
+ghost use Rattle.resolvo_packages.specs.PackageSource.{AreOffered, AreOutside, offered_solvables};
+ghost use Rattle.resolvo_packages.specs.Forbidden.{AreBarred};
 
 use resolvo_pool::cache::CacheFault;
 use resolvo_pool_core::id::{ConditionId, Exact, StringId, VersionSetId};

@@ -1,6 +1,6 @@
 pub mod ByRequirement
 pub mod Ids
-pub mod Interning
+pub mod Intern
 pub mod Lends
 pub mod OnePass
 pub mod Provider

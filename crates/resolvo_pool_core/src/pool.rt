@@ -82,7 +82,7 @@ pub struct Pool<VS: VersionSet, N: PackageName = String> {
 impl<VS: VersionSet, N: PackageName> Model for Pool<VS, N> {
     ghost use Rattle.std.specs.Prelude.{◌≤◌, length, map};
     ghost use Rattle.std.specs.String.{string_bytes};
-    ghost use Rattle.resolvo_pool_core.specs.Interning.{Interned, AreBelow};
+    ghost use Rattle.resolvo_pool_core.specs.Intern.{Interned, AreBelow};
 
     ghost Value = { Interned VS.V VS N };
 

@@ -20,7 +20,7 @@ use Rattle.resolvo_soundness.proofs.Meanings.{stands_meaning, clause_in_range as
 use Rattle.resolvo_state.specs.declared.solver_state.SolverState.{SolverState}
 use Rattle.resolvo_state.specs.declared.clause_kind.Stated.TheVariants as Says
 use Rattle.resolvo_state.specs.Atoms.{origin}
-use Rattle.resolvo_state.specs.Coding.{IsCoding}
+use Rattle.resolvo_state.specs.SolverState.{IsCoding}
 use Rattle.resolvo_state.specs.Spelled.{Spelled}
 use Rattle.resolvo_state.specs.Statements.{stated_at}
 use Rattle.resolvo_state.proofs.Origins.{coding_once}
@@ -36,7 +36,7 @@ use Rattle.resolvo_proof.specs.Proof.{DenyRoot}
 use Rattle.resolvo_proof.specs.Trimmed.{IsRenumbered, IsTrimmedTo}
 use Rattle.resolvo_proof.specs.Written.{IsStepOf, IsStepAt, AreSteps, AreStepsThen}
 use Rattle.resolvo_proof.proofs.Parts.{clause_in_range}
-use Rattle.resolvo_proof.proofs.Proving.{kept_false, map_none, none_meant, refusal_in_range, spells_step, step_clause}
+use Rattle.resolvo_proof.proofs.ProveLemmas.{kept_false, map_none, none_meant, refusal_in_range, spells_step, step_clause}
 use Rattle.resolvo_proof.proofs.Shortened.{stood}
 
 not_rule : {N S : Type 0} (r : ProofRule N S) (literals : Vec (ProofLiteral N S) Global) (causes : Vec ℕ Global) → Derived literals causes ≡ Rule r → ⊥

@@ -1,10 +1,10 @@
 pub mod PassSets
 pub mod Meant
-pub mod Proving
+pub mod ProveLemmas
 pub mod Parts
-pub mod Convincing
-pub mod Flagging
-pub mod Numbering
+pub mod ConvinceLemmas
+pub mod FlagLemmas
+pub mod NumberLemmas
 pub mod Shortened
 pub mod PassMembers
 pub mod OnePlace

@@ -9,10 +9,10 @@ use Rattle.resolvo_pool_core.proofs.PassLearns.{literal_is, literal_own, refuted
 use Rattle.resolvo_store_core.specs.Signed.{Signed, negation, same_literal, has}
 use Rattle.resolvo_store_core.specs.Clauses.{yes, no, root as root_variable}
 use Rattle.resolvo_sat.specs.Known.{clause_at}
-use Rattle.resolvo_sat.specs.Refuting.{said, said_all, Refutes}
+use Rattle.resolvo_sat.specs.AnalyzeFinal.{said, said_all, Refutes}
 use Rattle.resolvo_sat.specs.State.{named, AllBelow, AreApart}
 use Rattle.resolvo_sat.proofs.Literals.{has-cons, has_here, has_later}
-use Rattle.resolvo_sat.proofs.Coming.{has_contained, contained_has}
+use Rattle.resolvo_sat.proofs.ComeLemmas.{has_contained, contained_has}
 use Rattle.resolvo_soundness.specs.Encoding.{IsExact, Atom}
 use Rattle.resolvo_soundness.specs.Numbered.{meaning, meanings, Means, IsOnce, Spells}
 use Rattle.resolvo_soundness.proofs.Lists.{contains_none, contains_cases, contains_map, map_contains, any_contained, contained_any}

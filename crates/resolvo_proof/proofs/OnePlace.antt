@@ -10,7 +10,7 @@ use Rattle.resolvo_state.specs.declared.solver_state.SolverState.{SolverState}
 use Rattle.resolvo_state.specs.declared.registry.Registry.{Registry}
 use Rattle.resolvo_state.specs.declared.clause_kind.Stated.{Stated}
 use Rattle.resolvo_state.specs.declared.clause_kind.Stated.TheVariants as Says
-use Rattle.resolvo_state.specs.Coding.{IsCoding}
+use Rattle.resolvo_state.specs.SolverState.{IsCoding}
 use Rattle.resolvo_state.specs.Registered.{IsPlaced, AreTied, IsTied, IsRegistered}
 use Rattle.resolvo_state.proofs.Growth.{stands_once}
 use Rattle.resolvo_state.proofs.Positions.{get_contains, get_push}
@@ -21,7 +21,7 @@ use Rattle.resolvo_proof.specs.declared.step.ProofStep.TheVariants.{Rule, Derive
 use Rattle.resolvo_proof.specs.Places.{HaveOnePlace, AreNamedBy}
 use Rattle.resolvo_proof.specs.Trimmed.{IsRenumbered, IsTrimmedTo}
 use Rattle.resolvo_proof.specs.Written.{IsTold, IsStepOf, IsStepAt, AreSteps, AreStepsThen}
-use Rattle.resolvo_proof.proofs.Numbering.{one_place}
+use Rattle.resolvo_proof.proofs.NumberLemmas.{one_place}
 use Rattle.resolvo_proof.proofs.Shortened.{stood}
 
 -- the clause of a step that tells a digit states it

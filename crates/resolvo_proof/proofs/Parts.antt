@@ -21,7 +21,7 @@ use Rattle.resolvo_state.specs.declared.clause_kind.Stated.{Stated}
 use Rattle.resolvo_state.specs.declared.clause_kind.Stated.TheVariants as Says
 use Rattle.resolvo_state.specs.Statements.{stated_at}
 use Rattle.resolvo_state.specs.Atoms.{atom_of, origin}
-use Rattle.resolvo_state.specs.Coding.{IsCoding}
+use Rattle.resolvo_state.specs.SolverState.{IsCoding}
 use Rattle.resolvo_state.proofs.Origins.{atom_at_place}
 use Rattle.resolvo_state.proofs.Positions.{get_below, get_push}
 use Rattle.resolvo_proof.specs.declared.step.ProofLiteral.{ProofLiteral}

@@ -14,8 +14,8 @@ use Rattle.resolvo_proof.specs.declared.step.ProofStep.TheVariants.{Rule, Derive
 use Rattle.resolvo_proof.specs.Steps.{literal_in, clause_of, clause_at}
 use Rattle.resolvo_proof.specs.Proof.{IsStep, IsRefuted, IsProof, EndsEmpty}
 use Rattle.resolvo_proof.specs.Trimmed.{IsRenumbered, IsTrimmedTo, IsTrimmed, StaysProof}
-use Rattle.resolvo_proof.proofs.Numbering.{one_place, falls_back, order}
-use Rattle.resolvo_proof.proofs.Proving.{step_clause}
+use Rattle.resolvo_proof.proofs.NumberLemmas.{one_place, falls_back, order}
+use Rattle.resolvo_proof.proofs.ProveLemmas.{step_clause}
 
 -- a renumbered step has its clause
 clause_kept : {N S : Type 0} (same : S → S → Bool) (p : Packages N S) (from : List ℕ) (place : ℕ) (old step : ProofStep N S) → IsRenumbered from place old step → clause_of same p step ≡ clause_of same p old

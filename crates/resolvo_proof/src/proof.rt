@@ -2,7 +2,7 @@
 ghost use Rattle.std.specs.Prelude.{Bool, IfOk, IfSome, IsOkUnless, MatchOption};
 ghost use Rattle.resolvo_pool_core.specs.declared.want.Want.TheVariants.{Memory};
 ghost use Rattle.resolvo_sat.specs.Analysis.{IsRefusal};
-ghost use Rattle.resolvo_state.specs.Coding.{IsCoding};
+ghost use Rattle.resolvo_state.specs.SolverState.{IsCoding};
 ghost use Rattle.resolvo_state.specs.declared.registry.Registry.{Registry};
 ghost use Rattle.resolvo_state.specs.Registered.{AreTied};
 ghost use Rattle.resolvo_pool_core.specs.RuleKeeping.{Packages};

@@ -6,7 +6,7 @@ ghost use Rattle.resolvo_sat.specs.State.{count_of};
 ghost use Rattle.resolvo_sat.specs.Steps.{AreInRange};
 ghost use Rattle.resolvo_soundness.specs.Numbered.{meanings};
 ghost use Rattle.resolvo_state.specs.Atoms.{origin};
-ghost use Rattle.resolvo_state.specs.Coding.{IsCoding};
+ghost use Rattle.resolvo_state.specs.SolverState.{IsCoding};
 ghost use Rattle.resolvo_proof.specs.Steps.{literal_in};
 ghost use Rattle.resolvo_proof.specs.Written.{places, atoms_of, IsTold, IsDerivation, IsStepAt};
 

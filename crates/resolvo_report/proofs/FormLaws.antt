@@ -18,13 +18,13 @@ use Rattle.resolvo_text.specs.declared.spec.Span.{Span}
 use Rattle.resolvo_text.specs.declared.spec.Span.TheVariants.{Any, One, Range}
 use Rattle.resolvo_text.specs.Line.{Version, Spec}
 use Rattle.resolvo_text.specs.Spelling.{Words, is_name, is_word, is_reserved, starts_name, continues_name, IsNumber, IsVersion, IsSpan, IsSpec, span_words, spec_words, alternatives_words}
-use Rattle.resolvo_text.specs.Reading.{◌>>=◌, word_at, end_at, name_in, number_in, reason_at, spec_at, skip}
+use Rattle.resolvo_text.specs.Parse.{◌>>=◌, word_at, end_at, name_in, number_in, reason_at, spec_at, skip}
 use Rattle.resolvo_text.proofs.NumberLemmas.{number_in-decimal, number_in_spells, digits}
 use Rattle.resolvo_text.proofs.AlternativeLemmas.{bind_some}
 use Rattle.resolvo_text.proofs.PartLaws.{name_takes, name_again, word_takes, reason_takes, reason_again, spec_takes, spec_again, BeginsNoSpan, BeginsNot, skip_takes, skip_is, no_skip, alternatives_take, alternatives_again, chosen}
 use Rattle.resolvo_report.specs.Value.{Place, OfRequest, OfVersion}
 use Rattle.resolvo_report.specs.Text.{version_text, place_text, IsPlace, IsLineNumber, IsBit, AreAlternatives}
-use Rattle.resolvo_report.specs.Reading.{Reader, pair_at, behind, behind_at, whole, is_equals, version_in, version_at, place_at, number_at, line_number_at, bit_at, line_at, specs_at}
+use Rattle.resolvo_report.specs.Parse.{Reader, pair_at, behind, behind_at, whole, is_equals, version_in, version_at, place_at, number_at, line_number_at, bit_at, line_at, specs_at}
 
 -- ---- plain words: without spaces, newlines, semicolons and brackets
 

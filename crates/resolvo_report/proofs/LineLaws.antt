@@ -9,14 +9,14 @@ use Rattle.std.proofs.lemmas.List.Splits.{slice_split_at, join_with_byte-slice_s
 use Rattle.resolvo_text.specs.Line.{Version, Spec}
 use Rattle.resolvo_text.specs.Lines.{newlines, is_newline}
 use Rattle.resolvo_text.specs.Spelling.{Words, IsNumber, IsVersion, IsSpec, spec_words, alternatives_words}
-use Rattle.resolvo_text.specs.Reading.{◌>>=◌, word_at, end_at, skip, is_space}
+use Rattle.resolvo_text.specs.Parse.{◌>>=◌, word_at, end_at, skip, is_space}
 use Rattle.resolvo_text.proofs.AlternativeLemmas.{bind_some}
 use Rattle.resolvo_text.proofs.LineLemmas.{newlines-append, no_newline}
 use Rattle.resolvo_text.proofs.SpanLaws.{not_a_span}
 use Rattle.resolvo_text.proofs.PartLaws.{word_takes, skip_takes, skip_is, no_skip, chosen}
 use Rattle.resolvo_report.specs.Value.{Place, Step, Need, Gate, Shared, LimitBars, Limit, Outside, Lock, Exclude, Unknown, Digit, Any, Derive, Entry, Wished, LeftOut, ReportLine, InstallHead, RefusedHead, Answer, CatalogueLine, RequestLine, Numbered}
 use Rattle.resolvo_report.specs.Text.{version_text, place_text, clause_text, step_words, step_text, line_text, IsLineNumber, IsBit, IsPlace, AreAlternatives, IsStep, HasText}
-use Rattle.resolvo_report.specs.Reading.{pair_at, behind, whole, version_in, version_at, place_at, number_at, line_at, derived_in, limit_in, need_in, gate_in, shared_in, outside_in, lock_in, line_in, digit_in, any_in, step_said, left_out_in, numbered_in, entry_in, line_said, is_message, line_read}
+use Rattle.resolvo_report.specs.Parse.{pair_at, behind, whole, version_in, version_at, place_at, number_at, line_at, derived_in, limit_in, need_in, gate_in, shared_in, outside_in, lock_in, line_in, digit_in, any_in, step_said, left_out_in, numbered_in, entry_in, line_said, is_message, line_read}
 use Rattle.resolvo_report.proofs.FormLaws.{Plain, ArePlain, number_is_plain, version_is_plain, Kind, pair_law, behind_law, whole_kind, number_law, line_number_law, bit_law, line_law, version_law, place_law, spec_law, specs_law, version_in_takes}
 use Rattle.resolvo_report.proofs.StepLaws.{NoSpace-plain, split_plain, is_keyword, at_end, behind_is, derived_takes, derived_again, derived_text, by_text}
 

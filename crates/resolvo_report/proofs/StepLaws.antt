@@ -15,13 +15,13 @@ use Rattle.std.proofs.lemmas.List.Quantifiers.{position-Some}
 use Rattle.std.proofs.lemmas.List.Splits.{slice_split_at, slice_split_none, join_with_byte-slice_split, length-slice_split}
 use Rattle.resolvo_text.specs.Line.{Version}
 use Rattle.resolvo_text.specs.Spelling.{Words, is_name, IsNumber, IsVersion, IsSpec, spec_words, alternatives_words}
-use Rattle.resolvo_text.specs.Reading.{◌>>=◌, word_at, end_at, reason_at, spec_at, number_in, skip, words_in, is_space}
+use Rattle.resolvo_text.specs.Parse.{◌>>=◌, word_at, end_at, reason_at, spec_at, number_in, skip, words_in, is_space}
 use Rattle.resolvo_text.proofs.NumberLemmas.{number_in-decimal, number_in_spells}
 use Rattle.resolvo_text.proofs.AlternativeLemmas.{bind_some}
 use Rattle.resolvo_text.proofs.PartLaws.{word_takes, skip_takes, skip_is, no_skip, chosen, BeginsNot}
 use Rattle.resolvo_report.specs.Value.{Atom, Chosen, AnyOf, SharedBy, OutsideOf, BitOf, Literal, Step, Derive}
 use Rattle.resolvo_report.specs.Text.{version_text, atom_words, atom_text, signed, literal_words, literal_text, clause_text, IsBit, AreAlternatives, IsAtom, are_rising, are_once, AreLiterals, AreNumbers}
-use Rattle.resolvo_report.specs.Reading.{pair_at, behind, behind_at, whole, version_in, bit_at, specs_at, atom_said, atom_in, literal_in, literal_behind, literals_behind, text_behind, atom_part, are_in_order, is_semicolon, pieces_in, literals_in, numbers_in, some_of, causes_in, causes_behind, is_close, derived_in}
+use Rattle.resolvo_report.specs.Parse.{pair_at, behind, behind_at, whole, version_in, bit_at, specs_at, atom_said, atom_in, literal_in, literal_behind, literals_behind, text_behind, atom_part, are_in_order, is_semicolon, pieces_in, literals_in, numbers_in, some_of, causes_in, causes_behind, is_close, derived_in}
 use Rattle.resolvo_report.proofs.TextLemmas.{join_spaced}
 use Rattle.resolvo_report.proofs.FormLaws.{is_plain, Plain, ArePlain, number_is_plain, version_is_plain, Kind, pair_law, behind_law, whole_kind, bit_law, name_law, spec_law, specs_law, version_in_takes, version_in_again, behind_again}
 

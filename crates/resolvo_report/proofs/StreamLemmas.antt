@@ -21,7 +21,7 @@ use Rattle.resolvo_report.specs.declared.reader.ReportFault.TheVariants.{NotARep
 use Rattle.resolvo_report.specs.Value.{ReportLine}
 use Rattle.resolvo_report.specs.Text.{line_text, lines_text, HasText}
 use Rattle.resolvo_report.specs.Grammar.{next_part, part_after, may_end, AreLines, GoesOn, most_bytes, IsReportFault}
-use Rattle.resolvo_report.specs.Reading.{line_read}
+use Rattle.resolvo_report.specs.Parse.{line_read}
 use Rattle.resolvo_report.proofs.LineLaws.{line_takes}
 use Rattle.resolvo_report.proofs.WholeLines.{line_has_no_newline, line_again}
 

@@ -12,11 +12,11 @@ use Rattle.std.proofs.lemmas.List.Sums.{sum_by-cons}
 use Rattle.resolvo_text.specs.Line.{Version}
 use Rattle.resolvo_text.specs.Lines.{newlines, is_newline}
 use Rattle.resolvo_text.specs.Spelling.{Words, is_name, is_word, is_reserved, starts_name, continues_name, IsVersion}
-use Rattle.resolvo_text.specs.Reading.{is_space}
+use Rattle.resolvo_text.specs.Parse.{is_space}
 use Rattle.resolvo_text.proofs.PartLaws.{skip_is, no_skip}
 use Rattle.resolvo_report.specs.Value.{Place, Literal, Step, Need, Gate, Shared, LimitBars, Limit, Outside, Lock, Exclude, Unknown, Digit, Any, Derive, Entry, Wished, LeftOut, ReportLine, InstallHead, RefusedHead, Answer, CatalogueLine, RequestLine, Numbered, Message}
 use Rattle.resolvo_report.specs.Text.{version_text, place_text, literal_text, literal_words, clause_text, step_words, step_text, answer_words, line_text, IsAtom, IsStep, IsAnswer, HasText}
-use Rattle.resolvo_report.specs.Reading.{version_in, entry_in, numbered_in, step_said, line_said, is_message, line_read}
+use Rattle.resolvo_report.specs.Parse.{version_in, entry_in, numbered_in, step_said, line_said, is_message, line_read}
 use Rattle.resolvo_report.proofs.FormLaws.{is_plain, Plain, ArePlain, number_is_plain, version_is_plain, number_law, place_law, version_in_again, behind_again}
 use Rattle.resolvo_report.proofs.StepLaws.{NoSpace-plain, split_plain, no_keyword, literal_are_plain, numbers_are_plain}
 use Rattle.resolvo_report.proofs.LineLaws.{step_again, left_out_kind, entry_kind, line_kind, need_kind, gate_kind, shared_kind, outside_kind, lock_kind, digit_kind, any_kind}

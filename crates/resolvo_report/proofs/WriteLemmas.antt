@@ -11,7 +11,7 @@ use Rattle.resolvo_report.specs.declared.write.ReportWriteFault.{ReportWriteFaul
 use Rattle.resolvo_report.specs.declared.write.ReportWriteFault.TheVariants.{Memory}
 use Rattle.resolvo_report.specs.Value.{Step, AnswerLine, Install, Refused, ReportLine, Answer, CatalogueLine, RequestLine, Numbered, Message}
 use Rattle.resolvo_report.specs.Text.{line_text, lines_text, numbered, report_text}
-use Rattle.resolvo_report.specs.Writing.{Wrote, StopsWriting}
+use Rattle.resolvo_report.specs.Write.{Wrote, StopsWriting}
 
 pub wrote_nothing : (a : Option (List ℕ)) (f e : ℕ) → Wrote a a f f e e []
 wrote_nothing None f e = (tt, refl, refl)

@@ -2,8 +2,8 @@ pub mod Value
 pub mod View
 pub mod Text
 pub mod Pieces
-pub mod Reading
+pub mod Parse
 pub mod Grammar
 pub mod Stream
 pub mod Draft
-pub mod Writing
+pub mod Write

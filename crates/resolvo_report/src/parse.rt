@@ -8,12 +8,12 @@ ghost use Rattle.std.specs.List.{position, join_with_byte, slice_split};
 ghost use Rattle.resolvo_text.specs.declared.line.LineFault.TheVariants.{Fault};
 ghost use Rattle.resolvo_text.specs.Lines.{newlines};
 ghost use Rattle.resolvo_text.specs.View.{version_of};
-ghost use Rattle.resolvo_text.specs.Reading.{Gives, words_in};
+ghost use Rattle.resolvo_text.specs.Parse.{Gives, words_in};
 ghost use Rattle.resolvo_report.specs.Value as says;
 ghost use Rattle.resolvo_report.specs.View.{literals_of, step_of, report_line_of};
 ghost use Rattle.resolvo_report.specs.Text.{are_rising, are_once, line_text, HasText};
 ghost use Rattle.resolvo_report.specs.Pieces.{texts_of};
-ghost use Rattle.resolvo_report.specs.Reading.{is_semicolon, is_close, text_behind, atom_part, are_in_order, literals_behind, pieces_in, literals_in, numbers_in, causes_in, causes_behind, derived_in, limit_in, need_in, gate_in, shared_in, outside_in, lock_in, digit_in, any_in, step_said, left_out_in, numbered_in, entry_in, line_said, is_message, line_read};
+ghost use Rattle.resolvo_report.specs.Parse.{is_semicolon, is_close, text_behind, atom_part, are_in_order, literals_behind, pieces_in, literals_in, numbers_in, causes_in, causes_behind, derived_in, limit_in, need_in, gate_in, shared_in, outside_in, lock_in, digit_in, any_in, step_said, left_out_in, numbered_in, entry_in, line_said, is_message, line_read};
 
 use crate::part::{
     behind, bit_at, line_at, line_in as last_line, line_number_at, literal_behind, number_at,
@@ -118,7 +118,7 @@ fn literals_behind(alloc: Global, pieces: &[&[u8]]) -> Result<Vec<Literal>, Line
     Ok(literals)
 }
 
-#[tactic(auto, unfolding(crate::specs::Reading::pieces_in))]
+#[tactic(auto, unfolding(crate::specs::Parse::pieces_in))]
 fn pieces_in(alloc: Global, pieces: &[&[u8]]) -> Result<Vec<Literal>, LineFault>
     ensures { Gives (λ v. literals_of v.items) result (pieces_in (texts_of pieces.now)) }
 {
@@ -132,7 +132,7 @@ fn pieces_in(alloc: Global, pieces: &[&[u8]]) -> Result<Vec<Literal>, LineFault>
 }
 
 /// The literals of a clause, without its closing bracket.
-#[tactic(auto, unfolding(crate::specs::Reading::literals_in))]
+#[tactic(auto, unfolding(crate::specs::Parse::literals_in))]
 fn literals_in(alloc: Global, text: &[u8]) -> Result<Vec<Literal>, LineFault>
     ensures { Gives (λ v. literals_of v.items) result (literals_in text.now) }
 {
@@ -158,7 +158,7 @@ fn numbers_in(alloc: Global, words: &[u8]) -> Result<Vec<u32>, LineFault>
 }
 
 /// One number or more behind `by`.
-#[tactic(auto, unfolding(crate::specs::Reading::causes_in))]
+#[tactic(auto, unfolding(crate::specs::Parse::causes_in))]
 fn causes_in(alloc: Global, words: &[u8]) -> Result<Vec<u32>, LineFault>
     ensures { Gives (λ v. v.items) result (causes_in (words_in words.now)) }
 {
@@ -170,7 +170,7 @@ fn causes_in(alloc: Global, words: &[u8]) -> Result<Vec<u32>, LineFault>
 }
 
 /// The same, of a text behind a space.
-#[tactic(auto, unfolding(crate::specs::Reading::causes_behind))]
+#[tactic(auto, unfolding(crate::specs::Parse::causes_behind))]
 fn causes_behind(alloc: Global, text: &[u8]) -> Result<Vec<u32>, LineFault>
     ensures { Gives (λ v. v.items) result (causes_behind text.now) }
 {
@@ -190,7 +190,7 @@ fn close_in(text: &[u8]) -> Option<usize>
 }
 
 /// A derived step, of the text behind its keyword and a space.
-#[tactic(auto, unfolding(crate::specs::Reading::derived_in))]
+#[tactic(auto, unfolding(crate::specs::Parse::derived_in))]
 fn derived_in(alloc: Global, text: &[u8]) -> Result<Step, LineFault>
     ensures { Gives step_of result (derived_in text.now) }
 {
@@ -212,7 +212,7 @@ fn text_of(words: &[u8]) -> &[u8]
     }
 }
 
-#[tactic(auto, unfolding(crate::specs::Reading::need_in))]
+#[tactic(auto, unfolding(crate::specs::Parse::need_in))]
 fn need_in(alloc: Global, words: &[u8]) -> Result<Step, LineFault>
     ensures { Gives step_of result (need_in (words_in words.now)) }
 {
@@ -223,7 +223,7 @@ fn need_in(alloc: Global, words: &[u8]) -> Result<Step, LineFault>
     Ok(Step::Need { place, line, case })
 }
 
-#[tactic(auto, unfolding(crate::specs::Reading::gate_in))]
+#[tactic(auto, unfolding(crate::specs::Parse::gate_in))]
 fn gate_in(alloc: Global, words: &[u8]) -> Result<Step, LineFault>
     ensures { Gives step_of result (gate_in (words_in words.now)) }
 {
@@ -233,7 +233,7 @@ fn gate_in(alloc: Global, words: &[u8]) -> Result<Step, LineFault>
     Ok(Step::Gate { version, line })
 }
 
-#[tactic(auto, unfolding(crate::specs::Reading::shared_in))]
+#[tactic(auto, unfolding(crate::specs::Parse::shared_in))]
 fn shared_in(alloc: Global, words: &[u8]) -> Result<Step, LineFault>
     ensures { Gives step_of result (shared_in (words_in words.now)) }
 {
@@ -242,7 +242,7 @@ fn shared_in(alloc: Global, words: &[u8]) -> Result<Step, LineFault>
     Ok(Step::Shared { alternatives })
 }
 
-#[tactic(auto, unfolding(crate::specs::Reading::limit_in))]
+#[tactic(auto, unfolding(crate::specs::Parse::limit_in))]
 fn limit_in(alloc: Global, words: &[u8]) -> Result<Step, LineFault>
     ensures { Gives step_of result (limit_in (words_in words.now)) }
 {
@@ -262,7 +262,7 @@ fn limit_in(alloc: Global, words: &[u8]) -> Result<Step, LineFault>
     Ok(Step::Limit { place, line })
 }
 
-#[tactic(auto, unfolding(crate::specs::Reading::outside_in))]
+#[tactic(auto, unfolding(crate::specs::Parse::outside_in))]
 fn outside_in(alloc: Global, words: &[u8]) -> Result<Step, LineFault>
     ensures { Gives step_of result (outside_in (words_in words.now)) }
 {
@@ -272,7 +272,7 @@ fn outside_in(alloc: Global, words: &[u8]) -> Result<Step, LineFault>
     Ok(Step::Outside { spec, version })
 }
 
-#[tactic(auto, unfolding(crate::specs::Reading::lock_in))]
+#[tactic(auto, unfolding(crate::specs::Parse::lock_in))]
 fn lock_in(alloc: Global, words: &[u8]) -> Result<Step, LineFault>
     ensures { Gives step_of result (lock_in (words_in words.now)) }
 {
@@ -282,7 +282,7 @@ fn lock_in(alloc: Global, words: &[u8]) -> Result<Step, LineFault>
     Ok(Step::Lock { line, version })
 }
 
-#[tactic(auto, unfolding(crate::specs::Reading::digit_in))]
+#[tactic(auto, unfolding(crate::specs::Parse::digit_in))]
 fn digit_in(alloc: Global, words: &[u8]) -> Result<Step, LineFault>
     ensures { Gives step_of result (digit_in (words_in words.now)) }
 {
@@ -297,7 +297,7 @@ fn digit_in(alloc: Global, words: &[u8]) -> Result<Step, LineFault>
     })
 }
 
-#[tactic(auto, unfolding(crate::specs::Reading::any_in))]
+#[tactic(auto, unfolding(crate::specs::Parse::any_in))]
 fn any_in(alloc: Global, words: &[u8]) -> Result<Step, LineFault>
     ensures { Gives step_of result (any_in (words_in words.now)) }
 {
@@ -307,7 +307,7 @@ fn any_in(alloc: Global, words: &[u8]) -> Result<Step, LineFault>
 }
 
 /// What the words behind the step's keyword say.
-#[tactic(auto, unfolding(crate::specs::Reading::step_said))]
+#[tactic(auto, unfolding(crate::specs::Parse::step_said))]
 fn step_said(alloc: Global, keyword: &[u8], words: &[u8]) -> Result<Step, LineFault>
     ensures { Gives (λ s. step_of s) result (step_said keyword.now (words_in words.now)) }
 {
@@ -349,7 +349,7 @@ fn step_said(alloc: Global, keyword: &[u8], words: &[u8]) -> Result<Step, LineFa
     Err(LineFault::Fault)
 }
 
-#[tactic(auto, unfolding(crate::specs::Reading::left_out_in))]
+#[tactic(auto, unfolding(crate::specs::Parse::left_out_in))]
 fn left_out_in(alloc: Global, words: &[u8]) -> Result<ReportLine, LineFault>
     ensures { Gives report_line_of result (left_out_in (words_in words.now)) }
 {
@@ -364,7 +364,7 @@ fn left_out_in(alloc: Global, words: &[u8]) -> Result<ReportLine, LineFault>
     }))
 }
 
-#[tactic(auto, unfolding(crate::specs::Reading::numbered_in))]
+#[tactic(auto, unfolding(crate::specs::Parse::numbered_in))]
 fn numbered_in(alloc: Global, words: &[u8]) -> Result<ReportLine, LineFault>
     ensures { Gives report_line_of result (numbered_in (words_in words.now)) }
 {
@@ -375,7 +375,7 @@ fn numbered_in(alloc: Global, words: &[u8]) -> Result<ReportLine, LineFault>
 }
 
 /// A line that begins with a version.
-#[tactic(auto, unfolding(crate::specs::Reading::entry_in))]
+#[tactic(auto, unfolding(crate::specs::Parse::entry_in))]
 fn entry_in(alloc: Global, version: Version, words: &[u8]) -> Result<ReportLine, LineFault>
     ensures { Gives report_line_of result (entry_in (version_of version) (words_in words.now)) }
 {
@@ -395,7 +395,7 @@ fn entry_in(alloc: Global, version: Version, words: &[u8]) -> Result<ReportLine,
 }
 
 /// What the words behind the line's first one say.
-#[tactic(auto, unfolding(crate::specs::Reading::line_said))]
+#[tactic(auto, unfolding(crate::specs::Parse::line_said))]
 fn line_said(alloc: Global, keyword: &[u8], words: &[u8]) -> Result<ReportLine, LineFault>
     ensures { Gives (λ l. report_line_of l) result (line_said keyword.now (words_in words.now)) }
 {
@@ -432,7 +432,7 @@ fn message_in(text: &[u8]) -> Option<&[u8]>
     text.strip_prefix(b"| ")
 }
 
-#[tactic(auto, unfolding(crate::specs::Reading::line_read))]
+#[tactic(auto, unfolding(crate::specs::Parse::line_read))]
 pub(crate) fn line_read(alloc: Global, text: &[u8]) -> Result<ReportLine, LineFault>
     ensures { Gives report_line_of result (line_read text.now) }
 {

@@ -6,9 +6,9 @@ ghost use Rattle.std.specs.Prelude.{◌≡◌, length, map, IfOk};
 ghost use Rattle.std.specs.List.{position};
 ghost use Rattle.std.specs.Option.{option_map};
 ghost use Rattle.resolvo_text.specs.View.{version_of, specs_of};
-ghost use Rattle.resolvo_text.specs.Reading.{Gives, words_in};
+ghost use Rattle.resolvo_text.specs.Parse.{Gives, words_in};
 ghost use Rattle.resolvo_report.specs.View.{place_of, atom_of, literal_of, literals_of};
-ghost use Rattle.resolvo_report.specs.Reading.{is_equals, behind, version_in, version_at, place_at, number_at, line_number_at, bit_at, line_at, specs_at, atom_said, atom_in, literal_in, literal_behind, line_in};
+ghost use Rattle.resolvo_report.specs.Parse.{is_equals, behind, version_in, version_at, place_at, number_at, line_number_at, bit_at, line_at, specs_at, atom_said, atom_in, literal_in, literal_behind, line_in};
 
 use crate::step::{Atom, Literal, Place};
 use resolvo_text::{
@@ -18,7 +18,7 @@ use resolvo_text::{
 use std::alloc::Global;
 
 /// The words behind this one, which must come next.
-#[tactic(auto, unfolding(crate::specs::Reading::behind))]
+#[tactic(auto, unfolding(crate::specs::Parse::behind))]
 pub(crate) fn behind<'a>(words: &'a [u8], word: &[u8]) -> Result<&'a [u8], LineFault>
     ensures { Gives (λ r. words_in r.now) result (behind word.now (words_in words.now)) }
 {
@@ -37,7 +37,7 @@ fn equals_in(word: &[u8]) -> Option<usize>
 }
 
 /// The version that the word spells.
-#[tactic(auto, unfolding(crate::specs::Reading::version_in))]
+#[tactic(auto, unfolding(crate::specs::Parse::version_in))]
 pub(crate) fn version_in(alloc: Global, word: &[u8]) -> Result<Version, LineFault>
     ensures { Gives version_of result (version_in word.now) }
 {
@@ -49,7 +49,7 @@ pub(crate) fn version_in(alloc: Global, word: &[u8]) -> Result<Version, LineFaul
     Ok(Version { name, number })
 }
 
-#[tactic(auto, unfolding(crate::specs::Reading::version_at))]
+#[tactic(auto, unfolding(crate::specs::Parse::version_at))]
 pub(crate) fn version_at(alloc: Global, words: &[u8]) -> Result<(Version, &[u8]), LineFault>
     ensures { Gives (λ x. (version_of x.0, words_in x.1.now)) result (version_at (words_in words.now)) }
 {
@@ -57,7 +57,7 @@ pub(crate) fn version_at(alloc: Global, words: &[u8]) -> Result<(Version, &[u8])
     Ok((version_in(alloc, word)?, rest))
 }
 
-#[tactic(auto, unfolding(crate::specs::Reading::place_at))]
+#[tactic(auto, unfolding(crate::specs::Parse::place_at))]
 pub(crate) fn place_at(alloc: Global, words: &[u8]) -> Result<(Place, &[u8]), LineFault>
     ensures { Gives (λ x. (place_of x.0, words_in x.1.now)) result (place_at (words_in words.now)) }
 {
@@ -69,7 +69,7 @@ pub(crate) fn place_at(alloc: Global, words: &[u8]) -> Result<(Place, &[u8]), Li
     Ok((Place::Version(version), rest))
 }
 
-#[tactic(auto, unfolding(crate::specs::Reading::number_at))]
+#[tactic(auto, unfolding(crate::specs::Parse::number_at))]
 pub(crate) fn number_at(words: &[u8]) -> Result<(u32, &[u8]), LineFault>
     ensures { Gives (λ x. (x.0, words_in x.1.now)) result (number_at (words_in words.now)) }
 {
@@ -78,7 +78,7 @@ pub(crate) fn number_at(words: &[u8]) -> Result<(u32, &[u8]), LineFault>
 }
 
 /// The number of a line, from 1.
-#[tactic(auto, unfolding(crate::specs::Reading::line_number_at))]
+#[tactic(auto, unfolding(crate::specs::Parse::line_number_at))]
 pub(crate) fn line_number_at(words: &[u8]) -> Result<(u32, &[u8]), LineFault>
     ensures { Gives (λ x. (x.0, words_in x.1.now)) result (line_number_at (words_in words.now)) }
 {
@@ -90,7 +90,7 @@ pub(crate) fn line_number_at(words: &[u8]) -> Result<(u32, &[u8]), LineFault>
 }
 
 /// The place of a binary digit, below 32.
-#[tactic(auto, unfolding(crate::specs::Reading::bit_at))]
+#[tactic(auto, unfolding(crate::specs::Parse::bit_at))]
 pub(crate) fn bit_at(words: &[u8]) -> Result<(u32, &[u8]), LineFault>
     ensures { Gives (λ x. (x.0, words_in x.1.now)) result (bit_at (words_in words.now)) }
 {
@@ -103,7 +103,7 @@ pub(crate) fn bit_at(words: &[u8]) -> Result<(u32, &[u8]), LineFault>
 }
 
 /// `line`, and its number.
-#[tactic(auto, unfolding(crate::specs::Reading::line_at))]
+#[tactic(auto, unfolding(crate::specs::Parse::line_at))]
 pub(crate) fn line_at(words: &[u8]) -> Result<(u32, &[u8]), LineFault>
     ensures { Gives (λ x. (x.0, words_in x.1.now)) result (line_at (words_in words.now)) }
 {
@@ -111,7 +111,7 @@ pub(crate) fn line_at(words: &[u8]) -> Result<(u32, &[u8]), LineFault>
 }
 
 /// The same, at the end of a line.
-#[tactic(auto, unfolding(crate::specs::Reading::line_in))]
+#[tactic(auto, unfolding(crate::specs::Parse::line_in))]
 pub(crate) fn line_in(words: &[u8]) -> Result<u32, LineFault>
     ensures { Gives (λ n. n) result (line_in (words_in words.now)) }
 {
@@ -121,7 +121,7 @@ pub(crate) fn line_in(words: &[u8]) -> Result<u32, LineFault>
 }
 
 /// One alternative or more.
-#[tactic(auto, unfolding(crate::specs::Reading::specs_at))]
+#[tactic(auto, unfolding(crate::specs::Parse::specs_at))]
 pub(crate) fn specs_at(alloc: Global, words: &[u8]) -> Result<(Vec<Spec>, &[u8]), LineFault>
     ensures { Gives (λ x. (specs_of x.0.items, words_in x.1.now)) result (specs_at (words_in words.now)) }
 {
@@ -129,7 +129,7 @@ pub(crate) fn specs_at(alloc: Global, words: &[u8]) -> Result<(Vec<Spec>, &[u8])
 }
 
 /// What the word and the words after it say.
-#[tactic(auto, unfolding(crate::specs::Reading::atom_said))]
+#[tactic(auto, unfolding(crate::specs::Parse::atom_said))]
 fn atom_said(alloc: Global, keyword: &[u8], words: &[u8]) -> Result<Atom, LineFault>
     ensures { Gives atom_of result (atom_said keyword.now (words_in words.now)) }
 {
@@ -159,7 +159,7 @@ fn atom_said(alloc: Global, keyword: &[u8], words: &[u8]) -> Result<Atom, LineFa
     Ok(Atom::Version(version))
 }
 
-#[tactic(auto, unfolding(crate::specs::Reading::atom_in))]
+#[tactic(auto, unfolding(crate::specs::Parse::atom_in))]
 fn atom_in(alloc: Global, words: &[u8]) -> Result<Atom, LineFault>
     ensures { Gives atom_of result (atom_in (words_in words.now)) }
 {
@@ -167,7 +167,7 @@ fn atom_in(alloc: Global, words: &[u8]) -> Result<Atom, LineFault>
     atom_said(alloc, keyword, rest)
 }
 
-#[tactic(auto, unfolding(crate::specs::Reading::literal_in))]
+#[tactic(auto, unfolding(crate::specs::Parse::literal_in))]
 fn literal_in(alloc: Global, words: &[u8]) -> Result<Literal, LineFault>
     ensures { Gives literal_of result (literal_in (words_in words.now)) }
 {
@@ -187,7 +187,7 @@ fn literal_in(alloc: Global, words: &[u8]) -> Result<Literal, LineFault>
 }
 
 /// The literal behind this sign, which the piece begins with.
-#[tactic(auto, unfolding(crate::specs::Reading::literal_behind))]
+#[tactic(auto, unfolding(crate::specs::Parse::literal_behind))]
 pub(crate) fn literal_behind(alloc: Global, sign: u8, piece: &[u8]) -> Result<Literal, LineFault>
     ensures { Gives literal_of result (literal_behind sign piece.now) }
 {

@@ -7,7 +7,7 @@ ghost use Rattle.resolvo_text.specs.Device.{WriterFailed, TakesFront};
 ghost use Rattle.resolvo_report.specs.Value as says;
 ghost use Rattle.resolvo_report.specs.View.{report_of, answer_lines_of, steps_of, messages_of};
 ghost use Rattle.resolvo_report.specs.Text.{lines_text, numbered, report_text};
-ghost use Rattle.resolvo_report.specs.Writing.{Wrote, StopsWriting};
+ghost use Rattle.resolvo_report.specs.Write.{Wrote, StopsWriting};
 
 use crate::report::{AnswerLine, Report};
 use crate::step::Step;

@@ -15,7 +15,7 @@ use Rattle.resolvo_sat.specs.Entries.{made_true, before, IsTrail, IsRooted, Stan
 use Rattle.resolvo_sat.specs.State.{count_of, history, clauses_of, lists, IsState}
 use Rattle.resolvo_sat.specs.Steps.{Undoes}
 use Rattle.resolvo_sat.specs.Propagation.{IsReady, IsFit, HasTwo, IsOwnPair, AreCovered, AreSingles, SameWatching, Guards, IsWalkedTo, Extends}
-use Rattle.resolvo_sat.proofs.Extending.{known_in_more}
+use Rattle.resolvo_sat.proofs.ExtendLemmas.{known_in_more}
 
 -- watches that fit some clauses fit the same clauses
 pub fits_same : (s t : SatState) (w : WatchLists) → IsFit s w → t.clauses ≡ s.clauses → IsFit t w

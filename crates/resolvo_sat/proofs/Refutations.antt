@@ -10,7 +10,7 @@ use Rattle.resolvo_pool_core.proofs.PassSound.{Agrees, refutes_nothing}
 use Rattle.resolvo_store_core.specs.Signed.{Signed, negation, same_literal, has}
 use Rattle.resolvo_store_core.specs.Clauses.{no, root}
 use Rattle.resolvo_sat.specs.Known.{holds, Satisfies, SatisfiesAll}
-use Rattle.resolvo_sat.specs.Refuting.{said, said_all, Refutes}
+use Rattle.resolvo_sat.specs.AnalyzeFinal.{said, said_all, Refutes}
 use Rattle.resolvo_sat.proofs.Literals.{has-cons, has_here, has_later}
 
 pub exact : (a b : ℕ) → nat_eq a b ≡ true → a ≡ b

@@ -9,7 +9,7 @@ use Rattle.resolvo_store_core.specs.Signed.{Signed, has}
 use Rattle.resolvo_store_core.specs.Clauses.{yes}
 use Rattle.resolvo_store_core.specs.declared.decision.Entry.{Entry}
 use Rattle.resolvo_store_core.specs.declared.decision_tracker.Set.{Set}
-use Rattle.resolvo_store_core.specs.Adding.{set_for, with_entry}
+use Rattle.resolvo_store_core.specs.AddPairs.{set_for, with_entry}
 use Rattle.resolvo_store_core.specs.Trail as Store
 use Rattle.resolvo_store_core.proofs.Trails as StoreTrails
 use Rattle.resolvo_sat.specs.declared.state.SatClause.{SatClause}

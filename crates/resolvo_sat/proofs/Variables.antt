@@ -7,7 +7,7 @@ use Rattle.resolvo_sat.specs.declared.state.SatState.{SatState}
 use Rattle.resolvo_sat.specs.declared.state.VariableKind.{VariableKind}
 use Rattle.resolvo_sat.specs.Entries.{IsTrail}
 use Rattle.resolvo_sat.specs.State.{count_of, history, clauses_of, IsState}
-use Rattle.resolvo_sat.specs.Beginning.{AddsVariable}
+use Rattle.resolvo_sat.specs.Begin.{AddsVariable}
 use Rattle.resolvo_sat.proofs.Trails.{trail_more}
 
 pub variable_added : (s : SatState) (more : Vec VariableKind Global) (kind : VariableKind) (v : VariableId) → IsState s → v.0 ≡ count_of s → count_of s < 2147483647 → more.items ≡ s.variables.items ++ kind ∷ [] → AddsVariable kind v s (record s { variables = more })

@@ -1,11 +1,11 @@
 pub mod Known
 pub mod Entries
-pub mod Refuting
+pub mod AnalyzeFinal
 pub mod State
 pub mod Analysis
 pub mod Steps
 pub mod Propagation
-pub mod Waiting
-pub mod Adding
-pub mod Beginning
-pub mod Advancing
+pub mod Attach
+pub mod AddClause
+pub mod Begin
+pub mod PropagateAndLearn

@@ -9,7 +9,7 @@ use Rattle.resolvo_sat.specs.declared.state.SatClause.{SatClause}
 use Rattle.resolvo_sat.specs.declared.state.SatState.{SatState}
 use Rattle.resolvo_sat.specs.Known.{clause_at}
 use Rattle.resolvo_sat.specs.Entries.{IsTrail, IsRooted}
-use Rattle.resolvo_sat.specs.Refuting.{Refutes}
+use Rattle.resolvo_sat.specs.AnalyzeFinal.{Refutes}
 
 -- how many variables there are
 abbrev pub count_of : SatState → ℕ

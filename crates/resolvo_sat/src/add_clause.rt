@@ -5,7 +5,7 @@ ghost use Rattle.resolvo_store_core.specs.Signed.{has};
 ghost use Rattle.resolvo_sat.specs.State.{IsDerived, clauses_of, count_of};
 ghost use Rattle.resolvo_sat.specs.Steps.{AreInRange};
 ghost use Rattle.resolvo_sat.specs.Propagation.{IsReady, AreCovered};
-ghost use Rattle.resolvo_sat.specs.Adding.{HasAnother, with_last, Begins, Comes};
+ghost use Rattle.resolvo_sat.specs.AddClause.{HasAnother, with_last, Begins, Comes};
 
 use crate::state::{SatClause, SatState};
 use crate::watch_lists::{UnitClause, WatchLists};

@@ -6,7 +6,7 @@ ghost use Rattle.resolvo_sat.specs.Known.{clause_at};
 ghost use Rattle.resolvo_sat.specs.Entries.{made_true};
 ghost use Rattle.resolvo_sat.specs.State.{IsState, history, clauses_of};
 ghost use Rattle.resolvo_sat.specs.Propagation.{HasTwo, IsReady};
-ghost use Rattle.resolvo_sat.specs.Waiting.{IsBestBeside, IsEither, IsBestPair, IsFirstSet, IsLast, Starts, IsSettling, IsWaitingEnd};
+ghost use Rattle.resolvo_sat.specs.Attach.{IsBestBeside, IsEither, IsBestPair, IsFirstSet, IsLast, Starts, IsSettling, IsWaitingEnd};
 
 use crate::state::SatState;
 use crate::watch_lists::WatchLists;

@@ -3,7 +3,7 @@ ghost use Rattle.std.specs.Prelude.{◌≡◌, length, IfOk, IsErrOf};
 ghost use Rattle.resolvo_pool_core.specs.declared.want.Want.TheVariants.{Ids};
 ghost use Rattle.resolvo_sat.specs.Analysis.{IsLearnt};
 ghost use Rattle.resolvo_sat.specs.Propagation.{IsReady, AreCovered};
-ghost use Rattle.resolvo_sat.specs.Adding.{Learns};
+ghost use Rattle.resolvo_sat.specs.AddClause.{Learns};
 
 use crate::analyze::Learnt;
 use crate::state::{SatClause, SatState};

@@ -3,7 +3,7 @@ ghost use Rattle.std.specs.Prelude.{◌≡◌, ◌∷◌, [], length, IfOk, IsEr
 ghost use Rattle.resolvo_pool_core.specs.declared.want.Want.TheVariants.{Memory, Ids};
 ghost use Rattle.resolvo_sat.specs.State.{IsState, count_of, history};
 ghost use Rattle.resolvo_sat.specs.Propagation.{IsReady, AreCovered};
-ghost use Rattle.resolvo_sat.specs.Beginning.{Begun, AddsVariable, IsRootClause};
+ghost use Rattle.resolvo_sat.specs.Begin.{Begun, AddsVariable, IsRootClause};
 
 use crate::state::{SatClause, SatState, VariableKind};
 use crate::watch_lists::WatchLists;

@@ -2,7 +2,7 @@
 ghost use Rattle.std.specs.Prelude.{◌≡◌, length, IfOk, IsErrOf};
 ghost use Rattle.resolvo_pool_core.specs.declared.want.Want.TheVariants.{Ids};
 ghost use Rattle.resolvo_sat.specs.Propagation.{IsReady, AreCovered};
-ghost use Rattle.resolvo_sat.specs.Advancing.{IsProgress};
+ghost use Rattle.resolvo_sat.specs.PropagateAndLearn.{IsProgress};
 
 use crate::analyze::{Analysis, FinalConflict};
 use crate::state::SatState;

@@ -10,7 +10,7 @@ use Rattle.resolvo_pool_core.specs.Provider.{listed}
 use Rattle.resolvo_pool_core.specs.Text.{alternatives_of}
 use Rattle.resolvo_pool_core.specs.RuleKeeping.{Packages, Rules, is_in, is_match, is_outside, is_met, meets, binds, is_barred, rules_for, is_member, IsSingle, Obeys, IsRuleKeeping, IsNamed, IsExemptKeeping, IsClosed, IsReached}
 use Rattle.resolvo_soundness.specs.Encoding.{IsExact, Atom, Rule, plus, minus, parent_literals, case_holds, case_literals, candidate_literals, literals_of, IsRule, value, Fits, shown, IsImplied, IsBarredIn, HasBar, AgreeWith}
-use Rattle.resolvo_soundness.specs.Ending.{AreFalse, IsTrueParent, IsCalledFor, IsEnd, is_digit, digits_in, IsAccepted, Denies}
+use Rattle.resolvo_soundness.specs.SearchEnd.{AreFalse, IsTrueParent, IsCalledFor, IsEnd, is_digit, digits_in, IsAccepted, Denies}
 use Rattle.resolvo_soundness.proofs.Lists.{contains_cases, contains_none, contains_parts, all_contained, any_contained, contained_any, contains_filter, filter_contains}
 use Rattle.resolvo_soundness.proofs.Members.{true_plus, true_minus, twice, made_by, any_in, in_contained, contained_in, candidate_named, in_case, stands_candidate, binds_case}
 use Rattle.resolvo_soundness.proofs.Quiet.{quiet_second, quiet_first, quiet_single, false_single}

@@ -10,7 +10,7 @@ use Rattle.resolvo_pool_core.specs.Provider.{listed}
 use Rattle.resolvo_pool_core.specs.Text.{alternatives_of}
 use Rattle.resolvo_pool_core.specs.RuleKeeping.{Packages, Rules, IsLawful, is_in, is_match, meets, is_member, IsSingle}
 use Rattle.resolvo_soundness.specs.Encoding.{IsExact, Atom, Rule, plus, minus, literals_of, IsRule, value, shown, AgreeWith}
-use Rattle.resolvo_soundness.specs.Ending.{IsCalledFor, IsTrail, IsEnd}
+use Rattle.resolvo_soundness.specs.SearchEnd.{IsCalledFor, IsTrail, IsEnd}
 use Rattle.resolvo_soundness.specs.First.{IsFirst, IsTriedBefore, TriesMatches, order, AreTriedBy, HoldsFirst, IsFirstChoices, IsFirstPick, IsUnbeaten, IsReachedOnce, ArePreferred}
 use Rattle.resolvo_soundness.proofs.Lists.{contains_none, contains_first, contains_right}
 use Rattle.resolvo_soundness.proofs.Members.{plus_true, true_plus, true_minus, candidate_named, contained_in, in_contained}

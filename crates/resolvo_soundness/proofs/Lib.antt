@@ -9,4 +9,4 @@ pub mod Turns
 pub mod LoadingLemmas
 pub mod FirstLemmas
 pub mod Places
-pub mod Growing
+pub mod GrowLemmas

@@ -5,8 +5,8 @@ use Rattle.resolvo_pool_core.specs.declared.id.VersionSetId.{VersionSetId}
 use Rattle.resolvo_pool_core.specs.declared.requirement.ConditionalRequirement.{ConditionalRequirement}
 use Rattle.resolvo_pool_core.specs.RuleKeeping.{Packages, Rules, is_member}
 use Rattle.resolvo_soundness.specs.Encoding.{Rule}
-use Rattle.resolvo_soundness.specs.Ending.{IsNeedEncoded, AreEncoded}
-use Rattle.resolvo_soundness.specs.Loading.{Deferred, IsParentEncoded, NoneFires}
+use Rattle.resolvo_soundness.specs.SearchEnd.{IsNeedEncoded, AreEncoded}
+use Rattle.resolvo_soundness.specs.Loads.{Deferred, IsParentEncoded, NoneFires}
 
 module _ {N S : Type 0} (same : S → S → Bool) (p : Packages N S) (root : Rules) where
   -- all is encoded where the root and each member are, and no case that waits holds

@@ -20,7 +20,7 @@ use Rattle.resolvo_sat.proofs.Literals.{has-cons, has_here, has_later}
 use Rattle.resolvo_sat.proofs.Trails.{consistent, known_in_range, root_known}
 use Rattle.resolvo_sat.proofs.Refutations.{refuted_holds}
 use Rattle.resolvo_soundness.specs.Encoding.{Atom, Rule, plus, literals_of, IsImplied}
-use Rattle.resolvo_soundness.specs.Ending as Ending
+use Rattle.resolvo_soundness.specs.SearchEnd as Ending
 use Rattle.resolvo_soundness.specs.Numbered.{meaning, Means, meanings, known_of, IsOnce, values_by, Spells, AreCalledFor, IsAccounted, AreCoded}
 use Rattle.resolvo_soundness.proofs.Lists.{contains_none, contains_cases, contains_first, contains_later, contains_left, contains_right}
 use Rattle.resolvo_soundness.proofs.Members.{makes, made_by}

@@ -3,7 +3,7 @@ use Rattle.std.proofs.Common.{◌≡◌, ℕ, zero, suc, ◌/◌, ◌^◌, ◌<�
 use Rattle.resolvo_store_core.specs.AtMostOne.{digit}
 use Rattle.resolvo_store_core.proofs.Digits.{same_digits}
 use Rattle.resolvo_soundness.specs.Encoding.{Rule}
-use Rattle.resolvo_soundness.specs.Ending.{AreTold}
+use Rattle.resolvo_soundness.specs.SearchEnd.{AreTold}
 use Rattle.resolvo_soundness.proofs.Members.{twice}
 
 same_or_not : (a b : Bool) → (a ≡ b) ⊎ (a ≡ not b)

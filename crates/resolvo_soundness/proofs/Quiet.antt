@@ -2,7 +2,7 @@
 use Rattle.std.proofs.Common.{◌≡◌, ◌⊎◌, inl, inr, List, [], ◌∷◌, subst, sym}
 use Rattle.std.specs.Prelude.{Contains}
 use Rattle.resolvo_pool_core.specs.OnePass.{Literal, negate}
-use Rattle.resolvo_soundness.specs.Ending.{AreFalse, IsQuiet}
+use Rattle.resolvo_soundness.specs.SearchEnd.{AreFalse, IsQuiet}
 use Rattle.resolvo_soundness.proofs.Lists.{contains_cases, contains_one, contains_first, contains_second}
 
 module _ {A : Type 0} where

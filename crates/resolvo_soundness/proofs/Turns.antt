@@ -15,7 +15,7 @@ use Rattle.resolvo_sat.specs.Entries.{made_true, IsTrail, IsRooted}
 use Rattle.resolvo_sat.specs.State.{lists, IsDerived}
 use Rattle.resolvo_sat.proofs.Trails.{consistent, root_known}
 use Rattle.resolvo_soundness.specs.Encoding.{IsExact, Atom, Rule, plus, literals_of, IsRule, AgreeWith}
-use Rattle.resolvo_soundness.specs.Ending as Ending
+use Rattle.resolvo_soundness.specs.SearchEnd as Ending
 use Rattle.resolvo_soundness.specs.First.{IsFirstPick, ArePreferred}
 use Rattle.resolvo_soundness.specs.Numbered.{meaning, meanings, known_of, Spells, AreCalledFor, AreCoded, IsTurnEnd, Denies}
 use Rattle.resolvo_soundness.proofs.FirstLemmas.{end_preferred}

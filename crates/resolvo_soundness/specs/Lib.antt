@@ -1,5 +1,5 @@
 pub mod Encoding
-pub mod Ending
+pub mod SearchEnd
 pub mod Numbered
-pub mod Loading
+pub mod Loads
 pub mod First

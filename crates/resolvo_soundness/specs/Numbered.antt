@@ -12,7 +12,7 @@ use Rattle.resolvo_sat.specs.Entries.{literal_of, made_true, IsChoice, StandsOn,
 use Rattle.resolvo_sat.specs.Propagation.{IsQuiet}
 use Rattle.resolvo_sat.specs.State.{lists, AreDerived}
 use Rattle.resolvo_soundness.specs.Encoding.{Atom, Rule, plus, minus, literals_of}
-use Rattle.resolvo_soundness.specs.Ending as Ending
+use Rattle.resolvo_soundness.specs.SearchEnd as Ending
 
 -- `origin` tells what each variable was made for; the root's variable, number 0, has no atom
 module _ {N S : Type 0} (origin : ℕ → Atom N S) where

@@ -18,11 +18,11 @@ use Rattle.resolvo_sat.specs.declared.state.SatState.{SatState}
 use Rattle.resolvo_sat.proofs.Literals.{has-cons}
 use Rattle.resolvo_store_core.specs.Clauses.{no, root as root_variable}
 use Rattle.resolvo_sat.specs.Propagation.{IsReady, AreCovered}
-use Rattle.resolvo_sat.specs.Adding.{Comes}
-use Rattle.resolvo_sat.specs.Advancing.{Improves}
+use Rattle.resolvo_sat.specs.AddClause.{Comes}
+use Rattle.resolvo_sat.specs.PropagateAndLearn.{Improves}
 use Rattle.resolvo_sat.proofs.Clauses.{length-lists}
 use Rattle.resolvo_sat.proofs.StepLemmas.{lists-append}
-use Rattle.resolvo_soundness.proofs.Growing.{clause_stays}
+use Rattle.resolvo_soundness.proofs.GrowLemmas.{clause_stays}
 use Rattle.resolvo_soundness.proofs.Meanings.{clause_in_range}
 use Rattle.resolvo_state.specs.declared.clause_kind.Stated.{Stated}
 use Rattle.resolvo_state.specs.declared.clause_kind.Stated.TheVariants.{Root, Learnt}
@@ -31,7 +31,7 @@ use Rattle.resolvo_state.specs.declared.atom.ProofAtom.{ProofAtom}
 use Rattle.resolvo_state.specs.Atoms.{kind_of}
 use Rattle.resolvo_state.specs.Keys.{AreOnce}
 use Rattle.resolvo_state.specs.Statements.{rule_of, stated_at}
-use Rattle.resolvo_state.specs.Coding.{IsCoding, States, Bars, Advances}
+use Rattle.resolvo_state.specs.SolverState.{IsCoding, States, Bars, Advances}
 use Rattle.resolvo_state.proofs.Positions.{get_front, get_old, get_last, get_push, front_equal}
 
 -- a literal of one of the first clauses stands in it among more

@@ -17,13 +17,13 @@ use Rattle.resolvo_sat.specs.Known.{clause_at}
 use Rattle.resolvo_sat.specs.Entries.{literal_of}
 use Rattle.resolvo_sat.specs.State.{lists, clauses_of, count_of, history}
 use Rattle.resolvo_sat.specs.Steps.{Chooses, Undoes, KeepsChoices, choice_entry}
-use Rattle.resolvo_sat.specs.Advancing.{IsProgress}
-use Rattle.resolvo_sat.proofs.Jumping.{undone_on}
+use Rattle.resolvo_sat.specs.PropagateAndLearn.{IsProgress}
+use Rattle.resolvo_sat.proofs.JumpLemmas.{undone_on}
 use Rattle.resolvo_sat.proofs.Clauses.{length-lists, literals_at}
 use Rattle.resolvo_sat.proofs.StepLemmas.{lists-append, reverse_push}
 use Rattle.resolvo_soundness.specs.Encoding.{Atom, Rule, plus, literals_of, HasBar}
 use Rattle.resolvo_soundness.specs.Numbered.{meaning, Means, known_of, Spells, AreCalledFor, IsAccounted, AreCoded}
-use Rattle.resolvo_soundness.proofs.Growing.{clause_stays, called_kept, called_choice, called_grows, spells_agree}
+use Rattle.resolvo_soundness.proofs.GrowLemmas.{clause_stays, called_kept, called_choice, called_grows, spells_agree}
 use Rattle.resolvo_soundness.proofs.Meanings.{clause_in_range}
 use Rattle.resolvo_state.specs.declared.atom.ProofAtom.{ProofAtom}
 use Rattle.resolvo_state.specs.declared.clause_kind.Stated.{Stated}
@@ -31,7 +31,7 @@ use Rattle.resolvo_state.specs.declared.clause_kind.Stated.TheVariants.{Root, Ne
 use Rattle.resolvo_state.specs.declared.solver_state.SolverState.{SolverState}
 use Rattle.resolvo_state.specs.Atoms.{origin, StandsFor}
 use Rattle.resolvo_state.specs.Statements.{rule_of, stated_at, rule_at, rules_in}
-use Rattle.resolvo_state.specs.Coding.{IsCoding, Grows, SameTrail, Advances, KeepsCode}
+use Rattle.resolvo_state.specs.SolverState.{IsCoding, Grows, SameTrail, Advances, KeepsCode}
 use Rattle.resolvo_state.specs.Spelled.{Spelled, AreRegistered}
 use Rattle.resolvo_state.proofs.Positions.{front_get, get_old, get_below, contains_get, front_same, front_then}
 use Rattle.resolvo_state.proofs.Origins.{count_is, coding_once, stands_below, stands_front, origin_front, one_variable}

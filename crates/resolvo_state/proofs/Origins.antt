@@ -15,7 +15,7 @@ use Rattle.resolvo_state.specs.declared.atom.ProofAtom.TheVariants.{Solvable, At
 use Rattle.resolvo_state.specs.declared.solver_state.SolverState.{SolverState}
 use Rattle.resolvo_state.specs.Atoms.{atom_of, atom_at, origin, kind_of, StandsFor, solvable_in, solvable_of, bit_in, bit_of}
 use Rattle.resolvo_state.specs.Keys.{AreOnce}
-use Rattle.resolvo_state.specs.Coding.{IsCoding}
+use Rattle.resolvo_state.specs.SolverState.{IsCoding}
 use Rattle.resolvo_state.proofs.Positions.{front_get, get_below}
 
 -- different atoms stay different

@@ -22,7 +22,7 @@ use Rattle.resolvo_state.specs.declared.clause_kind.Stated.TheVariants.{Digit}
 use Rattle.resolvo_state.specs.declared.solver_state.SolverState.{SolverState}
 use Rattle.resolvo_state.specs.Atoms.{StandsFor, solvable_of, bit_of}
 use Rattle.resolvo_state.specs.Statements.{stated_at, rules_in}
-use Rattle.resolvo_state.specs.Coding.{IsCoding, Grows, States}
+use Rattle.resolvo_state.specs.SolverState.{IsCoding, Grows, States}
 use Rattle.resolvo_state.specs.Registered.{IsTie, place_from, StatesTie, StatesOne, StatesAll}
 use Rattle.resolvo_state.proofs.Positions.{get_front, get_last, get_push}
 use Rattle.resolvo_state.proofs.Origins.{stands_solvable, stands_same, bit_stands}

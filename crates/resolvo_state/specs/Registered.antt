@@ -17,7 +17,7 @@ use Rattle.resolvo_state.specs.declared.registry.Registry.{Registry}
 use Rattle.resolvo_state.specs.Atoms.{origin, StandsFor}
 use Rattle.resolvo_state.specs.Keys.{AreOnce}
 use Rattle.resolvo_state.specs.Statements.{stated_at, rules_in}
-use Rattle.resolvo_state.specs.Coding.{IsCoding, Grows, SameTrail}
+use Rattle.resolvo_state.specs.SolverState.{IsCoding, Grows, SameTrail}
 
 abbrev pub same_variable : VariableId → VariableId → Bool
 same_variable v w = v.0 == w.0

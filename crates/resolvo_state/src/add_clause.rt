@@ -5,7 +5,7 @@ ghost use Rattle.resolvo_sat.specs.State.{count_of};
 ghost use Rattle.resolvo_sat.specs.Steps.{AreInRange};
 ghost use Rattle.resolvo_sat.specs.Analysis.{IsBar};
 ghost use Rattle.resolvo_state.specs.Statements.{rule_of};
-ghost use Rattle.resolvo_state.specs.Coding.{IsCoding, States, Bars};
+ghost use Rattle.resolvo_state.specs.SolverState.{IsCoding, States, Bars};
 
 use crate::clause_kind::Stated;
 use crate::solver_state::SolverState;

@@ -6,7 +6,7 @@ ghost use Rattle.resolvo_sat.specs.Known.{IsUndecided};
 ghost use Rattle.resolvo_sat.specs.Entries.{made_true};
 ghost use Rattle.resolvo_sat.specs.State.{count_of, history};
 ghost use Rattle.resolvo_sat.specs.Steps.{Chooses, Undoes};
-ghost use Rattle.resolvo_state.specs.Coding.{IsCoding, Advances, KeepsCode, SetsFloor};
+ghost use Rattle.resolvo_state.specs.SolverState.{IsCoding, Advances, KeepsCode, SetsFloor};
 
 use crate::clause_kind::Stated;
 use crate::solver_state::SolverState;

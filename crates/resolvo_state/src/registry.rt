@@ -7,7 +7,7 @@ ghost use Rattle.resolvo_pool_core.specs.declared.id.VariableId.{VariableId};
 ghost use Rattle.resolvo_store_core.specs.AtMostOne.{needs_helper};
 ghost use Rattle.resolvo_state.specs.declared.atom.ProofAtom.TheVariants.{Solvable, Bit};
 ghost use Rattle.resolvo_state.specs.Atoms.{StandsFor};
-ghost use Rattle.resolvo_state.specs.Coding.{IsCoding};
+ghost use Rattle.resolvo_state.specs.SolverState.{IsCoding};
 ghost use Rattle.resolvo_state.specs.Keys.{AreOnce};
 ghost use Rattle.resolvo_state.specs.Registered.{same_variable, IsNothing, AreTied, IsTracked, Registers, PlacesName, IsTied, Tracks, GivesDigit, IsTie, first_of, place_from, StatesOne, StatesAll};
 

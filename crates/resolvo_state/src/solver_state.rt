@@ -5,7 +5,7 @@ ghost use Rattle.std.specs.Prelude.{◌≡◌, ◌<◌, IfOk, IfSome, IsErrOf, I
 ghost use Rattle.resolvo_pool_core.specs.declared.want.Want.TheVariants.{Memory, Ids};
 ghost use Rattle.resolvo_sat.specs.State.{count_of};
 ghost use Rattle.resolvo_state.specs.Atoms.{IsFound, solvable_of, bit_of};
-ghost use Rattle.resolvo_state.specs.Coding.{IsCoding, IsBegun, Gives};
+ghost use Rattle.resolvo_state.specs.SolverState.{IsCoding, IsBegun, Gives};
 
 use crate::atom::ProofAtom;
 use crate::clause_kind::Stated;

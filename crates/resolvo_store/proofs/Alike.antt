@@ -9,7 +9,7 @@ use Rattle.resolvo_pool_core.specs.declared.id.DisjunctionTag.{DisjunctionTag}
 use Rattle.resolvo_pool_core.specs.declared.requirement.Requirement.{Requirement}
 use Rattle.resolvo_store_core.specs.Signed.{Signed}
 use Rattle.resolvo_store_core.specs.Trail.{value_in, last_level}
-use Rattle.resolvo_store_core.specs.Adding.{set_for, entered}
+use Rattle.resolvo_store_core.specs.AddPairs.{set_for, entered}
 use Rattle.resolvo_store_core.specs.Clauses.{is_in_range, is_own_in_range, lists_there, literals_by}
 use Rattle.resolvo_store_core.specs.Pairs.{watches}
 use Rattle.resolvo_store_core.specs.Walk.{pairs_after, lists_after}
@@ -25,7 +25,7 @@ use Rattle.resolvo_store_core.specs.declared.watched_literals.WatchedLiterals.{W
 use Rattle.resolvo_store.specs.declared.store_call.StoreCall.{StoreCall}
 use Rattle.resolvo_store.specs.declared.store_call.StoreCall.TheVariants as call
 use Rattle.resolvo_store.proofs.Picks.{SameNames, first_broken_same, pick_same}
-use Rattle.resolvo_store.proofs.Fitting.{literals_same, there_same}
+use Rattle.resolvo_store.proofs.FitLemmas.{literals_same, there_same}
 use Rattle.resolvo_store_core.proofs.Walks.{lists_after_same}
 
 pub like_refl : {N : Type 0} (s : Stored N) → Like s s

@@ -1,6 +1,6 @@
 pub mod Alike
-pub mod Fitting
-pub mod Interning
+pub mod FitLemmas
+pub mod InternLemmas
 pub mod Picks
 pub mod Plain
 pub mod Undone

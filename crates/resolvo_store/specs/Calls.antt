@@ -13,7 +13,7 @@ use Rattle.resolvo_pool_core.specs.declared.want.Want.TheVariants as want
 use Rattle.resolvo_pool_core.specs.ByRequirement.{index_in}
 use Rattle.resolvo_store_core.specs.Signed.{Signed, same_literal, has}
 use Rattle.resolvo_store_core.specs.Trail.{value_in, last_level}
-use Rattle.resolvo_store_core.specs.Adding.{set_for}
+use Rattle.resolvo_store_core.specs.AddPairs.{set_for}
 use Rattle.resolvo_store_core.specs.Clauses.{is_in_range, is_own_in_range, lists_there, literals_by}
 use Rattle.resolvo_store_core.specs.Pick.{first_broken_by, pick_by}
 use Rattle.resolvo_store.specs.Stored.{Stored, Like, names_in}

@@ -11,7 +11,7 @@ use Rattle.resolvo_store_core.specs.Signed.{Signed}
 use Rattle.resolvo_store_core.specs.Clauses.{yes}
 use Rattle.resolvo_store_core.specs.Pairs.{watches}
 use Rattle.resolvo_store_core.specs.Trail.{value_in, last_level}
-use Rattle.resolvo_store_core.specs.Adding.{set_for, entered}
+use Rattle.resolvo_store_core.specs.AddPairs.{set_for, entered}
 use Rattle.resolvo_store_core.specs.Walk.{pairs_after, lists_after}
 use Rattle.resolvo_store.specs.Stored.{Stored}
 use Rattle.resolvo_store_core.specs.declared.clause.Clause.{Clause}

@@ -2,4 +2,4 @@ pub mod Origins
 pub mod Stored
 pub mod Changes
 pub mod Calls
-pub mod Wording
+pub mod ClauseText

@@ -3,7 +3,7 @@
 //! names.
 ghost use Rattle.std.specs.Prelude.{◌≡◌, ◌++◌, Some, codes};
 ghost use Rattle.std.specs.Fmt.{WritesOnOk};
-ghost use Rattle.resolvo_store.specs.Wording.{origin_words, variable_words, case_words, need_words, forbid_words, limit_words, pair_words, excluded_words, clause_words};
+ghost use Rattle.resolvo_store.specs.ClauseText.{origin_words, variable_words, case_words, need_words, forbid_words, limit_words, pair_words, excluded_words, clause_words};
 
 use crate::variable_map::{VariableMap, VariableOrigin};
 use resolvo_pool_core::id::{DisjunctionId, StringId, VariableId, VersionSetId};

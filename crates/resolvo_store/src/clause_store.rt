@@ -7,7 +7,7 @@ ghost use Rattle.std.specs.List.{list_all};
 ghost use Rattle.resolvo_pool_core.specs.declared.want.Want.TheVariants.{Memory, Ids};
 ghost use Rattle.resolvo_pool_core.specs.ByRequirement.{index_in};
 ghost use Rattle.resolvo_store_core.specs.Trail.{value_in};
-ghost use Rattle.resolvo_store_core.specs.Adding.{set_for};
+ghost use Rattle.resolvo_store_core.specs.AddPairs.{set_for};
 ghost use Rattle.resolvo_store_core.specs.Signed.{Signed, same_literal};
 ghost use Rattle.resolvo_store_core.specs.Watches.{watchers, IsWatched, SameLists};
 ghost use Rattle.resolvo_store_core.specs.declared.watched_literals.WatchedLiterals.{WatchedLiterals};

@@ -4,7 +4,7 @@ ghost use Rattle.resolvo_pool_core.specs.declared.want.Want.TheVariants.{Memory,
 ghost use Rattle.resolvo_store.specs.Stored.{Like, plain};
 ghost use Rattle.resolvo_pool_core.specs.ByRequirement.{index_in};
 ghost use Rattle.resolvo_store_core.specs.Trail.{value_in};
-ghost use Rattle.resolvo_store_core.specs.Adding.{set_for};
+ghost use Rattle.resolvo_store_core.specs.AddPairs.{set_for};
 ghost use Rattle.resolvo_store.specs.Changes.{candidates_from, with_candidates, with_disjunction, with_learnt, with_clause, with_need, with_decision, decayed};
 ghost use Rattle.resolvo_store.specs.Calls.{Done, Added, Became, Bad, told, can_fix, can_add, can_register, can_assign, can_decay, broken_in, picked_in, broken_or_next, step, answer_of, after, answers_of, LacksNumber, StopsAt};
 

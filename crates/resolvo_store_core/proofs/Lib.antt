@@ -8,4 +8,4 @@ pub mod Ties
 pub mod Trails
 pub mod Walks
 pub mod Watched
-pub mod Watching
+pub mod WatchLemmas

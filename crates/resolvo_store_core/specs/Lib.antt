@@ -1,9 +1,9 @@
-pub mod Adding
+pub mod AddPairs
 pub mod ClauseParts
 pub mod Clauses
 pub mod Lists
 pub mod Pairs
-pub mod Reading
+pub mod ReadClause
 pub mod SignLaws
 pub mod Signed
 pub mod Trail

@@ -8,7 +8,7 @@ ghost use Rattle.resolvo_store_core.specs.Signed.{value_under, has};
 ghost use Rattle.resolvo_store_core.specs.Values.{value_at};
 ghost use Rattle.resolvo_store_core.specs.Clauses.{literals_of, Fits, OwnInRange, is_binary_kind, is_own_in_range, has_lists, IsValueOf};
 ghost use Rattle.resolvo_store_core.specs.ClauseParts.{own_literals_of, listed_literals_of, candidate_literals_of};
-ghost use Rattle.resolvo_store_core.specs.Reading.{rest_of, listed, named};
+ghost use Rattle.resolvo_store_core.specs.ReadClause.{rest_of, listed, named};
 
 use crate::decision_map::DecisionMap;
 use crate::lists::{Candidate, FixedLists};

@@ -9,7 +9,7 @@ ghost use Rattle.resolvo_pool_core.specs.declared.want.Want.TheVariants.{Memory}
 ghost use Rattle.resolvo_store_core.specs.Signed.{value_under, is_false, is_true, is_open};
 ghost use Rattle.resolvo_store_core.specs.Values.{value_at};
 ghost use Rattle.resolvo_store_core.specs.Lists.{condition_in, candidates_in};
-ghost use Rattle.resolvo_store_core.specs.Reading.{listed};
+ghost use Rattle.resolvo_store_core.specs.ReadClause.{listed};
 ghost use Rattle.resolvo_store_core.specs.Pick.{is_eligible, is_broken, offer, beats, later, pick, first_broken};
 
 use crate::decision_map::DecisionMap;

@@ -7,7 +7,7 @@ ghost use Rattle.std.specs.Iterator.{YieldsFirst, item_count};
 ghost use Rattle.resolvo_pool_core.specs.declared.want.Want.TheVariants.{Memory};
 ghost use Rattle.resolvo_pool_core.specs.Slots.{at};
 ghost use Rattle.resolvo_store_core.specs.Trail.{assigned, value_in, values_of, clause_for, level_or, last_level, EachOnce, Tracked, Undoes, PopsLast};
-ghost use Rattle.resolvo_store_core.specs.Adding.{set_for, with_entry};
+ghost use Rattle.resolvo_store_core.specs.AddPairs.{set_for, with_entry};
 
 use crate::decision::{Decision, Entry};
 use crate::decision_map::DecisionMap;

@@ -6,7 +6,7 @@ ghost use Rattle.resolvo_pool_core.specs.declared.want.Want.TheVariants.{Memory,
 ghost use Rattle.resolvo_pool_core.specs.ByRequirement.{slot_of, PutsAt, index_in};
 ghost use Rattle.resolvo_store_core.specs.Signed.{Signed};
 ghost use Rattle.resolvo_store_core.specs.Lists.{candidates_in, disjunction_in, condition_in, learnt_in, has_candidates, has_disjunction, names_disjunction, has_learnt, disjunction_count, learnt_count, IsEmpty, FixesCandidates, FixesDisjunction, FixesLearnt};
-ghost use Rattle.resolvo_store_core.specs.Reading.{listed};
+ghost use Rattle.resolvo_store_core.specs.ReadClause.{listed};
 
 use crate::literal::Literal;
 use resolvo_pool_core::arena::Arena;

@@ -2,7 +2,7 @@
 //! Its model is the list of the literals that are left.
 ghost use Rattle.std.specs.Prelude.{◌≡◌};
 ghost use Rattle.std.specs.Iterator.{YieldsFirst, item_count};
-ghost use Rattle.resolvo_store_core.specs.Reading.{rest_of, listed, named};
+ghost use Rattle.resolvo_store_core.specs.ReadClause.{rest_of, listed, named};
 
 use crate::lists::Candidate;
 use crate::literal::Literal;
@@ -17,7 +17,7 @@ pub struct Literals<'a, N> {
 }
 
 impl<'a, N: Copy> Literals<'a, N> {
-    ghost use Rattle.resolvo_store_core.specs.Reading.{TakesFirst};
+    ghost use Rattle.resolvo_store_core.specs.ReadClause.{TakesFirst};
 
     /// The first of the list, if it is left.
     fn next_listed(&mut self) -> Option<Literal>

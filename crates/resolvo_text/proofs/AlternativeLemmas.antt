@@ -9,7 +9,7 @@ use Rattle.resolvo_text.specs.Line.{Spec}
 use Rattle.resolvo_text.specs.Spelling.{Words}
 use Rattle.resolvo_text.specs.declared.line.LineFault.{LineFault}
 use Rattle.resolvo_text.specs.declared.line.LineFault.TheVariants.{Fault, Memory}
-use Rattle.resolvo_text.specs.Reading.{◌>>=◌, Fails, name_in, span_at, span_in, with_span, spec_at, skip, with_first, alternatives_at}
+use Rattle.resolvo_text.specs.Parse.{◌>>=◌, Fails, name_in, span_at, span_in, with_span, spec_at, skip, with_first, alternatives_at}
 
 -- what was read before, and what is still read
 abbrev pub with_front : List Spec → Option (List Spec × Words) → Option (List Spec × Words)

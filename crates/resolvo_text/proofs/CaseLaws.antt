@@ -4,7 +4,7 @@ use Rattle.std.proofs.lemmas.List.Folds.{list_all-append}
 use Rattle.std.proofs.lemmas.List.{append-nil}
 use Rattle.std.proofs.lemmas.Grind.{flat_map-append}
 use Rattle.resolvo_text.specs.Line.{Spec, Cond, Is, And, Or}
-use Rattle.resolvo_text.specs.Matching.{Set, is_met, holds, condition_holds}
+use Rattle.resolvo_text.specs.Matches.{Set, is_met, holds, condition_holds}
 use Rattle.resolvo_text.specs.Cases.{cases, pairs, condition_cases, all_met, some_case_met}
 
 or_assoc : (a b c : Bool) → ((a || b) || c) ≡ (a || (b || c))

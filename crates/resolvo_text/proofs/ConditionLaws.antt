@@ -10,7 +10,7 @@ use Rattle.resolvo_text.specs.Line.{Spec, Cond, Is}
 use Rattle.resolvo_text.specs.Spelling.{Words, is_name, IsSpec, spec_words, Written, Lone, Group, Both, Either, meant, written_words, looseness, IsWritten, depth_of, spec_count, AreWordsOfCondition}
 use Rattle.resolvo_text.specs.declared.condition.Joint.{Joint}
 use Rattle.resolvo_text.specs.declared.condition.Joint.TheVariants.{And, Or}
-use Rattle.resolvo_text.specs.Reading.{◌>>=◌, PartReader, Part, skip, span_in, spec_at, word_of, join, joined, closed, lone_at, atom_with, parts_at, parts_with, group_at, joined_at, end_at, behind_if}
+use Rattle.resolvo_text.specs.Parse.{◌>>=◌, PartReader, Part, skip, span_in, spec_at, word_of, join, joined, closed, lone_at, atom_with, parts_at, parts_with, group_at, joined_at, end_at, behind_if}
 use Rattle.resolvo_text.proofs.AlternativeLemmas.{bind_some}
 use Rattle.resolvo_text.proofs.SpanLaws.{not_a_span}
 use Rattle.resolvo_text.proofs.ConditionLemmas.{group_is, joined_is}

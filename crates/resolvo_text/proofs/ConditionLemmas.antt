@@ -7,7 +7,7 @@ use Rattle.resolvo_text.specs.declared.condition.Joint.{Joint}
 use Rattle.resolvo_text.specs.declared.condition.Joint.TheVariants.{And, Or}
 use Rattle.resolvo_text.specs.declared.line.LineFault.{LineFault}
 use Rattle.resolvo_text.specs.declared.line.LineFault.TheVariants.{Fault, Memory}
-use Rattle.resolvo_text.specs.Reading.{◌>>=◌, Fails, PartReader, Part, skip, word_of, joined, closed, lone_at, atom_with, parts_at, parts_with, group_at, atom_at, part_at, joined_at}
+use Rattle.resolvo_text.specs.Parse.{◌>>=◌, Fails, PartReader, Part, skip, word_of, joined, closed, lone_at, atom_with, parts_at, parts_with, group_at, atom_at, part_at, joined_at}
 
 -- The readers of conditions call one another, at each depth from the looser to the tighter.
 abbrev pub rank : Joint → ℕ

@@ -8,7 +8,7 @@ use Rattle.std.proofs.lemmas.Option.{same_Some}
 use Rattle.std.proofs.lemmas.List.{append-nil, length-append}
 use Rattle.resolvo_text.specs.Line.{Version, Spec, Cond, Line, Skipped, Listed, Needs, Limits, Unknown, Lock, Favour, Exclude, Wish}
 use Rattle.resolvo_text.specs.Spelling.{Words, is_name, IsVersion, IsSpec, version_words, spec_words, alternatives_words, AreWordsOf, AreWordsOfCondition, HasForm}
-use Rattle.resolvo_text.specs.Reading.{◌>>=◌, version_at, reason_at, spec_at, alternatives_at, version_in, reason_in, spec_in, span_in, skip, end_at, behind_if, condition_in, needs_in, said_by}
+use Rattle.resolvo_text.specs.Parse.{◌>>=◌, version_at, reason_at, spec_at, alternatives_at, version_in, reason_in, spec_in, span_in, skip, end_at, behind_if, condition_in, needs_in, said_by}
 use Rattle.resolvo_text.proofs.AlternativeLemmas.{bind_some}
 use Rattle.resolvo_text.proofs.PartLaws.{version_takes, version_again, reason_takes, reason_again, spec_takes, spec_again, alternatives_take, alternatives_again, AreAlternatives, chosen, skip_takes, skip_is, no_skip, BeginsNoSpan, BeginsNot, whole_takes, whole_again}
 use Rattle.resolvo_text.proofs.SpanLaws.{not_a_span}

@@ -10,7 +10,7 @@ use Rattle.resolvo_text.specs.declared.spec.Span.{Span}
 use Rattle.resolvo_text.specs.declared.spec.Span.TheVariants.{Any, One, Range}
 use Rattle.resolvo_text.specs.Line.{Version, Spec}
 use Rattle.resolvo_text.specs.Spelling.{Words, is_name, IsVersion, IsSpan, IsSpec, version_words, span_words, spec_words, alternatives_words}
-use Rattle.resolvo_text.specs.Reading.{◌>>=◌, word_at, name_in, number_in, span_in, with_span, span_at, version_at, reason_at, spec_at, skip, with_first, alternatives_at, end_at, whole_of}
+use Rattle.resolvo_text.specs.Parse.{◌>>=◌, word_at, name_in, number_in, span_in, with_span, span_at, version_at, reason_at, spec_at, skip, with_first, alternatives_at, end_at, whole_of}
 use Rattle.resolvo_text.proofs.NumberLemmas.{number_in-decimal, number_in_spells}
 use Rattle.resolvo_text.proofs.AlternativeLemmas.{bind_some}
 use Rattle.resolvo_text.proofs.SpanLaws.{span_again, span_takes, not_a_span}

@@ -12,7 +12,7 @@ use Rattle.std.proofs.lemmas.List.Quantifiers.{position-Some}
 use Rattle.resolvo_text.specs.declared.spec.Span.{Span}
 use Rattle.resolvo_text.specs.declared.spec.Span.TheVariants.{Any, One, Range}
 use Rattle.resolvo_text.specs.Spelling.{Words, span_words, IsSpan}
-use Rattle.resolvo_text.specs.Reading.{◌>>=◌, is_dot, number_in, number_after_dot, range_in, span_in, span_or_range}
+use Rattle.resolvo_text.specs.Parse.{◌>>=◌, is_dot, number_in, number_after_dot, range_in, span_in, span_or_range}
 use Rattle.resolvo_text.proofs.NumberLemmas.{number_in-decimal, number_in_spells, number_in_none, digits}
 use Rattle.resolvo_text.proofs.AlternativeLemmas.{bind_some}
 

@@ -14,7 +14,7 @@ use Rattle.resolvo_text.specs.declared.spec.Span.{Span}
 use Rattle.resolvo_text.specs.declared.spec.Span.TheVariants.{Any, One, Range}
 use Rattle.resolvo_text.specs.Line.{Version, Spec, Cond, Line, Skipped, Listed, Needs, Limits, Unknown, Lock, Favour, Exclude, Wish}
 use Rattle.resolvo_text.specs.Spelling.{Words, starts_name, continues_name, is_word, is_reserved, is_name, IsVersion, IsSpec, IsSpan, version_words, span_words, spec_words, alternatives_words, AreWordsOf, AreWordsOfCondition, Written, Lone, Group, Both, Either, IsWritten, written_words, SaysLine, HasForm, Spells, IsSkipped}
-use Rattle.resolvo_text.specs.Reading.{is_space, word_at, said_by, is_skipped, line_in}
+use Rattle.resolvo_text.specs.Parse.{is_space, word_at, said_by, is_skipped, line_in}
 use Rattle.resolvo_text.proofs.NumberLemmas.{digits}
 use Rattle.resolvo_text.proofs.AlternativeLemmas.{bind_some}
 use Rattle.resolvo_text.proofs.PartLaws.{word_takes, chosen}

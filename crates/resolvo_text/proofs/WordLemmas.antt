@@ -7,7 +7,7 @@ use Rattle.std.proofs.lemmas.List.Quantifiers.{position-Some}
 use Rattle.std.proofs.lemmas.List.Sums.{fails_before_first}
 use Rattle.std.proofs.lemmas.Bool.{ltb-false}
 use Rattle.resolvo_text.specs.Spelling.{Words}
-use Rattle.resolvo_text.specs.Reading.{is_space, words_in, end_at}
+use Rattle.resolvo_text.specs.Parse.{is_space, words_in, end_at}
 
 some_word : (words : Words) → 0 < length words → end_at words ≡ None
 some_word [] lt = absurd (omega arith)

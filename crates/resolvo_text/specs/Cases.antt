@@ -2,7 +2,7 @@
 use Rattle.std.specs.Prelude.{List, [], ◌∷◌, ◌++◌, map, Bool, Option, Some, None}
 use Rattle.std.specs.List.{flat_map, list_any, list_all}
 use Rattle.resolvo_text.specs.Line.{Spec, Cond, Is, And, Or}
-use Rattle.resolvo_text.specs.Matching.{Set, is_met}
+use Rattle.resolvo_text.specs.Matches.{Set, is_met}
 
 -- each case with each of these, in order
 abbrev pub pairs : List (List Spec) → List (List Spec) → List (List Spec)

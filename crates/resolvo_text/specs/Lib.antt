@@ -1,10 +1,10 @@
 pub mod Lines
 pub mod Line
 pub mod Spelling
-pub mod Matching
+pub mod Matches
 pub mod Cases
 pub mod Texts
 pub mod Device
 pub mod Reader
 pub mod View
-pub mod Reading
+pub mod Parse

@@ -4,7 +4,7 @@ use Rattle.std.specs.Option.{option_map}
 use Rattle.std.specs.String.{string_bytes}
 use Rattle.std.specs.Global.{Vec}
 use Rattle.resolvo_text.specs.Line as says
-use Rattle.resolvo_text.specs.Matching as meaning
+use Rattle.resolvo_text.specs.Matches as meaning
 use Rattle.resolvo_text.specs.declared.spec.Version.{Version}
 use Rattle.resolvo_text.specs.declared.spec.Spec as code
 use Rattle.resolvo_text.specs.declared.condition.Cond.{Cond, Spec, And', Or'}

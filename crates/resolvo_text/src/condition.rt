@@ -4,9 +4,9 @@
 //! of a line `needs` calls `condition_in`; the catalogue asks the rest.
 
 ghost use Rattle.std.specs.Prelude.{◌≡◌, ◌||◌, ◌&&◌, ◌++◌, ◌<◌, Some, map, IfOk};
-ghost use Rattle.resolvo_text.specs.Reading.{Gives, words_in, word_of, joined, condition_in, behind_if, joined_at, part_at, atom_at, lone_at};
+ghost use Rattle.resolvo_text.specs.Parse.{Gives, words_in, word_of, joined, condition_in, behind_if, joined_at, part_at, atom_at, lone_at};
 ghost use Rattle.resolvo_text.specs.View.{condition_of, spec_of, specs_of, cond_of, set_of, cases_of};
-ghost use Rattle.resolvo_text.specs.Matching.{Set, holds};
+ghost use Rattle.resolvo_text.specs.Matches.{Set, holds};
 ghost use Rattle.resolvo_text.specs.Cases.{cases, pairs, some_case_met};
 ghost use Rattle.resolvo_text.specs.Line as says;
 
@@ -82,7 +82,7 @@ const MOST_SPECS: u32 = 16;
 const DEEPEST: u32 = 16;
 
 /// The condition of a line `needs`: all that stands behind its alternatives.
-#[tactic(auto, unfolding(crate::specs::Reading::condition_in))]
+#[tactic(auto, unfolding(crate::specs::Parse::condition_in))]
 pub(crate) fn condition_in(alloc: Global, words: &[u8]) -> Result<Option<Cond>, LineFault>
     ensures { Gives condition_of result (condition_in (words_in words.now)) }
 {
@@ -94,7 +94,7 @@ pub(crate) fn condition_in(alloc: Global, words: &[u8]) -> Result<Option<Cond>, 
     Ok(Some(behind_if(alloc, condition)?))
 }
 
-#[tactic(auto, unfolding(crate::specs::Reading::behind_if))]
+#[tactic(auto, unfolding(crate::specs::Parse::behind_if))]
 fn behind_if(alloc: Global, words: &[u8]) -> Result<Cond, LineFault>
     ensures { Gives cond_of result (behind_if (words_in words.now)) }
 {
@@ -135,7 +135,7 @@ fn joined_at(
 
 /// One of the conditions that are joined so.
 #[cycle(condition)]
-#[tactic(auto, unfolding(crate::specs::Reading::part_at, crate::specs::Reading::joined_at))]
+#[tactic(auto, unfolding(crate::specs::Parse::part_at, crate::specs::Parse::joined_at))]
 fn part_at(
     alloc: Global,
     joint: Joint,
@@ -179,7 +179,7 @@ fn atom_at(
 }
 
 /// One SPEC.
-#[tactic(auto, unfolding(crate::specs::Reading::lone_at))]
+#[tactic(auto, unfolding(crate::specs::Parse::lone_at))]
 fn lone_at(alloc: Global, room: u32, words: &[u8]) -> Result<(Cond, u32, &[u8]), LineFault>
     ensures fewer { IfOk result (λ x. x.1 < room) }
     ensures words { Gives (λ x. (cond_of x.0, x.1, words_in x.2.now)) result (lone_at room (words_in words.now)) }

@@ -12,7 +12,7 @@ ghost use Rattle.resolvo_text.specs.Line as says;
 ghost use Rattle.resolvo_text.specs.Spelling.{SaysLine};
 ghost use Rattle.resolvo_text.specs.declared.line.LineFault.TheVariants.{Fault};
 ghost use Rattle.resolvo_text.specs.View.{version_of, spec_of, specs_of, view};
-ghost use Rattle.resolvo_text.specs.Reading.{Gives, word_at, version_at, reason_at, span_at, spec_at, skip, alternatives_at, name_in, number_in, end_at, version_in, reason_in, spec_in, needs_in, said_by, is_space, words_in, is_bar, is_skipped, line_in};
+ghost use Rattle.resolvo_text.specs.Parse.{Gives, word_at, version_at, reason_at, span_at, spec_at, skip, alternatives_at, name_in, number_in, end_at, version_in, reason_in, spec_in, needs_in, said_by, is_space, words_in, is_bar, is_skipped, line_in};
 
 use crate::condition::condition_in;
 use crate::line::{Line, LineFault};
@@ -68,7 +68,7 @@ pub fn number_of(word: &[u8]) -> Result<u32, LineFault>
     number_in(word).ok_or(LineFault::Fault)
 }
 
-#[tactic(auto, unfolding(crate::specs::Reading::version_at))]
+#[tactic(auto, unfolding(crate::specs::Parse::version_at))]
 pub fn version_at(alloc: Global, words: &[u8]) -> Result<(Version, &[u8]), LineFault>
     ensures { Gives (λ x. (version_of x.0, words_in x.1.now)) result (version_at (words_in words.now)) }
 {
@@ -79,7 +79,7 @@ pub fn version_at(alloc: Global, words: &[u8]) -> Result<(Version, &[u8]), LineF
     Ok((Version { name, number }, words))
 }
 
-#[tactic(auto, unfolding(crate::specs::Reading::reason_at))]
+#[tactic(auto, unfolding(crate::specs::Parse::reason_at))]
 pub fn reason_at(alloc: Global, words: &[u8]) -> Result<(String, &[u8]), LineFault>
     ensures { Gives (λ x. (string_bytes x.0, words_in x.1.now)) result (reason_at (words_in words.now)) }
 {
@@ -87,7 +87,7 @@ pub fn reason_at(alloc: Global, words: &[u8]) -> Result<(String, &[u8]), LineFau
     Ok((name_of(alloc, word)?, words))
 }
 
-#[tactic(auto, unfolding(crate::specs::Reading::span_at))]
+#[tactic(auto, unfolding(crate::specs::Parse::span_at))]
 pub fn span_at(words: &[u8]) -> (Span, &[u8])
     ensures shorter { length result.1.now ≤ length words.now }
     ensures words { (result.0, words_in result.1.now) ≡ span_at (words_in words.now) }
@@ -100,7 +100,7 @@ pub fn span_at(words: &[u8]) -> (Span, &[u8])
     (Span::Any, words)
 }
 
-#[tactic(auto, unfolding(crate::specs::Reading::spec_at))]
+#[tactic(auto, unfolding(crate::specs::Parse::spec_at))]
 pub fn spec_at(alloc: Global, words: &[u8]) -> Result<(Spec, &[u8]), LineFault>
     ensures shorter { IfOk result (λ x. length x.1.now < length words.now) }
     ensures words { Gives (λ x. (spec_of x.0, words_in x.1.now)) result (spec_at (words_in words.now)) }
@@ -112,7 +112,7 @@ pub fn spec_at(alloc: Global, words: &[u8]) -> Result<(Spec, &[u8]), LineFault>
 }
 
 /// Whether this word comes next, and the words after it.
-#[tactic(auto, unfolding(crate::specs::Reading::skip))]
+#[tactic(auto, unfolding(crate::specs::Parse::skip))]
 pub fn skip<'a>(words: &'a [u8], word: &[u8]) -> (bool, &'a [u8])
     ensures shorter { length result.1.now ≤ length words.now }
     ensures words { (result.0, words_in result.1.now) ≡ skip word.now (words_in words.now) }
@@ -162,7 +162,7 @@ pub fn no_more(words: &[u8]) -> Result<(), LineFault>
     }
 }
 
-#[tactic(auto, unfolding(crate::specs::Reading::version_in))]
+#[tactic(auto, unfolding(crate::specs::Parse::version_in))]
 fn version_in(alloc: Global, words: &[u8]) -> Result<Version, LineFault>
     ensures { Gives version_of result (version_in (words_in words.now)) }
 {
@@ -171,7 +171,7 @@ fn version_in(alloc: Global, words: &[u8]) -> Result<Version, LineFault>
     Ok(version)
 }
 
-#[tactic(auto, unfolding(crate::specs::Reading::reason_in))]
+#[tactic(auto, unfolding(crate::specs::Parse::reason_in))]
 fn reason_in(alloc: Global, words: &[u8]) -> Result<String, LineFault>
     ensures { Gives (λ s. string_bytes s) result (reason_in (words_in words.now)) }
 {
@@ -180,7 +180,7 @@ fn reason_in(alloc: Global, words: &[u8]) -> Result<String, LineFault>
     Ok(reason)
 }
 
-#[tactic(auto, unfolding(crate::specs::Reading::spec_in))]
+#[tactic(auto, unfolding(crate::specs::Parse::spec_in))]
 fn spec_in(alloc: Global, words: &[u8]) -> Result<Spec, LineFault>
     ensures { Gives spec_of result (spec_in (words_in words.now)) }
 {
@@ -189,7 +189,7 @@ fn spec_in(alloc: Global, words: &[u8]) -> Result<Spec, LineFault>
     Ok(spec)
 }
 
-#[tactic(auto, unfolding(crate::specs::Reading::needs_in))]
+#[tactic(auto, unfolding(crate::specs::Parse::needs_in))]
 fn needs_in(alloc: Global, words: &[u8]) -> Result<Line, LineFault>
     ensures { Gives view result (needs_in (words_in words.now)) }
 {
@@ -202,7 +202,7 @@ fn needs_in(alloc: Global, words: &[u8]) -> Result<Line, LineFault>
 }
 
 /// What the words after the keyword say.
-#[tactic(auto, unfolding(crate::specs::Reading::said_by))]
+#[tactic(auto, unfolding(crate::specs::Parse::said_by))]
 fn said_by(alloc: Global, keyword: &[u8], words: &[u8]) -> Result<Line, LineFault>
     ensures { Gives (λ line. view line) result (said_by keyword.now (words_in words.now)) }
 {
@@ -252,7 +252,7 @@ pub fn line_in(alloc: Global, text: &[u8]) -> Result<Line, LineFault>
     line_read(alloc, text)
 }
 
-#[tactic(auto, unfolding(crate::specs::Reading::line_in))]
+#[tactic(auto, unfolding(crate::specs::Parse::line_in))]
 fn line_read(alloc: Global, text: &[u8]) -> Result<Line, LineFault>
     ensures { Gives view result (line_in text.now) }
 {

@@ -5,7 +5,7 @@
 ghost use Rattle.std.specs.Prelude.{◌≡◌, IfOk};
 ghost use Rattle.std.specs.List.{list_any};
 ghost use Rattle.resolvo_text.specs.View.{version_of, spec_of, specs_of, set_of};
-ghost use Rattle.resolvo_text.specs.Matching.{is_in_span, matches, is_met, is_met_by_one, same_version, is_member};
+ghost use Rattle.resolvo_text.specs.Matches.{is_in_span, matches, is_met, is_met_by_one, same_version, is_member};
 
 use std::alloc::AllocError;
 

@@ -7,7 +7,7 @@ ghost use Rattle.std.specs.Prelude.{◌≡◌, ◌==◌, map, IfOk, IfSome, Matc
 ghost use Rattle.std.specs.Option.{option_map};
 ghost use Rattle.std.specs.List.{position, list_all};
 ghost use Rattle.resolvo_text.specs.Spelling.{starts_name, continues_name, is_word, is_reserved, is_name};
-ghost use Rattle.resolvo_text.specs.Reading.{is_dot, number_in, number_after_dot, range_in, span_in, name_in};
+ghost use Rattle.resolvo_text.specs.Parse.{is_dot, number_in, number_after_dot, range_in, span_in, name_in};
 
 use crate::spec::Span;
 
@@ -52,7 +52,7 @@ pub fn is_name(word: &[u8]) -> bool
 }
 
 /// The word as text, if it is a name.
-#[tactic(auto, unfolding(crate::specs::Reading::name_in))]
+#[tactic(auto, unfolding(crate::specs::Parse::name_in))]
 pub fn name_in(word: &[u8]) -> Option<&str>
     ensures { option_map (λ s. s.now) result ≡ name_in word.now }
 {
@@ -63,7 +63,7 @@ pub fn name_in(word: &[u8]) -> Option<&str>
 }
 
 /// The number that the word spells, in digits with no zero before them.
-#[tactic(auto, unfolding(crate::specs::Reading::number_in))]
+#[tactic(auto, unfolding(crate::specs::Parse::number_in))]
 pub fn number_in(word: &[u8]) -> Option<u32>
     ensures { result ≡ number_in word.now }
 {
@@ -78,7 +78,7 @@ pub fn number_in(word: &[u8]) -> Option<u32>
     text.parse::<u32>().ok()
 }
 
-#[tactic(auto, unfolding(crate::specs::Reading::number_after_dot))]
+#[tactic(auto, unfolding(crate::specs::Parse::number_after_dot))]
 fn number_after_dot(bytes: &[u8]) -> Option<u32>
     ensures { result ≡ number_after_dot bytes.now }
 {
@@ -96,7 +96,7 @@ fn dot_in(word: &[u8]) -> Option<usize>
     word.iter().position(|b| *b == b'.')
 }
 
-#[tactic(auto, unfolding(crate::specs::Reading::range_in))]
+#[tactic(auto, unfolding(crate::specs::Parse::range_in))]
 fn range_in(word: &[u8]) -> Option<Span>
     ensures { result ≡ range_in word.now }
 {
@@ -110,7 +110,7 @@ fn range_in(word: &[u8]) -> Option<Span>
     }
 }
 
-#[tactic(auto, unfolding(crate::specs::Reading::span_in))]
+#[tactic(auto, unfolding(crate::specs::Parse::span_in))]
 pub fn span_in(word: &[u8]) -> Option<Span>
     ensures { result ≡ span_in word.now }
 {

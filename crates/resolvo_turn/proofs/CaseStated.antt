@@ -7,16 +7,16 @@ use Rattle.resolvo_pool_core.specs.declared.requirement.Requirement.{Requirement
 use Rattle.resolvo_pool_core.specs.RuleKeeping.{Packages, Rules, rules_for}
 use Rattle.resolvo_store_core.specs.AtMostOne.{IsFrontOf}
 use Rattle.resolvo_soundness.specs.Encoding.{cases_for}
-use Rattle.resolvo_soundness.specs.Ending.{IsNeedEncoded}
+use Rattle.resolvo_soundness.specs.SearchEnd.{IsNeedEncoded}
 use Rattle.resolvo_state.proofs.Positions.{front_get}
 use Rattle.resolvo_encoder.specs.declared.conditions.DeferredRequirement.{DeferredRequirement}
 use Rattle.resolvo_encoder.specs.declared.encoder.Deferred.{Deferred}
 use Rattle.resolvo_encoder.specs.declared.encoder.Encoder.{Encoder}
-use Rattle.resolvo_encoder.specs.Casing.{case_of, Fires, IsWaiting}
+use Rattle.resolvo_encoder.specs.Conditions.{case_of, Fires, IsWaiting}
 use Rattle.resolvo_encoder.specs.Encoded.{rules_of, IsEncoding}
-use Rattle.resolvo_encoder.proofs.Requiring.{some_one}
+use Rattle.resolvo_encoder.proofs.RequireLemmas.{some_one}
 use Rattle.resolvo_turn.specs.Encoder.{IsInOrder}
-use Rattle.resolvo_turn.proofs.Adding.{fires_in_order}
+use Rattle.resolvo_turn.proofs.AddLemmas.{fires_in_order}
 
 module _ {N S : Type 0} (same : S → S → Bool) (p : Packages N S) (orders : Requirement → List S → Type 0) (root : Rules) (index : ℕ) (old middle new : Encoder N S) (w : DeferredRequirement S) where
   -- the encoding is one of the packages after the case was stated and noted, where the case was one of what waits

@@ -1,4 +1,4 @@
-pub mod Adding
-pub mod Ending
+pub mod AddLemmas
+pub mod EndLemmas
 pub mod CaseStated
-pub mod Passing
+pub mod PassLemmas

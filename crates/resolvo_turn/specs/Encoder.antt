@@ -5,10 +5,10 @@ use Rattle.resolvo_pool_core.specs.declared.requirement.ConditionalRequirement.{
 use Rattle.resolvo_pool_core.specs.declared.requirement.Requirement.{Requirement}
 use Rattle.resolvo_pool_core.specs.RuleKeeping.{Packages, Rules, rules_for, is_unknown}
 use Rattle.resolvo_store_core.specs.AtMostOne.{IsFrontOf}
-use Rattle.resolvo_state.specs.Coding.{Grows}
+use Rattle.resolvo_state.specs.SolverState.{Grows}
 use Rattle.resolvo_encoder.specs.declared.encoder.Encoder.{Encoder}
 use Rattle.resolvo_encoder.specs.Base.{KeepsTurns}
-use Rattle.resolvo_encoder.specs.Casing.{IsDeferred}
+use Rattle.resolvo_encoder.specs.Conditions.{IsDeferred}
 use Rattle.resolvo_encoder.specs.Encoded.{AreOrdered, IsCaseEncoded, IsEncoding}
 use Rattle.resolvo_soundness.specs.Encoding.{cases_for}
 

@@ -12,9 +12,9 @@ use Rattle.resolvo_sat.specs.Analysis.{IsRefusal}
 use Rattle.resolvo_sat.specs.Entries.{made_true}
 use Rattle.resolvo_sat.specs.State.{history}
 use Rattle.resolvo_state.specs.Chosen.{AreChosen}
-use Rattle.resolvo_encoder.specs.Casing.{AreSpent}
-use Rattle.resolvo_encoder.specs.Turning.{AreAmongEncoded}
-use Rattle.resolvo_encoder.specs.Going.{IsSettled}
+use Rattle.resolvo_encoder.specs.Conditions.{AreSpent}
+use Rattle.resolvo_encoder.specs.TurnLevels.{AreAmongEncoded}
+use Rattle.resolvo_encoder.specs.Progress.{IsSettled}
 use Rattle.resolvo_encoder.specs.Steps.{AddsParent}
 use Rattle.resolvo_encoder.specs.declared.encoder.Encoder.{Encoder}
 

@@ -5,7 +5,7 @@ ghost use Rattle.resolvo_pool.specs.Cached.{IsCancelledBy};
 ghost use Rattle.resolvo_pool_core.specs.RuleKeeping.{Rules};
 ghost use Rattle.resolvo_encoder.specs.Base.{KeepsFirst};
 ghost use Rattle.resolvo_encoder.specs.Steps.{IsBuilt};
-ghost use Rattle.resolvo_encoder.specs.Going.{GoesOn, IsDecision};
+ghost use Rattle.resolvo_encoder.specs.Progress.{GoesOn, IsDecision};
 ghost use Rattle.resolvo_turn.specs.Encoder.{IsInOrder};
 
 use resolvo_encoder::decide::Step;

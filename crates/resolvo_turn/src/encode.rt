@@ -7,7 +7,7 @@ ghost use Rattle.resolvo_pool_core.specs.Text.{solvable_of};
 ghost use Rattle.resolvo_pool_core.specs.declared.requirement.ConditionalRequirement.{ConditionalRequirement};
 ghost use Rattle.resolvo_pool_core.specs.declared.requirement.Requirement.TheVariants.{Single};
 ghost use Rattle.resolvo_soundness.specs.Encoding.{IsBarredIn, HasBar};
-ghost use Rattle.resolvo_soundness.specs.Ending.{IsNeedEncoded};
+ghost use Rattle.resolvo_soundness.specs.SearchEnd.{IsNeedEncoded};
 ghost use Rattle.resolvo_encoder.specs.Encoded.{IsGuarded, IsLimitEncoded, IsParentEncoded, rules_of};
 ghost use Rattle.resolvo_encoder.specs.Base.{KeepsTurns};
 ghost use Rattle.resolvo_encoder.specs.Steps.{IsBuilt, Needs, AddsParent};

@@ -4,10 +4,10 @@ ghost use Rattle.std.specs.Prelude.{◌≡◌, true, false, IfOk, IfErr, OnOk};
 ghost use Rattle.resolvo_pool.specs.Cached.{IsCancelledBy};
 ghost use Rattle.resolvo_pool_core.specs.RuleKeeping.{Packages, Rules, IsLawful};
 ghost use Rattle.resolvo_encoder.specs.Base.{HasTurn, KeepsTurn, KeepsTurns};
-ghost use Rattle.resolvo_encoder.specs.Casing.{AreSpent};
+ghost use Rattle.resolvo_encoder.specs.Conditions.{AreSpent};
 ghost use Rattle.resolvo_encoder.specs.Steps.{IsBuilt, AddsParent};
 ghost use Rattle.resolvo_encoder.specs.Encoded.{IsEncoding};
-ghost use Rattle.resolvo_encoder.specs.Going.{GoesOn};
+ghost use Rattle.resolvo_encoder.specs.Progress.{GoesOn};
 ghost use Rattle.resolvo_turn.specs.Encoder.{IsInOrder, IsRoot, AddsNeeds, AddsParents, AddsAll};
 ghost use Rattle.resolvo_turn.specs.Turn.{AddsChosen, FiresMore, IsBegunBy, IsDecisionOf, IsRooted, IsRound, IsTurn};
 

@@ -1,7 +1,7 @@
 //! Solvables of one package are registered, and one of them is chosen.
 ghost use Rattle.std.specs.Prelude.{◌<◌, OnOk};
 ghost use Rattle.resolvo_sat.specs.State.{count_of};
-ghost use Rattle.resolvo_state.specs.Coding.{IsCoding, Grows};
+ghost use Rattle.resolvo_state.specs.SolverState.{IsCoding, Grows};
 ghost use Rattle.resolvo_state.specs.Registered.{AreTied};
 
 use resolvo_pool_core::id::{NameId, SolvableId, StringId, VariableId, VersionSetId};

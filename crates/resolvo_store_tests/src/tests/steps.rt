@@ -2,7 +2,7 @@
 ghost use Rattle.std.specs.Prelude.{◌<◌, OnOk, IfOk, IsSome};
 ghost use Rattle.resolvo_sat.specs.State.{count_of};
 ghost use Rattle.resolvo_sat.specs.Steps.{AreInRange};
-ghost use Rattle.resolvo_state.specs.Coding.{IsCoding};
+ghost use Rattle.resolvo_state.specs.SolverState.{IsCoding};
 ghost use Rattle.resolvo_state.specs.Statements.{rule_of};
 
 use resolvo_pool_core::id::{ClauseId, NameId, SolvableId, StringId, VariableId, VersionSetId};

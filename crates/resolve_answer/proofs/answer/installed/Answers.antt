@@ -8,7 +8,7 @@ use Rattle.resolvo_proof.specs.declared.step.ProofStep.{ProofStep}
 use Rattle.resolvo_catalogue.specs.Ids.{NameId, SolvableId}
 use Rattle.resolvo_report.specs.View.{report_of, steps_of}
 use Rattle.resolve_install.specs.Install.{Serve, IsInstallOf}
-use Rattle.resolve_answer.specs.Turning.{AreWanted}
+use Rattle.resolve_answer.specs.ReportTurns.{AreWanted}
 use Rattle.resolve_answer.proofs.Upheld.{installed_reported}
 use Rattle.resolve_answer.proofs.answer.installed.Goals as goal
 

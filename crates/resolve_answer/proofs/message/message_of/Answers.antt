@@ -3,7 +3,7 @@ use Rattle.resolvo_conflict.specs.Offered.{offered_by}
 use Rattle.resolvo_graph.specs.Message.{text_of}
 use Rattle.resolvo_report.specs.View.{messages_of}
 use Rattle.resolve_answer.specs.Message.{meaning_of}
-use Rattle.resolve_answer.proofs.Messaging.{text_told}
+use Rattle.resolve_answer.proofs.MessageLemmas.{text_told}
 use Rattle.resolve_answer.proofs.Upheld.{if_ok}
 use Rattle.resolve_answer.proofs.message.message_of.Goals as goal
 

@@ -8,9 +8,9 @@ use Rattle.resolve_order.specs.declared.entry.Turn.TheVariants.{LeftOut}
 use Rattle.resolvo_report.specs.Value.{Step}
 use Rattle.resolvo_report.specs.View.{step_of, steps_of}
 use Rattle.resolve_answer.specs.Wishes.{asked_by}
-use Rattle.resolve_answer.specs.Turning.{AreReportTurns, AreTold}
+use Rattle.resolve_answer.specs.ReportTurns.{AreReportTurns, AreTold}
 use Rattle.resolve_answer.specs.declared.wishes.Wish.{Wish}
-use Rattle.resolve_answer.proofs.Telling.{Goes, drop_all, drop_here, goes_more, told_barred, told_free}
+use Rattle.resolve_answer.proofs.TellLemmas.{Goes, drop_all, drop_here, goes_more, told_barred, told_free}
 use Rattle.resolve_answer.proofs.turns.report_turns.Goals as goal
 
 pub loop-wish-init : goal.loop-wish-init

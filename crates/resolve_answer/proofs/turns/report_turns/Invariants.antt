@@ -2,7 +2,7 @@ use Rattle.std.proofs.Common.{List, ◌++◌, ◌<◌, drop, length}
 use Rattle.resolve_order.specs.declared.entry.Turn.{Turn}
 use Rattle.resolvo_report.specs.Value.{Step}
 use Rattle.resolvo_report.specs.View.{steps_of}
-use Rattle.resolve_answer.specs.Turning.{AreReportTurns, AreTold}
+use Rattle.resolve_answer.specs.ReportTurns.{AreReportTurns, AreTold}
 use Rattle.resolve_answer.proofs.turns.report_turns.Given as goal
 
 -- what is told of the other wishes goes behind what was told

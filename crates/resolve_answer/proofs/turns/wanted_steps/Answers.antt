@@ -2,7 +2,7 @@ use Rattle.std.proofs.Common.{◌≡◌, ◌∷◌, ◌++◌, inl, inr, ℕ, [],
 use Rattle.std.specs.Prelude.{Contains}
 use Rattle.std.proofs.lemmas.List.{take_more, take_all}
 use Rattle.resolvo_soundness.proofs.Lists.{contains_left, contains_none, contains_one, contains_only, contains_parts, contains_right}
-use Rattle.resolve_answer.specs.Turning.{Solved, AreWanted, Wants}
+use Rattle.resolve_answer.specs.ReportTurns.{Solved, AreWanted, Wants}
 use Rattle.resolve_answer.proofs.turns.wanted_steps.Goals as goal
 
 -- the turn's step is wanted besides

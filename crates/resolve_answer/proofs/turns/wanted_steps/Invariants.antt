@@ -1,5 +1,5 @@
 use Rattle.std.proofs.Common.{take}
-use Rattle.resolve_answer.specs.Turning.{AreWanted}
+use Rattle.resolve_answer.specs.ReportTurns.{AreWanted}
 use Rattle.resolve_answer.proofs.turns.wanted_steps.Given as goal
 
 -- the steps of the turns so far are wanted

@@ -6,7 +6,7 @@ use Rattle.resolvo_soundness.proofs.Lists.{contains_one, contains_parts}
 use Rattle.resolvo_catalogue_core.specs.Questions.{AreAll, IsWish, LineIs}
 use Rattle.resolvo_catalogue_core.specs.declared.rule.VersionNo.{VersionNo}
 use Rattle.resolvo_report.specs.View.{step_of}
-use Rattle.resolve_refusal.specs.Installing.{IsBarringStepOf}
+use Rattle.resolve_refusal.specs.InstallSteps.{IsBarringStepOf}
 use Rattle.resolve_answer.specs.Wishes.{asked_by}
 use Rattle.resolve_answer.specs.declared.wishes.Wish.{Wish}
 use Rattle.resolve_answer.proofs.wishes.wishes_of.Goals as goal

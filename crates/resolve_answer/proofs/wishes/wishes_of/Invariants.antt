@@ -2,7 +2,7 @@ use Rattle.std.proofs.Common.{◌≡◌, map, take}
 use Rattle.std.specs.Prelude.{Contains}
 use Rattle.std.specs.Option.{option_map}
 use Rattle.resolvo_report.specs.View.{step_of}
-use Rattle.resolve_refusal.specs.Installing.{IsBarringStepOf}
+use Rattle.resolve_refusal.specs.InstallSteps.{IsBarringStepOf}
 use Rattle.resolve_answer.specs.Wishes.{asked_by}
 use Rattle.resolve_answer.specs.declared.wishes.Wish.{Wish}
 use Rattle.resolve_answer.proofs.wishes.wishes_of.Given as goal

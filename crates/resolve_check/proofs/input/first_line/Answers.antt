@@ -1,5 +1,5 @@
 use Rattle.std.proofs.Common.{sym, ◌∙◌}
-use Rattle.resolve_check.proofs.Splitting.{ends_at, never_ends}
+use Rattle.resolve_check.proofs.SplitLemmas.{ends_at, never_ends}
 use Rattle.resolve_check.proofs.input.first_line.Goals as goal
 
 pub returns-in-Some : goal.returns-in-Some

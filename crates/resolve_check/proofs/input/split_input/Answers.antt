@@ -1,5 +1,5 @@
 use Rattle.std.proofs.Common.{refl, ap, ◌∙◌, List, ℕ, [], ◌∷◌, ◌++◌}
-use Rattle.resolve_check.proofs.Splitting.{moved, longer, one_more_above, not_parted, nothing_left}
+use Rattle.resolve_check.proofs.SplitLemmas.{moved, longer, one_more_above, not_parted, nothing_left}
 use Rattle.resolve_check.proofs.input.split_input.Goals as goal
 
 pub loop-line-preserved : goal.loop-line-preserved

@@ -5,8 +5,8 @@ use Rattle.resolvo_catalogue_core.specs.Listed.{listed}
 use Rattle.resolve_order.specs.Order.{AreTurns}
 use Rattle.resolve_order.specs.View.{answers_of, turns_of}
 use Rattle.resolvo_report.specs.View.{answer_lines_of, steps_of}
-use Rattle.resolve_install.proofs.Installing.{install_is}
-use Rattle.resolve_install.proofs.Turning.{are_turns}
+use Rattle.resolve_install.proofs.InstallLemmas.{install_is}
+use Rattle.resolve_install.proofs.TurnLemmas.{are_turns}
 use Rattle.resolve_install.proofs.install.install_report.Goals as goal
 
 pub returns : goal.returns

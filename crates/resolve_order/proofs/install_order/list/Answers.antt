@@ -5,7 +5,7 @@ use Rattle.resolve_order.specs.Order.{AreTurns, chosen_in}
 use Rattle.resolve_order.specs.View.{answers_of, turns_of}
 use Rattle.resolve_order.specs.declared.entry.Turn.{Turn}
 use Rattle.resolve_order.specs.declared.entry.Turn.TheVariants as turn
-use Rattle.resolve_order.proofs.Finishing.{all_accepted, wish_at_turn, any_default, chosen_more, one_each_before, lists_more}
+use Rattle.resolve_order.proofs.FinishLemmas.{all_accepted, wish_at_turn, any_default, chosen_more, one_each_before, lists_more}
 use Rattle.resolve_order.proofs.TurnLemmas.{reasoned_turns, exact_entries}
 use Rattle.resolve_order.proofs.install_order.list.Goals as goal
 

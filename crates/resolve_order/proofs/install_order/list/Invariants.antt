@@ -1,5 +1,5 @@
 use Rattle.resolve_order.specs.View.{AreTurnsOf}
-use Rattle.resolve_order.proofs.Finishing.{ListsTurns}
+use Rattle.resolve_order.proofs.FinishLemmas.{ListsTurns}
 use Rattle.resolve_order.proofs.install_order.list.Given as goal
 
 abbrev pub invariant-loop-turn : goal.invariant-loop-turn

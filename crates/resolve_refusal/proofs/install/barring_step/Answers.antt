@@ -7,8 +7,8 @@ use Rattle.resolvo_catalogue_core.specs.Listed.{listed}
 use Rattle.resolvo_report.specs.Value as told
 use Rattle.resolve_refusal.specs.declared.lines.BarringLine.{BarringLine}
 use Rattle.resolve_refusal.specs.Lines.{IsBarredLineOf}
-use Rattle.resolve_refusal.specs.Writing.{version_at}
-use Rattle.resolve_refusal.proofs.Installing.{barring_step}
+use Rattle.resolve_refusal.specs.RefusedReport.{version_at}
+use Rattle.resolve_refusal.proofs.InstallLemmas.{barring_step}
 use Rattle.resolve_refusal.proofs.install.barring_step.Goals as goal
 
 pub returns-in_ok-version_of-in-Some-Lock : goal.returns-in_ok-version_of-in-Some-Lock

@@ -1,5 +1,5 @@
 use Rattle.std.proofs.Common.{◌<◌, length, arith}
-use Rattle.resolve_refusal.proofs.Installing.{both_ok, installed}
+use Rattle.resolve_refusal.proofs.InstallLemmas.{both_ok, installed}
 use Rattle.resolve_refusal.proofs.install.install_steps.Goals as goal
 
 pub returns : goal.returns

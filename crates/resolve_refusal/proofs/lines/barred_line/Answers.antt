@@ -1,6 +1,6 @@
 use Rattle.std.proofs.Common.{sym, subst}
 use Rattle.resolve_refusal.specs.Lines.{IsBarredLineOf}
-use Rattle.resolve_refusal.proofs.Barring.{lock_found, exclusion_found, none_found, barred_listed}
+use Rattle.resolve_refusal.proofs.BarLemmas.{lock_found, exclusion_found, none_found, barred_listed}
 use Rattle.resolve_refusal.proofs.lines.barred_line.Goals as goal
 
 pub returns-in_err-line : goal.returns-in_err-line

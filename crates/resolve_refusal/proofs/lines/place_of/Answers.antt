@@ -5,8 +5,8 @@ use Rattle.std.proofs.lemmas.List.{length-map}
 use Rattle.std.proofs.lemmas.Option.{slice_get-get_or, slice_get-map, slice_get_within}
 use Rattle.resolvo_text.specs.declared.spec.Spec.{Spec}
 use Rattle.resolvo_text.specs.View.{specs_of, cases_of}
-use Rattle.resolvo_catalogue.proofs.Marking.{one_some}
-use Rattle.resolve_refusal.proofs.Finding.{below_more}
+use Rattle.resolvo_catalogue.proofs.MarkLemmas.{one_some}
+use Rattle.resolve_refusal.proofs.FindLemmas.{below_more}
 use Rattle.resolve_refusal.proofs.lines.place_of.Goals as goal
 
 pub loop-place-preserved : goal.loop-place-preserved

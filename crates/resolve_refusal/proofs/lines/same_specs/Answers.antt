@@ -1,7 +1,7 @@
 use Rattle.std.proofs.Common.{sym, ◌∙◌, ◌≡◌, ◌<◌, length, ap, Some, arith}
 use Rattle.std.proofs.lemmas.Bool.{false≢true, both_ways}
 use Rattle.std.proofs.lemmas.Option.{slice_get-get_or}
-use Rattle.resolve_refusal.proofs.Finding.{specs_at}
+use Rattle.resolve_refusal.proofs.FindLemmas.{specs_at}
 use Rattle.resolve_refusal.proofs.lines.same_specs.Goals as goal
 
 pub returns-then-not-same_spec : goal.returns-then-not-same_spec

@@ -6,7 +6,7 @@ use Rattle.resolvo_report.specs.declared.step.Literal.{Literal}
 use Rattle.resolvo_report.specs.View.{literals_of}
 use Rattle.resolvo_report.specs.Text.{are_rising, literal_text}
 use Rattle.resolve_refusal.specs.Refusal.{AreLiterals}
-use Rattle.resolve_refusal.proofs.Sorting.{AreByText, by_text_step, values_told, values_rising}
+use Rattle.resolve_refusal.proofs.SortLemmas.{AreByText, by_text_step, values_told, values_rising}
 use Rattle.resolve_refusal.proofs.literals.sorted_literals.Goals as goal
 
 pub loop-literal-preserved : goal.loop-literal-preserved

@@ -1,5 +1,5 @@
 use Rattle.std.proofs.Common.{◌≡◌, ◌++◌, map, take}
-use Rattle.resolve_refusal.proofs.Sorting.{AreByText}
+use Rattle.resolve_refusal.proofs.SortLemmas.{AreByText}
 use Rattle.resolve_refusal.proofs.literals.sorted_literals.Given as goal
 
 -- the literals so far by their texts

@@ -4,7 +4,7 @@ use Rattle.resolvo_report.specs.Value.{Step as Said}
 use Rattle.resolvo_report.specs.declared.step.Step.{Step}
 use Rattle.resolvo_report.specs.View.{step_of, steps_of}
 use Rattle.resolve_refusal.specs.Named.{AreFlagged}
-use Rattle.resolve_refusal.proofs.Naming.{flagged_more, flagged_skip}
+use Rattle.resolve_refusal.proofs.NameLemmas.{flagged_more, flagged_skip}
 use Rattle.resolve_refusal.proofs.named.flag_lines.Goals as goal
 use Rattle.resolve_refusal.proofs.named.flag_lines.Goals.{in-Some, in_default}
 

@@ -3,7 +3,7 @@ use Rattle.std.proofs.lemmas.Bool.{both_ways}
 use Rattle.std.proofs.lemmas.Option.{slice_get-get_or, get_or_from_slice_get}
 use Rattle.resolvo_catalogue_core.specs.Questions.{AreAll}
 use Rattle.resolve_refusal.specs.Named.{IsFlaggedLine}
-use Rattle.resolve_refusal.proofs.Naming.{lines_more, lines_skip}
+use Rattle.resolve_refusal.proofs.NameLemmas.{lines_more, lines_skip}
 use Rattle.resolve_refusal.proofs.named.flagged.Goals as goal
 use Rattle.resolve_refusal.proofs.named.flagged.Goals.{then-flag+in_ok-push, else-flag}
 

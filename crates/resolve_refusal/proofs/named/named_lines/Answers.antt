@@ -2,7 +2,7 @@ use Rattle.std.proofs.Common.{List, Bool, length, subst}
 use Rattle.resolvo_catalogue_core.specs.Questions.{AreAll}
 use Rattle.resolvo_report.specs.View.{steps_of}
 use Rattle.resolve_refusal.specs.Named.{IsFlaggedLine}
-use Rattle.resolve_refusal.proofs.Naming.{flagged_named}
+use Rattle.resolve_refusal.proofs.NameLemmas.{flagged_named}
 use Rattle.resolve_refusal.proofs.named.named_lines.Goals as goal
 
 pub returns : goal.returns

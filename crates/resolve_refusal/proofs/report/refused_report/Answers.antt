@@ -4,7 +4,7 @@ use Rattle.resolvo_report.specs.Value.{Step, Refused}
 use Rattle.resolvo_report.specs.View.{steps_of, messages_of}
 use Rattle.resolve_refusal.specs.declared.named.Text.TheVariants as text
 use Rattle.resolve_refusal.specs.Named.{IsNamedBy}
-use Rattle.resolve_refusal.proofs.Fitting.{refusal}
+use Rattle.resolve_refusal.proofs.FitLemmas.{refusal}
 use Rattle.resolve_refusal.proofs.report.refused_report.Goals as goal
 
 pub returns-clause-refusal : goal.returns-clause-refusal

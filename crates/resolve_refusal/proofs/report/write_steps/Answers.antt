@@ -6,8 +6,8 @@ use Rattle.resolvo_catalogue.specs.Ids.{NameId, SolvableId}
 use Rattle.resolvo_proof.specs.declared.step.ProofStep.{ProofStep}
 use Rattle.resolvo_report.specs.Value.{Step as Said}
 use Rattle.resolvo_report.specs.View.{step_of, steps_of}
-use Rattle.resolve_refusal.specs.Writing.{IsWritten}
-use Rattle.resolve_refusal.specs.Telling.{Tells}
+use Rattle.resolve_refusal.specs.RefusedReport.{IsWritten}
+use Rattle.resolve_refusal.specs.StepRules.{Tells}
 use Rattle.resolve_refusal.proofs.report.write_steps.Goals as goal
 
 pub loop-step-preserved : goal.loop-step-preserved

@@ -1,8 +1,8 @@
 use Rattle.std.proofs.Common.{take}
 use Rattle.std.specs.List.{AllZip}
 use Rattle.resolvo_report.specs.View.{steps_of}
-use Rattle.resolve_refusal.specs.Writing.{IsWritten}
-use Rattle.resolve_refusal.specs.Telling.{Tells}
+use Rattle.resolve_refusal.specs.RefusedReport.{IsWritten}
+use Rattle.resolve_refusal.specs.StepRules.{Tells}
 use Rattle.resolve_refusal.proofs.report.write_steps.Given as goal
 
 -- the steps so far are written

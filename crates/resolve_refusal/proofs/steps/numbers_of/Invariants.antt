@@ -1,5 +1,5 @@
 use Rattle.std.proofs.Common.{◌≡◌, map, take}
-use Rattle.resolve_refusal.specs.Writing.{number_of}
+use Rattle.resolve_refusal.specs.RefusedReport.{number_of}
 use Rattle.resolve_refusal.proofs.steps.numbers_of.Given as goal
 
 -- the numbers of the places so far

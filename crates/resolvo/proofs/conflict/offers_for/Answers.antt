@@ -4,9 +4,9 @@ use Rattle.std.proofs.lemmas.Bool.{both_ways}
 use Rattle.std.proofs.lemmas.List.{take_all}
 use Rattle.resolvo_pool_core.specs.declared.requirement.Requirement.{Requirement}
 use Rattle.resolvo_soundness.proofs.Lists.{contains_none}
-use Rattle.resolvo_packages.specs.Answering.{offered_solvables}
+use Rattle.resolvo_packages.specs.PackageSource.{offered_solvables}
 use Rattle.resolvo.specs.Conflicts.{IsRightOffer}
-use Rattle.resolvo.proofs.Offering.{noted_more, right_from, right_more, want_ends}
+use Rattle.resolvo.proofs.OfferLemmas.{noted_more, right_from, right_more, want_ends}
 use Rattle.resolvo.proofs.conflict.offers_for.Goals as goal
 
 pub loop-requirement-init : goal.loop-requirement-init

@@ -1,6 +1,6 @@
 use Rattle.std.proofs.Common.{subst}
 use Rattle.resolvo.specs.declared.search.SearchResult.{SearchResult}
-use Rattle.resolvo.specs.Solving.{IsDenial}
+use Rattle.resolvo.specs.Solve.{IsDenial}
 use Rattle.resolvo.proofs.Solved.{with_given}
 use Rattle.resolvo.proofs.prove.steps_of.Goals as goal
 

@@ -3,7 +3,7 @@ use Rattle.resolvo_soundness.specs.Encoding.{IsExact}
 use Rattle.resolvo.specs.Turns.{accepted_of}
 use Rattle.resolvo.specs.declared.turns.Turn.{Turn}
 use Rattle.resolvo.proofs.Found.{later_denial, later_listed, no_reasons, root_right, turns_found}
-use Rattle.resolvo.proofs.Trailing.{first_on_trail, listed_are_chosen}
+use Rattle.resolvo.proofs.TrailLemmas.{first_on_trail, listed_are_chosen}
 use Rattle.resolvo.proofs.search.run_others.Goals as goal
 
 pub run_soft_requirements-requires-clause-at : goal.run_soft_requirements-requires-clause-at

@@ -2,11 +2,11 @@ use Rattle.std.proofs.Common.{◌≡◌, Option, None, ◌∙◌, subst}
 use Rattle.resolvo_pool_core.specs.RuleKeeping.{Rules}
 use Rattle.resolvo_soundness.specs.Encoding.{IsExact}
 use Rattle.resolvo_sat.specs.declared.analyze.FinalConflict.{FinalConflict}
-use Rattle.resolvo_encoder.proofs.Building.{built_begun}
+use Rattle.resolvo_encoder.proofs.BuildLemmas.{built_begun}
 use Rattle.resolvo_turn.specs.Turn.{IsTurn}
 use Rattle.resolvo_turn.specs.Encoder.{IsInOrder, IsRoot}
 use Rattle.resolvo.specs.Wished.{AreCandidates}
-use Rattle.resolvo.specs.Solving.{IsFound, IsPreferred}
+use Rattle.resolvo.specs.Solve.{IsFound, IsPreferred}
 use Rattle.resolvo.proofs.Found.{begun_rooted, root_denial, root_refused}
 use Rattle.resolvo.proofs.search.run_turns.Goals as goal
 

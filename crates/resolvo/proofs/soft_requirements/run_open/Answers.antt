@@ -1,8 +1,8 @@
 use Rattle.std.proofs.Common.{◌∙◌, sym, subst}
-use Rattle.resolvo_encoder.proofs.Building.{built_parents}
+use Rattle.resolvo_encoder.proofs.BuildLemmas.{built_parents}
 use Rattle.resolvo_turn.specs.Turn.{IsRooted}
-use Rattle.resolvo_turn.proofs.Adding.{needs_parents, parents_needs}
-use Rattle.resolvo_turn.proofs.Ending.{still_rooted}
+use Rattle.resolvo_turn.proofs.AddLemmas.{needs_parents, parents_needs}
+use Rattle.resolvo_turn.proofs.EndLemmas.{still_rooted}
 use Rattle.resolvo.proofs.Wishes.{begun_turn, begun_adds, begun_in_turn}
 use Rattle.resolvo.proofs.soft_requirements.run_open.Goals as goal
 

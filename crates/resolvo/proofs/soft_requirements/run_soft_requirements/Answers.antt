@@ -6,7 +6,7 @@ use Rattle.resolvo_state.proofs.Positions.{front_same, front_then}
 use Rattle.resolvo_turn.specs.Encoder.{IsInOrder, IsRoot}
 use Rattle.resolvo.specs.Turns.{AreRight, HaveReasons, IsNextRight, StandSo}
 use Rattle.resolvo.specs.Wished.{IsCandidate}
-use Rattle.resolvo.proofs.Listing.{item_contained}
+use Rattle.resolvo.proofs.ListLemmas.{item_contained}
 use Rattle.resolvo.proofs.soft_requirements.run_soft_requirements.Goals as goal
 
 pub loop-wish-init : goal.loop-wish-init

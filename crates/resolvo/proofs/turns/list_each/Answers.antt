@@ -2,7 +2,7 @@ use Rattle.std.proofs.Common.{◌≡◌, ◌+◌, ◌++◌, ◌∷◌, [], List,
 use Rattle.std.proofs.lemmas.List.{take_more, take_all}
 use Rattle.indexmap.specs.IndexSet.{insert_all}
 use Rattle.resolvo_state.proofs.Positions.{front_same, front_then}
-use Rattle.resolvo.proofs.Trailing.{inserted_more}
+use Rattle.resolvo.proofs.TrailLemmas.{inserted_more}
 use Rattle.resolvo.proofs.turns.list_each.Goals as goal
 
 pub loop-solvable-init : goal.loop-solvable-init

@@ -2,7 +2,7 @@ use Rattle.std.proofs.Common.{◌≡◌, Some, sym, ap, ◌∙◌}
 use Rattle.std.specs.Prelude.{slice_get}
 use Rattle.std.proofs.lemmas.Option.{slice_get-get_or}
 use Rattle.resolvo_catalogue.specs.declared.candidate_flags.CandidateFlags.{CandidateFlags}
-use Rattle.resolvo_catalogue.proofs.Marking.{marked_favour, not_past}
+use Rattle.resolvo_catalogue.proofs.MarkLemmas.{marked_favour, not_past}
 use Rattle.resolvo_catalogue.proofs.candidate_flags.favour.Goals as goal
 
 pub returns-in-Some : goal.returns-in-Some

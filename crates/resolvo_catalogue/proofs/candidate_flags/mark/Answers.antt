@@ -2,7 +2,7 @@ use Rattle.std.proofs.Common.{◌≡◌, Some, sym, ap, ◌∙◌}
 use Rattle.std.specs.Prelude.{slice_get}
 use Rattle.std.proofs.lemmas.Option.{slice_get-get_or}
 use Rattle.resolvo_catalogue.specs.declared.candidate_flags.CandidateFlags.{CandidateFlags}
-use Rattle.resolvo_catalogue.proofs.Marking.{marked_stays, marked_lock, marked_exclude, marked_other, not_past, names_none_need, names_none_limit, names_none_unknown}
+use Rattle.resolvo_catalogue.proofs.MarkLemmas.{marked_stays, marked_lock, marked_exclude, marked_other, not_past, names_none_need, names_none_limit, names_none_unknown}
 use Rattle.resolvo_catalogue.proofs.candidate_flags.mark.Goals as goal
 
 pub returns-in-Some-clause-marked : goal.returns-in-Some-clause-marked

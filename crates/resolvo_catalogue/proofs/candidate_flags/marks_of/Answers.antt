@@ -2,9 +2,9 @@ use Rattle.std.proofs.Common.{[], sym, ap, ◌∙◌, length}
 use Rattle.std.proofs.lemmas.List.{take_all, length-map}
 use Rattle.std.proofs.lemmas.Option.{slice_get-get_or}
 use Rattle.resolvo_catalogue_core.specs.Listed.{listed}
-use Rattle.resolvo_catalogue.proofs.Standing.{interns_on, interns_own}
-use Rattle.resolvo_catalogue.proofs.Telling.{text_next, text_step}
-use Rattle.resolvo_catalogue.proofs.Marking.{marked_none, favours_next, all_favours}
+use Rattle.resolvo_catalogue.proofs.StandLemmas.{interns_on, interns_own}
+use Rattle.resolvo_catalogue.proofs.TellLemmas.{text_next, text_step}
+use Rattle.resolvo_catalogue.proofs.MarkLemmas.{marked_none, favours_next, all_favours}
 use Rattle.resolvo_catalogue.proofs.candidate_flags.marks_of.Goals as goal
 use Rattle.resolvo_catalogue.proofs.candidate_flags.marks_of.Goals.{in-Some+in_ok-mark, in_default}
 

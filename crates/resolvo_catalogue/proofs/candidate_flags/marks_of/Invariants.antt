@@ -2,7 +2,7 @@ use Rattle.std.proofs.Common.{take, []}
 use Rattle.resolvo_catalogue_core.specs.Listed.{listed}
 use Rattle.resolvo_catalogue.specs.Ids.{Interns}
 use Rattle.resolvo_catalogue.specs.Marked.{AreMarked}
-use Rattle.resolvo_catalogue.proofs.Marking.{favour_lines}
+use Rattle.resolvo_catalogue.proofs.MarkLemmas.{favour_lines}
 use Rattle.resolvo_catalogue.proofs.candidate_flags.marks_of.Given as goal
 
 abbrev pub invariant-loop-line : goal.invariant-loop-line

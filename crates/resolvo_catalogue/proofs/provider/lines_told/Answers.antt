@@ -2,8 +2,8 @@ use Rattle.std.proofs.Common.{◌≡◌, refl, ap, ◌∙◌, ◌++◌, ◌∷�
 use Rattle.std.proofs.lemmas.List.{map-append, length-append}
 use Rattle.resolvo_catalogue.specs.Told.{told_of}
 use Rattle.resolvo_catalogue.specs.Over.{TellsOf}
-use Rattle.resolvo_catalogue.proofs.Standing.{interns_on}
-use Rattle.resolvo_catalogue.proofs.Covering.{told_stays, told_push}
+use Rattle.resolvo_catalogue.proofs.StandLemmas.{interns_on}
+use Rattle.resolvo_catalogue.proofs.CoverLemmas.{told_stays, told_push}
 use Rattle.resolvo_catalogue.proofs.provider.lines_told.Goals as goal
 
 pub loop-number-preserved : goal.loop-number-preserved

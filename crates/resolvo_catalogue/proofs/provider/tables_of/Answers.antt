@@ -1,6 +1,6 @@
-use Rattle.resolvo_catalogue.proofs.Standing.{interns_on}
-use Rattle.resolvo_catalogue.proofs.Listing.{versions_stay}
-use Rattle.resolvo_catalogue.proofs.Covering.{told_stays}
+use Rattle.resolvo_catalogue.proofs.StandLemmas.{interns_on}
+use Rattle.resolvo_catalogue.proofs.ListLemmas.{versions_stay}
+use Rattle.resolvo_catalogue.proofs.CoverLemmas.{told_stays}
 use Rattle.resolvo_catalogue.proofs.provider.tables_of.Goals as goal
 
 pub returns-clause-over : goal.returns-clause-over

@@ -2,8 +2,8 @@ use Rattle.std.proofs.Common.{refl, ◌∷◌, [], ◌∙◌}
 use Rattle.std.proofs.lemmas.List.{map_more}
 use Rattle.resolvo_catalogue_core.specs.Listed.{pair_version}
 use Rattle.resolvo_catalogue.specs.Ids.{IsSolvable}
-use Rattle.resolvo_catalogue.proofs.Listing.{versions_stay, solvables_more, as_long}
-use Rattle.resolvo_catalogue.proofs.Standing.{each_more}
+use Rattle.resolvo_catalogue.proofs.ListLemmas.{versions_stay, solvables_more, as_long}
+use Rattle.resolvo_catalogue.proofs.StandLemmas.{each_more}
 use Rattle.resolvo_catalogue.proofs.versions.list_versions.Goals as goal
 
 pub loop-version-preserved : goal.loop-version-preserved

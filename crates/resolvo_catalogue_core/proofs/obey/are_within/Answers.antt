@@ -1,7 +1,7 @@
 use Rattle.std.proofs.Common.{◌∙◌, not, ◌||◌}
 use Rattle.std.specs.Str.{bytes_eq}
 use Rattle.resolvo_text.specs.View.{spec_of}
-use Rattle.resolvo_text.specs.Matching.{matches}
+use Rattle.resolvo_text.specs.Matches.{matches}
 use Rattle.resolvo_catalogue_core.specs.Listed.{pair_versions}
 use Rattle.resolvo_catalogue_core.proofs.Members.{each_member}
 use Rattle.resolvo_catalogue_core.proofs.obey.are_within.Goals as goal

@@ -1,6 +1,6 @@
 use Rattle.std.proofs.Common.{◌∙◌}
 use Rattle.resolvo_text.specs.View.{spec_of}
-use Rattle.resolvo_text.specs.Matching.{matches}
+use Rattle.resolvo_text.specs.Matches.{matches}
 use Rattle.resolvo_catalogue_core.specs.Listed.{pair_versions}
 use Rattle.resolvo_catalogue_core.proofs.Members.{some_member}
 use Rattle.resolvo_catalogue_core.proofs.obey.is_met.Goals as goal

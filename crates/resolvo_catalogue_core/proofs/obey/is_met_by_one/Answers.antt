@@ -1,6 +1,6 @@
 use Rattle.std.proofs.Common.{◌∙◌}
 use Rattle.resolvo_text.specs.View.{spec_of}
-use Rattle.resolvo_text.specs.Matching.{is_met}
+use Rattle.resolvo_text.specs.Matches.{is_met}
 use Rattle.resolvo_text.proofs.Mapped.{any_mapped}
 use Rattle.resolvo_catalogue_core.specs.Listed.{members, pair_versions}
 use Rattle.resolvo_catalogue_core.proofs.obey.is_met_by_one.Goals as goal

@@ -1,6 +1,6 @@
 use Rattle.std.proofs.Common.{◌≡◌, ◌∙◌, not, ◌||◌, ◌==◌, subst}
 use Rattle.std.specs.List.{list_all}
-use Rattle.resolvo_text.specs.Matching.{same_package}
+use Rattle.resolvo_text.specs.Matches.{same_package}
 use Rattle.resolvo_text.specs.Line.{Version}
 use Rattle.resolvo_catalogue_core.specs.Listed.{pair_version, pair_versions, members}
 use Rattle.resolvo_catalogue_core.proofs.Members.{each_member}

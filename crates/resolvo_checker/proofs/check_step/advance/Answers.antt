@@ -5,7 +5,7 @@ use Rattle.resolvo_report.specs.View.{step_of}
 use Rattle.resolvo_checker.specs.StepClauses.{clause_of}
 use Rattle.resolvo_checker.specs.Proof.{rests_on_named, follows}
 use Rattle.resolvo_checker.specs.Keys.{Numbered}
-use Rattle.resolvo_checker.specs.Checking.{names_catalogue, names_request, clause_or_none, StandFor}
+use Rattle.resolvo_checker.specs.CheckStep.{names_catalogue, names_request, clause_or_none, StandFor}
 use Rattle.resolvo_checker.proofs.CheckLemmas.{numbers_some, numbers_keep, numbers_are, stands_after, stand_more, all_three}
 use Rattle.resolvo_checker.proofs.check_step.advance.Goals as goal
 

@@ -8,11 +8,11 @@ use Rattle.resolvo_pool_core.specs.OnePass.{one_pass}
 use Rattle.resolvo_report.specs.View.{step_of}
 use Rattle.resolvo_report.specs.View as view
 use Rattle.resolvo_checker.specs.Literals.{literals_of, clause_at}
-use Rattle.resolvo_checker.specs.Passing.{is_earlier}
+use Rattle.resolvo_checker.specs.Rup.{is_earlier}
 use Rattle.resolvo_checker.specs.StepClauses.{clause_of}
 use Rattle.resolvo_checker.specs.Proof.{follows}
 use Rattle.resolvo_checker.specs.Keys.{Numbered}
-use Rattle.resolvo_checker.specs.Checking.{clause_or_none}
+use Rattle.resolvo_checker.specs.CheckStep.{clause_or_none}
 use Rattle.resolvo_checker.proofs.CheckLemmas.{digit_listed, follows_derived}
 use Rattle.resolvo_checker.proofs.check_step.follows.Goals as goal
 

@@ -4,7 +4,7 @@ use Rattle.resolvo_text.specs.View.{version_of}
 use Rattle.resolvo_catalogue_core.specs.Listed.{listed}
 use Rattle.resolvo_report.specs.View.{step_of}
 use Rattle.resolvo_checker.specs.Proof.{follows}
-use Rattle.resolvo_checker.specs.Checking.{Given}
+use Rattle.resolvo_checker.specs.CheckStep.{Given}
 use Rattle.resolvo_checker.proofs.CheckLemmas.{digit_given, not_digit, other_step}
 use Rattle.resolvo_checker.proofs.check_step.note_place.Goals as goal
 

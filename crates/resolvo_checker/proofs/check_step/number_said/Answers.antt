@@ -1,6 +1,6 @@
 use Rattle.std.proofs.Common.{sym, ◌∙◌, refl, []}
 use Rattle.resolvo_catalogue_core.specs.Listed.{listed}
-use Rattle.resolvo_checker.proofs.Naming.{extends_none}
+use Rattle.resolvo_checker.proofs.NameLemmas.{extends_none}
 use Rattle.resolvo_checker.proofs.CheckLemmas.{said_more, said_fails, said_extends}
 use Rattle.resolvo_checker.proofs.check_step.number_said.Goals as goal
 

@@ -1,4 +1,4 @@
-use Rattle.resolvo_checker.proofs.Naming.{extends_one}
+use Rattle.resolvo_checker.proofs.NameLemmas.{extends_one}
 use Rattle.resolvo_checker.proofs.clause_atoms.push_key.Goals as goal
 
 pub returns : goal.returns

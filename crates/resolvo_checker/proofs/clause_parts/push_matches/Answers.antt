@@ -1,5 +1,5 @@
 use Rattle.resolvo_catalogue_core.specs.Listed.{listed}
-use Rattle.resolvo_text.specs.Matching.{matches}
+use Rattle.resolvo_text.specs.Matches.{matches}
 use Rattle.resolvo_checker.specs.StepClauses.{each_listed}
 use Rattle.resolvo_checker.specs.Built.{literals_in}
 use Rattle.resolvo_checker.proofs.BuiltLemmas.{one_more}

@@ -2,7 +2,7 @@ use Rattle.std.proofs.Common.{ap, sym, subst, ◌∙◌, arith, take}
 use Rattle.resolvo_report.specs.View.{step_of, steps_of}
 use Rattle.resolvo_checker.specs.declared.clauses.Readings.{Readings}
 use Rattle.resolvo_checker.specs.Proof.{IsProof}
-use Rattle.resolvo_checker.specs.Checking.{names_catalogue, names_request, StandFor}
+use Rattle.resolvo_checker.specs.CheckStep.{names_catalogue, names_request, StandFor}
 use Rattle.resolvo_checker.proofs.WholeProofs.{steps_more, count_more, room_for, proof_push, wrong_at}
 use Rattle.resolvo_checker.proofs.proof.check_from.Goals as goal
 

@@ -2,7 +2,7 @@ use Rattle.std.proofs.Common.{◌≡◌, ◌≤◌, take, length}
 use Rattle.resolvo_catalogue_core.specs.Listed.{listed}
 use Rattle.resolvo_report.specs.View.{steps_of}
 use Rattle.resolvo_checker.specs.Proof.{IsProof}
-use Rattle.resolvo_checker.specs.Checking.{names_catalogue, names_request, count_causes, StandFor}
+use Rattle.resolvo_checker.specs.CheckStep.{names_catalogue, names_request, count_causes, StandFor}
 use Rattle.resolvo_checker.proofs.proof.check_from.Given as goal
 
 abbrev pub invariant-loop-at : goal.invariant-loop-at

@@ -1,5 +1,5 @@
 use Rattle.resolvo_report.specs.View.{steps_of}
-use Rattle.resolvo_checker.specs.Checking.{names_catalogue, names_request}
+use Rattle.resolvo_checker.specs.CheckStep.{names_catalogue, names_request}
 use Rattle.resolvo_checker.proofs.ProofTrue.{proof_refutes}
 use Rattle.resolvo_checker.proofs.WholeProofs.{none_then}
 use Rattle.resolvo_checker.proofs.proof.check_steps.Goals as goal

@@ -1,6 +1,6 @@
 use Rattle.std.proofs.Common.{ap, sym, ◌∙◌, ◌+◌, take, arith}
 use Rattle.resolvo_report.specs.View.{steps_of}
-use Rattle.resolvo_checker.specs.Checking.{count_causes}
+use Rattle.resolvo_checker.specs.CheckStep.{count_causes}
 use Rattle.resolvo_checker.proofs.WholeProofs.{count_more, room_for}
 use Rattle.resolvo_checker.proofs.proof.count_causes.Goals as goal
 

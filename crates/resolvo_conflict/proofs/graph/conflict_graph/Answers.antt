@@ -2,8 +2,8 @@ use Rattle.std.proofs.Common.{ℕ, List, ap, sym, subst, ◌∙◌}
 use Rattle.resolvo_graph.specs.Removal.{without_unused_unresolved}
 use Rattle.resolvo_conflict.specs.Offered.{offered_by}
 use Rattle.resolvo_conflict.specs.Order.{rules_at}
-use Rattle.resolvo_conflict.specs.Linking.{all_links, each_limit_once}
-use Rattle.resolvo_conflict.specs.Drawing.{drawn, conflict_drawing}
+use Rattle.resolvo_conflict.specs.LinkRules.{all_links, each_limit_once}
+use Rattle.resolvo_conflict.specs.Draw.{drawn, conflict_drawing}
 use Rattle.resolvo_conflict.specs.Truth.{TellsTruth}
 use Rattle.resolvo_conflict.proofs.TruthEdges.{conflict_true}
 use Rattle.resolvo_conflict.proofs.graph.conflict_graph.Goals as goal

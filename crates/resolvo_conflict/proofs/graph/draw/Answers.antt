@@ -1,7 +1,7 @@
 use Rattle.std.proofs.Common.{◌≡◌, ◌++◌, ◌≤◌, ap, sym, ◌∙◌, length, arith, subst}
 use Rattle.indexmap.specs.IndexSet.{insert_key}
 use Rattle.resolvo_conflict.specs.Tests.{same_node}
-use Rattle.resolvo_conflict.specs.Drawing.{edges_in}
+use Rattle.resolvo_conflict.specs.Draw.{edges_in}
 use Rattle.resolvo_conflict.proofs.GraphLemmas.{drawn_nodes, drawn_node, drawn_edge, longer}
 use Rattle.resolvo_conflict.proofs.graph.draw.Goals as goal
 

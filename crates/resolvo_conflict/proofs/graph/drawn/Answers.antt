@@ -5,7 +5,7 @@ use Rattle.indexmap.specs.IndexSet.{insert_key, insert_all}
 use Rattle.resolvo_graph.specs.declared.graph.ConflictNode.TheVariants.{UnresolvedDependency}
 use Rattle.resolvo_conflict.specs.Tests.{same_node}
 use Rattle.resolvo_conflict.specs.Links.{ends_of}
-use Rattle.resolvo_conflict.specs.Drawing.{nodes_of, edges_in}
+use Rattle.resolvo_conflict.specs.Draw.{nodes_of, edges_in}
 use Rattle.resolvo_conflict.proofs.GraphLemmas.{nodes_push, edges_push}
 use Rattle.resolvo_conflict.proofs.graph.drawn.Goals as goal
 

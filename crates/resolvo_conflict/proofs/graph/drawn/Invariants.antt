@@ -1,6 +1,6 @@
 use Rattle.std.proofs.Common.{◌≡◌, take}
 use Rattle.std.specs.List.{flat_map}
-use Rattle.resolvo_conflict.specs.Drawing.{nodes_of, edges_in}
+use Rattle.resolvo_conflict.specs.Draw.{nodes_of, edges_in}
 use Rattle.resolvo_conflict.proofs.graph.drawn.Given as goal
 
 abbrev pub invariant-loop-link : goal.invariant-loop-link

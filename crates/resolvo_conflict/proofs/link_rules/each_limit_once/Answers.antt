@@ -1,5 +1,5 @@
 use Rattle.std.proofs.Common.{◌++◌, ◌+◌, drop, ap, sym, ◌∙◌}
-use Rattle.resolvo_conflict.specs.Linking.{each_limit_once, once_after}
+use Rattle.resolvo_conflict.specs.LinkRules.{each_limit_once, once_after}
 use Rattle.resolvo_conflict.proofs.LinkLemmas.{once_new, once_again}
 use Rattle.resolvo_conflict.proofs.link_rules.each_limit_once.Goals as goal
 use Rattle.resolvo_conflict.proofs.link_rules.each_limit_once.Goals.{then-branch+in_ok-push, else-branch}

@@ -1,5 +1,5 @@
 use Rattle.std.proofs.Common.{◌≡◌, ◌++◌, drop}
-use Rattle.resolvo_conflict.specs.Linking.{each_limit_once, once_after}
+use Rattle.resolvo_conflict.specs.LinkRules.{each_limit_once, once_after}
 use Rattle.resolvo_conflict.proofs.link_rules.each_limit_once.Given as goal
 
 abbrev pub invariant-loop-link : goal.invariant-loop-link

@@ -2,7 +2,7 @@ use Rattle.std.proofs.Common.{◌≡◌, ◌++◌, ◌∷◌, [], cond, ap, sym,
 use Rattle.std.specs.List.{list_any}
 use Rattle.std.specs.Option.{option_to_list}
 use Rattle.resolvo_conflict.specs.Tests.{same_limited}
-use Rattle.resolvo_conflict.specs.Linking.{is_new, limited_in}
+use Rattle.resolvo_conflict.specs.LinkRules.{is_new, limited_in}
 use Rattle.resolvo_conflict.proofs.LinkLemmas.{turned_test}
 use Rattle.resolvo_conflict.proofs.link_rules.is_new.Goals as goal
 

@@ -1,7 +1,7 @@
 use Rattle.std.proofs.Common.{◌≡◌, ◌++◌, take, Some}
 use Rattle.std.specs.List.{flat_map}
 use Rattle.resolvo_conflict.specs.Offered.{offered_by}
-use Rattle.resolvo_conflict.specs.Linking.{needed, requirers}
+use Rattle.resolvo_conflict.specs.LinkRules.{needed, requirers}
 use Rattle.resolvo_conflict.proofs.link_rules.link_gate.Given as goal
 
 abbrev pub invariant-loop-shared : goal.invariant-loop-shared

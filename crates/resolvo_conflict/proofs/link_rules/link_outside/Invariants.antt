@@ -1,6 +1,6 @@
 use Rattle.std.proofs.Common.{◌≡◌, ◌++◌, map, take}
 use Rattle.resolvo_conflict.specs.declared.link.Link.TheVariants.{Constrains}
-use Rattle.resolvo_conflict.specs.Linking.{under_set}
+use Rattle.resolvo_conflict.specs.LinkRules.{under_set}
 use Rattle.resolvo_conflict.proofs.link_rules.link_outside.Given as goal
 
 abbrev pub invariant-loop-limited : goal.invariant-loop-limited

@@ -5,7 +5,7 @@ use Rattle.std.specs.Option.{option_copied, option_or, option_to_list}
 use Rattle.std.proofs.lemmas.List.{append-nil, drop_all}
 use Rattle.resolvo_conflict.specs.Offered.{offered_by}
 use Rattle.resolvo_conflict.specs.Order.{rules_at}
-use Rattle.resolvo_conflict.specs.Linking.{all_links, links_after, last_instance, named, instance_in}
+use Rattle.resolvo_conflict.specs.LinkRules.{all_links, links_after, last_instance, named, instance_in}
 use Rattle.resolvo_conflict.proofs.RuleLemmas.{rule_of, rules_more}
 use Rattle.resolvo_conflict.proofs.LinkLemmas.{links_more, rules_left_some, rules_left_none, rules_same, last_push}
 use Rattle.resolvo_conflict.proofs.link_rules.links_of.Goals as goal

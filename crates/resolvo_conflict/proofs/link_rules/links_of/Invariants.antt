@@ -2,7 +2,7 @@ use Rattle.std.proofs.Common.{◌≡◌, ◌++◌, take, drop}
 use Rattle.std.specs.HashMap.{get}
 use Rattle.resolvo_conflict.specs.Offered.{offered_by}
 use Rattle.resolvo_conflict.specs.Order.{rules_at}
-use Rattle.resolvo_conflict.specs.Linking.{last_instance, links_after, all_links}
+use Rattle.resolvo_conflict.specs.LinkRules.{last_instance, links_after, all_links}
 use Rattle.resolvo_conflict.proofs.link_rules.links_of.Given as goal
 
 -- the links so far, and those of the rules that are left, are the links of all; the last version of each package is noted

@@ -2,7 +2,7 @@ use Rattle.std.proofs.Common.{◌≡◌, ◌+◌, Some, None, get_or, take, ap, 
 use Rattle.std.specs.List.{filter_map}
 use Rattle.std.specs.Option.{option_copied}
 use Rattle.resolvo_conflict.specs.Order.{rules_at}
-use Rattle.resolvo_conflict.specs.Linking.{gate_in, limit_in, outside_in}
+use Rattle.resolvo_conflict.specs.LinkRules.{gate_in, limit_in, outside_in}
 use Rattle.resolvo_conflict.proofs.RuleLemmas.{rule_of}
 use Rattle.resolvo_conflict.proofs.LinkLemmas.{kind_more, rules_same}
 use Rattle.resolvo_conflict.proofs.link_rules.shares_of.Goals as goal

@@ -1,7 +1,7 @@
 use Rattle.std.proofs.Common.{◌≡◌, take}
 use Rattle.std.specs.List.{filter_map}
 use Rattle.resolvo_conflict.specs.Order.{rules_at}
-use Rattle.resolvo_conflict.specs.Linking.{gate_in, limit_in, outside_in}
+use Rattle.resolvo_conflict.specs.LinkRules.{gate_in, limit_in, outside_in}
 use Rattle.resolvo_conflict.proofs.link_rules.shares_of.Given as goal
 
 abbrev pub invariant-loop-place : goal.invariant-loop-place

@@ -2,7 +2,7 @@ use Rattle.std.proofs.Common.{◌∙◌, List, Some, sym, ap, subst}
 use Rattle.std.specs.Prelude.{Contains}
 use Rattle.std.proofs.lemmas.Option.{slice_get-get_or}
 use Rattle.resolvo_packages.specs.declared.package_source.Offered.{Offered}
-use Rattle.resolvo_packages.specs.Answering.{offered_solvables}
+use Rattle.resolvo_packages.specs.PackageSource.{offered_solvables}
 use Rattle.resolvo_state.proofs.Positions.{get_contains}
 use Rattle.resolvo_encoder.proofs.conditions.keeps_out.Goals as goal
 

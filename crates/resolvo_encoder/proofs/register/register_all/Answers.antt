@@ -4,7 +4,7 @@ use Rattle.std.proofs.lemmas.List.{take_more}
 use Rattle.resolvo_store_core.specs.declared.lists.Candidate.{Candidate}
 use Rattle.resolvo_packages.specs.declared.package_source.Offered.{Offered}
 use Rattle.resolvo_encoder.specs.Steps.{RegistersAll}
-use Rattle.resolvo_encoder.proofs.Carrying.{registers_none, registers_more}
+use Rattle.resolvo_encoder.proofs.CarryLemmas.{registers_none, registers_more}
 use Rattle.resolvo_encoder.proofs.register.register_all.Goals as goal
 
 pub loop-one-init : goal.loop-one-init

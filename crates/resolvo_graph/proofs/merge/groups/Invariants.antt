@@ -1,6 +1,6 @@
 use Rattle.std.proofs.Common.{◌≡◌, ℕ, take}
 use Rattle.resolvo_graph.specs.Kept.{ids_at}
-use Rattle.resolvo_graph.specs.Merging.{numbered}
+use Rattle.resolvo_graph.specs.Merge.{numbered}
 use Rattle.resolvo_graph.proofs.merge.groups.Given as goal
 
 abbrev pub invariant-loop-member : goal.invariant-loop-member

@@ -4,7 +4,7 @@ use Rattle.std.specs.Vec.Iter.{into_iter_items}
 use Rattle.std.proofs.lemmas.Iterator.Adapters.{YieldsList-from_vec}
 use Rattle.itertools.proofs.AdaptorLemmas.{items_from_whole_run}
 use Rattle.itertools.proofs.SortedLemmas.{IsPermutation-sorted}
-use Rattle.resolvo_graph.specs.Merging.{neighbour_cmp}
+use Rattle.resolvo_graph.specs.Merge.{neighbour_cmp}
 use Rattle.resolvo_graph.proofs.merge.in_order.Goals as goal
 
 pub returns : goal.returns

@@ -3,7 +3,7 @@ use Rattle.std.specs.Prelude.{◌&&◌, nat_lt}
 use Rattle.std.specs.Option.{option_or}
 use Rattle.resolvo_graph.specs.declared.merge.Member.{Member}
 use Rattle.resolvo_graph.specs.Kept.{kept_with, ids_at}
-use Rattle.resolvo_graph.specs.Merging.{together, told_together}
+use Rattle.resolvo_graph.specs.Merge.{together, told_together}
 use Rattle.resolvo_graph.proofs.ListLemmas.{left}
 use Rattle.resolvo_graph.proofs.MergeLemmas.{and_false, kept_one, ids_found, ids_past}
 use Rattle.resolvo_graph.proofs.merge.merged.Goals as goal

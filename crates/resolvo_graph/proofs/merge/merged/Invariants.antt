@@ -1,7 +1,7 @@
 use Rattle.std.proofs.Common.{◌≡◌, drop, map}
 use Rattle.std.specs.Option.{option_or}
 use Rattle.resolvo_graph.specs.Kept.{kept_with, ids_at}
-use Rattle.resolvo_graph.specs.Merging.{told_together}
+use Rattle.resolvo_graph.specs.Merge.{told_together}
 use Rattle.resolvo_graph.proofs.merge.merged.Given as goal
 
 -- the group of a version is found among the members that are left, or is kept

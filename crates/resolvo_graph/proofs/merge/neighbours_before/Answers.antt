@@ -1,6 +1,6 @@
 use Rattle.std.proofs.Common.{◌≡◌, ◌∙◌, ap, map, subst}
 use Rattle.resolvo_graph.specs.Graph.{requirement_of}
-use Rattle.resolvo_graph.specs.Merging.{IsInOrder, before}
+use Rattle.resolvo_graph.specs.Merge.{IsInOrder, before}
 use Rattle.resolvo_graph.proofs.ResultLemmas.{ok_map}
 use Rattle.resolvo_graph.proofs.merge.neighbours_before.Goals as goal
 

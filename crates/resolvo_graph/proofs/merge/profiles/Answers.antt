@@ -1,7 +1,7 @@
 use Rattle.std.proofs.Common.{◌≡◌, ap, ◌∙◌, take, subst, arith}
 use Rattle.std.specs.List.{AllZip}
 use Rattle.std.proofs.lemmas.List.{take_all}
-use Rattle.resolvo_graph.specs.Merging.{IsProfile, versions_from}
+use Rattle.resolvo_graph.specs.Merge.{IsProfile, versions_from}
 use Rattle.resolvo_graph.proofs.MergeLemmas.{profile_more, profile_same}
 use Rattle.resolvo_graph.proofs.merge.profiles.Goals as goal
 use Rattle.resolvo_graph.proofs.merge.profiles.Goals.{in-Some+in_ok-profile_of+in_ok-push, in_default}

@@ -1,6 +1,6 @@
 use Rattle.std.proofs.Common.{take}
 use Rattle.std.specs.List.{AllZip}
-use Rattle.resolvo_graph.specs.Merging.{IsProfile, versions_from}
+use Rattle.resolvo_graph.specs.Merge.{IsProfile, versions_from}
 use Rattle.resolvo_graph.proofs.merge.profiles.Given as goal
 
 -- the versions so far have their profiles

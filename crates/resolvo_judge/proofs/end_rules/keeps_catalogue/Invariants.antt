@@ -1,5 +1,5 @@
 use Rattle.std.proofs.Common.{◌≡◌, ℕ, ◌≤◌, true}
-use Rattle.resolvo_text.specs.Matching.{Set}
+use Rattle.resolvo_text.specs.Matches.{Set}
 use Rattle.resolvo_catalogue_core.specs.Rules.{keeps}
 use Rattle.resolvo_judge.specs.Chosen.{Holds}
 use Rattle.resolvo_judge.proofs.end_rules.keeps_catalogue.Given as goal

@@ -2,7 +2,7 @@ use Rattle.std.proofs.Common.{◌≡◌, ◌∙◌, ◌||◌, ◌==◌, not, Som
 use Rattle.std.specs.Prelude.{slice_get}
 use Rattle.std.specs.List.{list_all}
 use Rattle.resolvo_text.specs.Line.{Version}
-use Rattle.resolvo_text.specs.Matching.{same_package}
+use Rattle.resolvo_text.specs.Matches.{same_package}
 use Rattle.resolvo_catalogue_core.specs.Listed.{pair_version, pair_versions}
 use Rattle.resolvo_judge.proofs.end_rules.keeps_lock.Goals as goal
 

@@ -5,10 +5,10 @@ use Rattle.resolvo_report.specs.Text.{report_lines}
 use Rattle.resolvo_checker.specs.Proof.{every_line}
 use Rattle.resolvo_judge.specs.Entries.{entries_of}
 use Rattle.resolvo_judge.specs.Refusal.{answers_in, steps_in}
-use Rattle.resolvo_judge.specs.Ending.{KeepsAll}
+use Rattle.resolvo_judge.specs.EndRules.{KeepsAll}
 use Rattle.resolvo_judge.specs.KeptAnswers.{AreWishesTold, barred_of}
 use Rattle.resolvo_judge.specs.declared.entries.Barred.{Barred}
-use Rattle.resolvo_judge.specs.Barring.{is_barred}
+use Rattle.resolvo_judge.specs.LeftOut.{is_barred}
 use Rattle.resolvo_judge.proofs.EndLemmas.{install_ends}
 use Rattle.resolvo_judge.proofs.judge_state.installs.Goals as goal
 

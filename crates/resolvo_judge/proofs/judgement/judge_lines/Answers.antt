@@ -9,7 +9,7 @@ use Rattle.resolvo_report.specs.Grammar.{may_end}
 use Rattle.resolvo_report.specs.Stream.{left, GivesLine}
 use Rattle.resolvo_report.proofs.StreamLemmas.{read_nothing}
 use Rattle.resolvo_checker.specs.declared.clauses.Readings.{Readings}
-use Rattle.resolvo_judge.specs.Judging.{EndsSo}
+use Rattle.resolvo_judge.specs.JudgeState.{EndsSo}
 use Rattle.resolvo_judge.proofs.JudgeLemmas.{reached_first, few_causes, reached_more, is_no_head, refusal_kept, refused_here, line_refused, end_refused, upheld, stops}
 use Rattle.resolvo_judge.proofs.judgement.judge_lines.Goals as goal
 

@@ -1,10 +1,10 @@
 use Rattle.std.proofs.Common.{◌≡◌, true, take}
 use Rattle.std.specs.List.{list_all}
-use Rattle.resolvo_text.specs.Matching.{Set}
+use Rattle.resolvo_text.specs.Matches.{Set}
 use Rattle.resolvo_text.specs.View.{version_of}
 use Rattle.resolvo_catalogue_core.specs.Listed.{pair_versions}
 use Rattle.resolvo_judge.specs.Chosen.{Holds}
-use Rattle.resolvo_judge.specs.Barring.{is_barring}
+use Rattle.resolvo_judge.specs.LeftOut.{is_barring}
 use Rattle.resolvo_judge.proofs.left_out.are_barring.Given as goal
 
 abbrev pub invariant-loop-literal : goal.invariant-loop-literal

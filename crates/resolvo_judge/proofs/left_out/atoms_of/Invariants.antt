@@ -1,6 +1,6 @@
 use Rattle.std.proofs.Common.{◌≡◌, ◌<◌, ℕ, List, [], ◌∷◌, Some, length}
 use Rattle.resolvo_checker.specs.Numbers.{number_in}
-use Rattle.resolvo_judge.specs.Barring.{TellsVersions}
+use Rattle.resolvo_judge.specs.LeftOut.{TellsVersions}
 use Rattle.resolvo_judge.proofs.left_out.atoms_of.Given as goal
 
 abbrev pub invariant-loop-number : goal.invariant-loop-number

@@ -1,7 +1,7 @@
 use Rattle.std.proofs.Common.{sym, ◌∙◌}
 use Rattle.resolvo_catalogue_core.specs.Listed.{pair_versions}
 use Rattle.resolvo_judge.specs.KeptAnswers.{barred_of}
-use Rattle.resolvo_judge.specs.Barring.{clause_bars}
+use Rattle.resolvo_judge.specs.LeftOut.{clause_bars}
 use Rattle.resolvo_judge.proofs.BarLemmas.{not_all_at}
 use Rattle.resolvo_judge.proofs.left_out.each_bars.Goals as goal
 

@@ -1,10 +1,10 @@
 use Rattle.std.proofs.Common.{◌≡◌, true, take, map}
 use Rattle.std.specs.List.{list_all}
-use Rattle.resolvo_text.specs.Matching.{Set}
+use Rattle.resolvo_text.specs.Matches.{Set}
 use Rattle.resolvo_catalogue_core.specs.Listed.{pair_versions}
 use Rattle.resolvo_judge.specs.Chosen.{Holds}
 use Rattle.resolvo_judge.specs.KeptAnswers.{barred_of}
-use Rattle.resolvo_judge.specs.Barring.{clause_bars}
+use Rattle.resolvo_judge.specs.LeftOut.{clause_bars}
 use Rattle.resolvo_judge.proofs.left_out.each_bars.Given as goal
 
 abbrev pub invariant-loop-barred : goal.invariant-loop-barred

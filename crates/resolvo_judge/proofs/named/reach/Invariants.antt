@@ -1,5 +1,5 @@
 use Rattle.std.proofs.Common.{◌≡◌, ◌≤◌, ℕ, vec_len}
-use Rattle.resolvo_checker.specs.Checking.{flag_at}
+use Rattle.resolvo_checker.specs.CheckStep.{flag_at}
 use Rattle.resolvo_judge.proofs.named.reach.Given as goal
 
 abbrev pub invariant-loop : goal.invariant-loop

@@ -1,5 +1,5 @@
 use Rattle.std.proofs.Common.{◌≡◌, ◌++◌, take, map}
-use Rattle.resolvo_packages.specs.Barring.{excluded_by}
+use Rattle.resolvo_packages.specs.Forbidden.{excluded_by}
 use Rattle.resolvo_packages.proofs.cached_packages.add_excluded.Given as goal
 
 -- what is excluded, so far, stands behind the others

@@ -1,5 +1,5 @@
 use Rattle.std.proofs.Common.{◌≡◌, Some, take}
-use Rattle.resolvo_packages.specs.Barring.{locked_out}
+use Rattle.resolvo_packages.specs.Forbidden.{locked_out}
 use Rattle.resolvo_packages.proofs.cached_packages.barred_by.Given as goal
 
 -- of the candidates so far, those that the lock keeps out are there

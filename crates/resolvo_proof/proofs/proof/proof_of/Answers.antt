@@ -7,8 +7,8 @@ use Rattle.resolvo_sat.specs.Analysis.{IsRefusal}
 use Rattle.resolvo_proof.specs.Proof.{DenyRoot, EndsEmpty}
 use Rattle.resolvo_proof.specs.Written.{AreSteps, AreStepsThen}
 use Rattle.resolvo_proof.proofs.Parts.{refusal_step}
-use Rattle.resolvo_proof.proofs.Proving.{steps_prove, refusal_proves, refusal_in_range, ends_empty}
-use Rattle.resolvo_proof.proofs.Convincing.{convinces}
+use Rattle.resolvo_proof.proofs.ProveLemmas.{steps_prove, refusal_proves, refusal_in_range, ends_empty}
+use Rattle.resolvo_proof.proofs.ConvinceLemmas.{convinces}
 use Rattle.resolvo_proof.proofs.OnePlace.{steps_one_place, refusal_one_place}
 use Rattle.resolvo_proof.proofs.Drawn.{steps_drawn, steps_signs, refusal_drawn, refusal_signs}
 use Rattle.resolvo_proof.proofs.proof.proof_of.Goals as goal

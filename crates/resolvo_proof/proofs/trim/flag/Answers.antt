@@ -2,7 +2,7 @@ use Rattle.std.proofs.Common.{◌≡◌, ◌++◌, ◌∷◌, [], sym, subst, ta
 use Rattle.std.proofs.lemmas.List.{take_more, take_all}
 use Rattle.std.specs.Prelude.{Contains, slice_set}
 use Rattle.resolvo_proof.specs.Trimmed.{Flags}
-use Rattle.resolvo_proof.proofs.Flagging.{flags_more, flags_skip}
+use Rattle.resolvo_proof.proofs.FlagLemmas.{flags_more, flags_skip}
 use Rattle.resolvo_proof.proofs.trim.flag.Goals as goal
 use Rattle.resolvo_proof.proofs.trim.flag.Goals.{then-place-end, else-place-end}
 

@@ -3,7 +3,7 @@ use Rattle.std.specs.Prelude.{slice_get, Contains}
 use Rattle.std.proofs.lemmas.Bool.{both_ways}
 use Rattle.std.proofs.lemmas.Option.{slice_get-get_or, get_or_from_slice_get}
 use Rattle.resolvo_proof.specs.Trimmed.{AreLeadingFrom, IsFlagged}
-use Rattle.resolvo_proof.proofs.Flagging.{leads_more, leads_skip, leads_first, none_flagged}
+use Rattle.resolvo_proof.proofs.FlagLemmas.{leads_more, leads_skip, leads_first, none_flagged}
 use Rattle.resolvo_proof.proofs.trim.leading.Goals as goal
 
 pub loop-place-init : goal.loop-place-init

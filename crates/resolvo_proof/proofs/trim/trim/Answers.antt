@@ -1,7 +1,7 @@
 use Rattle.std.proofs.Common.{ℕ, ◌-◌, ap, ◌∙◌}
 use Rattle.resolvo_proof.specs.Trimmed.{IsTrimmed}
 use Rattle.resolvo_proof.proofs.Shortened.{trimmed_empty}
-use Rattle.resolvo_proof.proofs.Numbering.{last_wanted, all_named}
+use Rattle.resolvo_proof.proofs.NumberLemmas.{last_wanted, all_named}
 use Rattle.resolvo_proof.proofs.trim.trim.Goals as goal
 
 -- what is left leads to the last step

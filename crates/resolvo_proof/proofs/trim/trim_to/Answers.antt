@@ -9,7 +9,7 @@ use Rattle.resolvo_proof.specs.Trimmed.{AreLeading, Keeps, IsTrimmedWith}
 use Rattle.resolvo_proof.proofs.Drawn.{trimmed_signs}
 use Rattle.resolvo_proof.proofs.OnePlace.{trimmed_one_place}
 use Rattle.resolvo_proof.proofs.Shortened.{trimmed_proves}
-use Rattle.resolvo_proof.proofs.Numbering.{AreKept, kept_none, kept_next, kept_numbers}
+use Rattle.resolvo_proof.proofs.NumberLemmas.{AreKept, kept_none, kept_next, kept_numbers}
 use Rattle.resolvo_proof.proofs.trim.trim_to.Goals as goal
 
 pub index-requires : goal.index-requires

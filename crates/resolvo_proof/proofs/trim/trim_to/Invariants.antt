@@ -1,5 +1,5 @@
 use Rattle.std.proofs.Common.{length}
-use Rattle.resolvo_proof.proofs.Numbering.{AreKept}
+use Rattle.resolvo_proof.proofs.NumberLemmas.{AreKept}
 use Rattle.resolvo_proof.proofs.trim.trim_to.Given as goal
 
 -- the flagged ones of the steps so far are kept

@@ -3,7 +3,7 @@ use Rattle.std.specs.HashSet.{contains}
 use Rattle.std.specs.Str.{bytes_eq}
 use Rattle.resolvo_report.specs.Text.{are_once}
 use Rattle.resolvo_report.specs.Pieces.{texts_of}
-use Rattle.resolvo_report.specs.Reading.{atom_part}
+use Rattle.resolvo_report.specs.Parse.{atom_part}
 use Rattle.resolvo_report.proofs.ClauseLemmas.{HasSeen}
 use Rattle.resolvo_report.proofs.parse.are_atoms_once.Given as goal
 

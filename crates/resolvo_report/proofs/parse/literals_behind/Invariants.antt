@@ -1,7 +1,7 @@
 use Rattle.std.proofs.Common.{◌≡◌, drop}
 use Rattle.resolvo_report.specs.View.{literals_of}
 use Rattle.resolvo_report.specs.Pieces.{texts_of}
-use Rattle.resolvo_report.specs.Reading.{literals_behind}
+use Rattle.resolvo_report.specs.Parse.{literals_behind}
 use Rattle.resolvo_report.proofs.ClauseLemmas.{with_literals}
 use Rattle.resolvo_report.proofs.parse.literals_behind.Given as goal
 

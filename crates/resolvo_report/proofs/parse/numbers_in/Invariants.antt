@@ -1,6 +1,6 @@
 use Rattle.std.proofs.Common.{◌≡◌, length}
-use Rattle.resolvo_text.specs.Reading.{words_in}
-use Rattle.resolvo_report.specs.Reading.{numbers_in}
+use Rattle.resolvo_text.specs.Parse.{words_in}
+use Rattle.resolvo_report.specs.Parse.{numbers_in}
 use Rattle.resolvo_report.proofs.ClauseLemmas.{with_numbers}
 use Rattle.resolvo_report.proofs.parse.numbers_in.Given as goal
 

@@ -1,7 +1,7 @@
 use Rattle.std.proofs.Common.{sym, ap, ◌∙◌}
 use Rattle.std.specs.List.{join_with_byte}
 use Rattle.std.proofs.lemmas.List.Splits.{join_with_byte-slice_split}
-use Rattle.resolvo_text.specs.Reading.{words_in}
+use Rattle.resolvo_text.specs.Parse.{words_in}
 use Rattle.resolvo_report.proofs.parse.text_of.Goals as goal
 
 pub returns-in-Some : goal.returns-in-Some

@@ -2,7 +2,7 @@ use Rattle.std.proofs.Common.{take, map}
 use Rattle.resolvo_report.specs.Value as says
 use Rattle.resolvo_report.specs.View.{answer_lines_of}
 use Rattle.resolvo_report.specs.Text.{lines_text}
-use Rattle.resolvo_report.specs.Writing.{Wrote}
+use Rattle.resolvo_report.specs.Write.{Wrote}
 use Rattle.resolvo_report.proofs.write.write_answers.Given as goal
 
 abbrev pub invariant-loop-line : goal.invariant-loop-line

@@ -1,7 +1,7 @@
 use Rattle.std.proofs.Common.{take, map}
 use Rattle.resolvo_report.specs.Value as says
 use Rattle.resolvo_report.specs.Text.{lines_text}
-use Rattle.resolvo_report.specs.Writing.{Wrote}
+use Rattle.resolvo_report.specs.Write.{Wrote}
 use Rattle.resolvo_report.proofs.write.write_asked.Given as goal
 
 abbrev pub invariant-loop-number : goal.invariant-loop-number

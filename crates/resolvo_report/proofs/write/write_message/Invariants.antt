@@ -2,7 +2,7 @@ use Rattle.std.proofs.Common.{take, map}
 use Rattle.resolvo_report.specs.Value as says
 use Rattle.resolvo_report.specs.View.{messages_of}
 use Rattle.resolvo_report.specs.Text.{lines_text}
-use Rattle.resolvo_report.specs.Writing.{Wrote}
+use Rattle.resolvo_report.specs.Write.{Wrote}
 use Rattle.resolvo_report.proofs.write.write_message.Given as goal
 
 abbrev pub invariant-loop-bytes : goal.invariant-loop-bytes

@@ -1,7 +1,7 @@
 use Rattle.std.proofs.Common.{take}
 use Rattle.resolvo_report.specs.View.{steps_of}
 use Rattle.resolvo_report.specs.Text.{lines_text, numbered}
-use Rattle.resolvo_report.specs.Writing.{Wrote}
+use Rattle.resolvo_report.specs.Write.{Wrote}
 use Rattle.resolvo_report.proofs.write.write_steps.Given as goal
 
 abbrev pub invariant-loop-i : goal.invariant-loop-i

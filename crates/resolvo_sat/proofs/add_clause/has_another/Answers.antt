@@ -3,7 +3,7 @@ use Rattle.std.proofs.lemmas.List.{take_all}
 use Rattle.std.proofs.lemmas.Bool.{not-true}
 use Rattle.resolvo_store_core.specs.Signed.{Signed, has, same_literal}
 use Rattle.resolvo_store_core.proofs.Watched.{differs_sym}
-use Rattle.resolvo_sat.proofs.Coming.{has_contained}
+use Rattle.resolvo_sat.proofs.ComeLemmas.{has_contained}
 use Rattle.resolvo_sat.proofs.add_clause.has_another.Goals as goal
 
 pub returns-then-ne : goal.returns-then-ne

@@ -3,7 +3,7 @@ use Rattle.std.proofs.lemmas.Bool.{both_ways}
 use Rattle.resolvo_pool_core.specs.declared.id.VariableId.{VariableId}
 use Rattle.std.specs.Prelude.{slice_index_or}
 use Rattle.resolvo_sat.specs.Analysis.{Seen}
-use Rattle.resolvo_sat.proofs.Marking.{marks_root, marks_more}
+use Rattle.resolvo_sat.proofs.MarkLemmas.{marks_root, marks_more}
 use Rattle.resolvo_sat.proofs.analyze.mark_seen.Goals as goal
 use Rattle.resolvo_sat.proofs.analyze.mark_seen.Goals.{then-not-is_root+in_ok-insert, else-not-is_root}
 

@@ -2,7 +2,7 @@ use Rattle.std.proofs.Common.{◌≡◌, ◌<◌, ◌∙◌, arith, ap, length, 
 use Rattle.resolvo_pool_core.specs.declared.id.VariableId.{VariableId}
 use Rattle.resolvo_store_core.specs.AtMostOne.{new_ties}
 use Rattle.resolvo_state.specs.Registered.{same_variable}
-use Rattle.resolvo_state.proofs.Tracking.{few_tracked, come_ties, first_within, track_is}
+use Rattle.resolvo_state.proofs.TrackLemmas.{few_tracked, come_ties, first_within, track_is}
 use Rattle.resolvo_state.proofs.registry.track.Goals as goal
 
 pub overflow_cast-last : goal.overflow_cast-last

@@ -3,7 +3,7 @@ use Rattle.std.proofs.lemmas.Result.{err_from_is_err_and}
 use Rattle.std.proofs.lemmas.Option.{same_Some}
 use Rattle.resolvo_text.specs.Line as says
 use Rattle.resolvo_text.specs.View.{condition_of, cond_of}
-use Rattle.resolvo_text.specs.Reading.{words_in, joined, parts_at, part_at}
+use Rattle.resolvo_text.specs.Parse.{words_in, joined, parts_at, part_at}
 use Rattle.resolvo_text.proofs.ConditionLemmas.{lone, too_deep, group_fails, group_unclosed, group_closed, from_none, skipped_by, goes_on, ends, fails_so}
 use Rattle.resolvo_text.proofs.condition.+condition.Goals as goal
 

@@ -1,5 +1,5 @@
 use Rattle.std.proofs.Common.{◌≡◌, ℕ, ◌+◌, ◌*◌, ◌≤◌}
-use Rattle.resolvo_text.specs.Reading.{words_in, parts_at, part_at, joined_at}
+use Rattle.resolvo_text.specs.Parse.{words_in, parts_at, part_at, joined_at}
 use Rattle.resolvo_text.specs.View.{condition_of}
 use Rattle.resolvo_text.proofs.ConditionLemmas.{rank}
 use Rattle.resolvo_text.proofs.condition.+condition.Given as goal

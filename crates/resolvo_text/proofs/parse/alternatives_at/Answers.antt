@@ -1,7 +1,7 @@
 use Rattle.std.proofs.Common.{◌≡◌, List, ◌∷◌, [], ◌++◌, Some, sym, ap, ◌∙◌}
 use Rattle.resolvo_text.specs.Line as says
 use Rattle.resolvo_text.specs.View.{specs_of, spec_of}
-use Rattle.resolvo_text.specs.Reading.{words_in, alternatives_at}
+use Rattle.resolvo_text.specs.Parse.{words_in, alternatives_at}
 use Rattle.std.proofs.lemmas.List.{map_push}
 use Rattle.std.proofs.lemmas.Result.{err_from_is_err_and}
 use Rattle.resolvo_text.proofs.AlternativeLemmas.{with_front, goes_on, ends, fails_so}

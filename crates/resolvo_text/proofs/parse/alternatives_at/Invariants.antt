@@ -1,6 +1,6 @@
 use Rattle.std.proofs.Common.{◌≡◌, ℕ, ◌≤◌, length}
 use Rattle.resolvo_text.specs.View.{specs_of}
-use Rattle.resolvo_text.specs.Reading.{words_in, alternatives_at}
+use Rattle.resolvo_text.specs.Parse.{words_in, alternatives_at}
 use Rattle.resolvo_text.proofs.AlternativeLemmas.{with_front}
 use Rattle.resolvo_text.proofs.parse.alternatives_at.Given as goal
 

@@ -6,7 +6,7 @@ use Rattle.resolvo_text.specs.declared.line.LineFault.TheVariants.{Fault, Memory
 use Rattle.resolvo_text.specs.Line as says
 use Rattle.resolvo_text.specs.Spelling.{SaysLine}
 use Rattle.resolvo_text.specs.View.{view}
-use Rattle.resolvo_text.specs.Reading.{Gives, line_in}
+use Rattle.resolvo_text.specs.Parse.{Gives, line_in}
 use Rattle.resolvo_text.proofs.TextLaws.{line_takes, says_none}
 use Rattle.resolvo_text.proofs.parse.line_in.Goals as goal
 

@@ -1,6 +1,6 @@
 use Rattle.std.proofs.Common.{◌∙◌}
 use Rattle.resolvo_text.specs.View.{version_of}
-use Rattle.resolvo_text.specs.Matching.{same_version}
+use Rattle.resolvo_text.specs.Matches.{same_version}
 use Rattle.resolvo_text.proofs.Mapped.{any_mapped}
 use Rattle.resolvo_text.proofs.spec.is_member.Goals as goal
 

@@ -1,6 +1,6 @@
 use Rattle.std.proofs.Common.{◌∙◌}
 use Rattle.resolvo_text.specs.View.{version_of, spec_of}
-use Rattle.resolvo_text.specs.Matching.{matches}
+use Rattle.resolvo_text.specs.Matches.{matches}
 use Rattle.resolvo_text.proofs.Mapped.{any_mapped}
 use Rattle.resolvo_text.proofs.spec.is_met.Goals as goal
 

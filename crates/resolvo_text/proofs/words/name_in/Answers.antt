@@ -2,7 +2,7 @@ use Rattle.std.proofs.Common.{◌≡◌, List, ℕ, Option, Bor, true, sym, ap, 
 use Rattle.std.specs.Option.{option_map}
 use Rattle.std.specs.Str.{IsUtf8}
 use Rattle.resolvo_text.specs.Spelling.{is_name}
-use Rattle.resolvo_text.specs.Reading.{name_in}
+use Rattle.resolvo_text.specs.Parse.{name_in}
 use Rattle.resolvo_text.proofs.NameLemmas.{name_is_text}
 use Rattle.resolvo_text.proofs.NumberLemmas.{text_given}
 use Rattle.resolvo_text.proofs.words.name_in.Goals as goal

@@ -1,6 +1,6 @@
 use Rattle.resolvo_encoder.proofs.Bases.{first_same, first_then}
-use Rattle.resolvo_encoder.proofs.Staying.{goes_none, goes_then}
-use Rattle.resolvo_turn.proofs.Adding.{goes_in_order}
+use Rattle.resolvo_encoder.proofs.StayLemmas.{goes_none, goes_then}
+use Rattle.resolvo_turn.proofs.AddLemmas.{goes_in_order}
 use Rattle.resolvo_turn.proofs.cdcl.decide.Goals as goal
 
 pub loop-encoding-init : goal.loop-encoding-init

@@ -1,8 +1,8 @@
 use Rattle.resolvo_pool_core.specs.RuleKeeping.{Rules}
-use Rattle.resolvo_sat.specs.Advancing.{weight_left}
+use Rattle.resolvo_sat.specs.PropagateAndLearn.{weight_left}
 use Rattle.resolvo_encoder.specs.Base.{KeepsFirst}
 use Rattle.resolvo_encoder.specs.Steps.{IsBuilt}
-use Rattle.resolvo_encoder.specs.Going.{GoesOn}
+use Rattle.resolvo_encoder.specs.Progress.{GoesOn}
 use Rattle.resolvo_turn.specs.Encoder.{IsInOrder}
 use Rattle.resolvo_turn.proofs.cdcl.decide.Given as goal
 

@@ -1,5 +1,5 @@
 use Rattle.std.proofs.Common.{◌≡◌, take}
-use Rattle.resolvo_encoder.specs.Casing.{case_of, AreConjuncts}
+use Rattle.resolvo_encoder.specs.Conditions.{case_of, AreConjuncts}
 use Rattle.resolvo_turn.proofs.defer.conjuncts_of.Given as goal
 
 -- the version sets so far

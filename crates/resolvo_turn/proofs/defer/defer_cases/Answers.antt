@@ -6,9 +6,9 @@ use Rattle.resolvo_pool_core.specs.RuleKeeping.{Rules, rules_for}
 use Rattle.resolvo_store_core.specs.Cases.{cases_of}
 use Rattle.resolvo_soundness.specs.Encoding.{cases_for}
 use Rattle.resolvo_soundness.proofs.Lists.{contains_none}
-use Rattle.resolvo_encoder.specs.Casing.{IsDeferred}
+use Rattle.resolvo_encoder.specs.Conditions.{IsDeferred}
 use Rattle.resolvo_turn.specs.Encoder.{IsInOrder, AreDeferred}
-use Rattle.resolvo_turn.proofs.Adding.{needs_none, needs_then, more_deferred, cases_more, taken_stands}
+use Rattle.resolvo_turn.proofs.AddLemmas.{needs_none, needs_then, more_deferred, cases_more, taken_stands}
 use Rattle.resolvo_turn.proofs.defer.defer_cases.Goals as goal
 
 pub loop-case-init : goal.loop-case-init

@@ -1,5 +1,5 @@
 use Rattle.std.proofs.Common.{◌≡◌, take}
-use Rattle.resolvo_packages.specs.Answering.{offered_solvables}
+use Rattle.resolvo_packages.specs.PackageSource.{offered_solvables}
 use Rattle.resolvo_turn.proofs.defer.solvables_of.Given as goal
 
 -- the solvables so far

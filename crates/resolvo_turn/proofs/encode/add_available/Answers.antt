@@ -1,7 +1,7 @@
 use Rattle.std.proofs.Common.{sym, subst}
 use Rattle.resolvo_encoder.specs.declared.encoder.Encoder.{Encoder}
 use Rattle.resolvo_encoder.specs.Steps.{AddsParent}
-use Rattle.resolvo_turn.proofs.Adding.{parents_none, parents_then}
+use Rattle.resolvo_turn.proofs.AddLemmas.{parents_none, parents_then}
 use Rattle.resolvo_turn.proofs.encode.add_available.Goals.{then-are_dependencies_available_for+in_ok-add_parent, else-are_dependencies_available_for}
 use Rattle.resolvo_turn.proofs.encode.add_available.Goals as goal
 

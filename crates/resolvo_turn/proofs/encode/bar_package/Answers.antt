@@ -1,8 +1,8 @@
 use Rattle.std.proofs.Common.{List, subst, sym}
 use Rattle.resolvo_packages.specs.declared.package_source.Barred.{Barred}
-use Rattle.resolvo_packages.specs.Barring.{AreBarred}
-use Rattle.resolvo_encoder.proofs.Picking.{ordered_stays}
-use Rattle.resolvo_turn.proofs.Adding.{needs_none, extends_needs}
+use Rattle.resolvo_packages.specs.Forbidden.{AreBarred}
+use Rattle.resolvo_encoder.proofs.PickLemmas.{ordered_stays}
+use Rattle.resolvo_turn.proofs.AddLemmas.{needs_none, extends_needs}
 use Rattle.resolvo_turn.proofs.encode.bar_package.Goals as goal
 
 pub returns-then-is_encoded-clause-encoded : goal.returns-then-is_encoded-clause-encoded

@@ -7,7 +7,7 @@ use Rattle.resolvo_soundness.specs.Encoding.{IsBarredIn, HasBar}
 use Rattle.resolvo_state.proofs.Growth.{bar_grows}
 use Rattle.resolvo_encoder.specs.Encoded.{rules_of}
 use Rattle.resolvo_turn.specs.Encoder.{IsInOrder}
-use Rattle.resolvo_turn.proofs.Adding.{needs_none, needs_then}
+use Rattle.resolvo_turn.proofs.AddLemmas.{needs_none, needs_then}
 use Rattle.resolvo_turn.proofs.encode.bar_packages.Goals as goal
 
 pub loop-name-init : goal.loop-name-init

@@ -4,9 +4,9 @@ use Rattle.resolvo_pool_core.specs.declared.requirement.Requirement.TheVariants.
 use Rattle.resolvo_pool_core.specs.RuleKeeping.{Rules, rules_for}
 use Rattle.resolvo_soundness.specs.Encoding.{IsExact}
 use Rattle.resolvo_encoder.specs.Encoded.{IsLimitEncoded, rules_of}
-use Rattle.resolvo_encoder.proofs.Requiring.{guard_grows}
+use Rattle.resolvo_encoder.proofs.RequireLemmas.{guard_grows}
 use Rattle.resolvo_turn.specs.Encoder.{IsInOrder}
-use Rattle.resolvo_turn.proofs.Adding.{needs_then}
+use Rattle.resolvo_turn.proofs.AddLemmas.{needs_then}
 use Rattle.resolvo_turn.proofs.encode.encode_limit.Goals as goal
 
 pub returns-clause-encoded : goal.returns-clause-encoded

@@ -9,7 +9,7 @@ use Rattle.resolvo_soundness.proofs.Lists.{contains_none}
 use Rattle.resolvo_soundness.specs.Encoding.{IsExact}
 use Rattle.resolvo_encoder.specs.Encoded.{IsGuarded, IsLimitEncoded, rules_of}
 use Rattle.resolvo_turn.specs.Encoder.{IsInOrder}
-use Rattle.resolvo_turn.proofs.Adding.{needs_none, needs_then, more_limited}
+use Rattle.resolvo_turn.proofs.AddLemmas.{needs_none, needs_then, more_limited}
 use Rattle.resolvo_turn.proofs.encode.encode_limits.Goals as goal
 
 pub loop-version_set-init : goal.loop-version_set-init

@@ -3,7 +3,7 @@ use Rattle.std.specs.Prelude.{Contains}
 use Rattle.resolvo_pool_core.specs.declared.id.ConditionId.{ConditionId}
 use Rattle.resolvo_pool_core.specs.declared.id.VersionSetId.{VersionSetId}
 use Rattle.resolvo_soundness.specs.Encoding.{cases_under}
-use Rattle.resolvo_soundness.specs.Ending.{IsNeedEncoded}
+use Rattle.resolvo_soundness.specs.SearchEnd.{IsNeedEncoded}
 use Rattle.resolvo_soundness.proofs.Lists.{contains_one}
 use Rattle.resolvo_encoder.specs.Encoded.{rules_of}
 use Rattle.resolvo_turn.proofs.encode.encode_need.Goals as goal

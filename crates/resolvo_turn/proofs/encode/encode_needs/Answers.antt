@@ -8,7 +8,7 @@ use Rattle.resolvo_pool_core.specs.RuleKeeping.{Rules, rules_for}
 use Rattle.resolvo_soundness.proofs.Lists.{contains_none}
 use Rattle.resolvo_soundness.specs.Encoding.{IsExact}
 use Rattle.resolvo_turn.specs.Encoder.{IsInOrder, IsConditionalEncoded}
-use Rattle.resolvo_turn.proofs.Adding.{needs_none, needs_then, more_encoded}
+use Rattle.resolvo_turn.proofs.AddLemmas.{needs_none, needs_then, more_encoded}
 use Rattle.resolvo_turn.proofs.encode.encode_needs.Goals as goal
 
 pub loop-need-init : goal.loop-need-init

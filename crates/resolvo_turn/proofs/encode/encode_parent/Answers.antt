@@ -5,9 +5,9 @@ use Rattle.resolvo_pool_core.specs.Provider.{needs_of}
 use Rattle.resolvo_pool_core.specs.RuleKeeping.{Rules}
 use Rattle.resolvo_pool_core.specs.Text.{solvable_of}
 use Rattle.resolvo_encoder.specs.Encoded.{IsParentEncoded}
-use Rattle.resolvo_encoder.proofs.Picking.{ordered_stays}
+use Rattle.resolvo_encoder.proofs.PickLemmas.{ordered_stays}
 use Rattle.resolvo_turn.specs.Encoder.{AreRulesOf, IsInOrder}
-use Rattle.resolvo_turn.proofs.Adding.{extends_needs, root_rules, known_rules, unknown_encoded, bars_rule}
+use Rattle.resolvo_turn.proofs.AddLemmas.{extends_needs, root_rules, known_rules, unknown_encoded, bars_rule}
 use Rattle.resolvo_turn.proofs.encode.encode_parent.Goals as goal
 
 pub returns-in_ok-encode_rules-in-Root-clause-encoded : goal.returns-in_ok-encode_rules-in-Root-clause-encoded

@@ -6,8 +6,8 @@ use Rattle.resolvo_encoder.specs.declared.encoder.Encoder.{Encoder}
 use Rattle.resolvo_encoder.specs.Encoded.{IsParentEncoded}
 use Rattle.resolvo_encoder.proofs.Bases.{turn_same, turns_then}
 use Rattle.resolvo_turn.specs.Encoder.{IsInOrder, IsRoot, AddsParents}
-use Rattle.resolvo_turn.proofs.Adding.{next_in_order, all_none, all_then, one_more, next_all, next_turns}
-use Rattle.resolvo_turn.proofs.Ending.{past_end}
+use Rattle.resolvo_turn.proofs.AddLemmas.{next_in_order, all_none, all_then, one_more, next_all, next_turns}
+use Rattle.resolvo_turn.proofs.EndLemmas.{past_end}
 use Rattle.resolvo_turn.proofs.encode.encode_parents.Goals as goal
 
 pub loop-parent-init : goal.loop-parent-init

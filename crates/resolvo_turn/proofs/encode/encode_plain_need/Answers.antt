@@ -1,10 +1,10 @@
 use Rattle.std.proofs.Common.{[], subst}
 use Rattle.resolvo_pool_core.specs.RuleKeeping.{Rules}
-use Rattle.resolvo_soundness.specs.Ending.{IsNeedEncoded}
+use Rattle.resolvo_soundness.specs.SearchEnd.{IsNeedEncoded}
 use Rattle.resolvo_encoder.specs.Encoded.{IsGuarded, rules_of}
 use Rattle.resolvo_encoder.specs.Steps.{Needs}
 use Rattle.resolvo_turn.specs.Encoder.{IsInOrder}
-use Rattle.resolvo_turn.proofs.Adding.{needs_then}
+use Rattle.resolvo_turn.proofs.AddLemmas.{needs_then}
 use Rattle.resolvo_turn.proofs.encode.encode_plain_need.Goals as goal
 
 pub returns-clause-encoded : goal.returns-clause-encoded

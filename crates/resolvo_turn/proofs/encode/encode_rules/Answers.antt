@@ -8,7 +8,7 @@ use Rattle.resolvo_pool_core.specs.RuleKeeping.{Rules, rules_for}
 use Rattle.resolvo_soundness.specs.Encoding.{IsExact}
 use Rattle.resolvo_encoder.specs.Encoded.{IsGuarded, IsLimitEncoded, rules_of}
 use Rattle.resolvo_turn.specs.Encoder.{IsInOrder}
-use Rattle.resolvo_turn.proofs.Adding.{needs_then, case_stays}
+use Rattle.resolvo_turn.proofs.AddLemmas.{needs_then, case_stays}
 use Rattle.resolvo_turn.proofs.encode.encode_rules.Goals as goal
 
 pub returns-clause-encoded : goal.returns-clause-encoded

@@ -1,8 +1,8 @@
 use Rattle.std.proofs.Common.{List, subst, sym}
 use Rattle.resolvo_packages.specs.declared.package_source.Offered.{Offered}
-use Rattle.resolvo_packages.specs.Answering.{AreOutside}
-use Rattle.resolvo_encoder.proofs.Picking.{ordered_stays}
-use Rattle.resolvo_turn.proofs.Adding.{extends_needs}
+use Rattle.resolvo_packages.specs.PackageSource.{AreOutside}
+use Rattle.resolvo_encoder.proofs.PickLemmas.{ordered_stays}
+use Rattle.resolvo_turn.proofs.AddLemmas.{extends_needs}
 use Rattle.resolvo_turn.proofs.encode.limit.Goals as goal
 
 pub returns-clause-encoded : goal.returns-clause-encoded

@@ -3,12 +3,12 @@ use Rattle.std.specs.Prelude.{Contains}
 use Rattle.resolvo_pool_core.specs.declared.id.VersionSetId.{VersionSetId}
 use Rattle.resolvo_pool_core.specs.RuleKeeping.{Rules, rules_for}
 use Rattle.resolvo_soundness.specs.Encoding.{cases_for}
-use Rattle.resolvo_soundness.specs.Ending.{IsNeedEncoded}
+use Rattle.resolvo_soundness.specs.SearchEnd.{IsNeedEncoded}
 use Rattle.resolvo_encoder.specs.declared.conditions.ConditionSet.{ConditionSet}
-use Rattle.resolvo_encoder.specs.Casing.{AreSets, sets_case}
+use Rattle.resolvo_encoder.specs.Conditions.{AreSets, sets_case}
 use Rattle.resolvo_encoder.specs.Encoded.{IsGuarded, rules_of}
 use Rattle.resolvo_turn.specs.Encoder.{IsInOrder}
-use Rattle.resolvo_turn.proofs.Adding.{needs_then}
+use Rattle.resolvo_turn.proofs.AddLemmas.{needs_then}
 use Rattle.resolvo_turn.proofs.fire.encode_case.Goals as goal
 
 pub returns-clause-encoded : goal.returns-clause-encoded

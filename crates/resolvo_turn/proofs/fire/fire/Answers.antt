@@ -2,10 +2,10 @@ use Rattle.std.proofs.Common.{◌<◌, ◌≤◌, List, length, sym, subst, arit
 use Rattle.std.specs.Prelude.{Contains}
 use Rattle.resolvo_pool_core.specs.declared.id.VersionSetId.{VersionSetId}
 use Rattle.resolvo_soundness.specs.Encoding.{cases_for}
-use Rattle.resolvo_soundness.specs.Ending.{IsNeedEncoded}
+use Rattle.resolvo_soundness.specs.SearchEnd.{IsNeedEncoded}
 use Rattle.resolvo_state.proofs.Positions.{front_long}
 use Rattle.resolvo_encoder.specs.Encoded.{rules_of}
-use Rattle.resolvo_turn.proofs.Adding.{needs_then, fires_needs, fired_more}
+use Rattle.resolvo_turn.proofs.AddLemmas.{needs_then, fires_needs, fired_more}
 use Rattle.resolvo_turn.proofs.CaseStated.{stated_in_order}
 use Rattle.resolvo_turn.proofs.fire.fire.Goals as goal
 

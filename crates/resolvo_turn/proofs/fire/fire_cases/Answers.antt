@@ -2,8 +2,8 @@ use Rattle.std.proofs.Common.{◌≡◌, inl, inr, length, refl, ◌∙◌, ap, 
 use Rattle.resolvo_pool_core.specs.RuleKeeping.{Rules}
 use Rattle.resolvo_encoder.specs.declared.encoder.Encoder.{Encoder}
 use Rattle.resolvo_turn.specs.Encoder.{IsInOrder}
-use Rattle.resolvo_turn.proofs.Adding.{needs_none, needs_then}
-use Rattle.resolvo_turn.proofs.Passing.{passed_none, passed_more, IsFired}
+use Rattle.resolvo_turn.proofs.AddLemmas.{needs_none, needs_then}
+use Rattle.resolvo_turn.proofs.PassLemmas.{passed_none, passed_more, IsFired}
 use Rattle.resolvo_turn.proofs.fire.fire_cases.Goals as goal
 use Rattle.resolvo_turn.proofs.fire.fire_cases.Goals.{then-branch, else-branch}
 

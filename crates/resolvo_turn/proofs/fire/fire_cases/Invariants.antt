@@ -2,7 +2,7 @@ use Rattle.std.proofs.Common.{◌≡◌}
 use Rattle.resolvo_pool_core.specs.RuleKeeping.{Rules}
 use Rattle.resolvo_encoder.specs.Steps.{IsBuilt}
 use Rattle.resolvo_turn.specs.Encoder.{IsInOrder, AddsNeeds}
-use Rattle.resolvo_turn.proofs.Passing.{Passed}
+use Rattle.resolvo_turn.proofs.PassLemmas.{Passed}
 use Rattle.resolvo_turn.proofs.fire.fire_cases.Given as goal
 
 -- cases so far became clauses, or none of them held and nothing changed

@@ -1,5 +1,5 @@
 use Rattle.std.proofs.Common.{◌≡◌, take}
-use Rattle.resolvo_encoder.specs.Casing.{sets_case, AreSets}
+use Rattle.resolvo_encoder.specs.Conditions.{sets_case, AreSets}
 use Rattle.resolvo_turn.proofs.fire.sets_of.Given as goal
 
 -- the version sets so far

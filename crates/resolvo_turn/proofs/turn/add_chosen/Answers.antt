@@ -2,8 +2,8 @@ use Rattle.std.proofs.Common.{◌≡◌, ◌+◌, ◌++◌, ◌∷◌, [], List,
 use Rattle.std.specs.Prelude.{Contains}
 use Rattle.std.proofs.lemmas.List.{take_more, take_all}
 use Rattle.resolvo_soundness.proofs.Lists.{contains_none}
-use Rattle.resolvo_turn.proofs.Adding.{parents_none, parents_then}
-use Rattle.resolvo_turn.proofs.Ending.{among_more, chosen_added}
+use Rattle.resolvo_turn.proofs.AddLemmas.{parents_none, parents_then}
+use Rattle.resolvo_turn.proofs.EndLemmas.{among_more, chosen_added}
 use Rattle.resolvo_turn.proofs.turn.add_chosen.Goals as goal
 
 pub loop-solvable-init : goal.loop-solvable-init

@@ -1,10 +1,10 @@
 use Rattle.std.proofs.Common.{Option, subst}
 use Rattle.resolvo_sat.specs.declared.analyze.FinalConflict.{FinalConflict}
 use Rattle.resolvo_encoder.proofs.Bases.{turn_has, turn_then}
-use Rattle.resolvo_encoder.proofs.Staying.{goes_then}
+use Rattle.resolvo_encoder.proofs.StayLemmas.{goes_then}
 use Rattle.resolvo_turn.specs.Turn.{HasWish, IsBegunBy}
-use Rattle.resolvo_turn.proofs.Adding.{goes_in_order}
-use Rattle.resolvo_turn.proofs.Ending.{begun_of, decided_of, decided_turn, wish_kept}
+use Rattle.resolvo_turn.proofs.AddLemmas.{goes_in_order}
+use Rattle.resolvo_turn.proofs.EndLemmas.{begun_of, decided_of, decided_turn, wish_kept}
 use Rattle.resolvo_turn.proofs.turn.choose_and_decide.Goals as goal
 
 pub returns-in-Some-clause-stays : goal.returns-in-Some-clause-stays

@@ -1,6 +1,6 @@
 use Rattle.resolvo_encoder.proofs.Bases.{turns_then}
-use Rattle.resolvo_turn.proofs.Adding.{goes_in_order}
-use Rattle.resolvo_turn.proofs.Ending.{all_goes}
+use Rattle.resolvo_turn.proofs.AddLemmas.{goes_in_order}
+use Rattle.resolvo_turn.proofs.EndLemmas.{all_goes}
 use Rattle.resolvo_turn.proofs.turn.encode.Goals as goal
 
 pub returns-clause-encoded : goal.returns-clause-encoded

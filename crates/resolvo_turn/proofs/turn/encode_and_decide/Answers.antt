@@ -2,7 +2,7 @@ use Rattle.std.proofs.Common.{subst}
 use Rattle.resolvo_pool_core.specs.RuleKeeping.{Rules}
 use Rattle.resolvo_encoder.proofs.Bases.{turn_has, turn_then}
 use Rattle.resolvo_turn.specs.Encoder.{IsInOrder}
-use Rattle.resolvo_turn.proofs.Ending.{all_goes}
+use Rattle.resolvo_turn.proofs.EndLemmas.{all_goes}
 use Rattle.resolvo_turn.proofs.turn.encode_and_decide.Goals as goal
 
 pub returns-clause-stays : goal.returns-clause-stays

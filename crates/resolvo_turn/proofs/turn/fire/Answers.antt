@@ -1,4 +1,4 @@
-use Rattle.resolvo_turn.proofs.Adding.{goes_in_order, needs_then, goes_needs}
+use Rattle.resolvo_turn.proofs.AddLemmas.{goes_in_order, needs_then, goes_needs}
 use Rattle.resolvo_turn.proofs.turn.fire.Goals as goal
 
 pub returns-then-not-branch-clause-spent : goal.returns-then-not-branch-clause-spent

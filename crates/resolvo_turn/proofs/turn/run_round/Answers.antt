@@ -3,11 +3,11 @@ use Rattle.std.specs.Prelude.{is_some}
 use Rattle.resolvo_sat.specs.declared.analyze.FinalConflict.{FinalConflict}
 use Rattle.resolvo_pool_core.specs.RuleKeeping.{Rules}
 use Rattle.resolvo_encoder.proofs.Bases.{turn_then}
-use Rattle.resolvo_encoder.proofs.Building.{built_parents}
+use Rattle.resolvo_encoder.proofs.BuildLemmas.{built_parents}
 use Rattle.resolvo_turn.specs.Encoder.{IsInOrder}
 use Rattle.resolvo_turn.specs.Turn.{IsDecisionOf}
-use Rattle.resolvo_turn.proofs.Adding.{parents_in_order, parents_needs, needs_parents, all_then}
-use Rattle.resolvo_turn.proofs.Ending.{round_adds, round_whole, round_goes, fires_goes, ended_same}
+use Rattle.resolvo_turn.proofs.AddLemmas.{parents_in_order, parents_needs, needs_parents, all_then}
+use Rattle.resolvo_turn.proofs.EndLemmas.{round_adds, round_whole, round_goes, fires_goes, ended_same}
 use Rattle.resolvo_turn.proofs.turn.run_round.Goals as goal
 
 pub returns-then-is_some-clause-stays : goal.returns-then-is_some-clause-stays

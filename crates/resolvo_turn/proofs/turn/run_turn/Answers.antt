@@ -4,8 +4,8 @@ use Rattle.resolvo_encoder.proofs.Bases.{turn_has, turn_same, turn_then}
 use Rattle.resolvo_turn.specs.Encoder.{IsInOrder, IsRoot}
 use Rattle.resolvo_turn.specs.declared.turn.Round.{Round}
 use Rattle.resolvo_turn.specs.Turn.{IsRound}
-use Rattle.resolvo_turn.proofs.Adding.{all_none, all_then}
-use Rattle.resolvo_turn.proofs.Ending.{fewer_left, still_rooted}
+use Rattle.resolvo_turn.proofs.AddLemmas.{all_none, all_then}
+use Rattle.resolvo_turn.proofs.EndLemmas.{fewer_left, still_rooted}
 use Rattle.resolvo_turn.proofs.turn.run_turn.Goals as goal
 
 pub loop-refusal-init : goal.loop-refusal-init

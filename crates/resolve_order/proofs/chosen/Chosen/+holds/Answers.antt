@@ -1,5 +1,5 @@
 use Rattle.std.proofs.Common.{◌≡◌, ◌∙◌, Bool, true, false, ◌&&◌, ◌||◌, sym, ap}
-use Rattle.resolvo_text.specs.Matching.{holds}
+use Rattle.resolvo_text.specs.Matches.{holds}
 use Rattle.resolvo_text.specs.View.{cond_of}
 use Rattle.resolve_order.proofs.chosen.Chosen.+holds.Goals as goal
 

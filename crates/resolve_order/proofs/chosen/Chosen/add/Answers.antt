@@ -6,7 +6,7 @@ use Rattle.std.specs.Str.{bytes_eq}
 use Rattle.std.specs.String.{string_bytes}
 use Rattle.std.proofs.lemmas.Map.Text.{hash_map_updates_text}
 use Rattle.resolvo_catalogue_core.specs.Listed.{listed, pair_version}
-use Rattle.resolve_order.proofs.Picking.{adds, adds_none}
+use Rattle.resolve_order.proofs.PickLemmas.{adds, adds_none}
 use Rattle.resolve_order.proofs.chosen.Chosen.add.Goals as goal
 
 pub returns-in_ok-insert : goal.returns-in_ok-insert

@@ -1,9 +1,9 @@
 use Rattle.std.proofs.Common.{◌≡◌, ◌∙◌, ◌++◌, ◌∷◌, [], ◌+◌, take, get_or, append_assoc, sym, ap, subst, arith}
 use Rattle.std.proofs.lemmas.List.{append-nil, take_all}
-use Rattle.resolvo_text.specs.Matching.{Set}
+use Rattle.resolvo_text.specs.Matches.{Set}
 use Rattle.resolvo_catalogue_core.specs.Listed.{listed, members}
 use Rattle.resolve_order.specs.Kept.{Holds, AreOneEach}
-use Rattle.resolve_order.proofs.Picking.{members_more, one_each_first}
+use Rattle.resolve_order.proofs.PickLemmas.{members_more, one_each_first}
 use Rattle.resolve_order.proofs.chosen.Chosen.add_all.Goals as goal
 
 pub loop-version-init : goal.loop-version-init

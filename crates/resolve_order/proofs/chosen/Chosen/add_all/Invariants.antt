@@ -1,5 +1,5 @@
 use Rattle.std.specs.Prelude.{◌++◌, take}
-use Rattle.resolvo_text.specs.Matching.{Set}
+use Rattle.resolvo_text.specs.Matches.{Set}
 use Rattle.resolvo_catalogue_core.specs.Listed.{listed, members}
 use Rattle.resolve_order.specs.Kept.{Holds, AreOneEach}
 use Rattle.resolve_order.proofs.chosen.Chosen.add_all.Given as goal

@@ -3,7 +3,7 @@ use Rattle.std.specs.HashMap.{get_by_text}
 use Rattle.resolvo_text.specs.View.{spec_of}
 use Rattle.resolvo_catalogue_core.specs.Listed.{listed}
 use Rattle.resolve_order.specs.Kept.{IsPick}
-use Rattle.resolve_order.proofs.Picking.{picked_match, picked_other, picked_none}
+use Rattle.resolve_order.proofs.PickLemmas.{picked_match, picked_other, picked_none}
 use Rattle.resolve_order.proofs.chosen.Chosen.chosen_match.Goals as goal
 
 pub returns-then-match_of : goal.returns-then-match_of

@@ -1,5 +1,5 @@
 use Rattle.std.proofs.Common.{◌∙◌, sym, ap}
-use Rattle.resolvo_text.specs.Matching.{condition_holds}
+use Rattle.resolvo_text.specs.Matches.{condition_holds}
 use Rattle.resolvo_text.specs.View.{condition_of}
 use Rattle.resolve_order.proofs.chosen.Chosen.condition_holds.Goals as goal
 

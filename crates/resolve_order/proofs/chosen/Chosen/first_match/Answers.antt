@@ -4,7 +4,7 @@ use Rattle.resolvo_text.specs.View.{spec_of, specs_of}
 use Rattle.resolvo_catalogue_core.specs.Listed.{listed}
 use Rattle.resolve_order.specs.Kept.{IsFirstMatch, IsUnlistedMatch}
 use Rattle.resolve_order.proofs.Elements.{no_element}
-use Rattle.resolve_order.proofs.Picking.{none_of_first, found_first}
+use Rattle.resolve_order.proofs.PickLemmas.{none_of_first, found_first}
 use Rattle.resolve_order.proofs.chosen.Chosen.first_match.Goals as goal
 
 pub loop-spec-init : goal.loop-spec-init

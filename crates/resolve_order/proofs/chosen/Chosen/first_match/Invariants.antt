@@ -1,5 +1,5 @@
 use Rattle.std.specs.Prelude.{take, None}
-use Rattle.resolvo_text.specs.Matching.{Set}
+use Rattle.resolvo_text.specs.Matches.{Set}
 use Rattle.resolvo_text.specs.View.{specs_of}
 use Rattle.resolvo_catalogue_core.specs.Listed.{listed}
 use Rattle.resolve_order.specs.Kept.{Holds, IsFirstMatch}

@@ -2,7 +2,7 @@ use Rattle.std.proofs.Common.{◌∙◌, not, ap, subst}
 use Rattle.resolvo_text.specs.View.{spec_of}
 use Rattle.resolvo_catalogue_core.specs.Listed.{listed}
 use Rattle.resolve_order.specs.Kept.{IsChosenMatch}
-use Rattle.resolve_order.proofs.Picking.{met_by, met_none}
+use Rattle.resolve_order.proofs.PickLemmas.{met_by, met_none}
 use Rattle.resolve_order.proofs.chosen.Chosen.is_met.Goals as goal
 
 pub returns-in-Some : goal.returns-in-Some

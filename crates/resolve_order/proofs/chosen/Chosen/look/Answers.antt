@@ -2,7 +2,7 @@ use Rattle.std.proofs.Common.{sym, subst}
 use Rattle.std.specs.Option.{option_copied}
 use Rattle.resolvo_catalogue_core.specs.Listed.{listed}
 use Rattle.resolve_order.specs.Kept.{IsRuleAt, IsLook}
-use Rattle.resolve_order.proofs.Picking.{no_rule}
+use Rattle.resolve_order.proofs.PickLemmas.{no_rule}
 use Rattle.resolve_order.proofs.chosen.Chosen.look.Goals as goal
 
 pub returns-in-Some-clause-looked : goal.returns-in-Some-clause-looked

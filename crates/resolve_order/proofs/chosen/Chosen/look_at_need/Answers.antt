@@ -2,7 +2,7 @@ use Rattle.std.proofs.Common.{◌∙◌, sym, subst}
 use Rattle.resolvo_text.specs.View.{specs_of, condition_of}
 use Rattle.resolvo_catalogue_core.specs.Listed.{listed}
 use Rattle.resolve_order.specs.Kept.{IsFirstMatch}
-use Rattle.resolve_order.proofs.Picking.{gives_need, waits_need, spent_need}
+use Rattle.resolve_order.proofs.PickLemmas.{gives_need, waits_need, spent_need}
 use Rattle.resolve_order.proofs.chosen.Chosen.look_at_need.Goals as goal
 
 pub returns-then-condition_holds-clause-looked : goal.returns-then-condition_holds-clause-looked

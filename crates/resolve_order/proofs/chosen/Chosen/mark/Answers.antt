@@ -1,5 +1,5 @@
 use Rattle.std.proofs.Common.{refl}
-use Rattle.resolve_order.proofs.Picking.{fewer_unlisted, marks}
+use Rattle.resolve_order.proofs.PickLemmas.{fewer_unlisted, marks}
 use Rattle.resolve_order.proofs.chosen.Chosen.mark.Goals as goal
 
 pub returns-clause-fewer : goal.returns-clause-fewer

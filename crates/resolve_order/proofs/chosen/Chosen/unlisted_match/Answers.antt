@@ -2,7 +2,7 @@ use Rattle.std.proofs.Common.{◌∙◌, sym, subst}
 use Rattle.resolvo_text.specs.View.{spec_of}
 use Rattle.resolvo_catalogue_core.specs.Listed.{listed}
 use Rattle.resolve_order.specs.Kept.{IsChosenMatch}
-use Rattle.resolve_order.proofs.Picking.{match_unlisted, match_listed, no_match}
+use Rattle.resolve_order.proofs.PickLemmas.{match_unlisted, match_listed, no_match}
 use Rattle.resolve_order.proofs.chosen.Chosen.unlisted_match.Goals as goal
 
 pub returns-then-is_unlisted-clause-matched : goal.returns-then-is_unlisted-clause-matched

@@ -6,7 +6,7 @@ use Rattle.resolvo_catalogue_core.proofs.TableSteps.{numbered}
 use Rattle.resolve_order.specs.Order.{wish_entry}
 use Rattle.resolve_order.specs.View.{wish_at, IsAccepted}
 use Rattle.resolve_order.specs.Kept.{answers_in, entries_in}
-use Rattle.resolve_order.proofs.Giving.{answers_more, wish_listed, wish_is_entry}
+use Rattle.resolve_order.proofs.GiveLemmas.{answers_more, wish_listed, wish_is_entry}
 use Rattle.resolve_order.proofs.install_order.Listing.begin.Goals as goal
 
 pub returns-in_ok-give-clause-listing : goal.returns-in_ok-give-clause-listing

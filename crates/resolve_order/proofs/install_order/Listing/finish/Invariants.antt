@@ -1,4 +1,4 @@
-use Rattle.resolvo_text.specs.Matching.{Set}
+use Rattle.resolvo_text.specs.Matches.{Set}
 use Rattle.resolve_order.specs.Kept.{IsListing, IsLeft, Extends, unlisted}
 use Rattle.resolve_order.proofs.install_order.Listing.finish.Given as goal
 

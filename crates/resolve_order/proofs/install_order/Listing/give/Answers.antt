@@ -1,6 +1,6 @@
 use Rattle.resolvo_catalogue_core.specs.Listed.{listed}
 use Rattle.resolve_order.specs.Kept.{entries_in}
-use Rattle.resolve_order.proofs.Giving.{listing_more}
+use Rattle.resolve_order.proofs.GiveLemmas.{listing_more}
 use Rattle.resolve_order.proofs.install_order.Listing.give.Goals as goal
 
 pub returns-clause-listing : goal.returns-clause-listing

@@ -1,5 +1,5 @@
 use Rattle.std.proofs.Common.{refl}
-use Rattle.resolve_order.proofs.Giving.{left_out_more}
+use Rattle.resolve_order.proofs.GiveLemmas.{left_out_more}
 use Rattle.resolve_order.proofs.install_order.Listing.leave_out.Goals as goal
 
 pub returns : goal.returns

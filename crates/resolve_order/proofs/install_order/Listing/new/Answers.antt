@@ -1,4 +1,4 @@
-use Rattle.resolve_order.proofs.Giving.{no_entries}
+use Rattle.resolve_order.proofs.GiveLemmas.{no_entries}
 use Rattle.resolve_order.proofs.install_order.Listing.new.Goals as goal
 
 pub returns-clause-listing : goal.returns-clause-listing

@@ -4,7 +4,7 @@ use Rattle.resolve_order.specs.Order.{line_named}
 use Rattle.resolve_order.specs.View.{reason_of}
 use Rattle.resolve_order.specs.Kept.{IsLook, entries_in, left_of}
 use Rattle.resolve_order.specs.declared.entry.Reason.{Reason}
-use Rattle.resolve_order.proofs.Looking.{IsTaken, spent_left, waiting_left, given_left, given_next, none_left}
+use Rattle.resolve_order.proofs.LookLemmas.{IsTaken, spent_left, waiting_left, given_left, given_next, none_left}
 use Rattle.resolve_order.proofs.install_order.Listing.next.Goals as goal
 
 pub loop-reason-init : goal.loop-reason-init

@@ -1,5 +1,5 @@
 use Rattle.std.proofs.Common.{length}
-use Rattle.resolvo_text.specs.Matching.{Set}
+use Rattle.resolvo_text.specs.Matches.{Set}
 use Rattle.resolve_order.specs.Kept.{IsListing, AreLeft, IsLeft, left_of}
 use Rattle.resolve_order.proofs.install_order.Listing.next.Given as goal
 

@@ -1,8 +1,8 @@
 use Rattle.std.proofs.Common.{subst, sym}
-use Rattle.resolvo_text.specs.Matching.{Set}
+use Rattle.resolvo_text.specs.Matches.{Set}
 use Rattle.resolvo_catalogue_core.specs.Listed.{listed}
 use Rattle.resolve_order.specs.Kept.{Holds, AreOneEach, IsListing, entries_in}
-use Rattle.resolve_order.proofs.Finishing.{turn_taken}
+use Rattle.resolve_order.proofs.FinishLemmas.{turn_taken}
 use Rattle.resolve_order.proofs.install_order.Listing.take_chosen.Goals as goal
 
 pub returns : goal.returns

@@ -1,6 +1,6 @@
 use Rattle.std.proofs.Common.{sym, subst}
 use Rattle.resolve_refusal.specs.Lines.{IsBarringLine}
-use Rattle.resolve_refusal.proofs.Barring.{line_of_it}
+use Rattle.resolve_refusal.proofs.BarLemmas.{line_of_it}
 use Rattle.resolve_refusal.proofs.lines.Texts.barring_line.Goals as goal
 
 pub returns-in_err-line-in-None : goal.returns-in_err-line-in-None

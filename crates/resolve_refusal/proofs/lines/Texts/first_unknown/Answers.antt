@@ -2,7 +2,7 @@ use Rattle.std.proofs.Common.{◌≡◌, Some, false, sym, ◌∙◌}
 use Rattle.resolvo_text.specs.Line.{Line}
 use Rattle.resolvo_catalogue_core.specs.Grammar.{line_at}
 use Rattle.resolve_refusal.specs.Lines.{marks_unknown}
-use Rattle.resolve_refusal.proofs.Finding.{all_more, all_taken}
+use Rattle.resolve_refusal.proofs.FindLemmas.{all_more, all_taken}
 use Rattle.resolve_refusal.proofs.lines.Texts.first_unknown.Goals as goal
 
 pub loop-line-preserved : goal.loop-line-preserved

@@ -1,4 +1,4 @@
-use Rattle.resolve_refusal.proofs.Barring.{no_unknown}
+use Rattle.resolve_refusal.proofs.BarLemmas.{no_unknown}
 use Rattle.resolve_refusal.proofs.lines.Texts.is_unknown.Goals as goal
 
 pub returns-in-None : goal.returns-in-None

@@ -1,4 +1,4 @@
-use Rattle.resolve_refusal.proofs.Finding.{all_up_to, all_these}
+use Rattle.resolve_refusal.proofs.FindLemmas.{all_up_to, all_these}
 use Rattle.resolve_refusal.proofs.lines.Texts.lines_of.Goals as goal
 
 pub returns-in-None : goal.returns-in-None

@@ -1,7 +1,7 @@
 use Rattle.std.proofs.Common.{◌≡◌, ◌<◌, ◌≤◌, subst, Option, ℕ, arith}
 use Rattle.resolvo_text.specs.View.{specs_of}
 use Rattle.resolve_refusal.specs.Lines.{text_of, IsLineOf, IsAt, NeedsIn, IsCaseAt, count_of, number_at}
-use Rattle.resolve_refusal.proofs.Finding.{below_more, need_here, none_at_all}
+use Rattle.resolve_refusal.proofs.FindLemmas.{below_more, need_here, none_at_all}
 use Rattle.resolve_refusal.proofs.lines.Texts.need_line.Goals as goal
 
 pub loop-at-preserved : goal.loop-at-preserved

@@ -1,5 +1,5 @@
 use Rattle.std.proofs.Common.{[], None}
-use Rattle.resolve_refusal.proofs.Finding.{some_as}
+use Rattle.resolve_refusal.proofs.FindLemmas.{some_as}
 use Rattle.resolve_refusal.proofs.lines.Texts.rule.Goals as goal
 
 pub returns-in-None-clause-stated : goal.returns-in-None-clause-stated

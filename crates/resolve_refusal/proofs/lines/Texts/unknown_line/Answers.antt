@@ -1,4 +1,4 @@
-use Rattle.resolve_refusal.proofs.Barring.{unknown_by}
+use Rattle.resolve_refusal.proofs.BarLemmas.{unknown_by}
 use Rattle.resolve_refusal.proofs.lines.Texts.unknown_line.Goals as goal
 
 pub returns : goal.returns

@@ -3,7 +3,7 @@ use Rattle.std.specs.Option.{option_map}
 use Rattle.resolvo_text.specs.Line.{Needs}
 use Rattle.resolvo_catalogue.specs.Known.{alternatives_at}
 use Rattle.resolve_refusal.specs.Lines.{IsLeast, text_of, IsLineOf, SaysAt}
-use Rattle.resolve_refusal.specs.Telling.{version_no}
+use Rattle.resolve_refusal.specs.StepRules.{version_no}
 use Rattle.resolve_refusal.proofs.Cases.{plain_first, plain_none}
 use Rattle.resolve_refusal.proofs.steps.Writing.plain_need.Goals as goal
 

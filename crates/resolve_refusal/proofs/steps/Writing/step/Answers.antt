@@ -3,7 +3,7 @@ use Rattle.resolvo_catalogue.specs.Ids.{NameId, SolvableId}
 use Rattle.resolvo_proof.specs.declared.step.ProofLiteral.{ProofLiteral}
 use Rattle.resolvo_report.specs.Value as told
 use Rattle.resolvo_report.specs.View.{literals_of}
-use Rattle.resolve_refusal.specs.Writing.{number_of}
+use Rattle.resolve_refusal.specs.RefusedReport.{number_of}
 use Rattle.resolve_refusal.specs.Refusal.{AreLiterals, HaveForm}
 use Rattle.resolve_refusal.proofs.steps.Writing.step.Goals as goal
 

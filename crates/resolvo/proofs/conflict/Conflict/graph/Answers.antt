@@ -2,7 +2,7 @@ use Rattle.std.proofs.Common.{subst}
 use Rattle.std.specs.Prelude.{IfOk}
 use Rattle.resolvo_conflict.specs.Offered.{offered_by}
 use Rattle.resolvo_conflict.specs.Truth.{TellsTruth}
-use Rattle.resolvo.proofs.Offering.{kept_true}
+use Rattle.resolvo.proofs.OfferLemmas.{kept_true}
 use Rattle.resolvo.proofs.conflict.Conflict.graph.Goals as goal
 
 pub returns-clause-truth : goal.returns-clause-truth

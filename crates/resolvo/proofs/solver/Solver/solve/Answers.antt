@@ -1,5 +1,5 @@
 use Rattle.std.proofs.Common.{◌≡◌, [], sym, ap, subst, ◌∙◌}
-use Rattle.resolvo_packages.specs.Answering.{packages_by, orders_by}
+use Rattle.resolvo_packages.specs.PackageSource.{packages_by, orders_by}
 use Rattle.std.specs.Option.{option_map}
 use Rattle.resolvo.specs.Conflicts.{left_of}
 use Rattle.resolvo.specs.Solver.{IsAnswer, root_of}

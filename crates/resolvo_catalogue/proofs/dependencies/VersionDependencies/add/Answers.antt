@@ -1,5 +1,5 @@
 use Rattle.resolvo_catalogue.specs.Told.{told_of}
-use Rattle.resolvo_catalogue.proofs.Telling.{tells_stays, tells_need, tells_limit, tells_unknown}
+use Rattle.resolvo_catalogue.proofs.TellLemmas.{tells_stays, tells_need, tells_limit, tells_unknown}
 use Rattle.resolvo_catalogue.proofs.dependencies.VersionDependencies.add.Goals as goal
 
 pub returns-in_ok-push-in-Needs-clause-tells : goal.returns-in_ok-push-in-Needs-clause-tells

@@ -1,6 +1,6 @@
 use Rattle.resolvo_catalogue.specs.Told.{told_of}
-use Rattle.resolvo_catalogue.proofs.Standing.{interns_on}
-use Rattle.resolvo_catalogue.proofs.Telling.{lines_next, lines_step, tells_none}
+use Rattle.resolvo_catalogue.proofs.StandLemmas.{interns_on}
+use Rattle.resolvo_catalogue.proofs.TellLemmas.{lines_next, lines_step, tells_none}
 use Rattle.resolvo_catalogue.proofs.dependencies.VersionDependencies.of_lines.Goals as goal
 use Rattle.resolvo_catalogue.proofs.dependencies.VersionDependencies.of_lines.Goals.{in-Some+in_ok-add, in_default}
 

@@ -1,7 +1,7 @@
 use Rattle.std.proofs.Common.{[]}
 use Rattle.resolvo_catalogue.specs.Told.{told_of}
-use Rattle.resolvo_catalogue.proofs.Standing.{interns_on}
-use Rattle.resolvo_catalogue.proofs.Telling.{text_next, text_step, tells_none}
+use Rattle.resolvo_catalogue.proofs.StandLemmas.{interns_on}
+use Rattle.resolvo_catalogue.proofs.TellLemmas.{text_next, text_step, tells_none}
 use Rattle.resolvo_catalogue.proofs.dependencies.VersionDependencies.of_request.Goals as goal
 use Rattle.resolvo_catalogue.proofs.dependencies.VersionDependencies.of_request.Goals.{in-Some+in_ok-add, in_default}
 

@@ -1,4 +1,4 @@
-use Rattle.resolvo_catalogue.proofs.Standing.{grows_on}
+use Rattle.resolvo_catalogue.proofs.StandLemmas.{grows_on}
 use Rattle.resolvo_catalogue.proofs.Steps.{solvable_grows}
 use Rattle.resolvo_catalogue.proofs.id_table.IdTable.version.Goals as goal
 

@@ -5,7 +5,7 @@ use Rattle.resolvo_text.specs.Reader.{left, unread, TakesLine}
 use Rattle.resolvo_text.proofs.ReadTo.{at_start, one_more, read_fails}
 use Rattle.resolvo_catalogue_core.specs.Grammar.{IsRequestLine}
 use Rattle.resolvo_catalogue_core.specs.Listed.{listed}
-use Rattle.resolvo_catalogue_core.specs.Asks.{asked_lines}
+use Rattle.resolvo_catalogue_core.specs.RequestLines.{asked_lines}
 use Rattle.resolvo_catalogue_core.proofs.AskSteps.{no_lines, lines_push}
 use Rattle.resolvo_catalogue_core.proofs.request.Request.read.Goals as goal
 

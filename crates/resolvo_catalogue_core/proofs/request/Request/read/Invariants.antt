@@ -3,7 +3,7 @@ use Rattle.resolvo_text.specs.Reader.{left}
 use Rattle.resolvo_text.proofs.ReadTo.{ReadTo}
 use Rattle.resolvo_catalogue_core.specs.Grammar.{IsRequestLine, AreRequestLines}
 use Rattle.resolvo_catalogue_core.specs.Listed.{listed}
-use Rattle.resolvo_catalogue_core.specs.Asks.{AreAsks, asked_lines}
+use Rattle.resolvo_catalogue_core.specs.RequestLines.{AreAsks, asked_lines}
 use Rattle.resolvo_catalogue_core.proofs.request.Request.read.Given as goal
 
 abbrev pub invariant-loop-reader : goal.invariant-loop-reader

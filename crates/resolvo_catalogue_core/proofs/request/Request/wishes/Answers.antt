@@ -1,7 +1,7 @@
 use Rattle.std.proofs.Common.{ℕ, List, map, sym, ap, subst}
 use Rattle.resolvo_text.specs.Line.{Line}
 use Rattle.resolvo_catalogue_core.specs.Questions.{LineKind, AreAll, LineIs, IsWish}
-use Rattle.resolvo_catalogue_core.specs.Asks.{asked_lines}
+use Rattle.resolvo_catalogue_core.specs.RequestLines.{asked_lines}
 use Rattle.resolvo_catalogue_core.proofs.request.Request.wishes.Goals as goal
 
 pub returns-clause-lines : goal.returns-clause-lines

@@ -3,7 +3,7 @@ use Rattle.resolvo_text.specs.Line.{Line}
 use Rattle.resolvo_text.specs.View.{view}
 use Rattle.resolvo_text.proofs.TextLaws.{one_line}
 use Rattle.resolvo_catalogue_core.specs.Grammar.{MayFollowInRequest}
-use Rattle.resolvo_catalogue_core.specs.Asks.{asked_lines}
+use Rattle.resolvo_catalogue_core.specs.RequestLines.{asked_lines}
 use Rattle.resolvo_catalogue_core.proofs.request_lines.RequestLines.read_line.Goals as goal
 
 pub returns-clause-fault : goal.returns-clause-fault

@@ -2,7 +2,7 @@ use Rattle.std.proofs.Common.{◌≡◌, Some, None, sym, ◌∙◌, ap}
 use Rattle.std.specs.Prelude.{slice_get}
 use Rattle.resolvo_catalogue_core.specs.Listed.{pair_version, pair_versions}
 use Rattle.resolvo_catalogue_core.specs.Table.{lines_in, versions_in}
-use Rattle.resolvo_catalogue_core.proofs.Barring.{barred_version, barred_none}
+use Rattle.resolvo_catalogue_core.proofs.BarLemmas.{barred_version, barred_none}
 use Rattle.resolvo_catalogue_core.proofs.table.Table.barred.Goals as goal
 
 pub returns-in-Some : goal.returns-in-Some

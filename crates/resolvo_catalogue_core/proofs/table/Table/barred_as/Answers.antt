@@ -1,7 +1,7 @@
 use Rattle.std.proofs.Common.{ℕ, Option, sym, subst}
 use Rattle.resolvo_catalogue_core.specs.Questions.{IsOnly, Excludes, SaysOf}
 use Rattle.resolvo_catalogue_core.specs.Table.{lines_in, versions_in}
-use Rattle.resolvo_catalogue_core.proofs.Barring.{barred_by_lock, barred_by_exclusion}
+use Rattle.resolvo_catalogue_core.proofs.BarLemmas.{barred_by_lock, barred_by_exclusion}
 use Rattle.resolvo_catalogue_core.proofs.table.Table.barred_as.Goals as goal
 
 pub returns-in-Some : goal.returns-in-Some

@@ -2,7 +2,7 @@ use Rattle.std.proofs.Common.{◌∙◌, sym}
 use Rattle.resolvo_text.specs.View.{version_of}
 use Rattle.std.specs.String.{string_bytes}
 use Rattle.resolvo_catalogue_core.proofs.TableSteps.{exclude}
-use Rattle.resolvo_catalogue_core.proofs.Placing.{exclude_placed, excluded_twice}
+use Rattle.resolvo_catalogue_core.proofs.PlaceLemmas.{exclude_placed, excluded_twice}
 use Rattle.resolvo_catalogue_core.proofs.table.Table.exclude.Goals as goal
 
 pub returns-then-is_excluded-clause-fault : goal.returns-then-is_excluded-clause-fault

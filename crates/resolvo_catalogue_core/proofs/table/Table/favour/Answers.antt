@@ -3,7 +3,7 @@ use Rattle.std.proofs.lemmas.Map.Text.{hash_map_updates_text}
 use Rattle.std.specs.String.{string_bytes}
 use Rattle.resolvo_text.specs.View.{version_of}
 use Rattle.resolvo_catalogue_core.proofs.TableSteps.{favour}
-use Rattle.resolvo_catalogue_core.proofs.Placing.{favour_placed, favoured_twice}
+use Rattle.resolvo_catalogue_core.proofs.PlaceLemmas.{favour_placed, favoured_twice}
 use Rattle.resolvo_catalogue_core.proofs.table.Table.favour.Goals as goal
 
 pub returns-then-is_favoured-clause-fault : goal.returns-then-is_favoured-clause-fault

@@ -4,7 +4,7 @@ use Rattle.resolvo_text.specs.View.{version_of}
 use Rattle.resolvo_catalogue_core.specs.Table.{versions_in}
 use Rattle.resolvo_catalogue_core.specs.Listed.{pair_version}
 use Rattle.resolvo_catalogue_core.proofs.TableSteps.{list, empty_more, was_there, was_new}
-use Rattle.resolvo_catalogue_core.proofs.Placing.{versions_few, listed_by_number, unlisted_by_number}
+use Rattle.resolvo_catalogue_core.proofs.PlaceLemmas.{versions_few, listed_by_number, unlisted_by_number}
 use Rattle.resolvo_catalogue_core.proofs.table.Table.list.Goals as goal
 
 pub returns-then-not-branch-clause-fault : goal.returns-then-not-branch-clause-fault

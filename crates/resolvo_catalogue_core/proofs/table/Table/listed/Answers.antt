@@ -1,5 +1,5 @@
 use Rattle.resolvo_text.specs.View.{version_of}
-use Rattle.resolvo_catalogue_core.proofs.Placing.{found_at, not_found}
+use Rattle.resolvo_catalogue_core.proofs.PlaceLemmas.{found_at, not_found}
 use Rattle.resolvo_catalogue_core.proofs.table.Table.listed.Goals as goal
 
 pub returns-in-Some-clause-found : goal.returns-in-Some-clause-found

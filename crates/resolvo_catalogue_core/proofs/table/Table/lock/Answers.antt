@@ -3,7 +3,7 @@ use Rattle.std.proofs.lemmas.Map.Text.{hash_map_updates_text}
 use Rattle.std.specs.String.{string_bytes}
 use Rattle.resolvo_text.specs.View.{version_of}
 use Rattle.resolvo_catalogue_core.proofs.TableSteps.{lock}
-use Rattle.resolvo_catalogue_core.proofs.Placing.{lock_placed, locked_twice}
+use Rattle.resolvo_catalogue_core.proofs.PlaceLemmas.{lock_placed, locked_twice}
 use Rattle.resolvo_catalogue_core.proofs.table.Table.lock.Goals as goal
 
 pub returns-then-is_locked-clause-fault : goal.returns-then-is_locked-clause-fault

@@ -1,7 +1,7 @@
 use Rattle.std.proofs.Common.{◌∙◌, sym}
 use Rattle.std.specs.String.{string_bytes}
 use Rattle.resolvo_catalogue_core.proofs.TableSteps.{mark_unknown}
-use Rattle.resolvo_catalogue_core.proofs.Placing.{unknown_placed, unknown_twice}
+use Rattle.resolvo_catalogue_core.proofs.PlaceLemmas.{unknown_placed, unknown_twice}
 use Rattle.resolvo_catalogue_core.proofs.table.Table.mark_unknown.Goals as goal
 
 pub returns-then-is_unknown-clause-fault : goal.returns-then-is_unknown-clause-fault

@@ -1,5 +1,5 @@
 use Rattle.std.proofs.Common.{arith}
-use Rattle.resolvo_catalogue_core.proofs.Placing.{owner_there, owner_none, versions_few}
+use Rattle.resolvo_catalogue_core.proofs.PlaceLemmas.{owner_there, owner_none, versions_few}
 use Rattle.resolvo_catalogue_core.proofs.table.Table.owner.Goals as goal
 
 pub returns-then-count-eq0-clause-absent : goal.returns-then-count-eq0-clause-absent

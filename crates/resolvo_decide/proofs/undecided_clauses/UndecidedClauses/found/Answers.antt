@@ -2,7 +2,7 @@ use Rattle.std.proofs.Common.{sym, ◌∙◌, ap}
 use Rattle.std.specs.List.{list_any}
 use Rattle.resolvo_store_core.specs.Signed.{value_under, is_true}
 use Rattle.resolvo_store_core.specs.Values.{value_at}
-use Rattle.resolvo_decide.proofs.Fitting.{so_met}
+use Rattle.resolvo_decide.proofs.FitLemmas.{so_met}
 use Rattle.resolvo_decide.proofs.undecided_clauses.UndecidedClauses.found.Goals as goal
 
 pub returns-in-Some : goal.returns-in-Some

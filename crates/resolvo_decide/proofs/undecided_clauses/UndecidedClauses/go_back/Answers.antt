@@ -1,5 +1,5 @@
 use Rattle.std.proofs.Common.{refl}
-use Rattle.resolvo_decide.proofs.Fitting.{fits_back}
+use Rattle.resolvo_decide.proofs.FitLemmas.{fits_back}
 use Rattle.resolvo_decide.proofs.undecided_clauses.UndecidedClauses.go_back.Goals as goal
 
 pub returns-then-common-len-clause-fits : goal.returns-then-common-len-clause-fits

@@ -1,5 +1,5 @@
 use Rattle.std.proofs.Common.{◌-◌, ◌≤◌, ap, arith, length, length-append, take, drop}
-use Rattle.resolvo_decide.proofs.Fitting.{keeps_then, seen_more, seen_all}
+use Rattle.resolvo_decide.proofs.FitLemmas.{keeps_then, seen_more, seen_all}
 use Rattle.resolvo_decide.proofs.undecided_clauses.UndecidedClauses.go_on.Goals as goal
 
 pub loop-entry-preserved : goal.loop-entry-preserved

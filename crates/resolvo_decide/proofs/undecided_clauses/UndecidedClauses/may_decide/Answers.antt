@@ -4,7 +4,7 @@ use Rattle.resolvo_store_core.specs.Values.{value_at}
 use Rattle.resolvo_decide.specs.declared.clause_states.ClauseState.{ClauseState}
 use Rattle.resolvo_decide.specs.declared.undecided_clauses.UndecidedClauses.{UndecidedClauses}
 use Rattle.resolvo_decide.specs.Needs.{literals_in}
-use Rattle.resolvo_decide.proofs.Fitting.{read_nothing, read_fits}
+use Rattle.resolvo_decide.proofs.FitLemmas.{read_nothing, read_fits}
 use Rattle.resolvo_decide.proofs.undecided_clauses.UndecidedClauses.may_decide.Goals as goal
 
 pub returns-clause-nothing : goal.returns-clause-nothing

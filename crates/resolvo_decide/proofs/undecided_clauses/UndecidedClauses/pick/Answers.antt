@@ -3,7 +3,7 @@ use Rattle.resolvo_store_core.specs.Pick.{pick_after}
 use Rattle.resolvo_store_core.specs.Trail.{value_in}
 use Rattle.resolvo_store_core.specs.Values.{value_at}
 use Rattle.resolvo_decide.specs.Needs.{literals_in}
-use Rattle.resolvo_decide.proofs.Fitting.{fits_same, pick_taken, pick_passed, pick_shut}
+use Rattle.resolvo_decide.proofs.FitLemmas.{fits_same, pick_taken, pick_passed, pick_shut}
 use Rattle.resolvo_decide.proofs.undecided_clauses.UndecidedClauses.pick.Goals.{then-may_decide, else-may_decide}
 use Rattle.resolvo_decide.proofs.undecided_clauses.UndecidedClauses.pick.Goals as goal
 

@@ -1,7 +1,7 @@
 use Rattle.std.proofs.Common.{inl, refl, ◌∙◌, ap}
 use Rattle.std.proofs.lemmas.Bool.{both_ways}
 use Rattle.resolvo_decide.specs.declared.undecided_clauses.UndecidedClauses.{UndecidedClauses}
-use Rattle.resolvo_decide.proofs.Fitting.{fits_on}
+use Rattle.resolvo_decide.proofs.FitLemmas.{fits_on}
 use Rattle.resolvo_decide.proofs.undecided_clauses.UndecidedClauses.see.Goals as goal
 
 pub returns-then-entry-clause-fits : goal.returns-then-entry-clause-fits

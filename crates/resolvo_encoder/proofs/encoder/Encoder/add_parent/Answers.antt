@@ -1,7 +1,7 @@
 use Rattle.std.proofs.Common.{refl, sym, ap}
 use Rattle.std.proofs.lemmas.Bool.{false≢true}
 use Rattle.resolvo_pool_core.specs.declared.solver_id.SolvableIdOrRoot.TheVariants as Place
-use Rattle.resolvo_encoder.proofs.Building.{built_parents}
+use Rattle.resolvo_encoder.proofs.BuildLemmas.{built_parents}
 use Rattle.resolvo_encoder.proofs.Parents.{parent_keeps}
 use Rattle.resolvo_encoder.proofs.encoder.Encoder.add_parent.Goals as goal
 

@@ -1,6 +1,6 @@
 use Rattle.std.proofs.Common.{sym, ◌∙◌}
 use Rattle.resolvo_soundness.specs.Encoding.{IsExact}
-use Rattle.resolvo_encoder.proofs.Firing.{not_contained}
+use Rattle.resolvo_encoder.proofs.FireLemmas.{not_contained}
 use Rattle.resolvo_encoder.proofs.Helps.{admits_other}
 use Rattle.resolvo_encoder.proofs.encoder.Encoder.admit_one.Goals as goal
 

@@ -1,5 +1,5 @@
 use Rattle.std.proofs.Common.{Some}
-use Rattle.resolvo_encoder.proofs.Staying.{goes_then}
+use Rattle.resolvo_encoder.proofs.StayLemmas.{goes_then}
 use Rattle.resolvo_encoder.proofs.Bases.{turn_has, turn_then}
 use Rattle.resolvo_encoder.proofs.encoder.Encoder.assume_soft.Goals as goal
 

@@ -1,7 +1,7 @@
 use Rattle.std.proofs.Common.{refl}
 use Rattle.resolvo_soundness.specs.Encoding.{IsExact}
 use Rattle.resolvo_encoder.specs.Encoded.{rules_of}
-use Rattle.resolvo_encoder.proofs.Telling.{bars_are_rules, bars_stated, package_noted}
+use Rattle.resolvo_encoder.proofs.TellLemmas.{bars_are_rules, bars_stated, package_noted}
 use Rattle.resolvo_encoder.proofs.encoder.Encoder.bar.Goals as goal
 
 pub returns-clause-encoded : goal.returns-clause-encoded

@@ -2,8 +2,8 @@ use Rattle.std.proofs.Common.{◌≡◌, ◌+◌, ◌∷◌, ◌++◌, [], ◌�
 use Rattle.std.proofs.lemmas.List.{take_more, take_all}
 use Rattle.resolvo_soundness.specs.Encoding.{IsExact, Rule}
 use Rattle.resolvo_packages.specs.declared.package_source.Barred.{Barred}
-use Rattle.resolvo_encoder.specs.Telling.{Tells, bar_of, bar_rules}
-use Rattle.resolvo_encoder.proofs.Telling.{tells_none, tells_more}
+use Rattle.resolvo_encoder.specs.ClauseRules.{Tells, bar_of, bar_rules}
+use Rattle.resolvo_encoder.proofs.TellLemmas.{tells_none, tells_more}
 use Rattle.resolvo_encoder.proofs.encoder.Encoder.bar_each.Goals as goal
 
 pub loop-one-init : goal.loop-one-init

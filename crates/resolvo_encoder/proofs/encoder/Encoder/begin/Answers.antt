@@ -1,6 +1,6 @@
 use Rattle.resolvo_soundness.specs.Encoding.{IsExact}
-use Rattle.resolvo_encoder.proofs.Needing.{begun_encodes}
-use Rattle.resolvo_encoder.proofs.Building.{built_begun}
+use Rattle.resolvo_encoder.proofs.NeedLemmas.{begun_encodes}
+use Rattle.resolvo_encoder.proofs.BuildLemmas.{built_begun}
 use Rattle.resolvo_encoder.proofs.encoder.Encoder.begin.Goals as goal
 
 pub returns-clause-encoding : goal.returns-clause-encoding

@@ -1,13 +1,13 @@
 use Rattle.std.proofs.Common.{[], ◌∷◌, ◌<◌, ◌∙◌, sym, subst, ap, refl, inr}
 use Rattle.resolvo_store_core.specs.Lists.{named_by}
-use Rattle.resolvo_sat.specs.Advancing.{weight_left}
+use Rattle.resolvo_sat.specs.PropagateAndLearn.{weight_left}
 use Rattle.resolvo_soundness.specs.Encoding.{IsExact}
 use Rattle.resolvo_encoder.specs.Base.{KeepsFirst}
-use Rattle.resolvo_encoder.specs.Going.{AreQuiet}
+use Rattle.resolvo_encoder.specs.Progress.{AreQuiet}
 use Rattle.resolvo_encoder.specs.declared.encoder.Encoder.{Encoder}
-use Rattle.resolvo_encoder.proofs.Deciding.{choice_taken, none_picked}
-use Rattle.resolvo_encoder.proofs.Building.{built_choice, built_rest}
-use Rattle.resolvo_encoder.proofs.Staying.{digits_kept, choice_goes, choice_keeps, choice_gains, goes_then, noted_goes, noted_keeps}
+use Rattle.resolvo_encoder.proofs.DecideLemmas.{choice_taken, none_picked}
+use Rattle.resolvo_encoder.proofs.BuildLemmas.{built_choice, built_rest}
+use Rattle.resolvo_encoder.proofs.StayLemmas.{digits_kept, choice_goes, choice_keeps, choice_gains, goes_then, noted_goes, noted_keeps}
 use Rattle.resolvo_encoder.proofs.Bases.{choice_first, first_same, first_then}
 use Rattle.resolvo_encoder.proofs.encoder.Encoder.choose_next.Goals as goal
 

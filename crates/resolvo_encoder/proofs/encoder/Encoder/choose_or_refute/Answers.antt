@@ -2,8 +2,8 @@ use Rattle.std.proofs.Common.{[], ◌∷◌, refl}
 use Rattle.resolvo_soundness.specs.Encoding.{IsExact}
 use Rattle.resolvo_state.specs.declared.atom.ProofAtom.TheVariants.{Solvable}
 use Rattle.resolvo_state.proofs.Growth.{stands_in_range}
-use Rattle.resolvo_encoder.proofs.Building.{built_rest}
-use Rattle.resolvo_encoder.proofs.Staying.{digits_kept, choice_goes, choice_keeps, goes_none}
+use Rattle.resolvo_encoder.proofs.BuildLemmas.{built_rest}
+use Rattle.resolvo_encoder.proofs.StayLemmas.{digits_kept, choice_goes, choice_keeps, goes_none}
 use Rattle.resolvo_encoder.proofs.WishLemmas.{open_wish, wish_chosen}
 use Rattle.resolvo_encoder.proofs.Bases.{open_unchosen, turn_chosen}
 use Rattle.resolvo_encoder.proofs.encoder.Encoder.choose_or_refute.Goals as goal

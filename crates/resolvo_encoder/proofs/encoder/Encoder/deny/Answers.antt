@@ -2,8 +2,8 @@ use Rattle.std.proofs.Common.{[], ◌∷◌, subst}
 use Rattle.resolvo_store_core.specs.Signed.{Signed}
 use Rattle.resolvo_store_core.specs.Clauses.{no}
 use Rattle.resolvo_soundness.specs.Encoding.{IsExact, Rule}
-use Rattle.resolvo_encoder.specs.Telling.{StatesPair}
-use Rattle.resolvo_encoder.proofs.Telling.{tells_then, bar_tells}
+use Rattle.resolvo_encoder.specs.ClauseRules.{StatesPair}
+use Rattle.resolvo_encoder.proofs.TellLemmas.{tells_then, bar_tells}
 use Rattle.resolvo_encoder.proofs.encoder.Encoder.deny.Goals as goal
 
 pub returns : goal.returns

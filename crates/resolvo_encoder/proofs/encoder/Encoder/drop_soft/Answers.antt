@@ -1,6 +1,6 @@
 use Rattle.std.proofs.Common.{arith}
 use Rattle.resolvo_soundness.specs.Encoding.{IsExact}
-use Rattle.resolvo_encoder.proofs.Noting.{wish_taken}
+use Rattle.resolvo_encoder.proofs.NoteLemmas.{wish_taken}
 use Rattle.resolvo_encoder.proofs.encoder.Encoder.drop_soft.Goals as goal
 
 pub returns : goal.returns

@@ -1,5 +1,5 @@
 use Rattle.resolvo_encoder.proofs.Parents.{next_keeps}
-use Rattle.resolvo_encoder.proofs.Building.{built_next}
+use Rattle.resolvo_encoder.proofs.BuildLemmas.{built_next}
 use Rattle.resolvo_encoder.proofs.encoder.Encoder.end_parent.Goals as goal
 
 pub returns-then-self-len-clause-encoding : goal.returns-then-self-len-clause-encoding

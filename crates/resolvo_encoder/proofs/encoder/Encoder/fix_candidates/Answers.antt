@@ -1,5 +1,5 @@
 use Rattle.std.proofs.Common.{refl, sym, inr}
-use Rattle.resolvo_encoder.proofs.Requiring.{where_none}
+use Rattle.resolvo_encoder.proofs.RequireLemmas.{where_none}
 use Rattle.resolvo_encoder.proofs.encoder.Encoder.fix_candidates.Goals as goal
 
 pub returns : goal.returns

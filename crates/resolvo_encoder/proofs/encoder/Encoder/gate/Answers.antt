@@ -7,9 +7,9 @@ use Rattle.resolvo_state.specs.declared.clause_kind.Stated.TheVariants as Says
 use Rattle.resolvo_encoder.specs.declared.encoder.Encoder.{Encoder}
 use Rattle.resolvo_encoder.specs.Steps.{SameButCoding}
 use Rattle.resolvo_state.proofs.Growth.{stands_grow, stands_in_range}
-use Rattle.resolvo_encoder.proofs.Requiring.{guard_grows}
-use Rattle.resolvo_encoder.proofs.Needing.{need_keeps, shared_ready, gives_keeps, gate_noted}
-use Rattle.resolvo_encoder.proofs.Building.{built_gives, built_states, built_gate, built_in_range, none_in_range}
+use Rattle.resolvo_encoder.proofs.RequireLemmas.{guard_grows}
+use Rattle.resolvo_encoder.proofs.NeedLemmas.{need_keeps, shared_ready, gives_keeps, gate_noted}
+use Rattle.resolvo_encoder.proofs.BuildLemmas.{built_gives, built_states, built_gate, built_in_range, none_in_range}
 use Rattle.resolvo_encoder.proofs.encoder.Encoder.gate.Goals as goal
 
 pub state_need-requires-clause-in_range : goal.state_need-requires-clause-in_range

@@ -1,5 +1,5 @@
 use Rattle.resolvo_soundness.specs.Encoding.{IsExact}
-use Rattle.resolvo_encoder.proofs.Telling.{gives_tells}
+use Rattle.resolvo_encoder.proofs.TellLemmas.{gives_tells}
 use Rattle.resolvo_encoder.proofs.encoder.Encoder.give.Goals as goal
 
 pub returns-clause-told : goal.returns-clause-told

@@ -6,8 +6,8 @@ use Rattle.resolvo_soundness.proofs.Lists.{contains_none}
 use Rattle.resolvo_state.proofs.Positions.{get_contains}
 use Rattle.resolvo_store_core.specs.Deferred.{candidates_of}
 use Rattle.resolvo_store_core.specs.declared.conditions.DeferredConjunct.{DeferredConjunct}
-use Rattle.resolvo_encoder.specs.Casing.{IsOneChosen}
-use Rattle.resolvo_encoder.proofs.Firing.{none_more}
+use Rattle.resolvo_encoder.specs.Conditions.{IsOneChosen}
+use Rattle.resolvo_encoder.proofs.FireLemmas.{none_more}
 use Rattle.resolvo_encoder.proofs.encoder.Encoder.has_each.Goals as goal
 
 pub loop-conjunct-init : goal.loop-conjunct-init

@@ -2,8 +2,8 @@ use Rattle.std.proofs.Common.{◌≡◌, ◌+◌, ◌∷◌, ◌++◌, [], ◌�
 use Rattle.std.specs.Prelude.{Contains}
 use Rattle.std.proofs.lemmas.List.{take_more, take_all}
 use Rattle.resolvo_soundness.proofs.Lists.{contains_none}
-use Rattle.resolvo_encoder.specs.Casing.{IsTrueNow}
-use Rattle.resolvo_encoder.proofs.Firing.{none_more}
+use Rattle.resolvo_encoder.specs.Conditions.{IsTrueNow}
+use Rattle.resolvo_encoder.proofs.FireLemmas.{none_more}
 use Rattle.resolvo_encoder.proofs.encoder.Encoder.has_one.Goals as goal
 
 pub loop-candidate-init : goal.loop-candidate-init

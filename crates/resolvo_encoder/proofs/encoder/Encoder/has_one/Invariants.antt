@@ -1,6 +1,6 @@
 use Rattle.std.proofs.Common.{take}
 use Rattle.std.specs.Prelude.{Contains}
-use Rattle.resolvo_encoder.specs.Casing.{IsTrueNow}
+use Rattle.resolvo_encoder.specs.Conditions.{IsTrueNow}
 use Rattle.resolvo_encoder.proofs.encoder.Encoder.has_one.Given as goal
 
 -- none of those so far is chosen

@@ -1,7 +1,7 @@
 use Rattle.std.proofs.Common.{refl}
 use Rattle.resolvo_soundness.specs.Encoding.{IsExact}
-use Rattle.resolvo_encoder.proofs.Building.{built_rest, trail_on}
-use Rattle.resolvo_encoder.proofs.Staying.{digits_kept, bar_goes, bar_keeps}
+use Rattle.resolvo_encoder.proofs.BuildLemmas.{built_rest, trail_on}
+use Rattle.resolvo_encoder.proofs.StayLemmas.{digits_kept, bar_goes, bar_keeps}
 use Rattle.resolvo_encoder.proofs.Bases.{same_turns}
 use Rattle.resolvo_encoder.proofs.encoder.Encoder.learn_refusal.Goals as goal
 

@@ -3,7 +3,7 @@ use Rattle.resolvo_pool_core.specs.declared.id.VersionSetId.{VersionSetId}
 use Rattle.resolvo_soundness.specs.Encoding.{IsExact, Rule}
 use Rattle.resolvo_encoder.specs.Encoded.{rules_of}
 use Rattle.resolvo_encoder.proofs.Parents.{any_stands}
-use Rattle.resolvo_encoder.proofs.Telling.{outs_are_rules, outside_stated, set_noted}
+use Rattle.resolvo_encoder.proofs.TellLemmas.{outs_are_rules, outside_stated, set_noted}
 use Rattle.resolvo_encoder.proofs.encoder.Encoder.leave_out.Goals as goal
 
 pub returns-then-contains-clause-encoded : goal.returns-then-contains-clause-encoded

@@ -3,8 +3,8 @@ use Rattle.resolvo_soundness.specs.Encoding.{IsExact, Rule, IsRule}
 use Rattle.resolvo_soundness.proofs.Lists.{contains_one, contains_only}
 use Rattle.resolvo_state.proofs.Growth.{rules_grow}
 use Rattle.resolvo_encoder.specs.Encoded.{rules_of}
-use Rattle.resolvo_encoder.proofs.Requiring.{extends_then}
-use Rattle.resolvo_encoder.proofs.Telling.{limits_are_rules, outside_stated}
+use Rattle.resolvo_encoder.proofs.RequireLemmas.{extends_then}
+use Rattle.resolvo_encoder.proofs.TellLemmas.{limits_are_rules, outside_stated}
 use Rattle.resolvo_encoder.proofs.encoder.Encoder.limit.Goals as goal
 
 pub returns-then-outside-lt-GATED-clause-encoded : goal.returns-then-outside-lt-GATED-clause-encoded

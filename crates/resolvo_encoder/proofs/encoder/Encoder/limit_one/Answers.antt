@@ -3,8 +3,8 @@ use Rattle.resolvo_store_core.specs.Signed.{Signed}
 use Rattle.resolvo_store_core.specs.Clauses.{no}
 use Rattle.resolvo_state.specs.declared.clause_kind.Stated.TheVariants as Says
 use Rattle.resolvo_soundness.specs.Encoding.{IsExact, Rule}
-use Rattle.resolvo_encoder.specs.Telling.{StatesPair}
-use Rattle.resolvo_encoder.proofs.Telling.{parent_variable_grows, tells_then, limit_tells}
+use Rattle.resolvo_encoder.specs.ClauseRules.{StatesPair}
+use Rattle.resolvo_encoder.proofs.TellLemmas.{parent_variable_grows, tells_then, limit_tells}
 use Rattle.resolvo_encoder.proofs.encoder.Encoder.limit_one.Goals as goal
 
 pub returns : goal.returns

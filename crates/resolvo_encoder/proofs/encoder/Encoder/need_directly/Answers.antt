@@ -1,6 +1,6 @@
 use Rattle.std.proofs.Common.{None}
 use Rattle.resolvo_sat.specs.State.{count_of}
-use Rattle.resolvo_encoder.proofs.Building.{built_in_range, none_in_range}
+use Rattle.resolvo_encoder.proofs.BuildLemmas.{built_in_range, none_in_range}
 use Rattle.resolvo_encoder.proofs.encoder.Encoder.need_directly.Goals as goal
 
 pub state_need-requires-clause-in_range : goal.state_need-requires-clause-in_range

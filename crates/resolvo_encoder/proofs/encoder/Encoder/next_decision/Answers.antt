@@ -2,8 +2,8 @@ use Rattle.std.proofs.Common.{refl, sym}
 use Rattle.resolvo_state.proofs.Positions.{front_equal}
 use Rattle.resolvo_store_core.specs.Values.{value_at}
 use Rattle.resolvo_sat.specs.State.{count_of, clauses_of}
-use Rattle.resolvo_encoder.proofs.Building.{built_needs}
-use Rattle.resolvo_encoder.proofs.Deciding.{trail_values}
+use Rattle.resolvo_encoder.proofs.BuildLemmas.{built_needs}
+use Rattle.resolvo_encoder.proofs.DecideLemmas.{trail_values}
 use Rattle.resolvo_encoder.proofs.encoder.Encoder.next_decision.Goals as goal
 
 pub returns : goal.returns

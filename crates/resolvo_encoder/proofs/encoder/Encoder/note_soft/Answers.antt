@@ -1,7 +1,7 @@
 use Rattle.std.proofs.Common.{ap, is_ok}
 use Rattle.std.proofs.ResultArms.{chosen}
 use Rattle.resolvo_soundness.specs.Encoding.{IsExact}
-use Rattle.resolvo_encoder.proofs.Noting.{wish_notes}
+use Rattle.resolvo_encoder.proofs.NoteLemmas.{wish_notes}
 use Rattle.resolvo_encoder.proofs.encoder.Encoder.note_soft.Goals as goal
 
 pub returns : goal.returns

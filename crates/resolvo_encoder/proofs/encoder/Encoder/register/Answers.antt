@@ -1,5 +1,5 @@
 use Rattle.resolvo_soundness.specs.Encoding.{IsExact}
-use Rattle.resolvo_encoder.proofs.Enrolling.{enrols}
+use Rattle.resolvo_encoder.proofs.EnrollLemmas.{enrols}
 use Rattle.resolvo_encoder.proofs.encoder.Encoder.register.Goals as goal
 
 pub register_all-requires : goal.register_all-requires

@@ -1,5 +1,5 @@
 use Rattle.resolvo_soundness.specs.Encoding.{IsExact}
-use Rattle.resolvo_encoder.proofs.Noting.{wish_registers}
+use Rattle.resolvo_encoder.proofs.NoteLemmas.{wish_registers}
 use Rattle.resolvo_encoder.proofs.encoder.Encoder.register_soft.Goals as goal
 
 pub register-requires : goal.register-requires

@@ -5,12 +5,12 @@ use Rattle.resolvo_state.specs.declared.clause_kind.Stated.TheVariants as Says
 use Rattle.resolvo_encoder.specs.Encoded.{rules_of}
 use Rattle.resolvo_store_core.specs.Clauses.{root as root_variable}
 use Rattle.resolvo_store_core.specs.declared.lists.FixedLists.{FixedLists}
-use Rattle.resolvo_soundness.specs.Ending.{IsNeedEncoded}
+use Rattle.resolvo_soundness.specs.SearchEnd.{IsNeedEncoded}
 use Rattle.resolvo_encoder.specs.Steps.{Needs}
-use Rattle.resolvo_encoder.proofs.Enrolling.{fixes_keep, fixes_add, fixes_extend, built_fixes}
-use Rattle.resolvo_encoder.proofs.Requiring.{extends_then, guard_grows}
-use Rattle.resolvo_encoder.proofs.Needing.{needed_keeps, need_extends}
-use Rattle.resolvo_encoder.proofs.Building.{built_states}
+use Rattle.resolvo_encoder.proofs.EnrollLemmas.{fixes_keep, fixes_add, fixes_extend, built_fixes}
+use Rattle.resolvo_encoder.proofs.RequireLemmas.{extends_then, guard_grows}
+use Rattle.resolvo_encoder.proofs.NeedLemmas.{needed_keeps, need_extends}
+use Rattle.resolvo_encoder.proofs.BuildLemmas.{built_states}
 use Rattle.resolvo_encoder.proofs.encoder.Encoder.require.Goals as goal
 
 pub need_directly-requires-clause-built : goal.need_directly-requires-clause-built

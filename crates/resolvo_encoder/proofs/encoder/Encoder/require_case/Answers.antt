@@ -2,9 +2,9 @@ use Rattle.std.proofs.Common.{inl}
 use Rattle.resolvo_soundness.specs.Encoding.{IsExact}
 use Rattle.resolvo_store_core.specs.declared.lists.Disjunction.{Disjunction}
 use Rattle.resolvo_encoder.specs.Encoded.{rules_of}
-use Rattle.resolvo_encoder.proofs.Enrolling.{built_fixes}
-use Rattle.resolvo_encoder.proofs.Firing.{StatesCase, case_in_range, case_extends, case_adds, case_built, case_encoded, case_left_out}
-use Rattle.resolvo_encoder.proofs.Telling.{parent_variable_grows}
+use Rattle.resolvo_encoder.proofs.EnrollLemmas.{built_fixes}
+use Rattle.resolvo_encoder.proofs.FireLemmas.{StatesCase, case_in_range, case_extends, case_adds, case_built, case_encoded, case_left_out}
+use Rattle.resolvo_encoder.proofs.TellLemmas.{parent_variable_grows}
 use Rattle.resolvo_encoder.proofs.encoder.Encoder.require_case.Goals as goal
 
 pub returns-then-keeps_out-clause-encoded : goal.returns-then-keeps_out-clause-encoded

@@ -6,10 +6,10 @@ use Rattle.resolvo_state.specs.declared.clause_kind.Stated.TheVariants as Says
 use Rattle.resolvo_encoder.specs.declared.encoder.Encoder.{Encoder}
 use Rattle.resolvo_encoder.specs.Steps.{SameButCoding, Extends}
 use Rattle.resolvo_state.proofs.Growth.{stands_grow, rules_grow, stands_in_range}
-use Rattle.resolvo_state.proofs.Registering.{digits_more}
-use Rattle.resolvo_encoder.proofs.Requiring.{extends_then, guard_grows}
-use Rattle.resolvo_encoder.proofs.Needing.{needed_keeps, need_extends, gated_keeps, gives_keeps, needed_asks}
-use Rattle.resolvo_encoder.proofs.Building.{built_gives, built_rest, built_states, trail_on}
+use Rattle.resolvo_state.proofs.RegisterLemmas.{digits_more}
+use Rattle.resolvo_encoder.proofs.RequireLemmas.{extends_then, guard_grows}
+use Rattle.resolvo_encoder.proofs.NeedLemmas.{needed_keeps, need_extends, gated_keeps, gives_keeps, needed_asks}
+use Rattle.resolvo_encoder.proofs.BuildLemmas.{built_gives, built_rest, built_states, trail_on}
 use Rattle.resolvo_encoder.proofs.encoder.Encoder.require_of.Goals as goal
 
 pub need_directly-requires-clause-built : goal.need_directly-requires-clause-built

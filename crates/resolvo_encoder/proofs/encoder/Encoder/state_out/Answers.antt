@@ -5,8 +5,8 @@ use Rattle.resolvo_state.specs.declared.clause_kind.Stated.TheVariants as Says
 use Rattle.resolvo_soundness.specs.Encoding.{IsExact, Rule}
 use Rattle.resolvo_state.specs.declared.atom.ProofAtom.TheVariants.{Solvable}
 use Rattle.resolvo_state.proofs.Growth.{stands_grow}
-use Rattle.resolvo_encoder.specs.Telling.{StatesPair}
-use Rattle.resolvo_encoder.proofs.Telling.{tells_then, out_tells}
+use Rattle.resolvo_encoder.specs.ClauseRules.{StatesPair}
+use Rattle.resolvo_encoder.proofs.TellLemmas.{tells_then, out_tells}
 use Rattle.resolvo_encoder.proofs.encoder.Encoder.state_out.Goals as goal
 
 pub returns : goal.returns

@@ -1,5 +1,5 @@
 use Rattle.std.proofs.Common.{take}
-use Rattle.resolvo_encoder.specs.Telling.{Tells, out_rules}
+use Rattle.resolvo_encoder.specs.ClauseRules.{Tells, out_rules}
 use Rattle.resolvo_encoder.proofs.encoder.Encoder.state_outside.Given as goal
 
 -- of those so far it is stated

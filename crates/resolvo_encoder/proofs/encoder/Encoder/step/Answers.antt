@@ -1,12 +1,12 @@
 use Rattle.std.proofs.Common.{◌<◌, ◌≤◌, Bool, subst, arith, refl}
 use Rattle.resolvo_sat.specs.declared.propagate_and_learn.StepResult.{StepResult}
-use Rattle.resolvo_sat.specs.Advancing.{weight_left}
+use Rattle.resolvo_sat.specs.PropagateAndLearn.{weight_left}
 use Rattle.resolvo_soundness.specs.Encoding.{IsExact}
-use Rattle.resolvo_state.specs.Coding.{Advances}
+use Rattle.resolvo_state.specs.SolverState.{Advances}
 use Rattle.resolvo_encoder.specs.declared.encoder.Encoder.{Encoder}
-use Rattle.resolvo_encoder.specs.Going.{IsChoice}
-use Rattle.resolvo_encoder.proofs.Building.{built_back, built_rest}
-use Rattle.resolvo_encoder.proofs.Staying.{digits_kept, step_goes, step_keeps, learnt_heavier, complete_gains, goes_then, needs_go, needs_keep}
+use Rattle.resolvo_encoder.specs.Progress.{IsChoice}
+use Rattle.resolvo_encoder.proofs.BuildLemmas.{built_back, built_rest}
+use Rattle.resolvo_encoder.proofs.StayLemmas.{digits_kept, step_goes, step_keeps, learnt_heavier, complete_gains, goes_then, needs_go, needs_keep}
 use Rattle.resolvo_encoder.proofs.Bases.{step_first, first_then}
 use Rattle.resolvo_encoder.proofs.encoder.Encoder.step.Goals as goal
 

@@ -1,7 +1,7 @@
 use Rattle.std.proofs.Common.{take}
 use Rattle.std.specs.List.{flat_map}
 use Rattle.std.specs.Fmt.{HasWritten, IsPlainFormatter}
-use Rattle.resolvo_graph.specs.Wording.{line_text}
+use Rattle.resolvo_graph.specs.Words.{line_text}
 use Rattle.resolvo_graph.proofs.display_unsat.DisplayUnsatDisplay.fmt.Given as goal
 
 -- the lines so far were written

@@ -1,6 +1,6 @@
 use Rattle.std.proofs.Common.{◌≡◌, ◌∙◌, ℕ, ap, map}
 use Rattle.resolvo_graph.specs.Kept.{ids_at}
-use Rattle.resolvo_graph.specs.Merging.{numbered, told_together}
+use Rattle.resolvo_graph.specs.Merge.{numbered, told_together}
 use Rattle.resolvo_graph.proofs.ResultLemmas.{ok_map}
 use Rattle.resolvo_graph.proofs.MemberLemmas.{told_is_group}
 use Rattle.resolvo_graph.proofs.graph.ConflictGraph.simplify.Goals as goal

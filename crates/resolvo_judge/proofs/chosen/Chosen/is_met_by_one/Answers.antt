@@ -1,5 +1,5 @@
 use Rattle.std.proofs.Common.{◌≡◌, true, sym, ◌∙◌}
-use Rattle.resolvo_text.specs.Matching.{is_met}
+use Rattle.resolvo_text.specs.Matches.{is_met}
 use Rattle.resolvo_text.specs.View.{spec_of}
 use Rattle.resolvo_judge.proofs.ChosenLemmas.{any_at}
 use Rattle.resolvo_judge.proofs.chosen.Chosen.is_met_by_one.Goals as goal

@@ -1,5 +1,5 @@
 use Rattle.std.proofs.Common.{◌≡◌, false, take}
-use Rattle.resolvo_text.specs.Matching.{Set, is_met_by_one}
+use Rattle.resolvo_text.specs.Matches.{Set, is_met_by_one}
 use Rattle.resolvo_text.specs.View.{specs_of}
 use Rattle.resolvo_judge.specs.Chosen.{Holds}
 use Rattle.resolvo_judge.proofs.chosen.Chosen.is_met_by_one.Given as goal

@@ -1,9 +1,9 @@
 use Rattle.std.proofs.Common.{rules, ◌≡◌, List, subst, sym}
 use Rattle.resolvo_pool_core.specs.Provider.{listing_or_empty}
 use Rattle.resolvo_packages.specs.declared.package_source.Barred.{Barred}
-use Rattle.resolvo_packages.specs.Answering.{packages_by}
-use Rattle.resolvo_packages.specs.Barring.{AreBarred, kept_out}
-use Rattle.resolvo_packages.proofs.Barring.{are_barred}
+use Rattle.resolvo_packages.specs.PackageSource.{packages_by}
+use Rattle.resolvo_packages.specs.Forbidden.{AreBarred, kept_out}
+use Rattle.resolvo_packages.proofs.BarLemmas.{are_barred}
 use Rattle.resolvo_packages.proofs.cached_packages.AnswersAnswering.barred.Goals as goal
 
 pub returns-clause-barred : goal.returns-clause-barred

@@ -1,5 +1,5 @@
 use Rattle.std.proofs.Common.{◌≡◌, take, map}
-use Rattle.resolvo_packages.specs.Answering.{offer_by}
+use Rattle.resolvo_packages.specs.PackageSource.{offer_by}
 use Rattle.resolvo_packages.proofs.cached_packages.CachedPackages.offered.Given as goal
 
 -- the solvables so far are offered

@@ -1,8 +1,8 @@
 use Rattle.std.proofs.Common.{◌≡◌, true, Some, None, refl, sym, ap, subst, ◌∙◌}
 use Rattle.resolvo_text.specs.declared.line.LineFault.{LineFault}
-use Rattle.resolvo_text.specs.Reading.{Fails}
+use Rattle.resolvo_text.specs.Parse.{Fails}
 use Rattle.resolvo_report.specs.View.{report_line_of}
-use Rattle.resolvo_report.specs.Reading.{line_read}
+use Rattle.resolvo_report.specs.Parse.{line_read}
 use Rattle.resolvo_report.proofs.StreamLemmas.{unread_stops, misplaced_stops, line_taken}
 use Rattle.resolvo_report.proofs.reader.ReportReader.next.Goals as goal
 

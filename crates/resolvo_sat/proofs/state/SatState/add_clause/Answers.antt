@@ -1,7 +1,7 @@
 use Rattle.std.proofs.Common.{◌≡◌, true, List, sym, subst}
 use Rattle.resolvo_store_core.specs.Signed.{Signed, has}
-use Rattle.resolvo_sat.specs.Adding.{HasAnother}
-use Rattle.resolvo_sat.proofs.Coming.{clause_comes, first_has}
+use Rattle.resolvo_sat.specs.AddClause.{HasAnother}
+use Rattle.resolvo_sat.proofs.ComeLemmas.{clause_comes, first_has}
 use Rattle.resolvo_sat.proofs.state.SatState.add_clause.Goals as goal
 
 pub has_another-is_long-requires : goal.has_another-is_long-requires

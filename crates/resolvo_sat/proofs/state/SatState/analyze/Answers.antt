@@ -9,7 +9,7 @@ use Rattle.resolvo_sat.specs.State.{clauses_of}
 use Rattle.resolvo_sat.specs.Known.{clause_at}
 use Rattle.resolvo_sat.specs.Analysis.{Walks, Seen, IsKeptOrForced, is_seen}
 use Rattle.resolvo_sat.proofs.Clauses.{length-lists}
-use Rattle.resolvo_sat.proofs.Walking.{Meets, meets, walk_starts, walk_keeps, walk_resolves, walk_at, rooted_before, kept_low, in_range_from, learnt_analysis, if_ok_more}
+use Rattle.resolvo_sat.proofs.WalkLemmas.{Meets, meets, walk_starts, walk_keeps, walk_resolves, walk_at, rooted_before, kept_low, in_range_from, learnt_analysis, if_ok_more}
 use Rattle.resolvo_sat.proofs.state.SatState.analyze.Goals as goal
 use Rattle.resolvo_sat.proofs.state.SatState.analyze.Goals.{else-self-entry-via-then-self-entry+else-below-entry, else-self-entry-via-else-self-entry}
 

@@ -7,7 +7,7 @@ use Rattle.resolvo_sat.specs.declared.state.SatState.{SatState}
 use Rattle.resolvo_sat.specs.Entries.{before, literal_of, made_true}
 use Rattle.resolvo_sat.specs.State.{history}
 use Rattle.resolvo_sat.specs.Analysis.{IsReason}
-use Rattle.resolvo_sat.proofs.Walking.{meets, denial_of, no_denial, true_before, entry_true}
+use Rattle.resolvo_sat.proofs.WalkLemmas.{meets, denial_of, no_denial, true_before, entry_true}
 use Rattle.resolvo_sat.proofs.state.SatState.analyze_final.Goals.{else-eq-via-then-eq+else-not-entry, else-eq-via-else-eq}
 use Rattle.resolvo_sat.proofs.state.SatState.analyze_final.Goals as goal
 

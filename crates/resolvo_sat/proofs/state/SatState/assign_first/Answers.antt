@@ -1,6 +1,6 @@
 use Rattle.std.proofs.Common.{refl, sym, ◌∙◌}
-use Rattle.resolvo_sat.proofs.Extending.{extends_nothing}
-use Rattle.resolvo_sat.proofs.Settling.{guards_true}
+use Rattle.resolvo_sat.proofs.ExtendLemmas.{extends_nothing}
+use Rattle.resolvo_sat.proofs.SettleLemmas.{guards_true}
 use Rattle.resolvo_sat.proofs.state.SatState.assign_first.Goals as goal
 
 pub returns-then-is_true-clause-set : goal.returns-then-is_true-clause-set

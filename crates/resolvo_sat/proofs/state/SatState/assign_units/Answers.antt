@@ -1,7 +1,7 @@
 use Rattle.std.proofs.Common.{subst}
 use Rattle.resolvo_sat.specs.State.{clauses_of}
 use Rattle.resolvo_sat.specs.Propagation.{IsSingleSet}
-use Rattle.resolvo_sat.proofs.Completing.{single_at, single_alone, single_breaks, singles_more}
+use Rattle.resolvo_sat.proofs.CompleteLemmas.{single_at, single_alone, single_breaks, singles_more}
 use Rattle.resolvo_sat.proofs.state.SatState.assign_units.Goals as goal
 
 pub assign_unit-requires-clause-alone : goal.assign_unit-requires-clause-alone

@@ -1,6 +1,6 @@
 use Rattle.std.proofs.Common.{subst}
-use Rattle.resolvo_sat.specs.Waiting.{IsFirstSet}
-use Rattle.resolvo_sat.proofs.Settling.{last_waits, waiting_within, settles_one, settles_none}
+use Rattle.resolvo_sat.specs.Attach.{IsFirstSet}
+use Rattle.resolvo_sat.proofs.SettleLemmas.{last_waits, waiting_within, settles_one, settles_none}
 use Rattle.resolvo_sat.proofs.state.SatState.attach.Goals as goal
 
 pub watch_pair-watched-requires-clause-two : goal.watch_pair-watched-requires-clause-two

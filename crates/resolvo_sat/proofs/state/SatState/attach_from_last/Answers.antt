@@ -1,5 +1,5 @@
 use Rattle.std.proofs.Common.{sym}
-use Rattle.resolvo_sat.proofs.Settling.{none_last}
+use Rattle.resolvo_sat.proofs.SettleLemmas.{none_last}
 use Rattle.resolvo_sat.proofs.state.SatState.attach_from_last.Goals as goal
 
 pub returns-clause-settled : goal.returns-clause-settled

@@ -1,5 +1,5 @@
 use Rattle.std.proofs.Common.{length}
-use Rattle.resolvo_sat.specs.Waiting.{Settles}
+use Rattle.resolvo_sat.specs.Attach.{Settles}
 use Rattle.resolvo_sat.proofs.state.SatState.attach_from_last.Given as goal
 
 abbrev pub invariant-loop-clause : goal.invariant-loop-clause

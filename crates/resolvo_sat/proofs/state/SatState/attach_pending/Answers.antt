@@ -1,4 +1,4 @@
-use Rattle.resolvo_sat.proofs.Settling.{turned, turned_first}
+use Rattle.resolvo_sat.proofs.SettleLemmas.{turned, turned_first}
 use Rattle.resolvo_sat.proofs.state.SatState.attach_pending.Goals as goal
 
 pub attach_from_last-requires : goal.attach_from_last-requires

@@ -4,7 +4,7 @@ use Rattle.resolvo_sat.specs.Entries.{before}
 use Rattle.resolvo_sat.specs.State.{count_of, clauses_of}
 use Rattle.resolvo_sat.specs.Analysis.{is_seen}
 use Rattle.resolvo_sat.proofs.Trails.{trail_before}
-use Rattle.resolvo_sat.proofs.Marking.{level_found, level_passes}
+use Rattle.resolvo_sat.proofs.MarkLemmas.{level_found, level_passes}
 use Rattle.resolvo_sat.proofs.state.SatState.backjump_level.Goals as goal
 
 pub returns-then-contains : goal.returns-then-contains

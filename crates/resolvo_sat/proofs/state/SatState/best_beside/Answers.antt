@@ -3,8 +3,8 @@ use Rattle.std.proofs.lemmas.List.{take_all}
 use Rattle.resolvo_store_core.specs.Signed.{Signed}
 use Rattle.resolvo_sat.specs.State.{history}
 use Rattle.resolvo_sat.specs.Entries.{made_true}
-use Rattle.resolvo_sat.specs.Waiting.{IsBestBeside}
-use Rattle.resolvo_sat.proofs.Settling.{best_found}
+use Rattle.resolvo_sat.specs.Attach.{IsBestBeside}
+use Rattle.resolvo_sat.proofs.SettleLemmas.{best_found}
 use Rattle.resolvo_sat.proofs.state.SatState.best_beside.Goals as goal
 
 pub returns : goal.returns

@@ -1,4 +1,4 @@
-use Rattle.resolvo_sat.proofs.Walking.{meets, kept_or_forced}
+use Rattle.resolvo_sat.proofs.WalkLemmas.{meets, kept_or_forced}
 use Rattle.resolvo_sat.proofs.state.SatState.is_kept.Goals as goal
 
 pub returns : goal.returns

@@ -1,8 +1,8 @@
 use Rattle.std.proofs.Common.{refl}
 use Rattle.resolvo_sat.specs.declared.state.SatClause.{SatClause}
 use Rattle.resolvo_sat.proofs.Readiness.{ready_undone}
-use Rattle.resolvo_sat.proofs.Choosing.{undo_covered}
-use Rattle.resolvo_sat.proofs.Jumping.{added_forces, learns}
+use Rattle.resolvo_sat.proofs.ChooseLemmas.{undo_covered}
+use Rattle.resolvo_sat.proofs.JumpLemmas.{added_forces, learns}
 use Rattle.resolvo_sat.proofs.state.SatState.learn.Goals as goal
 
 pub add_clause-requires-clause-ready : goal.add_clause-requires-clause-ready

@@ -2,10 +2,10 @@ use Rattle.std.proofs.Common.{List, Some, None, subst}
 use Rattle.resolvo_sat.specs.declared.state.SatState.{SatState}
 use Rattle.resolvo_sat.specs.declared.watch_lists.UnitClause.{UnitClause}
 use Rattle.resolvo_sat.specs.Propagation.{IsSinglesEnd, SetsSingles, IsVisit, IsTaken, last_taken}
-use Rattle.resolvo_sat.specs.Waiting.{IsWaitingEnd}
-use Rattle.resolvo_sat.proofs.Extending.{extends_more}
+use Rattle.resolvo_sat.specs.Attach.{IsWaitingEnd}
+use Rattle.resolvo_sat.proofs.ExtendLemmas.{extends_more}
 use Rattle.resolvo_sat.proofs.Readiness.{ready_extends, same_watching}
-use Rattle.resolvo_sat.proofs.Completing.{running_starts, running_goes_on, running_ends, running_smaller, singles_ready, singles_break, conflicts_later}
+use Rattle.resolvo_sat.proofs.CompleteLemmas.{running_starts, running_goes_on, running_ends, running_smaller, singles_ready, singles_break, conflicts_later}
 use Rattle.resolvo_sat.proofs.state.SatState.propagate.Goals as goal
 
 pub loop-literal-init : goal.loop-literal-init

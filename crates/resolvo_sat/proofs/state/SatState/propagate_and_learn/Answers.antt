@@ -1,7 +1,7 @@
 use Rattle.std.proofs.Common.{subst}
 use Rattle.resolvo_sat.specs.Analysis.{IsAnalysis}
 use Rattle.resolvo_sat.specs.Propagation.{IsPropagation}
-use Rattle.resolvo_sat.proofs.Improving.{learning_improves}
+use Rattle.resolvo_sat.proofs.ImproveLemmas.{learning_improves}
 use Rattle.resolvo_sat.proofs.state.SatState.propagate_and_learn.Goals as goal
 
 pub returns-in_ok-clause-in-Learnt-clause-progress : goal.returns-in_ok-clause-in-Learnt-clause-progress

@@ -5,7 +5,7 @@ use Rattle.resolvo_store_core.proofs.Walks.{shorter}
 use Rattle.resolvo_store_core.specs.declared.watch_map.WatchMapCursor.{WatchMapCursor}
 use Rattle.resolvo_sat.specs.declared.watch_lists.WatchLists.{WatchLists}
 use Rattle.resolvo_sat.specs.Propagation.{last_taken, IsMeeting, IsVisiting, Keeps, Replaces}
-use Rattle.resolvo_sat.proofs.Visiting.{got_in_range, fallen_now, visiting_starts, visiting_keeps, visiting_moves, visiting_ends, visiting_breaks}
+use Rattle.resolvo_sat.proofs.VisitLemmas.{got_in_range, fallen_now, visiting_starts, visiting_keeps, visiting_moves, visiting_ends, visiting_breaks}
 use Rattle.resolvo_sat.proofs.state.SatState.propagate_literal.Goals as goal
 
 pub loop-clause-init : goal.loop-clause-init

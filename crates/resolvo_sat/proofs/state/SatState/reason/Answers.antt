@@ -9,7 +9,7 @@ use Rattle.resolvo_sat.specs.State.{clauses_of, count_of}
 use Rattle.resolvo_sat.specs.Known.{clause_at}
 use Rattle.resolvo_sat.specs.Analysis.{Walks, Seen, IsKeptOrForced, is_seen}
 use Rattle.resolvo_sat.proofs.Clauses.{length-lists}
-use Rattle.resolvo_sat.proofs.Walking.{Meets, meets, walk_begins, walk_keeps, walk_resolves, walk_at, rooted_before, rooted_before_false, false_forced, below_turn, kept_low, in_range_from}
+use Rattle.resolvo_sat.proofs.WalkLemmas.{Meets, meets, walk_begins, walk_keeps, walk_resolves, walk_at, rooted_before, rooted_before_false, false_forced, below_turn, kept_low, in_range_from}
 use Rattle.resolvo_sat.proofs.state.SatState.reason.Goals as goal
 
 pub literals-requires : goal.literals-requires

@@ -1,5 +1,5 @@
 use Rattle.std.proofs.Common.{sym, ◌∙◌}
-use Rattle.resolvo_sat.proofs.Completing.{taken_none, taken_some, decision_small}
+use Rattle.resolvo_sat.proofs.CompleteLemmas.{taken_none, taken_some, decision_small}
 use Rattle.resolvo_sat.proofs.state.SatState.take_next.Goals as goal
 
 pub new-requires : goal.new-requires

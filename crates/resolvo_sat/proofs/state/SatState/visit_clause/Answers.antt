@@ -4,7 +4,7 @@ use Rattle.resolvo_store_core.specs.Pairs.{other_of}
 use Rattle.resolvo_sat.specs.Known.{Forces, clause_at}
 use Rattle.resolvo_sat.specs.State.{history, clauses_of}
 use Rattle.resolvo_sat.specs.Entries.{made_true}
-use Rattle.resolvo_sat.proofs.Visiting.{pair_watches, forces_other, falls_whole}
+use Rattle.resolvo_sat.proofs.VisitLemmas.{pair_watches, forces_other, falls_whole}
 use Rattle.resolvo_sat.proofs.state.SatState.visit_clause.Goals as goal
 
 pub assign-requires-clause-forces : goal.assign-requires-clause-forces

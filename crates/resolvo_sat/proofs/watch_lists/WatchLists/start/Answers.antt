@@ -1,6 +1,6 @@
 use Rattle.std.proofs.Common.{◌≡◌, ◌-◌, ℕ, Some, take, length, refl, ◌∙◌, ap, arith}
 use Rattle.std.specs.Prelude.{slice_set, vec_len}
-use Rattle.resolvo_sat.proofs.Settling.{last_taken_off}
+use Rattle.resolvo_sat.proofs.SettleLemmas.{last_taken_off}
 use Rattle.resolvo_sat.proofs.watch_lists.WatchLists.start.Goals as goal
 
 pub returns-clause-started : goal.returns-clause-started

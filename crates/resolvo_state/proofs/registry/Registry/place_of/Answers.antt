@@ -1,7 +1,7 @@
 use Rattle.std.proofs.Common.{ap, ◌∙◌}
 use Rattle.resolvo_pool_core.specs.declared.id.VariableId.{VariableId}
 use Rattle.resolvo_store_core.specs.AtMostOne.{Tracking}
-use Rattle.resolvo_state.proofs.Naming.{place_found, place_pushed}
+use Rattle.resolvo_state.proofs.NameLemmas.{place_found, place_pushed}
 use Rattle.resolvo_state.proofs.registry.Registry.place_of.Goals as goal
 
 pub returns-in-Some : goal.returns-in-Some

@@ -1,8 +1,8 @@
 use Rattle.std.proofs.Common.{refl, length-set}
 use Rattle.std.proofs.lemmas.Option.{slice_get_read}
 use Rattle.resolvo_state.proofs.Positions.{get_set_here, get_set_other}
-use Rattle.resolvo_state.proofs.Naming.{place_within}
-use Rattle.resolvo_state.proofs.Registering.{digits_same, named_tied, registers_is}
+use Rattle.resolvo_state.proofs.NameLemmas.{place_within}
+use Rattle.resolvo_state.proofs.RegisterLemmas.{digits_same, named_tied, registers_is}
 use Rattle.resolvo_state.proofs.registry.Registry.register.Goals as goal
 
 pub track-requires : goal.track-requires

@@ -1,7 +1,7 @@
 use Rattle.std.proofs.Common.{◌∷◌, ◌++◌, [], List, ◌∙◌, ap}
 use Rattle.resolvo_state.specs.declared.clause_kind.Stated.{Stated}
 use Rattle.resolvo_state.specs.declared.clause_kind.Stated.TheVariants.{Root}
-use Rattle.resolvo_state.proofs.Starting.{begun_is}
+use Rattle.resolvo_state.proofs.StartLemmas.{begun_is}
 use Rattle.resolvo_state.proofs.solver_state.SolverState.begin.Goals as goal
 
 pub returns-clause-begun : goal.returns-clause-begun

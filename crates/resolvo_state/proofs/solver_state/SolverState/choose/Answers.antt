@@ -1,5 +1,5 @@
 use Rattle.std.proofs.lemmas.Result.{IfOk-weaker}
-use Rattle.resolvo_state.proofs.Keeping.{choice_kept}
+use Rattle.resolvo_state.proofs.KeepLemmas.{choice_kept}
 use Rattle.resolvo_state.proofs.solver_state.SolverState.choose.Goals as goal
 
 pub returns-clause-kept : goal.returns-clause-kept

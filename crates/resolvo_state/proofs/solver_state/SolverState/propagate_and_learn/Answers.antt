@@ -1,5 +1,5 @@
 use Rattle.std.proofs.Common.{refl, subst}
-use Rattle.resolvo_sat.specs.Advancing.{IsProgress}
+use Rattle.resolvo_sat.specs.PropagateAndLearn.{IsProgress}
 use Rattle.resolvo_state.proofs.Clauses.{learnt_is}
 use Rattle.resolvo_state.proofs.solver_state.SolverState.propagate_and_learn.Goals as goal
 

@@ -1,4 +1,4 @@
-use Rattle.resolvo_state.proofs.Keeping.{undo_kept}
+use Rattle.resolvo_state.proofs.KeepLemmas.{undo_kept}
 use Rattle.resolvo_state.proofs.solver_state.SolverState.undo_until.Goals as goal
 
 pub returns-clause-kept : goal.returns-clause-kept

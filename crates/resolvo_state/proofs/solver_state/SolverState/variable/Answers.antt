@@ -1,7 +1,7 @@
 use Rattle.std.proofs.Common.{refl, subst}
 use Rattle.resolvo_sat.specs.declared.state.VariableKind.{VariableKind}
-use Rattle.resolvo_sat.specs.Beginning.{AddsVariable}
-use Rattle.resolvo_state.proofs.Starting.{gives_added}
+use Rattle.resolvo_sat.specs.Begin.{AddsVariable}
+use Rattle.resolvo_state.proofs.StartLemmas.{gives_added}
 use Rattle.resolvo_state.proofs.solver_state.SolverState.variable.Goals as goal
 
 pub returns-clause-given : goal.returns-clause-given

@@ -4,7 +4,7 @@ use Rattle.resolvo_store_core.specs.Clauses.{is_own_in_range, lists_there, liter
 use Rattle.resolvo_store.specs.Stored.{Kept, plain, names_in}
 use Rattle.resolvo_store.specs.Calls.{can_add, can_watch, has_condition, has_candidates_for, has_learnt_in}
 use Rattle.resolvo_store.proofs.Plain.{names_plain}
-use Rattle.resolvo_store.proofs.Fitting.{literals_same, lists_plain}
+use Rattle.resolvo_store.proofs.FitLemmas.{literals_same, lists_plain}
 use Rattle.resolvo_store.proofs.clause_store.ClauseStore.can_add.Goals as goal
 
 pub returns : goal.returns

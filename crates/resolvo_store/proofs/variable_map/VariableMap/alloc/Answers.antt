@@ -3,7 +3,7 @@ use Rattle.std.proofs.lemmas.List.{length-append}
 use Rattle.resolvo_store.specs.declared.variable_map.VariableOrigin.{VariableOrigin}
 use Rattle.resolvo_store.specs.declared.variable_map.VariableOrigin.TheVariants.{Root}
 use Rattle.resolvo_store.specs.Origins.{place_from}
-use Rattle.resolvo_store.proofs.Interning.{numbers_other}
+use Rattle.resolvo_store.proofs.InternLemmas.{numbers_other}
 use Rattle.resolvo_store.proofs.variable_map.VariableMap.alloc.Goals as goal
 
 pub invariant_of-self-2 : goal.invariant_of-self-2

@@ -5,7 +5,7 @@ use Rattle.resolvo_pool_core.specs.declared.id_map.OptionalNumber.{OptionalNumbe
 use Rattle.resolvo_store.specs.declared.variable_map.VariableOrigin.{VariableOrigin}
 use Rattle.resolvo_store.specs.declared.variable_map.VariableOrigin.TheVariants.{Root, Solvable}
 use Rattle.resolvo_store.specs.Origins.{place_from, place_of, InternsAt}
-use Rattle.resolvo_store.proofs.Interning.{numbers_new}
+use Rattle.resolvo_store.proofs.InternLemmas.{numbers_new}
 use Rattle.resolvo_store.proofs.variable_map.VariableMap.intern_solvable.Goals as goal
 
 pub returns-in-Some-clause-interned : goal.returns-in-Some-clause-interned

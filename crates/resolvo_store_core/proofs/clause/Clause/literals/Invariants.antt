@@ -1,6 +1,6 @@
 use Rattle.std.proofs.Common.{◌≡◌, ◌++◌}
 use Rattle.resolvo_store_core.specs.Clauses.{literals_of}
-use Rattle.resolvo_store_core.specs.Reading.{rest_of}
+use Rattle.resolvo_store_core.specs.ReadClause.{rest_of}
 use Rattle.resolvo_store_core.proofs.clause.Clause.literals.Given as goal
 
 -- those that were put in, and those that are left, are the clause's

@@ -1,6 +1,6 @@
 use Rattle.std.proofs.Common.{◌≡◌, ◌++◌, true, Some}
 use Rattle.resolvo_store_core.specs.Clauses.{literals_of, IsValueOf}
-use Rattle.resolvo_store_core.specs.Reading.{rest_of}
+use Rattle.resolvo_store_core.specs.ReadClause.{rest_of}
 use Rattle.resolvo_store_core.specs.Signed.{value_under}
 use Rattle.resolvo_store_core.specs.Values.{value_at}
 use Rattle.resolvo_store_core.proofs.clause.Clause.literals_eval.Given as goal

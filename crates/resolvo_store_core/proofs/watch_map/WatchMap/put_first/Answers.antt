@@ -3,7 +3,7 @@ use Rattle.std.proofs.lemmas.Result.{err_from_is_err_and}
 use Rattle.resolvo_store_core.specs.Signed.{index_in}
 use Rattle.resolvo_store_core.specs.Watches.{room_at}
 use Rattle.resolvo_store_core.proofs.Rooms.{room_in_range, room_read, room_filled}
-use Rattle.resolvo_store_core.proofs.Watching.{wrote_first, wrote_same}
+use Rattle.resolvo_store_core.proofs.WatchLemmas.{wrote_first, wrote_same}
 use Rattle.resolvo_store_core.proofs.watch_map.WatchMap.put_first.Goals as goal
 
 pub returns-in_err-push-clause-err : goal.returns-in_err-push-clause-err

@@ -2,7 +2,7 @@ use Rattle.std.proofs.Common.{ℕ, ◌≤◌, refl, subst, arith}
 use Rattle.std.specs.Vec.{with_item}
 use Rattle.resolvo_store_core.specs.Signed.{index_in}
 use Rattle.resolvo_store_core.specs.Watches.{room_at}
-use Rattle.resolvo_store_core.proofs.Watching.{wrote_same}
+use Rattle.resolvo_store_core.proofs.WatchLemmas.{wrote_same}
 use Rattle.resolvo_store_core.proofs.Rooms.{room_here, room_reserved}
 use Rattle.resolvo_store_core.proofs.watch_map.WatchMap.reserve.Goals as goal
 

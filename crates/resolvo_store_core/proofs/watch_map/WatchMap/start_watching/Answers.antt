@@ -1,6 +1,6 @@
 use Rattle.resolvo_store_core.specs.Watches.{watchers}
 use Rattle.resolvo_store_core.proofs.Watched.{started_well}
-use Rattle.resolvo_store_core.proofs.Watching.{starts_in}
+use Rattle.resolvo_store_core.proofs.WatchLemmas.{starts_in}
 use Rattle.resolvo_store_core.proofs.watch_map.WatchMap.start_watching.Goals as goal
 
 pub returns-in-Ok-clause-fits : goal.returns-in-Ok-clause-fits

@@ -1,7 +1,7 @@
 use Rattle.std.proofs.Common.{◌≡◌, ◌<◌, length, refl, arith}
 use Rattle.resolvo_store_core.specs.Signed.{index_in}
 use Rattle.resolvo_store_core.proofs.ClauseLists.{list_in_range, read_length}
-use Rattle.resolvo_store_core.proofs.Watching.{took_out}
+use Rattle.resolvo_store_core.proofs.WatchLemmas.{took_out}
 use Rattle.resolvo_store_core.proofs.Rooms.{room_set}
 use Rattle.resolvo_store_core.proofs.watch_map.WatchMap.take_out.Goals as goal
 

@@ -5,7 +5,7 @@ use Rattle.resolvo_store_core.specs.declared.watched_literals.WatchedLiterals.{W
 use Rattle.resolvo_store_core.specs.Watches.{watchers, pair_at}
 use Rattle.resolvo_store_core.proofs.Watched.{pair_in_range}
 use Rattle.resolvo_store_core.proofs.ClauseLists.{some_within}
-use Rattle.resolvo_store_core.proofs.Watching.{updated}
+use Rattle.resolvo_store_core.proofs.WatchLemmas.{updated}
 use Rattle.resolvo_store_core.proofs.watch_map.WatchMapCursor.update.Goals as goal
 
 pub bounds-clauses-to_index : goal.bounds-clauses-to_index

@@ -1,6 +1,6 @@
 use Rattle.std.proofs.Common.{◌≡◌, ◌++◌, ◌||◌, true, Some, All}
 use Rattle.resolvo_store_core.specs.Clauses.{literals_of}
-use Rattle.resolvo_store_core.specs.Reading.{rest_of}
+use Rattle.resolvo_store_core.specs.ReadClause.{rest_of}
 use Rattle.resolvo_store_core.specs.Signed.{value_under, is_false}
 use Rattle.resolvo_store_core.specs.Pairs.{watches}
 use Rattle.resolvo_store_core.specs.Values.{value_at}

@@ -1,7 +1,7 @@
 use Rattle.std.proofs.Common.{subst}
 use Rattle.std.proofs.lemmas.List.{take_all}
 use Rattle.resolvo_decide.specs.Needs.{Fits}
-use Rattle.resolvo_store_tests.proofs.Noting.{noted_more}
+use Rattle.resolvo_store_tests.proofs.NoteLemmas.{noted_more}
 use Rattle.resolvo_store_tests.proofs.tests.known.noted.Goals as goal
 
 pub loop-need-preserved : goal.loop-need-preserved

@@ -1,4 +1,4 @@
-use Rattle.resolvo_state.proofs.Registering.{nothing_tied}
+use Rattle.resolvo_state.proofs.RegisterLemmas.{nothing_tied}
 use Rattle.resolvo_store_tests.proofs.tests.registry.one_of_two.Goals as goal
 
 pub choose_one-requires-clause-tied : goal.choose_one-requires-clause-tied

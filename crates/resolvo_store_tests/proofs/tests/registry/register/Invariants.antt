@@ -1,4 +1,4 @@
-use Rattle.resolvo_state.specs.Coding.{IsCoding}
+use Rattle.resolvo_state.specs.SolverState.{IsCoding}
 use Rattle.resolvo_state.specs.Registered.{AreTied}
 use Rattle.resolvo_store_tests.proofs.tests.registry.register.Given as goal
 

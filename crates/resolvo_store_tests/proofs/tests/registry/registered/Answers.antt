@@ -1,4 +1,4 @@
-use Rattle.resolvo_state.proofs.Registering.{nothing_tied}
+use Rattle.resolvo_state.proofs.RegisterLemmas.{nothing_tied}
 use Rattle.resolvo_store_tests.proofs.tests.registry.registered.Goals as goal
 
 pub register-requires-clause-tied : goal.register-requires-clause-tied

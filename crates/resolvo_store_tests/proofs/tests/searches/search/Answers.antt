@@ -1,8 +1,8 @@
 use Rattle.std.proofs.Common.{sym, subst}
 use Rattle.resolvo_sat.specs.declared.state.SatState.{SatState}
 use Rattle.resolvo_sat.specs.Propagation.{IsReady, AreCovered}
-use Rattle.resolvo_sat.specs.Advancing.{IsProgress}
-use Rattle.resolvo_sat.proofs.Choosing.{choice_ready, choice_covered}
+use Rattle.resolvo_sat.specs.PropagateAndLearn.{IsProgress}
+use Rattle.resolvo_sat.proofs.ChooseLemmas.{choice_ready, choice_covered}
 use Rattle.resolvo_store_tests.proofs.tests.searches.search.Goals as goal
 use Rattle.resolvo_store_tests.proofs.tests.searches.search.Goals.{in-Learnt, in-Complete+in-Some+in_ok-choose-in-Some}
 

@@ -1,4 +1,4 @@
-use Rattle.resolvo_state.specs.Coding.{IsCoding}
+use Rattle.resolvo_state.specs.SolverState.{IsCoding}
 use Rattle.resolvo_store_tests.proofs.tests.steps.solvables.Given as goal
 
 abbrev pub invariant-loop-number : goal.invariant-loop-number

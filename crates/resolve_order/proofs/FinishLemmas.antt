@@ -1,0 +1,156 @@
+-- Entries one after the other, and turns one after the other.
+use Rattle.std.proofs.Common.{◌≡◌, ℕ, zero, suc, ◌+◌, ◌<◌, List, [], ◌∷◌, ◌++◌, length, take, drop, get_or, reverse, Option, Some, None, refl, sym, ap, subst, ◌∙◌, append_assoc, add-one, arith}
+use Rattle.std.specs.Prelude.{Contains, slice_get}
+use Rattle.std.specs.Option.{option_map}
+use Rattle.std.proofs.lemmas.Grind.{flat_map-append}
+use Rattle.std.proofs.lemmas.List.{append-nil, map-append, take_more, take-append-drop}
+use Rattle.std.proofs.lemmas.List.Elements.{Contains-append_left}
+use Rattle.std.proofs.lemmas.Option.{slice_get-get_or}
+use Rattle.resolvo_text.specs.Line.{Version, Line, Wish}
+use Rattle.resolvo_text.specs.Matches.{Set}
+use Rattle.resolvo_catalogue_core.specs.Answers as answers
+use Rattle.resolvo_catalogue_core.specs.Answers.{entries_of}
+use Rattle.resolvo_catalogue_core.specs.Grammar.{line_at}
+use Rattle.resolvo_catalogue_core.specs.Listed.{listed}
+use Rattle.resolvo_catalogue_core.specs.Table.{nth, nowhere}
+use Rattle.resolvo_catalogue_core.specs.declared.rule.VersionNo.{VersionNo}
+use Rattle.resolvo_catalogue_core.proofs.TableSteps.{numbered}
+use Rattle.resolve_order.specs.Order as order
+use Rattle.resolve_order.specs.Order.{IsNext, AreInOrder, IsComplete, IsOneTurn, AreTurns, wish_entry, chosen_by, chosen_in, accepted_by}
+use Rattle.resolve_order.specs.View.{reason_of, answer_of, wish_at, turn_of, turns_of, IsAccepted, IsWishOf, AreWishesOf}
+use Rattle.resolve_order.specs.Kept.{AreOneEach, IsListing, IsLeft, IsFound, Extends, TakesTurn, IsSpentAt, Remains, answers_in, entries_in, left_of}
+use Rattle.resolve_order.specs.declared.entry.Answer.TheVariants as answer
+use Rattle.resolve_order.specs.declared.entry.Entry.{Entry}
+use Rattle.resolve_order.specs.declared.entry.Reason.{Reason}
+use Rattle.resolve_order.specs.declared.entry.Turn.{Turn}
+use Rattle.resolve_order.specs.declared.entry.Turn.TheVariants as turn
+use Rattle.resolve_order.specs.declared.install_order.Listing.{Listing}
+use Rattle.resolve_order.specs.declared.open_lines.Places.{Places}
+use Rattle.resolve_order.proofs.Elements.{no_element}
+use Rattle.resolve_order.proofs.GiveLemmas.{answers_more}
+use Rattle.resolve_order.proofs.RemainLemmas.{remains_all}
+use Rattle.resolve_order.proofs.TurnLemmas.{Accepts, AllAccepted, after_both, in_order_more, turns_more}
+
+-- ---- one entry after the other
+
+pub extends_none : (catalogue request : List Line) (chosen : Set) (x : Listing) → IsListing catalogue request x chosen → Extends catalogue request chosen x x
+extends_none catalogue request chosen x h = record { listing = h; others = []; more = sym (append-nil (answers_in catalogue x)); in_order = tt }
+
+pub all_left : (catalogue request : List Line) (chosen : Set) (x : Listing) (places : Places) → places.waiting.items ≡ [] → places.again.items ≡ [] → places.below ≡ 0 → IsLeft catalogue request x chosen places
+all_left catalogue request chosen x places waiting again below = record {
+  left = record {
+    within = omega (arith, below);
+    waiting = λ s c. absurd (no_element s (subst (λ (rs : List Reason). Contains rs s) waiting c));
+    remain = subst (Remains (IsSpentAt catalogue request chosen (entries_in catalogue x)) x.lines.items) (sym whole) (remains_all (IsSpentAt catalogue request chosen (entries_in catalogue x)) x.lines.items);
+  };
+  none_waits = waiting;
+}
+  where
+    whole : places.waiting.items ++ left_of places x.lines.items ≡ x.lines.items
+    whole = ap (λ (rs : List Reason). rs ++ left_of places x.lines.items) waiting ∙ ap (λ (rs : List Reason). reverse rs ++ drop places.below x.lines.items) again ∙ ap (λ (n : ℕ). drop n x.lines.items) below
+
+pub number_at : (catalogue : List Line) (n : VersionNo) → n.0 < length (listed catalogue) → slice_get (listed catalogue) n.0 ≡ Some (nth (listed catalogue) n)
+number_at catalogue n lt = slice_get-get_or (listed catalogue) n.0 nowhere lt
+
+pub extends_more : (catalogue request : List Line) (chosen : Set) (first before after : Listing) (e : Entry) → Extends catalogue request chosen first before → IsFound catalogue request before chosen (Some e)
+    → after.answers.items ≡ before.answers.items ++ answer.Entry e ∷ [] → IsListing catalogue request after chosen → Extends catalogue request chosen first after
+extends_more catalogue request chosen first before after e h found more listing = record {
+  listing = listing;
+  others = h.others ++ answer_of (listed catalogue) (answer.Entry e) ∷ [];
+  more = answers_more catalogue before after (answer.Entry e) more ∙ ap (λ (xs : List answers.Answer). xs ++ answer_of (listed catalogue) (answer.Entry e) ∷ []) h.more ∙ append_assoc (answers_in catalogue first) h.others (answer_of (listed catalogue) (answer.Entry e) ∷ []);
+  in_order = in_order_more catalogue request chosen (entries_in catalogue first) h.others (reason_of (listed catalogue) e.reason) (nth (listed catalogue) e.version) h.in_order
+      (subst (λ (set : Set). IsNext catalogue request chosen set (reason_of (listed catalogue) e.reason) (nth (listed catalogue) e.version)) (ap entries_of h.more ∙ after_both [] (answers_in catalogue first) h.others) found.1);
+}
+
+-- ---- one turn
+
+pub turn_taken : (catalogue request : List Line) (chosen : Set) (wish : Option (ℕ × Version)) (mine : Set) (first begun after : Listing) → answers_in catalogue begun ≡ answers_in catalogue first ++ wish_entry wish (entries_in catalogue first)
+    → Extends catalogue request chosen begun after → IsComplete catalogue request chosen (entries_in catalogue after) → TakesTurn catalogue request chosen (order.Chose wish mine) first after
+turn_taken catalogue request chosen wish mine first begun after wished h complete = record {
+  listing = h.listing;
+  others = wish_entry wish (entries_in catalogue first) ++ h.others;
+  more = more;
+  is_turn = record {
+    others = h.others;
+    wish_first = refl;
+    in_order = subst (λ (set : Set). AreInOrder catalogue request chosen set h.others) (ap entries_of wished ∙ after_both [] (answers_in catalogue first) (wish_entry wish (entries_in catalogue first))) h.in_order;
+    complete = subst (IsComplete catalogue request chosen) (ap entries_of more ∙ after_both [] (answers_in catalogue first) (wish_entry wish (entries_in catalogue first) ++ h.others)) complete;
+  };
+}
+  where
+    more : answers_in catalogue after ≡ answers_in catalogue first ++ (wish_entry wish (entries_in catalogue first) ++ h.others)
+    more = h.more ∙ ap (λ (xs : List answers.Answer). xs ++ h.others) wished ∙ append_assoc (answers_in catalogue first) (wish_entry wish (entries_in catalogue first)) h.others
+
+-- ---- one turn after the other
+
+pub turns_next : (versions : List Version) (turns : List Turn) (i : ℕ) (t : Turn) → i < length turns → t ≡ get_or turns i t → turns_of versions (take (i + 1) turns) ≡ turns_of versions (take i turns) ++ turn_of versions t ∷ []
+turns_next versions turns i t lt is = ap (turns_of versions) (take_more turns i t lt ∙ ap (λ (x : Turn). take i turns ++ x ∷ []) (sym is)) ∙ map-append (turn_of versions) (take i turns) (t ∷ [])
+
+-- what the turns up to turn i choose
+pub chosen_more : (versions : List Version) (turns : List Turn) (i : ℕ) (t : Turn) → i < length turns → t ≡ get_or turns i t
+    → chosen_in (turns_of versions (take (i + 1) turns)) ≡ chosen_in (turns_of versions (take i turns)) ++ chosen_by (turn_of versions t)
+chosen_more versions turns i t lt is =
+    ap chosen_in (turns_next versions turns i t lt is) ∙ flat_map-append chosen_by (turns_of versions (take i turns)) (turn_of versions t ∷ [])
+    ∙ ap (λ (set : Set). chosen_in (turns_of versions (take i turns)) ++ set) (append-nil (chosen_by (turn_of versions t)))
+
+pub one_each_before : (versions : List Version) (turns : List Turn) (i : ℕ) → AreOneEach (chosen_in (turns_of versions turns)) → AreOneEach (chosen_in (turns_of versions (take i turns)))
+one_each_before versions turns i one = λ v w cv cw same. one v w (whole v cv) (whole w cw) same
+  where
+    all : chosen_in (turns_of versions turns) ≡ chosen_in (turns_of versions (take i turns)) ++ chosen_in (turns_of versions (drop i turns))
+    all =
+        ap (λ (ts : List Turn). chosen_in (turns_of versions ts)) (sym (take-append-drop i turns)) ∙ ap chosen_in (map-append (turn_of versions) (take i turns) (drop i turns))
+        ∙ flat_map-append chosen_by (turns_of versions (take i turns)) (turns_of versions (drop i turns))
+
+    whole : (v : Version) → Contains (chosen_in (turns_of versions (take i turns))) v → Contains (chosen_in (turns_of versions turns)) v
+    whole v c = subst (λ (set : Set). Contains set v) (sym all) (Contains-append_left (chosen_in (turns_of versions (take i turns))) (chosen_in (turns_of versions (drop i turns))) v c)
+
+wish_suc : (versions : List Version) (request : List Line) (chosen : Set) (turns : List Turn) (i : ℕ) (t : Turn) → i < length turns → t ≡ get_or turns i t → AreWishesOf versions request chosen turns
+    → IsWishOf versions request (chosen ++ chosen_in (turns_of versions (take (suc i) turns))) t
+wish_suc versions request chosen [] i t lt is h = absurd (omega (arith, lt))
+wish_suc versions request chosen (u ∷ turns) zero t lt is h =
+    subst (λ (x : Turn). IsWishOf versions request (chosen ++ chosen_in (turns_of versions (u ∷ []))) x) (sym is)
+    (subst (λ (set : Set). IsWishOf versions request (chosen ++ set) u) (sym (append-nil (chosen_by (turn_of versions u)))) h.0)
+wish_suc versions request chosen (u ∷ turns) (suc i) t lt is h =
+    subst (λ (set : Set). IsWishOf versions request set t) (append_assoc chosen (chosen_by (turn_of versions u)) (chosen_in (turns_of versions (take (suc i) turns))))
+    (wish_suc versions request (chosen ++ chosen_by (turn_of versions u)) turns i t (omega (arith, lt)) is h.1)
+
+pub wish_at_turn : (versions : List Version) (request : List Line) (turns : List Turn) (i : ℕ) (t : Turn) → i < length turns → t ≡ get_or turns i t → AreWishesOf versions request [] turns
+    → IsWishOf versions request (chosen_in (turns_of versions (take (i + 1) turns))) t
+wish_at_turn versions request turns i t lt is h = subst (λ (n : ℕ). IsWishOf versions request (chosen_in (turns_of versions (take n turns))) t) (sym (add-one i)) (wish_suc versions request [] turns i t lt is h)
+
+accepts : (versions : List Version) (request : List Line) (chosen : Set) (wish : Option (ℕ × VersionNo)) → IsAccepted versions request chosen wish → Accepts request chosen (option_map (wish_at versions) wish)
+accepts versions request chosen None h = tt
+accepts versions request chosen (Some w) h = (subst (λ (v : Version). line_at request w.0 ≡ Some (Wish v)) (sym (numbered versions w.1 h.0.0 h.0.1)) h.0.2, h.1)
+
+turn_accepts : (versions : List Version) (request : List Line) (chosen : Set) (t : Turn) → IsWishOf versions request chosen t → Accepts request chosen (accepted_by (turn_of versions t))
+turn_accepts versions request chosen (turn.Chose wish more) h = accepts versions request chosen wish h
+turn_accepts versions request chosen (turn.LeftOut wish step) h = tt
+
+pub all_accepted : (versions : List Version) (request : List Line) (chosen : Set) (turns : List Turn) → AreWishesOf versions request chosen turns → AllAccepted request chosen (turns_of versions turns)
+all_accepted versions request chosen [] h = tt
+all_accepted versions request chosen (t ∷ turns) h =
+    (turn_accepts versions request (chosen ++ chosen_by (turn_of versions t)) t h.0, all_accepted versions request (chosen ++ chosen_by (turn_of versions t)) turns h.1)
+
+-- What the turns up to turn i list.
+pub record ListsTurns (catalogue request : List Line) (turns : List Turn) (i : ℕ) (x : Listing) : Type 0 where
+  pub listing : IsListing catalogue request x (chosen_in (turns_of (listed catalogue) (take i turns)))
+  pub turns_listed : AreTurns catalogue request [] [] (turns_of (listed catalogue) (take i turns)) (answers_in catalogue x)
+
+pub lists_more : (catalogue request : List Line) (turns : List Turn) (i : ℕ) (t : Turn) (before after : Listing) → i < length turns → t ≡ get_or turns i t → ListsTurns catalogue request turns i before
+    → TakesTurn catalogue request (chosen_in (turns_of (listed catalogue) (take (i + 1) turns))) (turn_of (listed catalogue) t) before after → ListsTurns catalogue request turns (i + 1) after
+lists_more catalogue request turns i t before after lt is h took =
+    let vs = listed catalogue in
+    let next = turns_next vs turns i t lt is in
+    record {
+      listing = took.listing;
+      turns_listed = subst (λ (ts : List order.Turn). AreTurns catalogue request [] [] ts (answers_in catalogue after)) (sym next)
+          (subst (AreTurns catalogue request [] [] (turns_of vs (take i turns) ++ turn_of vs t ∷ [])) (sym took.more)
+          (turns_more catalogue request [] [] (turns_of vs (take i turns)) (answers_in catalogue before) (turn_of vs t) took.others h.turns_listed
+          (subst (λ (ts : List order.Turn). IsOneTurn catalogue request (chosen_in ts) (entries_in catalogue before) (turn_of vs t) took.others) next took.is_turn)));
+    }
+
+-- an element that is there, whatever the default
+pub any_default : {X : Type 0} (xs : List X) (i : ℕ) (d e : X) → i < length xs → get_or xs i d ≡ get_or xs i e
+any_default [] i d e lt = absurd (omega (arith, lt))
+any_default (x ∷ xs) zero d e lt = refl
+any_default (x ∷ xs) (suc i) d e lt = any_default xs i d e (omega (arith, lt))

@@ -1,0 +1,124 @@
+-- What the first turns list, and what stands above a wish that is left out.
+use Rattle.std.proofs.Common.{◌≡◌, ◌↔◌, ℕ, Bool, true, false, if◌then◌else◌, List, [], ◌∷◌, ◌++◌, Option, Some, None, refl, sym, ap, subst, ◌∙◌, append_assoc}
+use Rattle.std.specs.Prelude.{Contains, ⊤}
+use Rattle.std.proofs.lemmas.List.{append-nil}
+use Rattle.resolvo_text.specs.Line.{Version, Line}
+use Rattle.resolvo_text.specs.Matches.{Set, is_member}
+use Rattle.resolvo_catalogue_core.specs.Answers.{Wished, Answer, Entry, LeftOut, entries_of}
+use Rattle.resolve_order.specs.Order.{Turn, Chose, LeavesOut, AreInOrder, chosen_by, chosen_in, wish_entry, IsTurn, AreTurns, wishes_in, AreReached}
+use Rattle.resolve_order.proofs.TurnLemmas.{AllAccepted, after_both, exact_entries}
+
+-- ---- the first turns
+
+-- What the first turns list, and then what the others do.
+pub record AreParts (catalogue request : List Line) (chosen entries : Set) (front back : List Turn) (answers : List Answer) : Type 0 where
+  pub first : List Answer
+  pub rest : List Answer
+  pub all : answers ≡ first ++ rest
+  pub before : AreTurns catalogue request chosen entries front first
+  pub after : AreTurns catalogue request (chosen ++ chosen_in front) (entries ++ entries_of first) back rest
+
+pub turns_parted : (catalogue request : List Line) (chosen entries : Set) (front back : List Turn) (answers : List Answer) → AreTurns catalogue request chosen entries (front ++ back) answers → AreParts catalogue request chosen entries front back answers
+turns_parted catalogue request chosen entries [] back answers h = record {
+  first = [];
+  rest = answers;
+  all = refl;
+  before = refl;
+  after = subst (λ (set : Set). AreTurns catalogue request set (entries ++ []) back answers) (sym (append-nil chosen)) (subst (λ (set : Set). AreTurns catalogue request chosen set back answers) (sym (append-nil entries)) h);
+}
+turns_parted catalogue request chosen entries (t ∷ front) back answers h =
+    let r = turns_parted catalogue request (chosen ++ chosen_by t) (entries ++ entries_of h.0) front back h.1 h.4 in
+    let those : (entries ++ entries_of h.0) ++ entries_of r.first ≡ entries ++ entries_of (h.0 ++ r.first) = sym (after_both entries h.0 r.first) in
+    record {
+      first = h.0 ++ r.first;
+      rest = r.rest;
+      all = h.2 ∙ ap (λ (xs : List Answer). h.0 ++ xs) r.all ∙ sym (append_assoc h.0 r.first r.rest);
+      before = (h.0, r.first, refl, h.3, r.before);
+      after = subst (λ (set : Set). AreTurns catalogue request set (entries ++ entries_of (h.0 ++ r.first)) back r.rest) (append_assoc chosen (chosen_by t) (chosen_in front))
+          (subst (λ (set : Set). AreTurns catalogue request ((chosen ++ chosen_by t) ++ chosen_in front) set back r.rest) those r.after);
+    }
+
+pub accepted_parted : (request : List Line) (chosen : Set) (front back : List Turn) → AllAccepted request chosen (front ++ back) → AllAccepted request chosen front
+accepted_parted request chosen [] back h = tt
+accepted_parted request chosen (t ∷ front) back h = (h.0, accepted_parted request (chosen ++ chosen_by t) front back h.1)
+
+-- Where what the first turns chose is reached by their wishes, what they list is exactly that.
+pub exact_before : (catalogue request : List Line) (front back : List Turn) (answers : List Answer) (h : AreTurns catalogue request [] [] (front ++ back) answers) → AllAccepted request [] (front ++ back) → AreReached catalogue request (chosen_in front) (wishes_in front)
+    → (v : Version) → Contains (chosen_in front) v ↔ Contains (entries_of (turns_parted catalogue request [] [] front back answers h).first) v
+exact_before catalogue request front back answers h accepted reached =
+    exact_entries catalogue request front (turns_parted catalogue request [] [] front back answers h).first (turns_parted catalogue request [] [] front back answers h).before (accepted_parted request [] front back accepted) reached
+
+-- ---- a wish that is left out
+
+-- no wish is left out
+abbrev AreEntries : List Answer → Type 0
+AreEntries [] = ⊤
+AreEntries (Entry v reason ∷ answers) = AreEntries answers
+AreEntries (LeftOut v n step ∷ answers) = ⊥
+
+order_entries : (catalogue request : List Line) (chosen entries : Set) (answers : List Answer) → AreInOrder catalogue request chosen entries answers → AreEntries answers
+order_entries catalogue request chosen entries [] h = tt
+order_entries catalogue request chosen entries (Entry v reason ∷ answers) h = order_entries catalogue request chosen (entries ++ v ∷ []) answers h.1
+order_entries catalogue request chosen entries (LeftOut v n step ∷ answers) h = absurd h
+
+both_entries : (one two : List Answer) → AreEntries one → AreEntries two → AreEntries (one ++ two)
+both_entries [] two a b = b
+both_entries (Entry v reason ∷ one) two a b = both_entries one two a b
+both_entries (LeftOut v n step ∷ one) two a b = absurd a
+
+wish_entries : (wish : Option (ℕ × Version)) (entries : Set) → AreEntries (wish_entry wish entries)
+wish_entries None entries = tt
+wish_entries (Some w) entries = by_test (is_member w.1 entries)
+  where
+    by_test : (b : Bool) → AreEntries (if b then [] else Entry w.1 (Wished w.0) ∷ [])
+    by_test true = tt
+    by_test false = tt
+
+turn_entries : (catalogue request : List Line) (chosen entries : Set) (wish : Option (ℕ × Version)) (answers : List Answer) → IsTurn catalogue request chosen entries wish answers → AreEntries answers
+turn_entries catalogue request chosen entries wish answers turn =
+    subst AreEntries (sym turn.wish_first) (both_entries (wish_entry wish entries) turn.others (wish_entries wish entries) (order_entries catalogue request chosen (entries ++ entries_of (wish_entry wish entries)) turn.others turn.in_order))
+
+-- entries stand above a wish that is left out
+entries_above : (first rest above below : List Answer) (v : Version) (n step : ℕ) → AreEntries first → first ++ rest ≡ above ++ LeftOut v n step ∷ below → (more : List Answer) × (above ≡ first ++ more) × (rest ≡ more ++ LeftOut v n step ∷ below)
+entries_above [] rest above below v n step are is = (above, refl, is)
+entries_above (Entry w reason ∷ first) rest [] below v n step are is = absurd cc
+entries_above (Entry w reason ∷ first) rest (a ∷ above) below v n step are is =
+    let head : a ≡ Entry w reason = cc in
+    let tail : first ++ rest ≡ above ++ LeftOut v n step ∷ below = cc in
+    let r = entries_above first rest above below v n step are tail in
+    (r.0, ap (λ (x : Answer). x ∷ above) head ∙ ap (λ (xs : List Answer). Entry w reason ∷ xs) r.1, r.2)
+entries_above (LeftOut w m k ∷ first) rest above below v n step are is = absurd are
+
+-- The line is that of a turn, and the turns before it list what stands above.
+pub record IsTurnsLine (catalogue request : List Line) (chosen entries : Set) (turns : List Turn) (above : List Answer) (v : Version) (n step : ℕ) : Type 0 where
+  pub front : List Turn
+  pub back : List Turn
+  pub turn : turns ≡ front ++ LeavesOut (n, v) step ∷ back
+  pub before : AreTurns catalogue request chosen entries front above
+
+pub left_out_by : (catalogue request : List Line) (chosen entries : Set) (turns : List Turn) (answers above below : List Answer) (v : Version) (n step : ℕ) → AreTurns catalogue request chosen entries turns answers → answers ≡ above ++ LeftOut v n step ∷ below
+    → IsTurnsLine catalogue request chosen entries turns above v n step
+left_out_by catalogue request chosen entries [] answers [] below v n step h is = absurd cc
+left_out_by catalogue request chosen entries [] answers (a ∷ above) below v n step h is = absurd cc
+left_out_by catalogue request chosen entries (Chose wish more ∷ turns) answers above below v n step h is =
+    let p = entries_above h.0 h.1 above below v n step (turn_entries catalogue request (chosen ++ more) entries wish h.0 h.3) (sym h.2 ∙ is) in
+    let r = left_out_by catalogue request (chosen ++ more) (entries ++ entries_of h.0) turns h.1 p.0 below v n step h.4 p.2 in
+    record { front = Chose wish more ∷ r.front; back = r.back; turn = ap (λ (ts : List Turn). Chose wish more ∷ ts) r.turn; before = (h.0, p.0, p.1, h.3, r.before) }
+left_out_by catalogue request chosen entries (LeavesOut wish k ∷ turns) answers [] below v n step h is =
+    let one : LeftOut wish.1 wish.0 k ∷ h.1 ≡ LeftOut v n step ∷ below = sym (ap (λ (xs : List Answer). xs ++ h.1) h.3) ∙ sym h.2 ∙ is in
+    let versions : wish.1 ≡ v = cc in
+    let lines : wish.0 ≡ n = cc in
+    let steps : k ≡ step = cc in
+    let same : wish ≡ (n, v) = (λ i. (lines i, versions i)) in
+    record { front = []; back = turns; turn = (λ i. LeavesOut (same i) (steps i) ∷ turns); before = refl }
+left_out_by catalogue request chosen entries (LeavesOut wish k ∷ turns) answers (a ∷ above) below v n step h is =
+    let one : LeftOut wish.1 wish.0 k ∷ h.1 ≡ a ∷ (above ++ LeftOut v n step ∷ below) = sym (ap (λ (xs : List Answer). xs ++ h.1) h.3) ∙ sym h.2 ∙ is in
+    let head : a ≡ LeftOut wish.1 wish.0 k = cc in
+    let tail : h.1 ≡ above ++ LeftOut v n step ∷ below = cc in
+    let r = left_out_by catalogue request (chosen ++ []) (entries ++ entries_of h.0) turns h.1 above below v n step h.4 tail in
+    record {
+      front = LeavesOut wish k ∷ r.front;
+      back = r.back;
+      turn = ap (λ (ts : List Turn). LeavesOut wish k ∷ ts) r.turn;
+      before = (h.0, above, ap (λ (x : Answer). x ∷ above) head ∙ ap (λ (xs : List Answer). xs ++ above) (sym h.3), h.3, r.before);
+    }

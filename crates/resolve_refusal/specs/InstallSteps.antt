@@ -1,0 +1,55 @@
+-- Steps in an install report: those by which wishes are left out, and those that these follow from.
+use Rattle.std.specs.Prelude.{◌≡◌, ◌⊎◌, ◌<◌, ℕ, suc, true, false, List, ◌++◌, length, Option, Some, None, Contains, slice_get}
+use Rattle.std.specs.List.{AllZip}
+use Rattle.std.proofs.Common.{Vec, Global}
+use Rattle.resolvo_text.specs.Line.{Version, Line}
+use Rattle.resolvo_text.specs.Matches.{Set}
+use Rattle.resolvo_catalogue_core.specs.Listed.{listed}
+use Rattle.resolvo_state.specs.declared.atom.ProofAtom.TheVariants as atom
+use Rattle.resolvo_proof.specs.declared.step.ProofLiteral.{ProofLiteral}
+use Rattle.resolvo_proof.specs.declared.step.ProofStep.{ProofStep}
+use Rattle.resolvo_proof.specs.declared.step.ProofStep.TheVariants.{Derived}
+use Rattle.resolvo_catalogue.specs.Ids.{Ids, NameId, SolvableId}
+use Rattle.resolvo_report.specs.Value.{Step}
+use Rattle.resolvo_report.specs.Text.{IsStep}
+use Rattle.resolvo_checker.specs.Proof.{may_stand, every_line, IsProof}
+use Rattle.resolvo_judge.specs.Refusal.{step_bars}
+use Rattle.resolve_refusal.specs.RefusedReport.{version_at}
+use Rattle.resolve_refusal.specs.Lines.{IsFree}
+use Rattle.resolve_refusal.specs.Refusal.{IsToldBy, IsLockStep, IsExclusionStep}
+
+-- The literal is `not` of a version that is the wish or an entry.
+abbrev pub DeniesOneOf : List Line → Set → Version → ProofLiteral NameId SolvableId → Type 0
+DeniesOneOf catalogue entries wish l = (s : SolvableId) × (l.atom ≡ atom.Solvable s) × (l.positive ≡ false) × ((version_at catalogue s ≡ wish) ⊎ Contains entries (version_at catalogue s))
+
+-- Step k, from 0, is derived, and each of its literals is such a one.
+pub record IsBarAt (catalogue : List Line) (steps : List (ProofStep NameId SolvableId)) (entries : Set) (wish : Version) (k : ℕ) : Type 0 where
+  pub literals : Vec (ProofLiteral NameId SolvableId) Global
+  pub causes : Vec ℕ Global
+  pub derived : slice_get steps k ≡ Some (Derived literals causes)
+  pub denies : (l : ProofLiteral NameId SolvableId) → Contains literals.items l → DeniesOneOf catalogue entries wish l
+
+-- The steps tell those of a proof, one by one. Each has a text, and may stand after those before it where each line may be
+-- rested on. One that denies a wish and entries bars the wish, whatever steps follow.
+pub record AreInstallSteps (catalogue request : List Line) (ids : Ids) (steps : List (ProofStep NameId SolvableId)) (written : List Step) : Type 0 where
+  pub each : AllZip (IsToldBy catalogue ids request) steps written
+  pub few : length written < 4294967296
+  pub texts : (n : ℕ) (s : Step) → slice_get written n ≡ Some s → IsStep s
+  pub stand : IsProof catalogue request every_line every_line written
+  pub bar : (others : List Step) (entries : Set) (wish : Version) (k : ℕ) → IsBarAt catalogue steps entries wish k → step_bars catalogue request (written ++ others) entries wish (suc k) ≡ true
+
+-- The step bars the version by a line that locks another version of its package, else by one that excludes it.
+abbrev pub IsBarredBefore : List Line → Version → Step → Type 0
+IsBarredBefore catalogue v step = (line : ℕ) × (IsLockStep catalogue v step line ⊎ IsExclusionStep catalogue v step line)
+
+-- The step bars the version so. It has a text, may stand anywhere in an install report, and bars the version as a wish there.
+pub record IsBarringStep (catalogue : List Line) (v : Version) (step : Step) : Type 0 where
+  pub bars : IsBarredBefore catalogue v step
+  pub text : IsStep step
+  pub stands : (request : List Line) (earlier : List Step) → may_stand catalogue request every_line every_line earlier step ≡ true
+  pub leaves_out : (request : List Line) (steps : List Step) (entries : Set) (k : ℕ) → slice_get steps k ≡ Some step → step_bars catalogue request steps entries v (suc k) ≡ true
+
+-- The version of this number is listed and so barred; or it isn't listed, or nothing locks it out or excludes it.
+abbrev pub IsBarringStepOf : List Line → ℕ → Option Step → Type 0
+IsBarringStepOf catalogue number (Some step) = (v : Version) × (slice_get (listed catalogue) number ≡ Some v) × IsBarringStep catalogue v step
+IsBarringStepOf catalogue number None = (v : Version) → slice_get (listed catalogue) number ≡ Some v → IsFree catalogue v

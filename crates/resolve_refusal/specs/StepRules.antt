@@ -1,0 +1,57 @@
+-- By which line and case a need is told, by which line a limit and a bar, and by which literals a derived clause.
+use Rattle.std.specs.Prelude.{◌≡◌, ◌⊎◌, ℕ, ⊤, IsTrue, IfSome, List, map, Option, Some, None, unwrap_or, slice_get}
+use Rattle.std.specs.Option.{option_map}
+use Rattle.resolvo_text.specs.Line.{Version, Line}
+use Rattle.resolvo_text.specs.Line as says
+use Rattle.resolvo_text.specs.Spelling.{IsNumber}
+use Rattle.resolvo_catalogue_core.specs.Listed.{listed}
+use Rattle.resolvo_catalogue_core.specs.declared.rule.VersionNo.{VersionNo}
+use Rattle.resolvo_pool_core.specs.declared.id.VersionSetId.{VersionSetId}
+use Rattle.resolvo_pool_core.specs.declared.requirement.Requirement.{Requirement}
+use Rattle.resolvo_proof.specs.declared.step.ProofStep.{ProofStep}
+use Rattle.resolvo_proof.specs.declared.step.ProofStep.TheVariants.{Rule, Derived}
+use Rattle.resolvo_proof.specs.declared.step.ProofRule.TheVariants.{Needs, GateOf, Shared, Limit, Outside, Locked, Excluded, Digit, AtLeastOne}
+use Rattle.resolvo_catalogue.specs.Ids.{Ids, NameId, SolvableId}
+use Rattle.resolvo_catalogue.specs.Known.{spec_at, alternatives_at}
+use Rattle.resolvo_report.specs.Value.{Literal, Step}
+use Rattle.resolvo_report.specs.Value as told
+use Rattle.resolvo_report.specs.Text.{are_rising, literal_text}
+use Rattle.resolve_refusal.specs.RefusedReport.{version_at, place_at, number_of}
+use Rattle.resolve_refusal.specs.declared.lines.NeedLine.{NeedLine}
+use Rattle.resolve_refusal.specs.Lines.{IsLeast, text_of, IsLineOf, SaysAt, IsNeedLine, IsFree, IsUnknownLine}
+use Rattle.resolve_refusal.specs.Refusal.{AreLiterals, HaveForm, IsBarredBy}
+
+-- the version of a solvable by its number
+abbrev pub version_no : SolvableId → VersionNo
+version_no s = record { 0 = s.raw }
+
+-- The line is the first of the place that says this; 0 stands for none.
+abbrev pub IsFirstLine : List Line → List Line → Option VersionNo → Line → ℕ → Type 0
+IsFirstLine catalogue request place said line = (found : Option ℕ) × (line ≡ unwrap_or found 0) × IsLeast found (λ n. IsLineOf catalogue request place n × SaysAt (text_of catalogue request place) said n)
+
+-- The line is the first of the parent's that needs the requirement in this case, with its first such case; or none does.
+abbrev pub IsNeedLineOf : List Line → List Line → Ids → Option SolvableId → Requirement → List VersionSetId → Option NeedLine → Type 0
+IsNeedLineOf catalogue request ids parent r case found = IsNeedLine (IsLineOf catalogue request (option_map version_no parent)) (text_of catalogue request (option_map version_no parent)) (alternatives_at ids r) (map (spec_at ids) case) found
+
+-- The step tells the need by that line and case, where there is one.
+abbrev pub TellsNeed : List Line → List Line → Ids → Option SolvableId → Requirement → List VersionSetId → Step → Type 0
+TellsNeed catalogue request ids parent r case step = (found : Option NeedLine) × IsNeedLineOf catalogue request ids parent r case found × IfSome found (λ l. IsNumber l.case × (step ≡ told.Need (place_at catalogue parent) l.line l.case))
+
+-- The step bars the solvable's version by a line that does; or none does.
+abbrev pub TellsBar : List Line → SolvableId → Step → Type 0
+TellsBar catalogue s step = (v : Version) → slice_get (listed catalogue) s.raw ≡ Some v → IsBarredBy catalogue v step ⊎ (IsFree catalogue v × IsUnknownLine catalogue v None)
+
+-- What a step tells beside `IsWritten`: a need and a limit by the first line that states it, a bar by a line that is one,
+-- a place by a number that has a text, and a derived clause by its literals in the order of their texts.
+abbrev pub Tells : List Line → List Line → Ids → ProofStep NameId SolvableId → Step → Type 0
+Tells catalogue request ids (Rule (Needs parent r case)) step = TellsNeed catalogue request ids parent r case.items step
+Tells catalogue request ids (Rule (GateOf s r)) step = (line : ℕ) × (step ≡ told.Gate (version_at catalogue s) line) × IsFirstLine catalogue request (Some (version_no s)) (says.Needs (alternatives_at ids r) None) line
+Tells catalogue request ids (Rule (Shared r)) step = ⊤
+Tells catalogue request ids (Rule (Limit parent v None)) step = (line : ℕ) × (step ≡ told.Limit (place_at catalogue parent) line) × IsFirstLine catalogue request (option_map version_no parent) (says.Limits (spec_at ids v)) line
+Tells catalogue request ids (Rule (Limit parent v (Some s))) step = (line : ℕ) × (step ≡ told.LimitBars (place_at catalogue parent) line (version_at catalogue s)) × IsFirstLine catalogue request (option_map version_no parent) (says.Limits (spec_at ids v)) line
+Tells catalogue request ids (Rule (Outside v s)) step = ⊤
+Tells catalogue request ids (Rule (Locked locked s)) step = TellsBar catalogue s step
+Tells catalogue request ids (Rule (Excluded s reason)) step = TellsBar catalogue s step
+Tells catalogue request ids (Rule (Digit s place bit)) step = IsNumber place
+Tells catalogue request ids (Rule (AtLeastOne n s)) step = ⊤
+Tells catalogue request ids (Derived literals causes) step = (written : List Literal) × (step ≡ told.Derive written (map number_of causes.items)) × (HaveForm catalogue ids literals.items → AreLiterals catalogue ids literals.items written) × IsTrue (are_rising (map literal_text written))

@@ -1,0 +1,93 @@
+-- What is listed is what the trail chooses, in its order.
+use Rattle.std.proofs.Common.{◌≡◌, ◌<◌, Bool, cond, reverse, List, [], ◌∷◌, ◌++◌, length, Some, None, refl, sym, ◌∙◌, ap, subst, append_assoc, append-nil, arith}
+use Rattle.std.specs.Prelude.{slice_get, Contains}
+use Rattle.std.proofs.lemmas.List.{reverse-reverse}
+use Rattle.std.proofs.lemmas.List.Sums.{fold-append}
+use Rattle.std.proofs.lemmas.Option.{slice_get_within}
+use Rattle.indexmap.specs.IndexSet.{insert_key, insert_all}
+use Rattle.resolvo_store_core.specs.AtMostOne.{IsFrontOf}
+use Rattle.resolvo_store_core.specs.declared.decision.Entry.{Entry}
+use Rattle.resolvo_sat.specs.Entries.{made_true}
+use Rattle.resolvo_sat.specs.State.{count_of, history, clauses_of}
+use Rattle.resolvo_soundness.specs.Encoding.{IsExact}
+use Rattle.resolvo_soundness.proofs.Lists.{contains_first, contains_later, contained_any}
+use Rattle.resolvo_state.specs.Chosen.{AreChosen, choices}
+use Rattle.resolvo_state.specs.SolverState.{IsCoding}
+use Rattle.resolvo_state.specs.Keys.{AreOnce, IsPlace}
+use Rattle.resolvo_state.proofs.ChosenLemmas.{choices_chosen}
+use Rattle.resolvo_state.proofs.Choices.{choices_once, choices_kept, choices_go_on}
+use Rattle.resolvo_state.proofs.KeyLemmas.{pushed_is}
+use Rattle.resolvo_state.proofs.Origins.{count_is}
+use Rattle.resolvo_state.proofs.Positions.{get_front, get_last}
+use Rattle.resolvo_encoder.specs.declared.encoder.Encoder.{Encoder}
+use Rattle.resolvo.specs.Turns.{on_trail}
+use Rattle.resolvo.specs.Wished.{KeepsTrail}
+
+-- ---- what is put into a list
+
+-- a value that comes behind others in a list without repeats does not stand among these
+fresh : {X : Type 0} (keys : List X) (x : X) (xs : List X) → AreOnce (keys ++ x ∷ xs) → IsPlace keys x None
+fresh keys x xs once k at =
+    let low : k < length keys = slice_get_within keys k x at in
+    let here : slice_get ((keys ++ x ∷ []) ++ xs) (length keys) ≡ Some x = get_front (keys ++ x ∷ []) xs (length keys) x (get_last keys x) in
+    let same : k ≡ length keys = once k (length keys) x (get_front keys (x ∷ xs) k x at) (subst (λ (ys : List _). slice_get ys (length keys) ≡ Some x) (append_assoc keys (x ∷ []) xs) here) in
+    omega arith
+
+-- one value more is put into it
+pub inserted_more : {X : Type 0} (same : X → X → Bool) (keys members more before after : List X) (x : X) → more ≡ members ++ x ∷ [] → before ≡ insert_all same keys members → after ≡ insert_key same before x → after ≡ insert_all same keys more
+inserted_more same keys members more before after x is so put = put ∙ ap (λ (ks : List _). insert_key same ks x) so ∙ sym (ap (insert_all same keys) is ∙ fold-append (insert_key same) keys members (x ∷ []))
+
+module _ {X : Type 0} (same : X → X → Bool) (exact : IsExact same) where
+  -- what stands there is not put there again
+  inserted_there : (keys xs : List X) → ((x : X) → Contains xs x → Contains keys x) → insert_all same keys xs ≡ keys
+  inserted_there keys [] there = refl
+  inserted_there keys (x ∷ xs) there =
+      let one : insert_key same keys x ≡ keys = ap (λ b. cond b keys (keys ++ x ∷ [])) (contained_any (same x) x keys (there x (contains_first x x xs refl)) (exact.own x)) in
+      ap (λ (ks : List X). insert_all same ks xs) one ∙ inserted_there keys xs (λ y h. there y (contains_later y x xs h))
+
+  -- what does not comes behind the others
+  inserted_fresh : (keys xs : List X) → AreOnce (keys ++ xs) → insert_all same keys xs ≡ keys ++ xs
+  inserted_fresh keys [] once = sym (append-nil keys)
+  inserted_fresh keys (x ∷ xs) once =
+      let one : insert_key same keys x ≡ keys ++ x ∷ [] = pushed_is same x keys (exact.one x) (fresh keys x xs once) in
+      ap (λ (ks : List X). insert_all same ks xs) one ∙ inserted_fresh (keys ++ x ∷ []) xs (subst AreOnce (sym (append_assoc keys (x ∷ []) xs)) once) ∙ append_assoc keys (x ∷ []) xs
+
+  -- a list that goes on from what is there, and holds nothing twice, takes its place
+  pub all_inserted : (keys xs : List X) → AreOnce xs → IsFrontOf keys xs → insert_all same keys xs ≡ xs
+  all_inserted keys xs once (more, is) =
+      ap (insert_all same keys) is ∙ fold-append (insert_key same) keys keys more ∙ ap (λ (ks : List X). insert_all same ks more) (inserted_there keys keys (λ x h. h)) ∙ inserted_fresh keys more (subst AreOnce is once) ∙ sym is
+
+-- ---- what the trail chooses
+
+module _ {N S : Type 0} where
+  pub trail_chosen : (e : Encoder N S) → AreChosen e.coding.atoms.keys (made_true (history e.coding.search)) (on_trail e)
+  trail_chosen e = subst (λ (es : List Entry). AreChosen e.coding.atoms.keys (made_true (history e.coding.search)) (choices e.coding.atoms.keys es)) (reverse-reverse e.coding.search.tracker.trail) (choices_chosen e.coding.atoms.keys (history e.coding.search))
+
+  pub listed_are_chosen : (e : Encoder N S) (members : List S) → members ≡ on_trail e → AreChosen e.coding.atoms.keys (made_true (history e.coding.search)) members
+  listed_are_chosen e members is = subst (λ (xs : List S). AreChosen e.coding.atoms.keys (made_true (history e.coding.search)) xs) (sym is) (trail_chosen e)
+
+  -- none of it twice
+  pub trail_once : (e : Encoder N S) → IsCoding e.coding → AreOnce (on_trail e)
+  trail_once e coding = subst (λ (es : List Entry). AreOnce (choices e.coding.atoms.keys es)) (reverse-reverse e.coding.search.tracker.trail) (choices_once e.coding.atoms.keys (count_of e.coding.search) (clauses_of e.coding.search) (history e.coding.search) coding.distinct coding.ready.state.trail)
+
+  -- variables that came later stand on no earlier trail
+  trail_kept : (a b : Encoder N S) → IsCoding a.coding → IsFrontOf a.coding.atoms.keys b.coding.atoms.keys → choices b.coding.atoms.keys a.coding.search.tracker.trail ≡ on_trail a
+  trail_kept a b coding front =
+      let back : reverse (history a.coding.search) ≡ a.coding.search.tracker.trail = reverse-reverse a.coding.search.tracker.trail in
+      ap (choices b.coding.atoms.keys) (sym back) ∙ choices_kept a.coding.atoms.keys b.coding.atoms.keys (count_of a.coding.search) (clauses_of a.coding.search) (history a.coding.search) coding.ready.state.trail (count_is a.coding coding) front ∙ ap (choices a.coding.atoms.keys) back
+
+  -- a trail that is what it was chooses what it did
+  pub trail_stays : (a b : Encoder N S) → IsCoding a.coding → KeepsTrail a b → history b.coding.search ≡ history a.coding.search → on_trail b ≡ on_trail a
+  trail_stays a b coding keeps same =
+      let one : b.coding.search.tracker.trail ≡ a.coding.search.tracker.trail = sym (reverse-reverse b.coding.search.tracker.trail) ∙ ap reverse same ∙ reverse-reverse a.coding.search.tracker.trail in
+      ap (choices b.coding.atoms.keys) one ∙ trail_kept a b coding keeps.atoms
+
+  -- where the trail went on, what is listed of it is what it chooses
+  pub listed_on_trail : (same : S → S → Bool) → IsExact same → (a b : Encoder N S) (old new : List S) → IsCoding a.coding → IsCoding b.coding → KeepsTrail a b → old ≡ on_trail a → new ≡ insert_all same old (on_trail b) → new ≡ on_trail b
+  listed_on_trail same exact a b old new coding after keeps at listed =
+      let goes_on : IsFrontOf (choices b.coding.atoms.keys a.coding.search.tracker.trail) (on_trail b) = choices_go_on b.coding.atoms.keys a.coding.search.tracker.trail b.coding.search.tracker.trail keeps.ends in
+      listed ∙ all_inserted same exact old (on_trail b) (trail_once b after) (subst (λ (xs : List S). IsFrontOf xs (on_trail b)) (trail_kept a b coding keeps.atoms ∙ sym at) goes_on)
+
+  -- so is what is listed first
+  pub first_on_trail : (same : S → S → Bool) → IsExact same → (e : Encoder N S) (old new : List S) → IsCoding e.coding → old ≡ [] → new ≡ insert_all same old (on_trail e) → new ≡ on_trail e
+  first_on_trail same exact e old new coding none listed = listed ∙ all_inserted same exact old (on_trail e) (trail_once e coding) (on_trail e, ap (λ (xs : List S). xs ++ on_trail e) (sym none))

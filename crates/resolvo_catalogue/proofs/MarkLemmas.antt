@@ -1,0 +1,218 @@
+-- The marks of versions, line by line.
+use Rattle.std.proofs.Common.{◌≡◌, inl, inr, ℕ, suc, ◌<◌, ◌≤◌, ◌==◌, true, false, List, [], ◌∷◌, ◌++◌, ◌+◌, take, get_or, length, Option, Some, None, refl, sym, ap, subst, ◌∙◌, arith}
+use Rattle.std.specs.Prelude.{Contains, slice_get, option_to_list, map}
+use Rattle.std.specs.List.{slice_set}
+use Rattle.std.proofs.lemmas.Bool.{cases_Bool, false≢true}
+use Rattle.std.proofs.lemmas.Bool.Decides.{Decides-eqb}
+use Rattle.std.proofs.lemmas.Option.{slice_get_within}
+use Rattle.std.specs.List.{flat_map}
+use Rattle.std.proofs.lemmas.List.{append-nil, take_more}
+use Rattle.resolvo_catalogue.proofs.TellLemmas.{last_piece}
+use Rattle.resolvo_catalogue_core.specs.declared.rule.VersionNo.{VersionNo}
+use Rattle.resolvo_catalogue_core.specs.Questions.{is_rule, AreAll, LineIs, IsFavour, FavoursAt}
+use Rattle.std.proofs.lemmas.List.Elements.{Contains-append_left, Contains-push, Contains-push_cases}
+use Rattle.resolvo_text.specs.Line.{Version, Spec, Cond, Line, Needs, Limits, Unknown, Lock, Favour, Exclude}
+use Rattle.resolvo_catalogue_core.specs.Listed.{AreDistinct}
+use Rattle.resolvo_pool_core.specs.declared.id.StringId.{StringId}
+use Rattle.resolvo_catalogue.specs.Ids.{Ids, IsWord, Grows}
+use Rattle.resolvo_catalogue.specs.Marked.{IsExclusion, IsMarked, AreMarked}
+use Rattle.resolvo_catalogue.specs.declared.candidate_flags.CandidateFlags.{CandidateFlags}
+use Rattle.resolvo_catalogue.proofs.Places.{set_at, set_others, set_length, no_element, first_element, later_element, element_cases}
+use Rattle.std.proofs.lemmas.List.Concat.{flat_map-cons}
+use Rattle.resolvo_catalogue_core.specs.Grammar.{line_at}
+use Rattle.resolvo_catalogue_core.proofs.PlaceLemmas.{at_from_contains, contains_from_line}
+
+pub one_some : {X : Type 0} {a b : X} → Some a ≡ Some b → a ≡ b
+one_some e = cc
+
+-- ---- one version
+
+exclusion_stays : (a b : Ids) → Grows a b → (lines : List Line) (v : Version) (o : Option StringId) → IsExclusion a lines v o → IsExclusion b lines v o
+exclusion_stays a b grows lines v None h = h
+exclusion_stays a b grows lines v (Some w) h = (h.0, h.1, grows.words _ _ h.2)
+
+exclusion_same : (ids : Ids) (lines : List Line) (line : Line) (v : Version) → ((word : List ℕ) → line ≡ Exclude v word → ⊥) → (o : Option StringId) → IsExclusion ids lines v o → IsExclusion ids (lines ++ line ∷ []) v o
+exclusion_same ids lines line v other None h = λ word has. elim (Contains-push_cases lines line (Exclude v word) has) [ inl old ↦ h word old | inr e ↦ other word e ]
+exclusion_same ids lines line v other (Some w) h = (h.0, Contains-append_left lines (line ∷ []) _ h.1, h.2)
+
+module _ (ids : Ids) (lines favours : List Line) (v : Version) (m : CandidateFlags) (h : IsMarked ids lines favours v m) where
+  -- a line that names another version, or none
+  pub mark_same : (line : Line) → (line ≡ Lock v → ⊥) → ((word : List ℕ) → line ≡ Exclude v word → ⊥) → IsMarked ids (lines ++ line ∷ []) favours v m
+  mark_same line not_lock not_exclude = record {
+    locked = (λ e. Contains-append_left lines (line ∷ []) _ (h.locked.0 e), λ has. elim (Contains-push_cases lines line (Lock v) has) [ inl old ↦ h.locked.1 old | inr e ↦ absurd (not_lock e) ]);
+    favored = h.favored;
+    excluded = exclusion_same ids lines line v not_exclude m.excluded h.excluded;
+  }
+
+  mark_locked : IsMarked ids (lines ++ Lock v ∷ []) favours v (record m { locked = true })
+  mark_locked = record {
+    locked = (λ e. Contains-push lines (Lock v), λ has. refl);
+    favored = h.favored;
+    excluded = exclusion_same ids lines (Lock v) v (λ word e. cc) m.excluded h.excluded;
+  }
+
+  mark_excluded : (word : List ℕ) (w : StringId) → IsWord ids w word → IsMarked ids (lines ++ Exclude v word ∷ []) favours v (record m { excluded = Some w })
+  mark_excluded word w is = record {
+    locked = (λ e. Contains-append_left lines (Exclude v word ∷ []) _ (h.locked.0 e), λ has. elim (Contains-push_cases lines (Exclude v word) (Lock v) has) [ inl old ↦ h.locked.1 old | inr e ↦ absurd cc ]);
+    favored = h.favored;
+    excluded = (word, Contains-push lines (Exclude v word), is);
+  }
+
+-- ---- all versions
+
+pub marked_stays : (a b : Ids) → Grows a b → (lines favours : List Line) (versions : List Version) (marks : List CandidateFlags) → AreMarked a lines favours versions marks → AreMarked b lines favours versions marks
+marked_stays a b grows lines favours versions marks h = record {
+  as_many = h.as_many;
+  each = λ k m v e f. let own = h.each k m v e f in record { locked = own.locked; favored = own.favored; excluded = exclusion_stays a b grows lines v m.excluded own.excluded };
+}
+
+module _ (ids : Ids) (lines favours : List Line) (versions : List Version) (marks : List CandidateFlags) (distinct : AreDistinct versions) (h : AreMarked ids lines favours versions marks) where
+  pub marked_other : (line : Line) → ((v : Version) → line ≡ Lock v → ⊥) → ((v : Version) (word : List ℕ) → line ≡ Exclude v word → ⊥) → AreMarked ids (lines ++ line ∷ []) favours versions marks
+  marked_other line not_lock not_exclude = record {
+    as_many = h.as_many;
+    each = λ k m v e f. mark_same ids lines favours v m (h.each k m v e f) line (not_lock v) (not_exclude v);
+  }
+
+  -- one version is marked by a line that names no other
+  one_marked : (line : Line) (k : ℕ) (m x : CandidateFlags) (v : Version) → slice_get marks k ≡ Some m → slice_get versions k ≡ Some v → IsMarked ids (lines ++ line ∷ []) favours v x
+      → ((w : Version) → line ≡ Lock w → v ≡ w) → ((w : Version) (word : List ℕ) → line ≡ Exclude w word → v ≡ w) → AreMarked ids (lines ++ line ∷ []) favours versions (slice_set marks k x)
+  one_marked line k m x v at there own locks excludes = record {
+    as_many = set_length marks k x ∙ h.as_many;
+    each = λ j n w e f. elim (cases_Bool (k == j)) [
+      | inl here ↦
+          let same : k ≡ j = (Decides-eqb k j).0 here in
+          let is_x : x ≡ n = one_some (sym (set_at marks k m x at) ∙ subst (λ (i : ℕ). slice_get (slice_set marks k x) i ≡ Some n) (sym same) e) in
+          let is_v : v ≡ w = one_some (sym there ∙ subst (λ (i : ℕ). slice_get versions i ≡ Some w) (sym same) f) in
+          subst (λ (y : CandidateFlags). IsMarked ids (lines ++ line ∷ []) favours w y) is_x (subst (λ (u : Version). IsMarked ids (lines ++ line ∷ []) favours u x) is_v own)
+      | inr apart ↦
+          let other : k ≡ j → ⊥ = λ same. false≢true (sym apart ∙ (Decides-eqb k j).1 same) in
+          let not_v : v ≡ w → ⊥ = λ is. other (distinct v k j there (f ∙ ap (λ (u : Version). Some u) (sym is))) in
+          mark_same ids lines favours w n (h.each j n w (sym (set_others marks k x j other) ∙ e) f) line (λ is. not_v (locks w is)) (λ word is. not_v (excludes w word is))
+    ];
+  }
+
+  pub marked_lock : (line : Line) (k : ℕ) (m : CandidateFlags) (v : Version) → line ≡ Lock v → slice_get marks k ≡ Some m → slice_get versions k ≡ Some v → AreMarked ids (lines ++ line ∷ []) favours versions (slice_set marks k (record m { locked = true }))
+  marked_lock line k m v says at there = rw says (one_marked (Lock v) k m _ v at there (mark_locked ids lines favours v m (h.each k m v at there)) (λ w e. cc) (λ w word e. absurd cc))
+
+  pub marked_exclude : (line : Line) (k : ℕ) (m : CandidateFlags) (v : Version) (word : List ℕ) (w : StringId) → line ≡ Exclude v word → IsWord ids w word → slice_get marks k ≡ Some m → slice_get versions k ≡ Some v
+      → AreMarked ids (lines ++ line ∷ []) favours versions (slice_set marks k (record m { excluded = Some w }))
+  marked_exclude line k m v word w says is at there = rw says (one_marked (Exclude v word) k m _ v at there (mark_excluded ids lines favours v m (h.each k m v at there) word w is) (λ u e. absurd cc) (λ u other e. cc))
+
+  -- a listed version has its marks
+  pub not_past : {P : Type 0} (k : ℕ) (v : Version) → slice_get versions k ≡ Some v → length marks ≤ k → P
+  not_past k v at past = absurd (omega (arith, slice_get_within versions k v at, h.as_many, past))
+
+-- ---- favours
+
+-- the lines that favour these versions
+abbrev pub favoured_by : List Version → ℕ × VersionNo → List Line
+favoured_by versions f = map Favour (option_to_list (slice_get versions f.1.0))
+
+abbrev pub favour_lines : List Version → List (ℕ × VersionNo) → List Line
+favour_lines versions fs = flat_map (favoured_by versions) fs
+
+mark_other_favour : (ids : Ids) (lines favours : List Line) (v w : Version) (m : CandidateFlags) → (w ≡ v → ⊥) → IsMarked ids lines favours v m → IsMarked ids lines (favours ++ Favour w ∷ []) v m
+mark_other_favour ids lines favours v w m other h = record {
+  locked = h.locked;
+  favored = (λ e. Contains-append_left favours (Favour w ∷ []) _ (h.favored.0 e), λ has. elim (Contains-push_cases favours (Favour w) (Favour v) has) [ inl old ↦ h.favored.1 old | inr e ↦ absurd (other cc) ]);
+  excluded = h.excluded;
+}
+
+pub marked_favour : (ids : Ids) (lines favours : List Line) (versions : List Version) (marks : List CandidateFlags) → AreDistinct versions → AreMarked ids lines favours versions marks → (k : ℕ) (m : CandidateFlags) (v : Version) → slice_get marks k ≡ Some m → slice_get versions k ≡ Some v
+    → AreMarked ids lines (favours ++ Favour v ∷ []) versions (slice_set marks k (record m { favored = true }))
+marked_favour ids lines favours versions marks distinct h k m v at there =
+    let x : CandidateFlags = record m { favored = true } in
+    let own : IsMarked ids lines (favours ++ Favour v ∷ []) v x = (let old = h.each k m v at there in record { locked = old.locked; favored = (λ e. Contains-push favours (Favour v), λ has. refl); excluded = old.excluded }) in
+    record {
+      as_many = set_length marks k x ∙ h.as_many;
+      each = λ j n w e f. elim (cases_Bool (k == j)) [
+        | inl here ↦
+            let same : k ≡ j = (Decides-eqb k j).0 here in
+            let is_x : x ≡ n = one_some (sym (set_at marks k m x at) ∙ subst (λ (i : ℕ). slice_get (slice_set marks k x) i ≡ Some n) (sym same) e) in
+            let is_v : v ≡ w = one_some (sym there ∙ subst (λ (i : ℕ). slice_get versions i ≡ Some w) (sym same) f) in
+            subst (λ (y : CandidateFlags). IsMarked ids lines (favours ++ Favour v ∷ []) w y) is_x (subst (λ (u : Version). IsMarked ids lines (favours ++ Favour v ∷ []) u x) is_v own)
+        | inr apart ↦
+            let other : k ≡ j → ⊥ = λ same. false≢true (sym apart ∙ (Decides-eqb k j).1 same) in
+            mark_other_favour ids lines favours w v n (λ is. other (distinct v k j there (f ∙ ap (λ (u : Version). Some u) (sym is)))) (h.each j n w (sym (set_others marks k x j other) ∙ e) f)
+      ];
+    }
+
+-- what favours a version of the list stands among all lines
+from_favours : (lines : List Line) (versions : List Version) (fs : List (ℕ × VersionNo)) → ((i : ℕ) (f : ℕ × VersionNo) → slice_get fs i ≡ Some f → FavoursAt versions lines f) → (l : Line) → Contains (favour_lines versions fs) l → Contains lines l
+from_favours lines versions [] are l h = absurd (no_element l h)
+from_favours lines versions (f ∷ fs) are l h =
+    let own = are 0 f refl in
+    let pieces : favour_lines versions (f ∷ fs) ≡ Favour own.0 ∷ favour_lines versions fs = flat_map-cons (favoured_by versions) f fs ∙ ap (λ (o : Option Version). map Favour (option_to_list o) ++ favour_lines versions fs) own.1 in
+    elim (element_cases (Favour own.0) (favour_lines versions fs) l (subst (λ (ls : List Line). Contains ls l) pieces h)) [
+      | inl same ↦ subst (λ (x : Line). Contains lines x) same (contains_from_line lines f.0 (Favour own.0) own.2)
+      | inr more ↦ from_favours lines versions fs (λ i g e. are (suc i) g e) l more
+    ]
+
+-- a line that favours stands in the list
+in_favours : (lines : List Line) (versions : List Version) (fs : List (ℕ × VersionNo)) (n : ℕ) (v : Version) → ((i : ℕ) (f : ℕ × VersionNo) → slice_get fs i ≡ Some f → FavoursAt versions lines f) → Contains (map (λ (f : ℕ × VersionNo). f.0) fs) n → line_at lines n ≡ Some (Favour v)
+    → Contains (favour_lines versions fs) (Favour v)
+in_favours lines versions [] n v are has at = absurd (no_element n has)
+in_favours lines versions (f ∷ fs) n v are has at =
+    let own = are 0 f refl in
+    let pieces : favour_lines versions (f ∷ fs) ≡ Favour own.0 ∷ favour_lines versions fs = flat_map-cons (favoured_by versions) f fs ∙ ap (λ (o : Option Version). map Favour (option_to_list o) ++ favour_lines versions fs) own.1 in
+    elim (element_cases f.0 (map (λ (g : ℕ × VersionNo). g.0) fs) n has) [
+      | inl same ↦
+          let is : Favour own.0 ≡ Favour v = one_some (sym own.2 ∙ ap (λ (k : ℕ). line_at lines k) same ∙ at) in
+          rw pieces (subst (λ (x : Line). Contains (Favour own.0 ∷ favour_lines versions fs) x) is (first_element (Favour own.0) (favour_lines versions fs)))
+      | inr more ↦ rw pieces (later_element (Favour own.0) (favour_lines versions fs) (Favour v) (in_favours lines versions fs n v (λ i g e. are (suc i) g e) more at))
+    ]
+
+-- the lines that favour are those among all lines
+pub all_favours : (ids : Ids) (lines : List Line) (versions : List Version) (marks : List CandidateFlags) (fs : List (ℕ × VersionNo)) → AreAll (map (λ f. f.0) fs) (λ n. LineIs lines n IsFavour) → ((i : ℕ) (f : ℕ × VersionNo) → slice_get fs i ≡ Some f → FavoursAt versions lines f)
+    → AreMarked ids lines (favour_lines versions fs) versions marks → AreMarked ids lines lines versions marks
+all_favours ids lines versions marks fs all are h = record {
+  as_many = h.as_many;
+  each = λ k m v e f. let own = h.each k m v e f in record {
+    locked = own.locked;
+    favored = (
+      λ is. from_favours lines versions fs are (Favour v) (own.favored.0 is),
+      λ has. let at = at_from_contains lines (Favour v) has in own.favored.1 (in_favours lines versions fs (suc at.0) v are ((all.all (suc at.0)).1 (Favour v, at.1, tt)) at.1),
+    );
+    excluded = own.excluded;
+  };
+}
+
+-- the lines that favour, one more
+pub favours_next : (versions : List Version) (fs : List (ℕ × VersionNo)) (i : ℕ) (d : ℕ × VersionNo) (v : Version) → i < length fs → slice_get versions (get_or fs i d).1.0 ≡ Some v
+    → favour_lines versions (take (i + 1) fs) ≡ favour_lines versions (take i fs) ++ Favour v ∷ []
+favours_next versions fs i d v within at =
+    ap (λ (gs : List (ℕ × VersionNo)). favour_lines versions gs) (take_more fs i d within)
+    ∙ last_piece (favoured_by versions) (take i fs) (get_or fs i d)
+    ∙ ap (λ (o : Option Version). favour_lines versions (take i fs) ++ map Favour (option_to_list o)) at
+
+-- a line that names no version to lock or exclude
+pub names_none_need : (line : Line) (ss : List Spec) (c : Option Cond) → line ≡ Needs ss c → ((v : Version) → line ≡ Lock v → ⊥) × ((v : Version) (word : List ℕ) → line ≡ Exclude v word → ⊥)
+names_none_need line ss c e = rw e (λ v f. cc, λ v word f. cc)
+
+pub names_none_limit : (line : Line) (s : Spec) → line ≡ Limits s → ((v : Version) → line ≡ Lock v → ⊥) × ((v : Version) (word : List ℕ) → line ≡ Exclude v word → ⊥)
+names_none_limit line s e = rw e (λ v f. cc, λ v word f. cc)
+
+pub names_none_unknown : (line : Line) (reason : List ℕ) → line ≡ Unknown reason → ((v : Version) → line ≡ Lock v → ⊥) × ((v : Version) (word : List ℕ) → line ≡ Exclude v word → ⊥)
+names_none_unknown line reason e = rw e (λ v f. cc, λ v word f. cc)
+
+-- a line that states no rule names none
+names_none : (line : Line) → is_rule line ≡ false → ((v : Version) → line ≡ Lock v → ⊥) × ((v : Version) (word : List ℕ) → line ≡ Exclude v word → ⊥)
+names_none line e = (λ v is. absurd (false≢true (sym e ∙ ap is_rule is)), λ v word is. absurd (false≢true (sym e ∙ ap is_rule is)))
+
+pub marked_none : (ids : Ids) (lines before favours : List Line) (versions : List Version) (marks : List CandidateFlags) (n : ℕ) → AreDistinct versions → AreMarked ids before favours versions marks → ((l : Line) → line_at lines n ≡ Some l → is_rule l ≡ false) → AreMarked ids (before ++ option_to_list (line_at lines n)) favours versions marks
+marked_none ids lines before favours versions marks n distinct h none = go (line_at lines n) none
+  where
+    go : (o : Option Line) → ((l : Line) → o ≡ Some l → is_rule l ≡ false) → AreMarked ids (before ++ option_to_list o) favours versions marks
+    go None none = rw (append-nil before) h
+    go (Some l) none = let named = names_none l (none l refl) in marked_other ids before favours versions marks distinct h l named.0 named.1
+
+-- no line marks a version that has no mark
+pub unmarked_each : (ids : Ids) (versions : List Version) (marks : List CandidateFlags) → length marks ≡ length versions → ((k : ℕ) (m : CandidateFlags) → slice_get marks k ≡ Some m → m ≡ record { locked = false; favored = false; excluded = None }) → AreMarked ids [] [] versions marks
+unmarked_each ids versions marks long none = record {
+  as_many = long;
+  each = λ k m v e f. rw (none k m e) (record {
+    locked = (λ is. absurd (false≢true is), λ has. absurd (no_element _ has));
+    favored = (λ is. absurd (false≢true is), λ has. absurd (no_element _ has));
+    excluded = λ word has. no_element _ has;
+  });
+}

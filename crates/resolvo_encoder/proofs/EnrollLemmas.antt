@@ -1,0 +1,289 @@
+-- What is offered is registered, and becomes candidates.
+use Rattle.std.proofs.Common.{◌≡◌, ℕ, ◌<◌, ◌≤◌, ◌⊎◌, inl, inr, Bool, true, false, List, [], ◌∷◌, length, Some, refl, sym, ◌∙◌, ap, subst, arith, Vec, Global, is_some, Option, None}
+use Rattle.std.specs.Prelude.{Contains}
+use Rattle.std.proofs.lemmas.Bool.{both_ways}
+use Rattle.resolvo_pool_core.specs.declared.requirement.Requirement.{Requirement}
+use Rattle.resolvo_pool_core.specs.ByRequirement.{slot_of}
+use Rattle.resolvo_pool_core.specs.Provider.{listed}
+use Rattle.resolvo_pool_core.specs.RuleKeeping.{Packages, Rules, IsLawful, is_in, meets}
+use Rattle.resolvo_store_core.specs.AtMostOne.{IsFrontOf, digit}
+use Rattle.resolvo_store_core.specs.Lists.{has_candidates, candidates_in, items_or_none, FixesCandidates, FixesDisjunction}
+use Rattle.resolvo_store_core.specs.declared.lists.Candidate.{Candidate}
+use Rattle.resolvo_store_core.specs.declared.lists.Disjunction.{Disjunction}
+use Rattle.resolvo_store_core.specs.declared.lists.FixedLists.{FixedLists}
+use Rattle.resolvo_decide.specs.Needs.{literals_in, is_met}
+use Rattle.resolvo_decide.proofs.FitLemmas.{fits_more}
+use Rattle.resolvo_store_core.specs.declared.decision.Entry.{Entry}
+use Rattle.resolvo_store_core.specs.Clauses.{candidate_literals}
+use Rattle.resolvo_soundness.specs.Encoding.{IsExact, Rule}
+use Rattle.resolvo_packages.specs.declared.package_source.Offered.{Offered}
+use Rattle.resolvo_packages.specs.PackageSource.{offered_solvables, AreOffered}
+use Rattle.resolvo_state.specs.declared.atom.ProofAtom.TheVariants.{Solvable, Gate}
+use Rattle.resolvo_state.specs.declared.solver_state.SolverState.{SolverState}
+use Rattle.resolvo_state.specs.declared.registry.Registry.{Registry}
+use Rattle.resolvo_state.specs.declared.clause_kind.Stated.TheVariants as Says
+use Rattle.resolvo_state.specs.Atoms.{StandsFor}
+use Rattle.resolvo_state.specs.SolverState.{Grows}
+use Rattle.resolvo_state.specs.Registered.{IsTracked, IsRegistered}
+use Rattle.resolvo_state.proofs.Growth.{grows_same, trail_same, stands_grow, rules_grow}
+use Rattle.resolvo_state.proofs.Positions.{front_same, front_equal}
+use Rattle.resolvo_state.proofs.Rules.{rule_stated}
+use Rattle.resolvo_encoder.specs.Encoded.{IsCandidate, AreCandidates, Asks, IsEncoding}
+use Rattle.resolvo_encoder.specs.Encoded as E
+use Rattle.resolvo_encoder.specs.Helped.{Admits}
+use Rattle.resolvo_encoder.specs.Steps.{IsBuilt, Extends, IsOfferedAs, RegistersAll, KeepsLists, AddsCandidates, IsListed, Enrols, Fixes}
+use Rattle.resolvo_encoder.specs.declared.encoder.Encoder.{Encoder}
+use Rattle.resolvo_encoder.proofs.BuildLemmas.{seen_same}
+use Rattle.resolvo_encoder.proofs.PickLemmas.{candidates_grow}
+use Rattle.resolvo_encoder.proofs.RequireLemmas.{Came, Carries, carried, candidate_grows, noted_grows, cases_keep, fix_at, fix_other, some_one, offer_named, offer_meets, meets_offer, meets_listed, registered_split, queued_keeps, gates_keep, NoneAsks, fixed_keeps, asked_keeps, within_keeps, encoded_keeps, cased_keeps, bar_keeps, digit_came, extends_then, extends_same}
+
+no_slot : {X : Type 0} (o : Option X) → is_some o ≡ false → o ≡ None
+no_slot None h = refl
+no_slot (Some x) h = cc
+
+-- the registry and the coding went on
+abbrev pub enrolled : {N S : Type 0} → Encoder N S → Registry N → SolverState N S → Encoder N S
+enrolled old t c = record old { registry = t; coding = c }
+
+-- the lists went on
+abbrev pub relisted : {N S : Type 0} → Encoder N S → FixedLists N → Encoder N S
+relisted old ls = record old { lists = ls }
+
+module _ {N S : Type 0} (same : S → S → Bool) (exact : IsExact same) (p : Packages N S) (root : Rules) (lawful : IsLawful p) where
+  -- What is offered is registered, where clauses say that those whose package a case names are there.
+  pub registers_keep : (offered : List (Offered N S)) (given : List (Candidate N)) (old : Encoder N S) (t : Registry N) (c : SolverState N S) → IsEncoding same p root old → ((o : Offered N S) → Contains offered o → IsListed same p o)
+      → ((o : Offered N S) → Contains offered o → Contains old.noted.helped.keys o.name → E.rules_of old (Rule.is_there o.name o.solvable)) → RegistersAll offered given old.registry old.coding t c → IsEncoding same p root (enrolled old t c)
+  registers_keep offered given old t c e fits said all = carried same exact p root old (enrolled old t c) e carries
+    where
+      -- what is registered is so as one of its package's candidates
+      registered_new : (n : N) (s : S) → IsRegistered t c n s → (n ≡ p.package_of s) × (is_in same p (listed (p.candidates_of (p.package_of s))) s ≡ true)
+      registered_new n s a = elim (registered_split same exact p root lawful offered given old.registry t old.coding c e.tied all n s a) [
+        | inl b ↦ (let own = e.named n s b in (own, e.candidates s (subst (λ m. IsRegistered old.registry old.coding m s) own b)))
+        | inr (o, h, is, one) ↦ (let (named, candidate) = fits o h in let own : n ≡ p.package_of s = is ∙ named ∙ ap p.package_of one in
+            (own, subst (λ m. is_in same p (listed (p.candidates_of m)) s ≡ true) (sym is ∙ own) (subst (λ x. is_in same p (listed (p.candidates_of o.name)) x ≡ true) one candidate)))
+      ]
+
+      came : (n : ℕ) → length old.coding.search.clauses ≤ n → n < length c.search.clauses → Came same exact p root (enrolled old t c) n
+      came n low high =
+          let (name, d) = all.digits n low high in
+          let (own, candidate) = registered_new name d.solvable d.registered in
+          digit_came same exact p root lawful old (enrolled old t c) name n d own candidate
+
+      none : NoneAsks same exact p root lawful old (enrolled old t c)
+      none n q low high at a =
+          let (name, d) = all.digits n low high in
+          let one : Rule.has_digit d.solvable d.bit (digit d.place d.bit) ≡ q = some_one (Rule.has_digit d.solvable d.bit (digit d.place d.bit)) q (sym (rule_stated c.stated.items n (Says.Digit name d.solvable d.place d.bit) d.stated) ∙ at) in
+          subst Asks (sym one) a
+
+      helped : (n : N) (s : S) → Contains old.noted.helped.keys n → IsRegistered t c n s → E.rules_of (enrolled old t c) (Rule.is_there n s)
+      helped n s h a = rules_grow old.coding c all.grows (Rule.is_there n s) (elim (registered_split same exact p root lawful offered given old.registry t old.coding c e.tied all n s a) [
+        | inl b ↦ e.cases.helped n s h b
+        | inr (o, stands, is, one) ↦ subst (λ m. E.rules_of old (Rule.is_there m s)) (sym is) (subst (λ x. E.rules_of old (Rule.is_there o.name x)) one (said o stands (subst (λ m. Contains old.noted.helped.keys m) is h)))
+      ])
+
+      candidate : (n : N) (s : S) (x : Candidate N) → IsCandidate old n s x → IsCandidate (enrolled old t c) n s x
+      candidate n s x h = candidate_grows same exact p root old (enrolled old t c) n s x all.grows all.keeps h
+
+      carries : Carries same exact p root old (enrolled old t c)
+      carries = record {
+        coding = all.coding;
+        grows = all.grows;
+        trail = all.trail;
+        tied = all.tied;
+        keeps = all.keeps;
+        registered = λ n s a. inr (registered_new n s a);
+        came = came;
+        lists = λ q k. refl;
+        listed = λ q x a. (let (s, b, m) = e.listed q x a in (s, candidate (p.package_of s) s x b, m));
+        offered = λ q s k m. (let (x, there, b) = e.offered q s k m in (x, there, candidate (p.package_of s) s x b));
+        fixed = fixed_keeps same exact p root lawful old (enrolled old t c) e all.coding all.grows (λ q k. k) none;
+        queued = λ q a. queued_keeps same exact p root lawful old (enrolled old t c) e all.grows (front_same old.lists.disjunctions) q a;
+        asked = asked_keeps same exact p root lawful old (enrolled old t c) e all.coding all.grows refl none;
+        gates = gates_keep same exact p root lawful old (enrolled old t c) e all.grows refl;
+        bar = bar_keeps same exact p root lawful old (enrolled old t c) e all.coding all.grows none;
+        noted = noted_grows same exact p root old (enrolled old t c) all.grows refl e.noted;
+        wishes = refl;
+        cases = cases_keep same exact p root old (enrolled old t c) e.cases all.grows refl refl refl (cased_keeps same exact p root lawful old (enrolled old t c) e all.coding all.grows refl all.keeps none) helped;
+        within = within_keeps same exact p root lawful old (enrolled old t c) e refl refl;
+        encoded = encoded_keeps same exact p root lawful old (enrolled old t c) e all.grows refl refl refl;
+      }
+
+  -- The lists went on: a requirement with a clause has its candidates still, and those are the solvables that meet it.
+  relists : (old : Encoder N S) (ls : FixedLists N) → IsEncoding same p root old → IsFrontOf old.lists.disjunctions ls.disjunctions → KeepsLists old (relisted old ls)
+      → ((r : Requirement) (c : Candidate N) → Contains (candidates_in ls r) c → (s : S) × IsCandidate old (p.package_of s) s c × (meets same p r s ≡ true))
+      → ((r : Requirement) (s : S) → has_candidates ls r ≡ true → meets same p r s ≡ true → (c : Candidate N) × Contains (candidates_in ls r) c × IsCandidate old (p.package_of s) s c)
+      → IsEncoding same p root (relisted old ls)
+  relists old ls e front keeps listed_new offered_new = carried same exact p root old (relisted old ls) e carries
+    where
+      candidate : (n : N) (s : S) (x : Candidate N) → IsCandidate old n s x → IsCandidate (relisted old ls) n s x
+      candidate n s x h = record { positive = h.positive; stands = h.stands; tracked = h.tracked }
+
+      carries : Carries same exact p root old (relisted old ls)
+      carries = record {
+        coding = e.coding;
+        grows = grows_same old.coding;
+        trail = trail_same old.coding;
+        tied = e.tied;
+        keeps = λ m u h. h;
+        registered = λ n s a. inl a;
+        came = λ n low high. absurd (omega arith);
+        lists = keeps;
+        listed = λ q x a. (let (s, b, m) = listed_new q x a in (s, candidate (p.package_of s) s x b, m));
+        offered = λ q s k m. (let (x, there, b) = offered_new q s k m in (x, there, candidate (p.package_of s) s x b));
+        fixed = λ q has. (let old_has : has_candidates old.lists q ≡ true = e.fixed q has in ap is_some (keeps q old_has) ∙ old_has);
+        queued = λ q a. queued_keeps same exact p root lawful old (relisted old ls) e (grows_same old.coding) front q a;
+        asked = e.asked;
+        gates = e.gates;
+        bar = e.bar;
+        noted = noted_grows same exact p root old (relisted old ls) (grows_same old.coding) refl e.noted;
+        wishes = refl;
+        cases = cases_keep same exact p root old (relisted old ls) e.cases (grows_same old.coding) refl refl refl e.cases.cased e.cases.helped;
+        within = e.within;
+        encoded = encoded_keeps same exact p root lawful old (relisted old ls) e (grows_same old.coding) refl refl refl;
+      }
+
+  -- a disjunction came
+  pub disjunction_keeps : (number : ℕ) (given : Disjunction) (old : Encoder N S) (ls : FixedLists N) → IsEncoding same p root old → FixesDisjunction number given old.lists ls → IsEncoding same p root (relisted old ls)
+  disjunction_keeps number given old ls e f = relists old ls e (given ∷ [], f.put) (λ r h. slots r)
+      (λ r c a. e.listed r c (subst (λ x. Contains (items_or_none x) c) (slots r) a))
+      (λ r s h m. (let (c, there, fits) = e.offered r s (sym (ap is_some (slots r)) ∙ h) m in (c, subst (λ x. Contains (items_or_none x) c) (sym (slots r)) there, fits)))
+    where
+      slots : (r : Requirement) → slot_of ls.candidates r ≡ slot_of old.lists.candidates r
+      slots r = ap (λ cs. slot_of cs r) f.candidates
+
+  -- what is registered became the requirement's candidates
+  pub candidates_keep : (r : Requirement) (offered : List (Offered N S)) (given : Vec (Candidate N) Global) (old : Encoder N S) (ls : FixedLists N) → IsEncoding same p root old → AreOffered same p r offered → has_candidates old.lists r ≡ false
+      → ((o : Offered N S) → Contains offered o → (c : Candidate N) × Contains given.items c × IsOfferedAs old.registry old.coding o c)
+      → ((c : Candidate N) → Contains given.items c → (o : Offered N S) × Contains offered o × IsOfferedAs old.registry old.coding o c)
+      → FixesCandidates r given old.lists ls → IsEncoding same p root (relisted old ls) × (has_candidates ls r ≡ true)
+  candidates_keep r offered given old ls e h fresh each all fixes = (
+    relists old ls e (front_equal old.lists.disjunctions ls.disjunctions fixes.disjunctions)
+        (λ q k. elim (slots q) [ inl is ↦ absurd (both_ways _ fresh (subst (λ y. has_candidates old.lists y ≡ true) is k)) | inr is ↦ is ]) listed_new offered_new,
+    ap is_some here,
+  )
+    where
+      here : slot_of ls.candidates r ≡ Some given
+      here = fix_at r given old.lists ls fixes
+
+      slots : (q : Requirement) → (q ≡ r) ⊎ (slot_of ls.candidates q ≡ slot_of old.lists.candidates q)
+      slots q = fix_other r q given old.lists ls fixes
+
+      given_candidate : (c : Candidate N) (o : Offered N S) → Contains offered o → IsOfferedAs old.registry old.coding o c → IsCandidate old (p.package_of o.solvable) o.solvable c
+      given_candidate c o a fits = record { positive = fits.positive; stands = fits.stands; tracked = subst (λ n. IsTracked old.registry n c.literal.variable) (offer_named same exact p root lawful r offered o h a) fits.tracked }
+
+      listed_new : (q : Requirement) (c : Candidate N) → Contains (candidates_in ls q) c → (s : S) × IsCandidate old (p.package_of s) s c × (meets same p q s ≡ true)
+      listed_new q c a = elim (slots q) [
+        | inl is ↦
+            let (o, b, fits) = all c (subst (λ x. Contains (items_or_none x) c) (ap (slot_of ls.candidates) is ∙ here) a) in
+            (o.solvable, given_candidate c o b fits, subst (λ x. meets same p x o.solvable ≡ true) (sym is) (offer_meets same exact p root lawful r offered o h b))
+        | inr is ↦ e.listed q c (subst (λ x. Contains (items_or_none x) c) is a)
+      ]
+
+      offered_new : (q : Requirement) (s : S) → has_candidates ls q ≡ true → meets same p q s ≡ true → (c : Candidate N) × Contains (candidates_in ls q) c × IsCandidate old (p.package_of s) s c
+      offered_new q s k m = elim (slots q) [
+        | inl is ↦
+            let (o, b, one) = meets_offer same exact p root lawful r offered s h (subst (λ x. meets same p x s ≡ true) is m) in
+            let (c, there, fits) = each o b in
+            (c, subst (λ x. Contains (items_or_none x) c) (sym (ap (slot_of ls.candidates) is ∙ here)) there, subst (λ x. IsCandidate old (p.package_of x) x c) (sym one) (given_candidate c o b fits))
+        | inr is ↦
+            let (c, there, fits) = e.offered q s (sym (ap is_some is) ∙ k) m in
+            (c, subst (λ x. Contains (items_or_none x) c) (sym is) there, fits)
+      ]
+
+  -- what is offered for a requirement became its candidates
+  pub fixes_keep : (r : Requirement) (offered : List (Offered N S)) (old new : Encoder N S) → IsEncoding same p root old → AreOffered same p r offered → Fixes same r offered old new → IsEncoding same p root new × (has_candidates new.lists r ≡ true)
+  fixes_keep r offered old new e h f = elim f.fixed [
+    | inl (has, is) ↦ (subst (λ (x : Encoder N S). IsEncoding same p root x) (sym is) e, subst (λ (x : Encoder N S). has_candidates x.lists r ≡ true) (sym is) has)
+    | inr (fresh, middle, given, enrols, fixes, is) ↦
+        let before = enrols.encoding p root lawful e fits in
+        let (keeps, has) = candidates_keep r offered given middle new.lists before h (ap (λ ls. has_candidates ls r) enrols.lists ∙ fresh) enrols.each enrols.all fixes in
+        (subst (λ (x : Encoder N S). IsEncoding same p root x) (sym is) keeps, has)
+  ]
+    where
+      fits : (o : Offered N S) → Contains offered o → IsListed same p o
+      fits o a =
+          let named = offer_named same exact p root lawful r offered o h a in
+          (named, subst (λ n. is_in same p (listed (p.candidates_of n)) o.solvable ≡ true) (sym named) (meets_listed same exact p root lawful r o.solvable (offer_meets same exact p root lawful r offered o h a)))
+
+module _ {N S : Type 0} (same : S → S → Bool) where
+  built_enrolls : (offered : List (Offered N S)) (given : List (Candidate N)) (old : Encoder N S) (t : Registry N) (c : SolverState N S) → IsBuilt old → RegistersAll offered given old.registry old.coding t c → IsBuilt (enrolled old t c)
+  built_enrolls offered given old t c b all = record {
+    coding = all.coding;
+    tied = all.tied;
+    candidates = λ r x a. (let (positive, (s, stands)) = b.candidates r x a in (positive, (s, stands_grow old.coding c x.literal.variable (Solvable s) all.grows stands)));
+    gates = λ r v at. stands_grow old.coding c v (Gate r) all.grows (b.gates r v at);
+    within = b.within;
+    needs = b.needs;
+    seen = seen_same old (enrolled old t c) b all.trail refl;
+  }
+
+  -- what is offered is admitted, and then registered
+  pub enrols : IsExact same → (offered : List (Offered N S)) (given : List (Candidate N)) (old middle : Encoder N S) (t : Registry N) (c : SolverState N S) → Admits same offered old middle → RegistersAll offered given middle.registry middle.coding t c
+      → Enrols same offered given old (enrolled middle t c)
+  enrols exact offered given old middle t c admits all = record {
+    built = built_enrolls offered given middle t c admits.says.built all;
+    extends = extends_then old middle (enrolled middle t c) admits.says.extends (record { grows = all.grows; trail = all.trail; wishes = refl; parents = refl; encoded = refl; deferred = refl; fired = refl });
+    lists = admits.says.lists;
+    helped = admits.says.helped;
+    keeps = λ m u h. all.keeps m u (subst (λ (r : Registry N). IsTracked r m u) (sym admits.says.registry) h);
+    each = all.each;
+    all = all.all;
+    ordered = all.ordered;
+    encoding = λ p root lawful e fits.
+        let (before, said) = admits.says.encoding p root lawful e (λ o h. fits o (admits.only o h)) in
+        registers_keep same exact p root lawful offered given middle t c before fits (λ o h named. said o (admits.each o h (subst (λ ks. Contains ks.keys o.name) admits.says.helped named))) all;
+  }
+
+  pub fixes_extend : (r : Requirement) (offered : List (Offered N S)) (old new : Encoder N S) → Fixes same r offered old new → Extends old new
+  fixes_extend r offered old new f = elim f.fixed [
+    | inl (has, is) ↦ subst (λ (x : Encoder N S). Extends old x) (sym is) (extends_same old)
+    | inr (fresh, middle, given, enrols, fixes, is) ↦ subst (λ (x : Encoder N S). Extends old x) (sym is)
+        (extends_then old middle (relisted middle new.lists) enrols.extends (record { grows = grows_same middle.coding; trail = trail_same middle.coding; wishes = refl; parents = refl; encoded = refl; deferred = refl; fired = refl }))
+  ]
+
+  -- what is offered for a requirement became its candidates, in its order, and then its candidates stayed
+  pub fixes_add : (r : Requirement) (offered : List (Offered N S)) (old middle new : Encoder N S) → Fixes same r offered old middle → Grows middle.coding new.coding → new.lists.candidates ≡ middle.lists.candidates → AddsCandidates r offered old new
+  fixes_add r offered old middle new f grows lists q has = elim f.fixed [
+    | inl (there, is) ↦ inl (ap (λ cs. slot_of cs q) lists ∙ ap (λ (x : Encoder N S). slot_of x.lists.candidates q) is)
+    | inr (fresh, enrolled_one, given, enrols, fixes, is) ↦ elim (fix_other r q given enrolled_one.lists middle.lists fixes) [
+      | inr stays ↦ inl (ap (λ cs. slot_of cs q) lists ∙ stays ∙ ap (λ ls. slot_of ls.candidates q) enrols.lists)
+      | inl own ↦
+          let here : slot_of new.lists.candidates q ≡ Some given = ap (λ cs. slot_of cs q) lists ∙ ap (slot_of middle.lists.candidates) own ∙ fix_at r given enrolled_one.lists middle.lists fixes in
+          let same_coding : enrolled_one.coding ≡ middle.coding = sym (ap (λ (x : Encoder N S). x.coding) is) in
+          inr (
+            own,
+            subst (λ x. AreCandidates new.coding.atoms.keys (items_or_none x) (offered_solvables offered)) (sym here)
+                (candidates_grow enrolled_one.coding new.coding given.items (offered_solvables offered) (subst (λ (c : SolverState N S). Grows c new.coding) (sym same_coding) grows) enrols.ordered),
+          )
+    ]
+  ]
+
+  -- the calls' ground stays where what is offered became candidates
+  pub built_fixes : (r : Requirement) (offered : List (Offered N S)) (old new : Encoder N S) → IsBuilt old → Fixes same r offered old new → IsBuilt new
+  built_fixes r offered old new b f = elim f.fixed [
+    | inl (has, is) ↦ subst (λ (x : Encoder N S). IsBuilt x) (sym is) b
+    | inr (fresh, middle, given, enrols, fixes, is) ↦ subst (λ (x : Encoder N S). IsBuilt x) (sym is) (record {
+      coding = enrols.built.coding;
+      tied = enrols.built.tied;
+      candidates = candidates_new middle given enrols.built fixes enrols.all;
+      gates = enrols.built.gates;
+      within = enrols.built.within;
+      needs = fits_more (literals_in middle.lists) (literals_in new.lists) middle.needs middle.queue (still_met middle given fixes (ap (λ ls. has_candidates ls r) enrols.lists ∙ fresh)) enrols.built.needs;
+      seen = enrols.built.seen;
+    })
+  ]
+    where
+      still_met : (middle : Encoder N S) (given : Vec (Candidate N) Global) → FixesCandidates r given middle.lists new.lists → has_candidates middle.lists r ≡ false → (q : Requirement) (es : List Entry) → is_met es (literals_in middle.lists q) ≡ true → is_met es (literals_in new.lists q) ≡ true
+      still_met middle given fixes fresh q es met = elim (fix_other r q given middle.lists new.lists fixes) [
+        | inl is ↦ absurd (both_ways (is_met es (candidate_literals (items_or_none (slot_of middle.lists.candidates q)))) (ap (λ x. is_met es (candidate_literals (items_or_none x))) (ap (slot_of middle.lists.candidates) is ∙ no_slot (slot_of middle.lists.candidates r) fresh)) met)
+        | inr is ↦ subst (λ x. is_met es (candidate_literals (items_or_none x)) ≡ true) (sym is) met
+      ]
+
+      candidates_new : (middle : Encoder N S) (given : Vec (Candidate N) Global) → IsBuilt middle → FixesCandidates r given middle.lists new.lists → ((c : Candidate N) → Contains given.items c → (o : Offered N S) × Contains offered o × IsOfferedAs middle.registry middle.coding o c)
+          → (q : Requirement) (c : Candidate N) → Contains (candidates_in new.lists q) c → (c.literal.positive ≡ true) × ((s : S) × StandsFor middle.coding.atoms.keys c.literal.variable (Solvable s))
+      candidates_new middle given built fixes all q c a = elim (fix_other r q given middle.lists new.lists fixes) [
+        | inl is ↦
+            let (o, there, fits) = all c (subst (λ x. Contains (items_or_none x) c) (ap (slot_of new.lists.candidates) is ∙ fix_at r given middle.lists new.lists fixes) a) in
+            (fits.positive, (o.solvable, fits.stands))
+        | inr is ↦ built.candidates q c (subst (λ x. Contains (items_or_none x) c) is a)
+      ]

@@ -1,0 +1,162 @@
+-- A wish is noted, and taken back.
+use Rattle.std.proofs.Common.{◌≡◌, ◌<◌, inl, inr, Bool, true, false, List, [], ◌∷◌, ◌++◌, length, Option, Some, None, Vec, Global, refl, sym, ◌∙◌, ap, subst, arith}
+use Rattle.std.proofs.lemmas.Bool.{both_ways}
+use Rattle.std.proofs.lemmas.List.{length_push, same_from_push}
+use Rattle.std.specs.Prelude.{Contains, option_to_list, IsSome}
+use Rattle.resolvo_pool_core.specs.declared.id.VariableId.{VariableId}
+use Rattle.resolvo_pool_core.specs.OnePass.{Literal}
+use Rattle.resolvo_pool_core.specs.RuleKeeping.{Packages, Rules}
+use Rattle.resolvo_store_core.specs.Signed.{Signed, has}
+use Rattle.resolvo_store_core.specs.Clauses.{yes}
+use Rattle.resolvo_store_core.specs.declared.decision.Entry.{Entry}
+use Rattle.resolvo_store_core.specs.declared.lists.Candidate.{Candidate}
+use Rattle.resolvo_sat.specs.Entries.{literal_of, made_true, StandsOn}
+use Rattle.resolvo_sat.specs.State.{history}
+use Rattle.resolvo_sat.proofs.Trails.{known_from_stands, stands_from_entry}
+use Rattle.resolvo_soundness.specs.Encoding.{IsExact, Atom, plus}
+use Rattle.resolvo_soundness.specs.Numbered.{meaning, known_of, AreCalledFor}
+use Rattle.resolvo_soundness.proofs.Lists.{contains_one, contains_left, contains_parts}
+use Rattle.resolvo_soundness.proofs.Members.{in_contained, contained_in}
+use Rattle.resolvo_packages.specs.declared.package_source.Offered.{Offered}
+use Rattle.resolvo_state.specs.declared.atom.ProofAtom.TheVariants.{Solvable}
+use Rattle.resolvo_state.specs.declared.solver_state.SolverState.{SolverState}
+use Rattle.resolvo_state.specs.declared.registry.Registry.{Registry}
+use Rattle.resolvo_state.specs.Atoms.{origin, StandsFor}
+use Rattle.resolvo_state.specs.Registered.{IsTracked, Registers}
+use Rattle.resolvo_state.proofs.Origins.{means_solvable}
+use Rattle.resolvo_encoder.specs.declared.encoder.Encoder.{Encoder}
+use Rattle.resolvo_encoder.specs.Encoded.{IsChosenFor, IsEncoding, Registered}
+use Rattle.resolvo_encoder.specs.Helped.{Admits}
+use Rattle.resolvo_encoder.proofs.CarryLemmas.{registers_none, registers_more}
+use Rattle.resolvo_encoder.proofs.EnrollLemmas.{enrolled, enrols}
+use Rattle.resolvo_encoder.proofs.TellLemmas.{built_noted}
+use Rattle.resolvo_encoder.specs.Steps.{IsBuilt, IsListed}
+use Rattle.resolvo_encoder.specs.SoftRequirement.{RegistersWish, Notes, IsUntaken, TakesBack}
+
+-- the encoding with other wishes
+abbrev pub rewished : {N S : Type 0} → Encoder N S → Vec S Global → Encoder N S
+rewished e ws = record e { noted = record e.noted { wishes = ws } }
+
+-- what stands on a trail is known
+on_known : (h : List Entry) (e : Entry) (older : List Entry) → StandsOn h e older → has (made_true h) (literal_of e) ≡ true
+on_known h e older stands = known_from_stands h (literal_of e) e.level (stands_from_entry h e older stands)
+
+module _ {N S : Type 0} (same : S → S → Bool) (exact : IsExact same) where
+  -- ---- a wish comes
+
+  -- a wish is registered as what is offered is
+  pub wish_registers : (one : Offered N S) (v : VariableId) (old middle : Encoder N S) (t : Registry N) (c : SolverState N S) → Admits same (one ∷ []) old middle → Registers one.name one.solvable v middle.registry middle.coding t c
+      → RegistersWish same one v old (enrolled middle t c)
+  wish_registers one v old middle t c admits came = record {
+    candidate = given;
+    enrols = enrols same exact (one ∷ []) (given ∷ []) old middle t c admits
+        (registers_more [] [] one given middle.registry middle.registry t middle.coding middle.coding c (registers_none middle.registry middle.coding admits.says.built.coding admits.says.built.tied) (record { literal = refl; registers = came }));
+    stands = came.stands;
+    tracked = came.registered;
+  }
+    where
+      given : Candidate N
+      given = record { literal = yes v; «package» = one.name }
+
+  -- The encoding is one of the packages still where the wishes are registered, and each choice is called for.
+  wishes_keep : (p : Packages N S) (root : Rules) (e : Encoder N S) (ws : Vec S Global) → IsEncoding same p root e → ((s : S) → Contains ws.items s → Registered same p root e s)
+      → AreCalledFor (origin e.coding.atoms.keys) (IsChosenFor same p (rewished e ws)) (history e.coding.search) → IsEncoding same p root (rewished e ws)
+  wishes_keep p root e ws h wished called = record {
+    coding = h.coding;
+    tied = h.tied;
+    spelled = h.spelled;
+    rule = h.rule;
+    positive = h.positive;
+    named = h.named;
+    candidates = h.candidates;
+    listed = λ q c a. (let (s, fits, m) = h.listed q c a in (s, record { positive = fits.positive; stands = fits.stands; tracked = fits.tracked }, m));
+    offered = λ q s k m. (let (c, a, fits) = h.offered q s k m in (c, a, record { positive = fits.positive; stands = fits.stands; tracked = fits.tracked }));
+    fixed = h.fixed;
+    queued = h.queued;
+    asked = h.asked;
+    gates = h.gates;
+    bar = h.bar;
+    noted = record { packages = h.noted.packages; version_sets = h.noted.version_sets };
+    cases = record { waiting = h.cases.waiting; places = h.cases.places; fired = h.cases.fired; cased = h.cases.cased; helped = h.cases.helped; there = h.cases.there };
+    within = h.within;
+    encoded = λ i parent below at. (let k = h.encoded i parent below at in record { needs = k.needs; limits = k.limits; guarded = k.guarded; unknown = k.unknown });
+    wished = wished;
+    called = called;
+  }
+
+  -- a registered wish more
+  wish_more : (p : Packages N S) (root : Rules) (e : Encoder N S) (ws : Vec S Global) (s : S) → ws.items ≡ e.noted.wishes.items ++ s ∷ [] → Registered same p root e s → IsEncoding same p root e → IsEncoding same p root (rewished e ws)
+  wish_more p root e ws s more registered h = wishes_keep p root e ws h each called
+    where
+      each : (t : S) → Contains ws.items t → Registered same p root e t
+      each t a = elim (contains_parts t e.noted.wishes.items (s ∷ []) (subst (λ (xs : List S). Contains xs t) more a)) [
+        | inl k ↦ h.wished t k
+        | inr k ↦ subst (Registered same p root e) (sym (contains_one t s k)) registered
+      ]
+
+      wider : (known : List (Literal (Atom N S))) (l : Literal (Atom N S)) → IsChosenFor same p e known l → IsChosenFor same p (rewished e ws) known l
+      wider known l (inr k) = inr k
+      wider known l (inl w) = inl (record {
+        solvable = w.solvable;
+        is = w.is;
+        wished = contained_in same exact p ws.items w.solvable
+            (subst (λ (xs : List S). Contains xs w.solvable) (sym more) (contains_left w.solvable e.noted.wishes.items (s ∷ []) (in_contained same exact p e.noted.wishes.items w.solvable w.wished)));
+      })
+
+      called : AreCalledFor (origin e.coding.atoms.keys) (IsChosenFor same p (rewished e ws)) (history e.coding.search)
+      called x older stands choice other = wider (known_of (origin e.coding.atoms.keys) older) (meaning (origin e.coding.atoms.keys) (literal_of x)) (h.called x older stands choice other)
+
+  -- a wish is registered, and noted behind the others
+  pub wish_notes : (one : Offered N S) (v : VariableId) (old middle : Encoder N S) (ws : Vec S Global) → RegistersWish same one v old middle → ws.items ≡ middle.noted.wishes.items ++ one.solvable ∷ [] → Notes same one v old (rewished middle ws)
+  wish_notes one v old middle ws r more = record {
+    built = built_noted middle (record middle.noted { wishes = ws }) r.enrols.built;
+    stands = r.stands;
+    wishes = more ∙ ap (λ (xs : List S). xs ++ one.solvable ∷ []) r.enrols.extends.wishes;
+    grows = r.enrols.extends.grows;
+    trail = record { tracker = r.enrols.extends.trail.tracker };
+    lists = r.enrols.lists;
+    parents = r.enrols.extends.parents;
+    encoded = r.enrols.extends.encoded;
+    deferred = r.enrols.extends.deferred;
+    fired = r.enrols.extends.fired;
+    encoding = λ p root lawful e listed.
+        wish_more p root middle ws one.solvable more (v, r.stands, subst (λ (n : N). IsTracked middle.registry n v) listed.0 r.tracked)
+        (r.enrols.encoding p root lawful e (λ o h. subst (IsListed same p) (sym (contains_one o one h)) listed));
+  }
+
+  -- ---- the last wish goes
+
+  -- the last wish goes, which isn't chosen
+  wish_less : (p : Packages N S) (root : Rules) (e : Encoder N S) (ws : Vec S Global) (s : S) → e.noted.wishes.items ≡ ws.items ++ s ∷ []
+      → ((v : VariableId) → StandsFor e.coding.atoms.keys v (Solvable s) → has (made_true (history e.coding.search)) (yes v) ≡ false) → IsEncoding same p root e → IsEncoding same p root (rewished e ws)
+  wish_less p root e ws s less open_one h = wishes_keep p root e ws h (λ t a. h.wished t (subst (λ (xs : List S). Contains xs t) (sym less) (contains_left t ws.items (s ∷ []) a))) called
+    where
+      unchosen : (x : Entry) (older : List Entry) → StandsOn (history e.coding.search) x older → 0 < x.decision.variable.0 → meaning (origin e.coding.atoms.keys) (literal_of x) ≡ plus (Atom.solvable s) → ⊥
+      unchosen x older stands other is =
+          let (positive, named) = means_solvable e.coding.atoms.keys (literal_of x) s (other, sym is) in
+          let known : has (made_true (history e.coding.search)) (literal_of x) ≡ true = on_known (history e.coding.search) x older stands in
+          let chosen : has (made_true (history e.coding.search)) (yes x.decision.variable) ≡ true = subst (λ (b : Bool). has (made_true (history e.coding.search)) (let l : Signed = record { variable = x.decision.variable; positive = b } in l) ≡ true) positive known in
+          both_ways _ (open_one x.decision.variable named) chosen
+
+      called : AreCalledFor (origin e.coding.atoms.keys) (IsChosenFor same p (rewished e ws)) (history e.coding.search)
+      called x older stands choice other = elim (h.called x older stands choice other) [
+        | inr k ↦ inr k
+        | inl w ↦ inl (record {
+          solvable = w.solvable;
+          is = w.is;
+          wished = contained_in same exact p ws.items w.solvable
+              (elim (contains_parts w.solvable ws.items (s ∷ []) (subst (λ (xs : List S). Contains xs w.solvable) less (in_contained same exact p e.noted.wishes.items w.solvable w.wished))) [
+                | inl k ↦ k
+                | inr k ↦ absurd (unchosen x older stands other (w.is ∙ ap (λ (y : S). plus (Atom.solvable y)) (contains_one w.solvable s k)))
+              ]);
+        })
+      ]
+
+  pub wish_taken : (old : Encoder N S) (ws : Vec S Global) (last : Option S) → IsBuilt old → IsUntaken old → old.noted.wishes.items ≡ ws.items ++ option_to_list last → (0 < length old.noted.wishes.items → IsSome last) → TakesBack same old (rewished old ws)
+  wish_taken old ws None built (front, s, whole, open_one) popped some = absurd (both_ways false refl (some (omega (arith, length_push front s, ap (λ (xs : List S). length xs) whole))))
+  wish_taken old ws (Some t) built (front, s, whole, open_one) popped some = record {
+    built = built_noted old (record old.noted { wishes = ws }) built;
+    wishes = λ other u is. (same_from_push ws.items other t u (sym popped ∙ is)).0;
+    rest = refl;
+    encoding = λ p root lawful e. wish_less p root old ws s (popped ∙ ap (λ (y : S). ws.items ++ y ∷ []) (same_from_push ws.items front t s (sym popped ∙ whole)).1) open_one e;
+  }

@@ -1,0 +1,60 @@
+-- How the turn of a wish begins, and how wishes are noted.
+use Rattle.std.specs.Prelude.{◌++◌, ◌∷◌, [], List, Bool, ◌≡◌, ◌+◌, false, Contains}
+use Rattle.resolvo_pool_core.specs.declared.id.VariableId.{VariableId}
+use Rattle.resolvo_pool_core.specs.RuleKeeping.{Packages, Rules, IsLawful}
+use Rattle.resolvo_store_core.specs.Clauses.{yes}
+use Rattle.resolvo_store_core.specs.Signed.{has}
+use Rattle.resolvo_store_core.specs.declared.lists.Candidate.{Candidate}
+use Rattle.resolvo_sat.specs.Entries.{made_true, top_level}
+use Rattle.resolvo_sat.specs.State.{history}
+use Rattle.resolvo_packages.specs.declared.package_source.Offered.{Offered}
+use Rattle.resolvo_state.specs.declared.atom.ProofAtom.TheVariants.{Solvable}
+use Rattle.resolvo_state.specs.Atoms.{StandsFor}
+use Rattle.resolvo_state.specs.SolverState.{Grows, SameTrail}
+use Rattle.resolvo_state.specs.Registered.{IsTracked}
+use Rattle.resolvo_encoder.specs.declared.encoder.Encoder.{Encoder}
+use Rattle.resolvo_encoder.specs.Encoded.{IsEncoding}
+use Rattle.resolvo_encoder.specs.Steps.{IsBuilt, IsListed, Enrols}
+
+-- the encoding with a turn's first level above its trail
+abbrev pub turn_of : {N S : Type 0} → Encoder N S → Encoder N S
+turn_of e = record e { coding = record e.coding { search = record e.coding.search { base_level = top_level (history e.coding.search) + 1 } } }
+
+-- the variable is a wish's
+pub record IsWish {N S : Type 0} (e : Encoder N S) (v : VariableId) : Type 0 where
+  pub solvable : S
+  pub stands : StandsFor e.coding.atoms.keys v (Solvable solvable)
+  pub wished : Contains e.noted.wishes.items solvable
+
+-- The wish is registered, with this variable; no other solvable came. Where a case names its package, a clause says that one of
+-- it is there.
+pub record RegistersWish {N S : Type 0} (same : S → S → Bool) (one : Offered N S) (v : VariableId) (old new : Encoder N S) : Type 0 where
+  pub candidate : Candidate N
+  pub enrols : Enrols same (one ∷ []) (candidate ∷ []) old new
+  pub stands : StandsFor new.coding.atoms.keys v (Solvable one.solvable)
+  pub tracked : IsTracked new.registry one.name v
+
+-- The wish is registered, with this variable, and noted behind the others.
+pub record Notes {N S : Type 0} (same : S → S → Bool) (one : Offered N S) (v : VariableId) (old new : Encoder N S) : Type 0 where
+  pub built : IsBuilt new
+  pub stands : StandsFor new.coding.atoms.keys v (Solvable one.solvable)
+  pub wishes : new.noted.wishes.items ≡ old.noted.wishes.items ++ one.solvable ∷ []
+  pub grows : Grows old.coding new.coding
+  pub trail : SameTrail old.coding new.coding
+  pub lists : new.lists ≡ old.lists
+  pub parents : new.parents ≡ old.parents
+  pub encoded : new.encoded ≡ old.encoded
+  pub deferred : new.deferred ≡ old.deferred
+  pub fired : new.fired ≡ old.fired
+  pub encoding : (p : Packages N S) (root : Rules) → IsLawful p → IsEncoding same p root old → IsListed same p one → IsEncoding same p root new
+
+-- there is a last wish, and it isn't chosen
+abbrev pub IsUntaken : {N S : Type 0} → Encoder N S → Type 0
+IsUntaken {N} {S} e = (front : List S) × (s : S) × (e.noted.wishes.items ≡ front ++ s ∷ []) × ((v : VariableId) → StandsFor e.coding.atoms.keys v (Solvable s) → has (made_true (history e.coding.search)) (yes v) ≡ false)
+
+-- The last wish was taken back, and nothing else changed.
+pub record TakesBack {N S : Type 0} (same : S → S → Bool) (old new : Encoder N S) : Type 0 where
+  pub built : IsBuilt new
+  pub wishes : (front : List S) (s : S) → old.noted.wishes.items ≡ front ++ s ∷ [] → new.noted.wishes.items ≡ front
+  pub rest : new ≡ record old { noted = record old.noted { wishes = new.noted.wishes } }
+  pub encoding : (p : Packages N S) (root : Rules) → IsLawful p → IsEncoding same p root old → IsEncoding same p root new

@@ -1,0 +1,268 @@
+-- Propagation that went to the trail's end is complete.
+use Rattle.std.proofs.Common.{◌≡◌, ℕ, zero, suc, ◌+◌, ◌-◌, ◌<◌, ◌≤◌, ◌^◌, ◌⊎◌, inl, inr, true, false, not, List, [], ◌∷◌, ◌++◌, reverse, take, length, get_or, Vec, Global, Option, Some, None, refl, sym, ◌∙◌, ap, subst, arith}
+use Rattle.std.specs.Prelude.{is_some, slice_get, min}
+use Rattle.std.specs.Option.{option_map}
+use Rattle.std.proofs.lemmas.Bool.{both_ways, cases_Bool}
+use Rattle.std.proofs.lemmas.List.{take_more, length-append, length-reverse}
+use Rattle.resolvo_store_core.specs.Signed.{Signed, negation, same_literal, has}
+use Rattle.resolvo_store_core.specs.Clauses.{yes, root}
+use Rattle.resolvo_store_core.specs.Watches.{pair_at}
+use Rattle.resolvo_store_core.specs.Trail.{Tracked}
+use Rattle.resolvo_store_core.specs.declared.watched_literals.WatchedLiterals.{WatchedLiterals}
+use Rattle.resolvo_store_core.specs.declared.decision.Entry.{Entry}
+use Rattle.resolvo_store_core.specs.declared.decision.Decision.{Decision}
+use Rattle.resolvo_store_core.proofs.Watched.{not_same}
+use Rattle.resolvo_sat.specs.declared.state.SatState.{SatState}
+use Rattle.resolvo_sat.specs.declared.state.SatClause.{SatClause}
+use Rattle.resolvo_sat.specs.declared.state.VariableKind.{VariableKind}
+use Rattle.resolvo_sat.specs.declared.watch_lists.WatchLists.{WatchLists}
+use Rattle.resolvo_sat.specs.declared.watch_lists.UnitClause.{UnitClause}
+use Rattle.resolvo_sat.specs.Known.{IsFalseUnder, Forces, clause_at}
+use Rattle.resolvo_sat.specs.Entries.{literal_of, made_true, before}
+use Rattle.resolvo_sat.specs.State.{count_of, history, clauses_of, IsState}
+use Rattle.resolvo_sat.specs.Propagation.{IsReady, IsNoted, Waits, SameWatching, last_taken, AreCovered, AreSingles, IsOnly, HasSingle, AllTrue, Guards, IsWalkedTo, Extends, Walked, Running, IsBroken, Conflicts, IsQuiet, IsComplete, IsSingleSet, IsTaken, SetsSingles}
+use Rattle.resolvo_sat.specs.Attach.{Settles}
+use Rattle.resolvo_sat.proofs.Literals.{negation-negation}
+use Rattle.resolvo_sat.proofs.Trails.{consistent, before_all, entry_read, entry_in_range, length_le, root_known}
+use Rattle.resolvo_sat.proofs.Clauses.{length-lists}
+use Rattle.resolvo_sat.proofs.ExtendLemmas.{extends_more, still_true, same_clauses}
+use Rattle.resolvo_sat.proofs.Readiness.{fits_same, walked_same, ready_extends, front_extends, same_watching, watching_more}
+
+all_true_more : (s t : SatState) (xs : List UnitClause) → Extends s t → AllTrue (made_true (history s)) xs → AllTrue (made_true (history t)) xs
+all_true_more s t [] e a = tt
+all_true_more s t (x ∷ xs) e a = (still_true s t x.literal e a.0, all_true_more s t xs e a.1)
+
+all_true_push : (known : List Signed) (xs : List UnitClause) (x : UnitClause) → AllTrue known xs → has known x.literal ≡ true → AllTrue known (xs ++ x ∷ [])
+all_true_push known [] x a h = (h, tt)
+all_true_push known (y ∷ xs) x a h = (a.0, all_true_push known xs x a.1 h)
+
+pub singles_more : (xs : List UnitClause) (i : ℕ) (x : UnitClause) (o s t : SatState) → i < length xs → x ≡ get_or xs i x → SetsSingles (take i xs) o s → IsSingleSet x s t true → SetsSingles (take (i + 1) xs) o t
+singles_more xs i x o s t h is sets (e, front, stands) = record {
+  extends = extends_more o s t sets.extends e;
+  front = front ∙ sets.front;
+  set = subst (AllTrue (made_true (history t))) (sym (take_more xs i x h)) (all_true_push (made_true (history t)) (take i xs) (get_or xs i x) (all_true_more s t (take i xs) e sets.set) (subst (λ (y : UnitClause). has (made_true (history t)) y.literal ≡ true) is stands));
+}
+
+-- the one at a place stands for a clause of one literal
+pub single_at : (cs : List (List Signed)) (xs : List UnitClause) (i : ℕ) (x : UnitClause) → AreSingles cs xs → i < length xs → x ≡ get_or xs i x → (x.clause.0 < length cs) × IsOnly (clause_at cs x.clause.0) x.literal
+single_at cs xs i x a h is = subst (λ (y : UnitClause). (y.clause.0 < length cs) × IsOnly (clause_at cs y.clause.0) y.literal) (sym is) (go xs i a h)
+  where
+    go : (ys : List UnitClause) (j : ℕ) → AreSingles cs ys → j < length ys → ((get_or ys j x).clause.0 < length cs) × IsOnly (clause_at cs (get_or ys j x).clause.0) (get_or ys j x).literal
+    go [] j a h = absurd (omega arith)
+    go (y ∷ ys) zero a h = (a.0, a.1)
+    go (y ∷ ys) (suc j) a h = go ys j a.2 (omega arith)
+
+pub single_alone : (o s : SatState) (x : UnitClause) → Extends o s → IsOnly (clause_at (clauses_of o) x.clause.0) x.literal → IsOnly (clause_at (clauses_of s) x.clause.0) x.literal
+single_alone o s x e only = subst (λ (cs : List (List Signed)). IsOnly (clause_at cs x.clause.0) x.literal) (sym (same_clauses o s e)) only
+
+pub single_breaks : (o s t : SatState) (x : UnitClause) → Extends o s → s.tracker.front ≡ o.tracker.front → x.clause.0 < length (clauses_of o) → IsOnly (clause_at (clauses_of o) x.clause.0) x.literal → IsSingleSet x s t false → Extends o t × (t.tracker.front ≡ o.tracker.front) × IsBroken x.clause.0 t
+single_breaks o s t x e front below only (same, f) =
+    let count : length (clauses_of o) ≡ length o.clauses = length-lists o.clauses in
+    let below' : x.clause.0 < length o.clauses = omega arith in
+    let here = single_alone o s x e only in
+    subst (λ (u : SatState). Extends o u × (u.tracker.front ≡ o.tracker.front) × IsBroken x.clause.0 u) (sym same) (
+      e,
+      front,
+      record {
+        in_range = subst (λ (cs : List SatClause). x.clause.0 < length cs) (sym e.same.clauses) below';
+        falls = λ m h. subst (λ (l : Signed). has (made_true (history s)) (negation l) ≡ true) (sym (here.alone m h)) f;
+      },
+    )
+
+-- the trail is no longer than there are variables
+pub entries_bounded : (s : SatState) → IsState s → length s.tracker.trail ≤ count_of s
+entries_bounded s state =
+    let a : length (history s) ≤ count_of s = length_le (count_of s) (clauses_of s) (history s) state.trail in
+    let b : length (history s) ≡ length s.tracker.trail = length-reverse s.tracker.trail in
+    omega arith
+
+-- before the next entry is taken: the singles were gone over, and no clause waits
+pub running_starts : (o r s t : SatState) (v w : WatchLists) → SetsSingles v.assertions.items o r → SetsSingles v.learnt.items r s → Settles s t v w → ((n : ℕ) → Waits n w → ⊥) → Running o t v w
+running_starts o r s t v w rules learnt settles settled = record {
+  watching = settles.watching;
+  settled = settled;
+  fits = settles.ready.fits;
+  extends = extends_more o s t (extends_more o r s rules.extends learnt.extends) settles.extends;
+  walked = settles.ready.walked;
+  assertions = all_true_more s t v.assertions.items settles.extends (all_true_more r s v.assertions.items learnt.extends rules.set);
+  learnt = all_true_more s t v.learnt.items settles.extends learnt.set;
+  in_range = settles.ready.front;
+}
+
+-- after the singles were gone over the watches are ready still
+pub singles_ready : (o r s : SatState) (w : WatchLists) (xs ys : List UnitClause) → IsReady o w → SetsSingles xs o r → SetsSingles ys r s → IsReady s w
+singles_ready o r s w xs ys ready rules learnt = ready_extends r s w (ready_extends o r w ready rules.extends rules.front) learnt.extends learnt.front
+
+pub running_goes_on : (o s u t : SatState) (v w x : WatchLists) (l : Signed) → Running o s v w → IsTaken s u (Some l) → Walked (last_taken u + 1) u t w x → Running o t v x
+running_goes_on o s u t v w x l run taken walked =
+    let within : s.tracker.front < length s.tracker.trail = taken.0.in_range in
+    let grown : length t.tracker.trail ≡ length u.tracker.trail + length walked.extends.more = ap length walked.extends.added ∙ length-append u.tracker.trail walked.extends.more in
+    let long : length u.tracker.trail ≡ length s.tracker.trail = ap length taken.2 in
+    let e : Extends s t = extends_more s u t taken.1 walked.extends in
+    let kept : t.tracker.front ≡ u.tracker.front = walked.front in
+    let moved : u.tracker.front ≡ s.tracker.front + 1 = taken.3 in
+    let here : last_taken u + 1 ≡ t.tracker.front = omega arith in
+    record {
+      watching = watching_more v w x run.watching walked.watching;
+      settled = λ n waits. run.settled n (walked.watching.waited n waits);
+      fits = walked.fits;
+      extends = extends_more o s t run.extends e;
+      walked = subst (λ (k : ℕ). IsWalkedTo k t x) here walked.walked;
+      assertions = all_true_more s t v.assertions.items e run.assertions;
+      learnt = all_true_more s t v.learnt.items e run.learnt;
+      in_range = omega arith;
+    }
+
+-- a step of the walk leaves fewer entries
+pub running_smaller : (o s u t : SatState) (v w x : WatchLists) (l : Signed) → Running o s v w → IsTaken s u (Some l) → Walked (last_taken u + 1) u t w x → count_of t - t.tracker.front < count_of s - s.tracker.front
+running_smaller o s u t v w x l run taken walked =
+    let within : s.tracker.front < length s.tracker.trail = taken.0.in_range in
+    let bound : length s.tracker.trail ≤ count_of s = entries_bounded s run.extends.state in
+    let same : count_of t ≡ count_of s = ap (λ (xs : Vec VariableKind Global). length xs.items) (walked.extends.same.variables ∙ taken.1.same.variables) in
+    let kept : t.tracker.front ≡ u.tracker.front = walked.front in
+    let moved : u.tracker.front ≡ s.tracker.front + 1 = taken.3 in
+    omega arith
+
+-- a conflict after more of the trail
+pub conflicts_later : (n : ℕ) (o s t : SatState) (v w x : WatchLists) → SameWatching v w → Extends o s → Conflicts n s t w x → Conflicts n o t v x
+conflicts_later n o s t v w x same e c = record { watching = watching_more v w x same c.watching; ready = c.ready; extends = extends_more o s t e c.extends; broken = c.broken }
+
+-- a clause of one literal is broken
+pub singles_break : (n : ℕ) (o s : SatState) (w : WatchLists) → IsReady o w → Extends o s × (s.tracker.front ≡ o.tracker.front) × IsBroken n s → Conflicts n o s w w
+singles_break n o s w ready (e, front, broken) = record { watching = same_watching w; ready = ready_extends o s w ready e front; extends = e; broken = broken }
+
+literal_set : (known : List Signed) (xs : List UnitClause) (x : UnitClause) → AllTrue known xs → HasSingle xs x → has known x.literal ≡ true
+literal_set known [] x a h = absurd h
+literal_set known (y ∷ ys) x a (inl e) = subst (λ (z : UnitClause). has known z.literal ≡ true) e a.0
+literal_set known (y ∷ ys) x a (inr e) = literal_set known ys x a.1 e
+
+clause_alone : (cs : List (List Signed)) (xs : List UnitClause) (x : UnitClause) → AreSingles cs xs → HasSingle xs x → has (clause_at cs x.clause.0) x.literal ≡ true
+clause_alone cs [] x a h = absurd h
+clause_alone cs (y ∷ ys) x a (inl e) = subst (λ (z : UnitClause). has (clause_at cs z.clause.0) z.literal ≡ true) e a.1.stands
+clause_alone cs (y ∷ ys) x a (inr e) = clause_alone cs ys x a.2 e
+
+pub quiet_pair : (known clause : List Signed) (p : WatchedLiterals) → has clause p.first ≡ true → has clause p.second ≡ true → same_literal p.first p.second ≡ false → Guards known known p → IsQuiet known clause
+quiet_pair known clause p a b differ g = go (cases_Bool (has known (negation p.first))) (cases_Bool (has known (negation p.second)))
+  where
+    go : (has known (negation p.first) ≡ true) ⊎ (has known (negation p.first) ≡ false) → (has known (negation p.second) ≡ true) ⊎ (has known (negation p.second) ≡ false) → IsQuiet known clause
+    go (inl e) f = inl (p.second, b, g.first e)
+    go (inr e) (inl f) = inl (p.first, a, g.second f)
+    go (inr e) (inr f) = inr (p.first, p.second, a, b, differ, e, f)
+
+-- a true literal of a clause that is one of the singles makes it quiet
+quiet_single : (o s : SatState) (v : WatchLists) (xs : List UnitClause) (n : ℕ) (x : UnitClause) → Extends o s → AreSingles (clauses_of o) xs → AllTrue (made_true (history s)) xs → x.clause.0 ≡ n → HasSingle xs x → IsQuiet (made_true (history s)) (clause_at (clauses_of s) n)
+quiet_single o s v xs n x e alone set number stands =
+    let here : clause_at (clauses_of s) n ≡ clause_at (clauses_of o) x.clause.0 = ap (λ (cs : List (List Signed)). clause_at cs n) (same_clauses o s e) ∙ ap (clause_at (clauses_of o)) (sym number) in
+    inl (x.literal, subst (λ (c : List Signed). has c x.literal ≡ true) (sym here) (clause_alone (clauses_of o) xs x alone stands), literal_set (made_true (history s)) xs x set stands)
+
+-- each clause is quiet where all of the trail was walked
+running_quiet : (o s : SatState) (v w : WatchLists) → Running o s v w → AreCovered o v → length s.tracker.trail ≤ s.tracker.front → (n : ℕ) → n < length s.clauses → IsQuiet (made_true (history s)) (clause_at (clauses_of s) n)
+running_quiet o s v w run covers h n below = go (pair_at w.watched.items n) refl
+  where
+    known : List Signed
+    known = made_true (history s)
+
+    walked : IsWalkedTo (length s.tracker.trail) s w
+    walked =
+        let low : s.tracker.front ≤ length s.tracker.trail = run.in_range in
+        let all : s.tracker.front ≡ length s.tracker.trail = omega arith in
+        subst (λ (k : ℕ). IsWalkedTo k s w) all run.walked
+
+    covered : pair_at w.watched.items n ≡ None → (n ≡ 0) ⊎ (IsNoted n v ⊎ Waits n v) → IsQuiet known (clause_at (clauses_of s) n)
+    covered none (inl first) =
+        let here : clause_at (clauses_of s) n ≡ clause_at (clauses_of o) 0 = ap (λ (cs : List (List Signed)). clause_at cs n) (same_clauses o s run.extends) ∙ ap (clause_at (clauses_of o)) first in
+        inl (yes root, subst (λ (c : List Signed). has c (yes root) ≡ true) (sym here) covers.first, root_known (history s) run.extends.state.rooted)
+    covered none (inr (inl (x, number, inl stands))) = quiet_single o s v v.assertions.items n x run.extends covers.assertions run.assertions number stands
+    covered none (inr (inl (x, number, inr stands))) = quiet_single o s v v.learnt.items n x run.extends covers.learnt run.learnt number stands
+    covered none (inr (inr waits)) = absurd (run.settled n (run.watching.waits n waits none))
+
+    go : (p : Option WatchedLiterals) → pair_at w.watched.items n ≡ p → IsQuiet known (clause_at (clauses_of s) n)
+    go (Some p) is =
+        quiet_pair known (clause_at (clauses_of s) n) p (run.fits.own n p is).first (run.fits.own n p is).second (run.fits.fit.differ n p is)
+        (subst (λ (ds : List Entry). Guards (made_true ds) known p) (before_all s.tracker.trail) (walked n p is))
+    go None is = covered is (covers.covered n (subst (λ (cs : List SatClause). n < length cs) run.extends.same.clauses below) (run.watching.pairs n is))
+
+pub running_ends : (o s u : SatState) (v w : WatchLists) → Running o s v w → AreCovered o v → IsTaken s u None → IsComplete o u v w
+running_ends o s u v w run covers (end, e, same, front) =
+    let low : s.tracker.front ≤ length s.tracker.trail = run.in_range in
+    let long : length u.tracker.trail ≡ length s.tracker.trail = ap length same in
+    let here : s.tracker.front ≡ u.tracker.front = omega arith in
+    record {
+      watching = run.watching;
+      ready = record {
+        state = e.state;
+        fits = fits_same s u w run.fits e.same.clauses;
+        front = omega arith;
+        walked = subst (λ (k : ℕ). IsWalkedTo k u w) here (walked_same s u s.tracker.front w same run.walked);
+      };
+      extends = extends_more o s u run.extends e;
+      front = omega arith;
+      settled = run.settled;
+      quiet = λ n below.
+          subst (λ (xs : List Entry). IsQuiet (made_true (reverse xs)) (clause_at (clauses_of u) n)) (sym same)
+          (subst (λ (cs : List (List Signed)). IsQuiet (made_true (history s)) (clause_at cs n)) (sym (same_clauses s u e))
+          (running_quiet o s v w run covers end n (subst (λ (cs : List SatClause). n < length cs) e.same.clauses below)));
+    }
+
+-- a quiet clause is not wholly false
+pub quiet_not_broken : (s : SatState) (clause : List Signed) → IsState s → IsQuiet (made_true (history s)) clause → IsFalseUnder (made_true (history s)) clause → ⊥
+quiet_not_broken s clause state (inl q) f = consistent (count_of s) (clauses_of s) (history s) q.0 state.trail q.2 (f q.0 q.1)
+quiet_not_broken s clause state (inr q) f = both_ways _ q.5 (f q.0 q.2)
+
+-- and it forces nothing
+pub quiet_not_forced : (s : SatState) (clause : List Signed) (l : Signed) → IsState s → IsQuiet (made_true (history s)) clause → Forces (made_true (history s)) clause l → ⊥
+quiet_not_forced s clause l state (inl q) f = elim (f.forced.others q.0 q.1) [
+  | inl e ↦ both_ways _ f.undecided.not_true (subst (λ (m : Signed). has (made_true (history s)) m ≡ true) e q.2)
+  | inr e ↦ consistent (count_of s) (clauses_of s) (history s) q.0 state.trail q.2 e
+]
+quiet_not_forced s clause l state (inr q) f = elim (f.forced.others q.0 q.2) [
+  | inl e ↦ elim (f.forced.others q.1 q.3) [ inl g ↦ not_same q.0 q.1 q.4 (e ∙ sym g) | inr g ↦ both_ways _ q.6 g ]
+  | inr e ↦ both_ways _ q.5 e
+]
+
+none_behind : (xs : List Entry) (k : ℕ) → None ≡ option_map (λ (e : Entry). e.decision) (slice_get xs k) → length xs ≤ k
+none_behind [] k e = omega arith
+none_behind (x ∷ xs) zero e = absurd (both_ways false refl (ap is_some e))
+none_behind (x ∷ xs) (suc k) e = let low : length xs ≤ k = none_behind xs k e in omega arith
+
+-- the entry whose decision was read
+read_entry : (xs : List Entry) (k : ℕ) (d : Decision) → Some d ≡ option_map (λ (e : Entry). e.decision) (slice_get xs k) → (k < length xs) × (e : Entry) × (get_or xs k e ≡ e) × (e.decision ≡ d)
+read_entry [] k d e = absurd (both_ways true (ap is_some e) refl)
+read_entry (x ∷ xs) zero d e = (omega arith, x, refl, (let same : x.decision ≡ d = cc in same))
+read_entry (x ∷ xs) (suc k) d e = let (low, y, at, is) = read_entry xs k d e in (omega arith, y, at, is)
+
+-- no entry stands behind the front
+pub taken_none : (s : SatState) (t : Tracked) → IsState s → None ≡ option_map (λ (e : Entry). e.decision) (slice_get s.tracker.trail s.tracker.front) → t ≡ record s.tracker { front = min (s.tracker.front + 1) (length s.tracker.trail) } → IsTaken s (record s { tracker = t }) None
+taken_none s t state read moved =
+    let trail : t.trail ≡ s.tracker.trail = ap (λ (x : Tracked). x.trail) moved in
+    let front : t.front ≡ min (s.tracker.front + 1) (length s.tracker.trail) = ap (λ (x : Tracked). x.front) moved in
+    let low : length s.tracker.trail ≤ s.tracker.front = none_behind s.tracker.trail s.tracker.front read in
+    (low, front_extends s t state trail, trail, omega arith)
+
+-- a decision's variable is one of the variables
+pub decision_small : (s : SatState) (d : Decision) → IsState s → Some d ≡ option_map (λ (e : Entry). e.decision) (slice_get s.tracker.trail s.tracker.front) → d.variable.0 < 2147483648
+decision_small s d state read =
+    let (low, e, at, is) = read_entry s.tracker.trail s.tracker.front d read in
+    let bound : (get_or s.tracker.trail s.tracker.front e).decision.variable.0 < count_of s = entry_in_range (count_of s) (clauses_of s) s.tracker.trail s.tracker.trail s.tracker.front e state.trail low refl in
+    let same : (get_or s.tracker.trail s.tracker.front e).decision.variable.0 ≡ d.variable.0 = ap (λ (x : Entry). x.decision.variable.0) at ∙ ap (λ (x : Decision). x.variable.0) is in
+    let small : count_of s < 2 ^ 31 = state.small in
+    omega arith
+
+-- the entry at the front was taken
+pub taken_some : (s : SatState) (t : Tracked) (d : Decision) (l : Signed) → IsState s → Some d ≡ option_map (λ (e : Entry). e.decision) (slice_get s.tracker.trail s.tracker.front) → t ≡ record s.tracker { front = min (s.tracker.front + 1) (length s.tracker.trail) }
+    → l ≡ record { variable = d.variable; positive = not d.value } → IsTaken s (record s { tracker = t }) (Some l)
+taken_some s t d l state read moved is =
+    let (low, e, at, same) = read_entry s.tracker.trail s.tracker.front d read in
+    let trail : t.trail ≡ s.tracker.trail = ap (λ (x : Tracked). x.trail) moved in
+    let front : t.front ≡ min (s.tracker.front + 1) (length s.tracker.trail) = ap (λ (x : Tracked). x.front) moved in
+    let next : before s.tracker.trail (s.tracker.front + 1) ≡ e ∷ before s.tracker.trail s.tracker.front = entry_read s.tracker.trail s.tracker.trail s.tracker.front e low refl ∙ ap (λ (x : Entry). x ∷ before s.tracker.trail s.tracker.front) at in
+    let made : of_decision d ≡ negation l = sym (negation-negation (of_decision d)) ∙ ap negation (sym is) in
+    let literal : literal_of e ≡ negation l = ap of_decision same ∙ made in (
+      record { in_range = low; entry = ap made_true next ∙ ap (λ (x : Signed). x ∷ made_true (before s.tracker.trail s.tracker.front)) literal },
+      front_extends s t state trail,
+      trail,
+      omega arith,
+    )
+  where
+    of_decision : Decision → Signed
+    of_decision x = record { variable = x.variable; positive = x.value }

@@ -1,0 +1,299 @@
+-- A walk over the clauses that watch a literal.
+use Rattle.std.proofs.Common.{◌≡◌, ℕ, zero, suc, ◌+◌, ◌<◌, ◌≤◌, ◌⊎◌, inl, inr, Bool, true, false, cond, List, [], ◌∷◌, drop, reverse, length, Vec, Global, Option, Some, None, refl, sym, ◌∙◌, ap, subst, arith, eqb}
+use Rattle.std.specs.Prelude.{slice_get}
+use Rattle.std.proofs.lemmas.Bool.{both_ways, or_cases, or_left, or_right}
+use Rattle.std.proofs.lemmas.Bool.Decides.{eqb_tells}
+use Rattle.std.proofs.lemmas.List.{length-append, length-set}
+use Rattle.resolvo_pool_core.specs.declared.id.ClauseId.{ClauseId}
+use Rattle.resolvo_store_core.specs.Signed.{Signed, negation, same_literal, has}
+use Rattle.resolvo_store_core.specs.SignLaws.{same_literal_true, same_literal-self}
+use Rattle.resolvo_store_core.specs.Pairs.{watches, other_of, moved_pair}
+use Rattle.resolvo_store_core.specs.Watches.{watchers, pair_at, count, one_if}
+use Rattle.resolvo_store_core.specs.declared.watched_literals.WatchedLiterals.{WatchedLiterals}
+use Rattle.resolvo_store_core.specs.Trail.{Tracked}
+use Rattle.resolvo_store_core.specs.declared.decision.Entry.{Entry}
+use Rattle.resolvo_store_core.proofs.Watched.{not_same, first_watched, pair_at-set_same, pair_at-set_other, pair_in_range, pair_of_watcher, moved_from}
+use Rattle.resolvo_store_core.proofs.ClauseLists.{drop_here, drop_taken, nothing_left}
+use Rattle.resolvo_sat.specs.declared.state.SatState.{SatState}
+use Rattle.resolvo_sat.specs.declared.watch_lists.WatchLists.{WatchLists}
+use Rattle.resolvo_sat.specs.Known.{IsFalseUnder, Forces, clause_at}
+use Rattle.resolvo_sat.specs.Entries.{made_true, before}
+use Rattle.resolvo_sat.specs.State.{count_of, history, clauses_of, IsState}
+use Rattle.resolvo_sat.specs.Propagation.{IsFit, Waits, FellAt, IsOwnPair, IsFree, Guards, Passed, IsWalkedTo, Extends, IsVisiting, Keeps, Replaces, Breaks, Walked, Conflicts}
+use Rattle.resolvo_sat.proofs.Literals.{has-cons, has_here, negation-negation}
+use Rattle.resolvo_sat.proofs.Trails.{consistent}
+use Rattle.resolvo_sat.proofs.ExtendLemmas.{extends_more, extends_nothing, still_true, true_by_now, before_kept}
+use Rattle.resolvo_sat.proofs.Readiness.{fits_same, walked_more, ready_anew, front_extends, same_watching}
+
+pub pair_watches : (s : SatState) (w : WatchLists) (l : Signed) (place : ℕ) (n : ClauseId) (p : WatchedLiterals) → IsFit s w → slice_get (watchers w.watches l) place ≡ Some n → pair_at w.watched.items n.0 ≡ Some p → watches (Some p) l ≡ true
+pair_watches s w l place n p fits at is =
+    let found = pair_of_watcher w.watched.items (watchers w.watches) l place n fits.fit at in
+    let both : Some found.0 ≡ Some p = sym found.1 ∙ is in
+    let same : found.0 ≡ p = cc in
+    subst (λ (q : WatchedLiterals). watches (Some q) l ≡ true) same found.2
+
+-- one of the pair is the literal or the other one
+pair_cases : (p : WatchedLiterals) (l m : Signed) → watches (Some p) l ≡ true → watches (Some p) m ≡ true → (m ≡ l) ⊎ (m ≡ other_of p l)
+pair_cases p l m wl wm = go (same_literal p.first l) refl
+  where
+    go : (b : Bool) → same_literal p.first l ≡ b → (m ≡ l) ⊎ (m ≡ cond b p.second p.first)
+    go true e = elim (or_cases _ _ wm) [ inl f ↦ inl (sym (same_literal_true _ _ f) ∙ same_literal_true _ _ e) | inr f ↦ inr (sym (same_literal_true _ _ f)) ]
+    go false e = elim (or_cases _ _ wm) [ inl f ↦ inr (sym (same_literal_true _ _ f)) | inr f ↦ inl (sym (same_literal_true _ _ f) ∙ first_watched p l wl e) ]
+
+other_own : (clause : List Signed) (p : WatchedLiterals) (l : Signed) → IsOwnPair clause p → has clause (other_of p l) ≡ true
+other_own clause p l own = go (same_literal p.first l)
+  where
+    go : (b : Bool) → has clause (cond b p.second p.first) ≡ true
+    go true = own.second
+    go false = own.first
+
+pub forces_other :
+    (known clause : List Signed) (p : WatchedLiterals) (l : Signed) → IsOwnPair clause p → watches (Some p) l ≡ true → has known (negation l) ≡ true → IsFree known clause p None
+    → has known (other_of p l) ≡ false → has known (negation (other_of p l)) ≡ false → Forces known clause (other_of p l)
+forces_other known clause p l own w fallen free nt nf = record {
+  forced = record {
+    stands = other_own clause p l own;
+    others = λ m h. elim (free m h) [
+      | inl wm ↦ elim (pair_cases p l m w wm) [ inl e ↦ inr (subst (λ (x : Signed). has known (negation x) ≡ true) (sym e) fallen) | inr e ↦ inl e ]
+      | inr f ↦ inr f
+    ];
+  };
+  undecided = record { not_true = nt; not_false = nf };
+}
+
+pub falls_whole : (known clause : List Signed) (p : WatchedLiterals) (l : Signed) → watches (Some p) l ≡ true → has known (negation l) ≡ true → IsFree known clause p None → has known (negation (other_of p l)) ≡ true → IsFalseUnder known clause
+falls_whole known clause p l w fallen free f m h = elim (free m h) [
+  | inl wm ↦ elim (pair_cases p l m w wm) [ inl e ↦ subst (λ (x : Signed). has known (negation x) ≡ true) (sym e) fallen | inr e ↦ subst (λ (x : Signed). has known (negation x) ≡ true) (sym e) f ]
+  | inr g ↦ g
+]
+
+passed_kept : (p : WatchedLiterals) (l : Signed) (known : List Signed) → same_literal p.first p.second ≡ false → has known (other_of p l) ≡ true → Passed l known p
+passed_kept p l known differ stands = go (same_literal p.first l) refl stands
+  where
+    go : (b : Bool) → same_literal p.first l ≡ b → has known (cond b p.second p.first) ≡ true → Passed l known p
+    go true e h = record { first = λ _. h; second = λ is. absurd (not_same p.first p.second differ (same_literal_true _ _ e ∙ sym is)) }
+    go false e h = record { first = λ is. absurd (not_same p.first l e is); second = λ _. h }
+
+passed_more : (p : WatchedLiterals) (l : Signed) (s t : SatState) → Extends s t → Passed l (made_true (history s)) p → Passed l (made_true (history t)) p
+passed_more p l s t e q = record { first = λ is. still_true s t p.second e (q.first is); second = λ is. still_true s t p.first e (q.second is) }
+
+same_pair : (ps : List (Option WatchedLiterals)) (n : ℕ) (p q : WatchedLiterals) → pair_at ps n ≡ Some p → pair_at ps n ≡ Some q → p ≡ q
+same_pair ps n p q a b = let both : Some p ≡ Some q = sym a ∙ b in cc
+
+count_here : (xs : List ClauseId) (place : ℕ) (c : ClauseId) (n : ℕ) → slice_get xs place ≡ Some c → eqb n c.0 ≡ false → count n (drop (suc place) xs) ≡ 0 → count n (drop place xs) ≡ 0
+count_here xs place c n at ne none =
+    let a : count n (drop place xs) ≡ one_if (eqb n c.0) + count n (drop (suc place) xs) = ap (count n) (drop_here xs place c at) in
+    let b : one_if (eqb n c.0) ≡ 0 = ap one_if ne in
+    omega arith
+
+keeps_here : (k : ℕ) (l : Signed) (place : ℕ) (c : ClauseId) (p : WatchedLiterals) (o s t : SatState) (v w : WatchLists) → IsVisiting k l place o s v w → slice_get (watchers w.watches l) place ≡ Some c → pair_at w.watched.items c.0 ≡ Some p
+    → Extends s t → t.tracker.front ≡ s.tracker.front → has (made_true (history t)) (other_of p l) ≡ true → IsVisiting k l (place + 1) o t v w
+keeps_here k l place c p o s t v w propagate_literal at is e front stands =
+    let long : k < length s.tracker.trail = propagate_literal.long in
+    let grown : length t.tracker.trail ≡ length s.tracker.trail + length e.more = ap length e.added ∙ length-append s.tracker.trail e.more in
+    let next : place + 1 ≡ suc place = omega arith in
+    record {
+      fits = fits_same s t w propagate_literal.fits e.same.clauses;
+      extends = extends_more o s t propagate_literal.extends e;
+      front = front ∙ propagate_literal.front;
+      walked = walked_more s t k w e.more e.added (omega arith) propagate_literal.walked;
+      passed = λ n q h none. go n q h (subst (λ (m : ℕ). count n (drop m (watchers w.watches l)) ≡ 0) next none) (eqb_tells n c.0);
+      entry = ap made_true (before_kept s t (k + 1) e (omega arith)) ∙ propagate_literal.entry ∙ ap (λ (ds : List Entry). negation l ∷ made_true ds) (sym (before_kept s t k e (omega arith)));
+      long = omega arith;
+      watching = propagate_literal.watching;
+    }
+  where
+    go : (n : ℕ) (q : WatchedLiterals) → pair_at w.watched.items n ≡ Some q → count n (drop (suc place) (watchers w.watches l)) ≡ 0 → ((eqb n c.0 ≡ true) × (n ≡ c.0)) ⊎ ((eqb n c.0 ≡ false) × (n ≡ c.0 → ⊥)) → Passed l (made_true (history t)) q
+    go n q h none (inl y) =
+        let same : p ≡ q = same_pair w.watched.items c.0 p q is (subst (λ (m : ℕ). pair_at w.watched.items m ≡ Some q) y.1 h) in
+        subst (Passed l (made_true (history t))) same (passed_kept p l (made_true (history t)) (propagate_literal.fits.fit.differ c.0 p is) stands)
+    go n q h none (inr y) = passed_more q l s t e (propagate_literal.passed n q h (count_here (watchers w.watches l) place c n at y.0 none))
+
+pub visiting_keeps : (k : ℕ) (l : Signed) (place : ℕ) (c : ClauseId) (p : WatchedLiterals) (o s t : SatState) (v w x : WatchLists) → IsVisiting k l place o s v w → slice_get (watchers w.watches l) place ≡ Some c → pair_at w.watched.items c.0 ≡ Some p
+    → Keeps l p s t w x → IsVisiting k l (place + 1) o t v x
+visiting_keeps k l place c p o s t v w x propagate_literal at is keeps = subst (IsVisiting k l (place + 1) o t v) (sym keeps.same_watching) (keeps_here k l place c p o s t v w propagate_literal at is keeps.extends keeps.front keeps.stands)
+
+own_moved : (clause : List Signed) (p : WatchedLiterals) (from to : Signed) → IsOwnPair clause p → has clause to ≡ true → IsOwnPair clause (moved_pair p from to)
+own_moved clause p from to own h = go (same_literal p.first from)
+  where
+    go : (b : Bool) → IsOwnPair clause (cond b (record p { first = to }) (record p { second = to }))
+    go true = record { first = h; second = own.second }
+    go false = record { first = own.first; second = h }
+
+guards_moved : (fallen known : List Signed) (p : WatchedLiterals) (l to : Signed) → Guards fallen known p → watches (Some p) l ≡ true → ((m : Signed) → has fallen m ≡ true → has known m ≡ true)
+    → has known (negation to) ≡ false → (has known l ≡ true → ⊥) → Guards fallen known (moved_pair p l to)
+guards_moved fallen known p l to g w inside free untrue = go (same_literal p.first l) refl
+  where
+    go : (b : Bool) → same_literal p.first l ≡ b → Guards fallen known (cond b (record p { first = to }) (record p { second = to }))
+    go true e = record {
+      first = λ f. absurd (both_ways _ free (inside (negation to) f));
+      second = λ f. absurd (untrue (subst (λ (m : Signed). has known m ≡ true) (same_literal_true _ _ e) (g.second f)));
+    }
+    go false e = record {
+      first = λ f. absurd (untrue (subst (λ (m : Signed). has known m ≡ true) (first_watched p l w e) (g.first f)));
+      second = λ f. absurd (both_ways _ free (inside (negation to) f));
+    }
+
+passed_moved : (p : WatchedLiterals) (l : Signed) (known : List Signed) → watches (Some p) l ≡ false → Passed l known p
+passed_moved p l known n = record {
+  first = λ is. absurd (both_ways _ n (or_left _ _ (subst (λ (m : Signed). same_literal p.first m ≡ true) is (same_literal-self p.first))));
+  second = λ is. absurd (both_ways _ n (or_right _ _ (subst (λ (m : Signed). same_literal p.second m ≡ true) is (same_literal-self p.second))));
+}
+
+pub fallen_now : (k : ℕ) (l : Signed) (place : ℕ) (o s : SatState) (v w : WatchLists) → IsVisiting k l place o s v w → has (made_true (history s)) (negation l) ≡ true
+fallen_now k l place o s v w propagate_literal = true_by_now s.tracker.trail (k + 1) (negation l) (subst (λ (ls : List Signed). has ls (negation l) ≡ true) (sym propagate_literal.entry) (has_here (negation l) (made_true (before s.tracker.trail k)) (negation l) refl))
+
+pub got_in_range : (xs : List ClauseId) (place : ℕ) (c : ClauseId) → slice_get xs place ≡ Some c → place < length xs
+got_in_range [] place c e = cc
+got_in_range (x ∷ xs) zero c e = omega arith
+got_in_range (x ∷ xs) (suc place) c e = let a : place < length xs = got_in_range xs place c e in omega arith
+
+moves_here : (k : ℕ) (l : Signed) (place : ℕ) (c : ClauseId) (o s t : SatState) (v w x : WatchLists) → IsVisiting k l place o s v w → slice_get (watchers w.watches l) place ≡ Some c
+    → (r : Replaces l place c.0 s t w x) → r.moves.clause ≡ c → IsVisiting k l place o s v x
+moves_here k l place c o s t v w x propagate_literal at r named = record {
+  fits = record {
+    fit = r.moves.fit;
+    each = ap length r.moves.pairs ∙ length-set w.watched.items r.moves.clause.0 (Some (moved_pair r.moves.pair l r.to)) ∙ propagate_literal.fits.each;
+    own = λ n q h. owns n q (after n q h);
+    unwatched = λ n h. unwatched_still n (waited n h) (eqb_tells n r.moves.clause.0);
+    two = λ n h. propagate_literal.fits.two n (waited n h);
+    once = λ n. subst (λ (cs : Vec ClauseId Global). count n cs.items ≤ 1) (sym r.waiting) (propagate_literal.fits.once n);
+  };
+  extends = propagate_literal.extends;
+  front = propagate_literal.front;
+  walked = λ n q h. walks n q (after n q h);
+  passed = λ n q h none. passes n q none (after n q h);
+  entry = propagate_literal.entry;
+  long = propagate_literal.long;
+  watching = record { assertions = r.assertions ∙ propagate_literal.watching.assertions; learnt = r.learnt ∙ propagate_literal.watching.learnt; pairs = λ n h. propagate_literal.watching.pairs n (nones n h (eqb_tells n r.moves.clause.0)); waited = λ n h. propagate_literal.watching.waited n (waited n h); waits = λ n h none. waits n (propagate_literal.watching.waits n h (nones n none (eqb_tells n r.moves.clause.0))) };
+}
+  where
+    waited : (n : ℕ) → Waits n x → Waits n w
+    waited n h = subst (λ (cs : Vec ClauseId Global). 0 < count n cs.items) r.waiting h
+
+    waits : (n : ℕ) → Waits n w → Waits n x
+    waits n h = subst (λ (cs : Vec ClauseId Global). 0 < count n cs.items) (sym r.waiting) h
+
+    -- what waits is not the clause that moved
+    unwatched_still : (n : ℕ) → Waits n w → ((eqb n r.moves.clause.0 ≡ true) × (n ≡ r.moves.clause.0)) ⊎ ((eqb n r.moves.clause.0 ≡ false) × (n ≡ r.moves.clause.0 → ⊥)) → pair_at x.watched.items n ≡ None
+    unwatched_still n h (inl y) =
+        let none : pair_at w.watched.items r.moves.clause.0 ≡ None = subst (λ (i : ℕ). pair_at w.watched.items i ≡ None) y.1 (propagate_literal.fits.unwatched n h) in
+        let both : Some r.moves.pair ≡ None = sym r.moves.watched ∙ none in
+        cc
+    unwatched_still n h (inr y) = ap (λ (ps : List (Option WatchedLiterals)). pair_at ps n) r.moves.pairs ∙ pair_at-set_other w.watched.items r.moves.clause.0 n (Some (moved_pair r.moves.pair l r.to)) (λ e. y.1 (sym e)) ∙ propagate_literal.fits.unwatched n h
+
+    watching_l : watches (Some r.moves.pair) l ≡ true
+    watching_l = pair_watches s w l place r.moves.clause r.moves.pair propagate_literal.fits r.moves.lists.stood r.moves.watched
+
+    unwatched : watches (Some r.moves.pair) r.to ≡ false
+    unwatched = ap (λ (o : Option WatchedLiterals). watches o r.to) (sym r.moves.watched) ∙ subst (λ (i : ClauseId). watches (pair_at w.watched.items i.0) r.to ≡ false) (sym named) r.unwatched
+
+    after : (n : ℕ) (q : WatchedLiterals) → pair_at x.watched.items n ≡ Some q → ((n ≡ r.moves.clause.0) × (moved_pair r.moves.pair l r.to ≡ q)) ⊎ ((eqb n r.moves.clause.0 ≡ false) × (pair_at w.watched.items n ≡ Some q))
+    after n q h = elim (eqb_tells n r.moves.clause.0) [
+      | inl y ↦
+          let there : pair_at x.watched.items r.moves.clause.0 ≡ Some q = subst (λ (i : ℕ). pair_at x.watched.items i ≡ Some q) y.1 h in
+          let here : pair_at x.watched.items r.moves.clause.0 ≡ Some (moved_pair r.moves.pair l r.to) = ap (λ (ps : List (Option WatchedLiterals)). pair_at ps r.moves.clause.0) r.moves.pairs ∙ pair_at-set_same w.watched.items r.moves.clause.0 (Some (moved_pair r.moves.pair l r.to)) (pair_in_range w.watched.items r.moves.clause.0 r.moves.pair r.moves.watched) in
+          inl (y.1, same_pair x.watched.items r.moves.clause.0 (moved_pair r.moves.pair l r.to) q here there)
+      | inr y ↦ inr (y.0, sym (ap (λ (ps : List (Option WatchedLiterals)). pair_at ps n) r.moves.pairs ∙ pair_at-set_other w.watched.items r.moves.clause.0 n (Some (moved_pair r.moves.pair l r.to)) (λ e. y.1 (sym e))) ∙ h)
+    ]
+
+    nones : (n : ℕ) → pair_at x.watched.items n ≡ None → ((eqb n r.moves.clause.0 ≡ true) × (n ≡ r.moves.clause.0)) ⊎ ((eqb n r.moves.clause.0 ≡ false) × (n ≡ r.moves.clause.0 → ⊥)) → pair_at w.watched.items n ≡ None
+    nones n h (inl y) =
+        let there : pair_at x.watched.items r.moves.clause.0 ≡ None = subst (λ (i : ℕ). pair_at x.watched.items i ≡ None) y.1 h in
+        let here : pair_at x.watched.items r.moves.clause.0 ≡ Some (moved_pair r.moves.pair l r.to) = ap (λ (ps : List (Option WatchedLiterals)). pair_at ps r.moves.clause.0) r.moves.pairs ∙ pair_at-set_same w.watched.items r.moves.clause.0 (Some (moved_pair r.moves.pair l r.to)) (pair_in_range w.watched.items r.moves.clause.0 r.moves.pair r.moves.watched) in
+        let both : Some (moved_pair r.moves.pair l r.to) ≡ None = sym here ∙ there in
+        cc
+    nones n h (inr y) = sym (ap (λ (ps : List (Option WatchedLiterals)). pair_at ps n) r.moves.pairs ∙ pair_at-set_other w.watched.items r.moves.clause.0 n (Some (moved_pair r.moves.pair l r.to)) (λ e. y.1 (sym e))) ∙ h
+
+    owns : (n : ℕ) (q : WatchedLiterals) → ((n ≡ r.moves.clause.0) × (moved_pair r.moves.pair l r.to ≡ q)) ⊎ ((eqb n r.moves.clause.0 ≡ false) × (pair_at w.watched.items n ≡ Some q)) → IsOwnPair (clause_at (clauses_of s) n) q
+    owns n q (inl y) =
+        subst (IsOwnPair (clause_at (clauses_of s) n)) y.1
+        (own_moved (clause_at (clauses_of s) n) r.moves.pair l r.to
+        (subst (λ (i : ℕ). IsOwnPair (clause_at (clauses_of s) i) r.moves.pair) (sym y.0) (propagate_literal.fits.own r.moves.clause.0 r.moves.pair r.moves.watched)) (subst (λ (i : ℕ). has (clause_at (clauses_of s) i) r.to ≡ true) (sym (y.0 ∙ ap (λ (i : ClauseId). i.0) named)) r.own))
+    owns n q (inr y) = propagate_literal.fits.own n q y.1
+
+    walks : (n : ℕ) (q : WatchedLiterals) → ((n ≡ r.moves.clause.0) × (moved_pair r.moves.pair l r.to ≡ q)) ⊎ ((eqb n r.moves.clause.0 ≡ false) × (pair_at w.watched.items n ≡ Some q)) → Guards (made_true (before s.tracker.trail k)) (made_true (history s)) q
+    walks n q (inl y) =
+        subst (Guards (made_true (before s.tracker.trail k)) (made_true (history s))) y.1
+        (guards_moved (made_true (before s.tracker.trail k)) (made_true (history s)) r.moves.pair l r.to (propagate_literal.walked r.moves.clause.0 r.moves.pair r.moves.watched) watching_l (λ l' h. true_by_now s.tracker.trail k l' h) r.free
+        (λ h. consistent (count_of s) (clauses_of s) (history s) l propagate_literal.extends.state.trail h (fallen_now k l place o s v w propagate_literal)))
+    walks n q (inr y) = propagate_literal.walked n q y.1
+
+    passes : (n : ℕ) (q : WatchedLiterals) → count n (drop place (watchers x.watches l)) ≡ 0 → ((n ≡ r.moves.clause.0) × (moved_pair r.moves.pair l r.to ≡ q)) ⊎ ((eqb n r.moves.clause.0 ≡ false) × (pair_at w.watched.items n ≡ Some q)) → Passed l (made_true (history s)) q
+    passes n q none (inl y) =
+        subst (Passed l (made_true (history s))) y.1
+        (passed_moved (moved_pair r.moves.pair l r.to) l (made_true (history s))
+        (moved_from r.moves.pair l r.to (propagate_literal.fits.fit.differ r.moves.clause.0 r.moves.pair r.moves.watched) watching_l unwatched))
+    passes n q none (inr y) =
+        let rest : drop place (watchers x.watches l) ≡ drop (suc place) (watchers w.watches l) = ap (drop place) r.moves.lists.taken ∙ drop_taken (watchers w.watches l) place (got_in_range (watchers w.watches l) place r.moves.clause r.moves.lists.stood) in
+        propagate_literal.passed n q y.1 (count_here (watchers w.watches l) place r.moves.clause n r.moves.lists.stood y.0 (sym (ap (count n) rest) ∙ none))
+
+pub visiting_moves : (k : ℕ) (l : Signed) (place : ℕ) (c : ClauseId) (o s t : SatState) (v w x : WatchLists) → IsVisiting k l place o s v w → slice_get (watchers w.watches l) place ≡ Some c
+    → Replaces l place c.0 s t w x → IsVisiting k l place o t v x
+visiting_moves k l place c o s t v w x propagate_literal at r =
+    let both : Some r.moves.clause ≡ Some c = sym r.moves.lists.stood ∙ at in
+    let named : r.moves.clause ≡ c = cc in
+    subst (λ (u : SatState). IsVisiting k l place o u v x) (sym r.same_state) (moves_here k l place c o s t v w x propagate_literal at r named)
+
+-- a walk begins: what doesn't watch the literal was passed
+pub visiting_starts : (k : ℕ) (s : SatState) (w : WatchLists) (l : Signed) → IsState s → IsFit s w → FellAt l k s → IsWalkedTo k s w → IsVisiting k l 0 s s w w
+visiting_starts k s w l state fits fell walked = record {
+  fits = fits;
+  extends = extends_nothing s state;
+  front = refl;
+  walked = walked;
+  passed = λ n q h none. passed_moved q l (made_true (history s)) (unwatched n q h none (watches (Some q) l) refl);
+  entry = fell.entry;
+  long = fell.in_range;
+  watching = same_watching w;
+}
+  where
+    unwatched : (n : ℕ) (q : WatchedLiterals) → pair_at w.watched.items n ≡ Some q → count n (watchers w.watches l) ≡ 0 → (b : Bool) → watches (Some q) l ≡ b → watches (Some q) l ≡ false
+    unwatched n q h none true e =
+        let a : count n (watchers w.watches l) ≡ one_if (watches (pair_at w.watched.items n) l) = fits.fit.once l n in
+        let b : one_if (watches (pair_at w.watched.items n) l) ≡ 1 = ap (λ (o : Option WatchedLiterals). one_if (watches o l)) h ∙ ap one_if e in
+        absurd (omega arith)
+    unwatched n q h none false e = e
+
+pub visiting_ends : (k : ℕ) (l : Signed) (place : ℕ) (o s : SatState) (v w : WatchLists) → IsVisiting k l place o s v w → slice_get (watchers w.watches l) place ≡ None → Walked (k + 1) o s v w
+visiting_ends k l place o s v w propagate_literal end = record {
+  watching = propagate_literal.watching;
+  fits = propagate_literal.fits;
+  extends = propagate_literal.extends;
+  front = propagate_literal.front;
+  walked = λ n q h.
+      let passed = propagate_literal.passed n q h (ap (count n) (nothing_left (watchers w.watches l) place end)) in
+      record {
+        first = λ f. elim (has-cons (negation l) (made_true (before s.tracker.trail k)) (negation q.first) (subst (λ (ls : List Signed). has ls (negation q.first) ≡ true) propagate_literal.entry f)) [
+          | inl e ↦ passed.first (sym (negation-negation q.first) ∙ ap negation (sym e) ∙ negation-negation l)
+          | inr e ↦ (propagate_literal.walked n q h).first e
+        ];
+        second = λ f. elim (has-cons (negation l) (made_true (before s.tracker.trail k)) (negation q.second) (subst (λ (ls : List Signed). has ls (negation q.second) ≡ true) propagate_literal.entry f)) [
+          | inl e ↦ passed.second (sym (negation-negation q.second) ∙ ap negation (sym e) ∙ negation-negation l)
+          | inr e ↦ (propagate_literal.walked n q h).second e
+        ];
+      };
+}
+
+-- a clause is wholly false: propagation begins anew
+pub visiting_breaks : (k : ℕ) (l : Signed) (place n : ℕ) (p : WatchedLiterals) (o s t : SatState) (u : Tracked) (v w x : WatchLists) → IsVisiting k l place o s v w → pair_at w.watched.items n ≡ Some p → Breaks n s t w x → u ≡ record t.tracker { front = 0 } → Conflicts n o (record t { tracker = u }) v x
+visiting_breaks k l place n p o s t u v w x propagate_literal is b again =
+    subst (λ (m : SatState). Conflicts n o (record m { tracker = u }) v x) (sym b.same_state)
+    (subst (λ (y : WatchLists). Conflicts n o (record s { tracker = u }) v y) (sym b.same_watching) here)
+  where
+    anew : u ≡ record s.tracker { front = 0 }
+    anew = subst (λ (m : SatState). u ≡ record m.tracker { front = 0 }) b.same_state again
+
+    trail : u.trail ≡ s.tracker.trail
+    trail = ap (λ (y : Tracked). y.trail) anew
+
+    here : Conflicts n o (record s { tracker = u }) v w
+    here =
+        let below : n < length w.watched.items = pair_in_range w.watched.items n p is in
+        let each : length w.watched.items ≡ length s.clauses = propagate_literal.fits.each in
+        record {
+          watching = propagate_literal.watching;
+          ready = ready_anew s u w propagate_literal.extends.state propagate_literal.fits anew;
+          extends = extends_more o s (record s { tracker = u }) propagate_literal.extends (front_extends s u propagate_literal.extends.state trail);
+          broken = record { in_range = omega arith; falls = subst (λ (xs : List Entry). IsFalseUnder (made_true (reverse xs)) (clause_at (clauses_of s) n)) (sym trail) b.falls };
+        }

@@ -1,0 +1,47 @@
+-- A choice keeps the code, and so does taking entries away.
+use Rattle.std.proofs.Common.{◌≡◌, ℕ, true, List, length, Some, Vec, Global, refl, sym, ◌∙◌, ap, subst}
+use Rattle.std.specs.Prelude.{slice_get}
+use Rattle.resolvo_pool_core.specs.declared.id.ClauseId.{ClauseId}
+use Rattle.resolvo_pool_core.specs.declared.id.VariableId.{VariableId}
+use Rattle.resolvo_store_core.specs.Signed.{has}
+use Rattle.resolvo_sat.specs.declared.state.SatClause.{SatClause}
+use Rattle.resolvo_sat.specs.declared.state.SatState.{SatState}
+use Rattle.resolvo_sat.specs.declared.state.VariableKind.{VariableKind}
+use Rattle.resolvo_sat.specs.Known.{clause_at}
+use Rattle.resolvo_sat.specs.State.{lists}
+use Rattle.resolvo_sat.specs.Steps.{Chooses, Undoes, SameBut}
+use Rattle.resolvo_sat.specs.Propagation.{IsReady}
+use Rattle.resolvo_sat.proofs.Readiness.{ready_undone, covered_same}
+use Rattle.resolvo_sat.proofs.ChooseLemmas.{choice_ready}
+use Rattle.resolvo_state.specs.declared.solver_state.SolverState.{SolverState}
+use Rattle.resolvo_state.specs.SolverState.{IsCoding, KeepsCode}
+
+-- the trail alone changed
+code_kept : {N S : Type 0} (c : SolverState N S) (s : SatState) → IsCoding c → IsReady s c.watching → SameBut c.search s → KeepsCode c (record c { search = s })
+code_kept {N} {S} c s coding ready same = record {
+  coding = record {
+    ready = ready;
+    covered = covered_same c.search s c.watching coding.covered same.clauses;
+    kinds = ap (λ (kinds : Vec VariableKind Global). kinds.items) same.variables ∙ coding.kinds;
+    each = coding.each ∙ sym (ap (λ (cs : List SatClause). length cs) same.clauses);
+    distinct = coding.distinct;
+    learnt = λ n clause h is. coding.learnt n clause h (subst (λ (cs : List SatClause). slice_get cs n ≡ Some clause) same.clauses is);
+    apart = λ n clause h is. coding.apart n clause h (subst (λ (cs : List SatClause). slice_get cs n ≡ Some clause) same.clauses is);
+    drawn = λ n clause h is l a. (
+        let (m, before, there) = coding.drawn n clause h (subst (λ (cs : List SatClause). slice_get cs n ≡ Some clause) same.clauses is) l a in
+        (m, before, subst (λ (cs : List SatClause). has (clause_at (lists cs) m) l ≡ true) (sym same.clauses) there));
+    first = coding.first;
+    rooted = coding.rooted;
+    alone = λ l a. coding.alone l (subst (λ (cs : List SatClause). has (clause_at (lists cs) 0) l ≡ true) same.clauses a);
+  };
+  atoms = refl;
+  stated = refl;
+  variables = same.variables;
+  clauses = same.clauses;
+}
+
+pub choice_kept : {N S : Type 0} (c : SolverState N S) (s : SatState) (v : VariableId) (clause : ClauseId) → IsCoding c → Chooses v clause c.search s → KeepsCode c (record c { search = s })
+choice_kept c s v clause coding chosen = code_kept c s coding (choice_ready c.search s c.watching v clause chosen coding.ready) chosen.same
+
+pub undo_kept : {N S : Type 0} (c : SolverState N S) (s : SatState) (level : ℕ) → IsCoding c → Undoes level c.search s → KeepsCode c (record c { search = s })
+undo_kept c s level coding undoes = code_kept c s coding (ready_undone c.search s c.watching level undoes coding.ready) undoes.same

@@ -1,0 +1,127 @@
+-- The search at its start, and a variable more.
+use Rattle.std.proofs.Common.{◌≡◌, ℕ, zero, suc, inl, inr, true, false, List, [], ◌∷◌, ◌++◌, length, map, Some, None, Vec, Global, refl, sym, ◌∙◌, ap, subst}
+use Rattle.std.specs.Prelude.{slice_get}
+use Rattle.std.proofs.lemmas.Bool.{both_ways}
+use Rattle.resolvo_pool_core.specs.declared.id.VariableId.{VariableId}
+use Rattle.resolvo_store_core.specs.Clauses.{yes, root as root_variable}
+use Rattle.resolvo_store_core.specs.Signed.{Signed, has}
+use Rattle.resolvo_sat.specs.declared.state.SatClause.{SatClause}
+use Rattle.resolvo_sat.specs.declared.state.VariableKind.{VariableKind}
+use Rattle.resolvo_sat.specs.declared.state.VariableKind.TheVariants as Kinds
+use Rattle.resolvo_sat.specs.declared.watch_lists.WatchLists.{WatchLists}
+use Rattle.resolvo_sat.specs.Known.{clause_at}
+use Rattle.resolvo_sat.specs.State.{lists}
+use Rattle.resolvo_sat.specs.Propagation.{IsReady, AreCovered}
+use Rattle.resolvo_sat.specs.Begin.{Begun, IsRootClause, AddsVariable}
+use Rattle.resolvo_sat.proofs.Literals.{has-cons}
+use Rattle.resolvo_sat.proofs.Readiness.{ready_same, covered_same}
+use Rattle.resolvo_state.specs.declared.atom.ProofAtom.{ProofAtom}
+use Rattle.resolvo_state.specs.declared.clause_kind.Stated.{Stated}
+use Rattle.resolvo_state.specs.declared.clause_kind.Stated.TheVariants.{Root, Learnt}
+use Rattle.resolvo_state.specs.declared.solver_state.SolverState.{SolverState}
+use Rattle.resolvo_state.specs.Atoms.{kind_of, StandsFor}
+use Rattle.resolvo_state.specs.Keys.{IsPlace, AreOnce}
+use Rattle.resolvo_state.specs.Statements.{stated_at}
+use Rattle.resolvo_state.specs.SolverState.{IsCoding, IsBegun, Gives}
+use Rattle.resolvo_state.proofs.Positions.{get_last, once_none, once_push, front_same, front_equal}
+use Rattle.resolvo_state.proofs.Origins.{count_is}
+
+one_clause : (cs : List SatClause) → IsRootClause cs → length cs ≡ 1
+one_clause [] h = absurd h
+one_clause (c ∷ []) h = refl
+one_clause (c ∷ d ∷ cs) h = absurd h
+
+-- the root's clause names no other variable
+root_only : (cs : List SatClause) → IsRootClause cs → (l : Signed) → has (clause_at (lists cs) 0) l ≡ true → l.variable.0 ≡ 0
+root_only [] h l a = absurd h
+root_only (c ∷ []) (is, none) l a = elim (has-cons (yes root_variable) [] l (subst (λ (x : List Signed). has x l ≡ true) is a)) [ inl i ↦ ap (λ (y : Signed). y.variable.0) (sym i) | inr f ↦ absurd (both_ways false refl f) ]
+root_only (c ∷ d ∷ cs) h l a = absurd h
+
+-- of the root's clause alone nothing but itself is stated
+root_alone : {N S : Type 0} (stated : List (Stated N S)) (n : ℕ) (x : Stated N S) → stated ≡ Root ∷ [] → stated_at stated n ≡ Some x → (n ≡ 0) × (x ≡ Root)
+root_alone {N} {S} stated n x e h = go n (subst (λ (xs : List (Stated N S)). stated_at xs n ≡ Some x) e h)
+  where
+    alone : List (Stated N S)
+    alone = Root ∷ []
+
+    go : (k : ℕ) → stated_at (Root ∷ []) k ≡ Some x → (k ≡ 0) × (x ≡ Root)
+    go zero i = (refl, cc)
+    go (suc k) i = absurd cc
+
+pub begun_is : {N S : Type 0} (c : SolverState N S) → Begun c.search c.watching → c.atoms.keys ≡ [] → c.stated.items ≡ Root ∷ [] → IsBegun c
+begun_is {N} {S} c begun none alone = record {
+  coding = record {
+    ready = begun.ready;
+    covered = begun.covered;
+    kinds = begun.variables ∙ sym (ap (λ (atoms : List (ProofAtom N S)). Kinds.Root ∷ map kind_of atoms) none);
+    each = ap length alone ∙ sym (one_clause c.search.clauses begun.clause);
+    distinct = once_none c.atoms.keys none;
+    learnt = λ n clause h is. (let (z, e) = root_alone c.stated.items n Learnt alone h in absurd cc);
+    apart = λ n clause h is. (let (z, e) = root_alone c.stated.items n Learnt alone h in absurd cc);
+    drawn = λ n clause h is l a. (let (z, e) = root_alone c.stated.items n Learnt alone h in absurd cc);
+    first = ap (λ (xs : List (Stated N S)). stated_at xs 0) alone;
+    rooted = λ n h. (root_alone c.stated.items n Root alone h).0;
+    alone = root_only c.search.clauses begun.clause;
+  };
+  atoms = none;
+  stated = alone;
+  clause = begun.clause;
+  trail = begun.trail;
+  base_level = begun.base_level;
+}
+
+map_push : {X Y : Type 0} (f : X → Y) (xs : List X) (x : X) → map f (xs ++ x ∷ []) ≡ map f xs ++ f x ∷ []
+map_push f [] x = refl
+map_push f (y ∷ xs) x = ap (λ zs. f y ∷ zs) (map_push f xs x)
+
+-- a variable of an atom that had none
+pub gives_added : {N S : Type 0} (a : ProofAtom N S) (v : VariableId) (old new : SolverState N S) → IsCoding old → IsPlace old.atoms.keys a None
+    → AddsVariable (kind_of a) v old.search new.search → new.watching ≡ old.watching → new.atoms.keys ≡ old.atoms.keys ++ a ∷ [] → new.stated ≡ old.stated → Gives a v old new
+gives_added {N} {S} a v old new coding fresh adds watching pushed stated = record {
+  coding = record {
+    ready = subst (λ (w : WatchLists). IsReady new.search w) (sym watching) (ready_same old.search new.search old.watching coding.ready adds.state adds.clauses adds.tracker);
+    covered = subst (λ (w : WatchLists). AreCovered new.search w) (sym watching) (covered_same old.search new.search old.watching coding.covered adds.clauses);
+    kinds = adds.variables ∙ ap (λ (kinds : List VariableKind). kinds ++ kind_of a ∷ []) coding.kinds ∙ sym (ap (λ (atoms : List (ProofAtom N S)). Kinds.Root ∷ map kind_of atoms) pushed ∙ ap (λ (kinds : List VariableKind). Kinds.Root ∷ kinds) (map_push kind_of old.atoms.keys a));
+    each = ap (λ (xs : Vec (Stated N S) Global). length xs.items) stated ∙ coding.each ∙ sym (ap length adds.clauses);
+    distinct = subst (λ (atoms : List (ProofAtom N S)). AreOnce atoms) (sym pushed) (once_push old.atoms.keys a coding.distinct fresh);
+    learnt = λ n clause h is. coding.learnt n clause (same n Learnt h) (subst (λ (cs : List SatClause). slice_get cs n ≡ Some clause) adds.clauses is);
+    apart = λ n clause h is. coding.apart n clause (same n Learnt h) (subst (λ (cs : List SatClause). slice_get cs n ≡ Some clause) adds.clauses is);
+    drawn = λ n clause h is l a. (
+        let (m, before, there) = coding.drawn n clause (same n Learnt h) (subst (λ (cs : List SatClause). slice_get cs n ≡ Some clause) adds.clauses is) l a in
+        (m, before, subst (λ (cs : List SatClause). has (clause_at (lists cs) m) l ≡ true) (sym adds.clauses) there));
+    first = ap (λ (xs : Vec (Stated N S) Global). stated_at xs.items 0) stated ∙ coding.first;
+    rooted = λ n h. coding.rooted n (same n Root h);
+    alone = λ l a. coding.alone l (subst (λ (cs : List SatClause). has (clause_at (lists cs) 0) l ≡ true) adds.clauses a);
+  };
+  stands = (length old.atoms.keys, place, subst (λ (atoms : List (ProofAtom N S)). slice_get atoms (length old.atoms.keys) ≡ Some a) (sym pushed) (get_last old.atoms.keys a));
+  same = λ k at. absurd (fresh k at);
+  added = λ h. pushed;
+  grows = record {
+    atoms = (a ∷ [], pushed);
+    clauses = front_equal old.search.clauses new.search.clauses adds.clauses;
+    stated = front_equal old.stated.items new.stated.items (ap (λ (xs : Vec (Stated N S) Global). xs.items) stated);
+    base_level = adds.base_level;
+  };
+  trail = record { tracker = adds.tracker };
+  clauses = adds.clauses;
+  stated = stated;
+}
+  where
+    same : (n : ℕ) (x : Stated N S) → stated_at new.stated.items n ≡ Some x → stated_at old.stated.items n ≡ Some x
+    same n x h = ap (λ (xs : Vec (Stated N S) Global). stated_at xs.items n) (sym stated) ∙ h
+
+    place : v.0 ≡ suc (length old.atoms.keys)
+    place = adds.number ∙ count_is old coding
+
+-- an atom that has its variable
+pub gives_found : {N S : Type 0} (a : ProofAtom N S) (v : VariableId) (c : SolverState N S) → IsCoding c → StandsFor c.atoms.keys v a → Gives a v c c
+gives_found a v c coding (k, e, at) = record {
+  coding = coding;
+  stands = (k, e, at);
+  same = λ j bt. refl;
+  added = λ none. absurd (none k at);
+  grows = record { atoms = front_same c.atoms.keys; clauses = front_same c.search.clauses; stated = front_same c.stated.items; base_level = refl };
+  trail = record { tracker = refl };
+  clauses = refl;
+  stated = refl;
+}

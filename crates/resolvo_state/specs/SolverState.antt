@@ -1,0 +1,126 @@
+-- The search, with what its variables stand for and what its clauses state, and how it goes on.
+use Rattle.std.specs.Prelude.{◌≡◌, ℕ, ◌<◌, true, List, [], ◌∷◌, ◌++◌, length, map, slice_get, Some}
+use Rattle.resolvo_pool_core.specs.declared.id.ClauseId.{ClauseId}
+use Rattle.resolvo_pool_core.specs.declared.id.VariableId.{VariableId}
+use Rattle.resolvo_store_core.specs.Signed.{Signed, has}
+use Rattle.resolvo_store_core.specs.AtMostOne.{IsFrontOf}
+use Rattle.resolvo_sat.specs.declared.state.SatClause.{SatClause}
+use Rattle.resolvo_sat.specs.declared.state.SatState.{SatState}
+use Rattle.resolvo_sat.specs.declared.state.VariableKind.TheVariants as Kinds
+use Rattle.resolvo_sat.specs.declared.propagate_and_learn.StepResult.{StepResult}
+use Rattle.resolvo_sat.specs.Known.{clause_at}
+use Rattle.resolvo_sat.specs.State.{IsState, AreApart, clauses_of}
+use Rattle.resolvo_sat.specs.Propagation.{IsReady, AreCovered}
+use Rattle.resolvo_sat.specs.Begin.{IsRootClause, root_entry}
+use Rattle.resolvo_sat.specs.PropagateAndLearn.{IsProgress}
+use Rattle.resolvo_state.specs.declared.atom.ProofAtom.{ProofAtom}
+use Rattle.resolvo_state.specs.declared.clause_kind.Stated.{Stated}
+use Rattle.resolvo_state.specs.declared.clause_kind.Stated.TheVariants.{Root, Learnt}
+use Rattle.resolvo_state.specs.declared.solver_state.SolverState.{SolverState}
+use Rattle.resolvo_state.specs.Atoms.{kind_of, StandsFor}
+use Rattle.resolvo_state.specs.Keys.{AreOnce}
+use Rattle.resolvo_state.specs.Statements.{stated_at}
+
+-- What holds between calls: the search is ready, each variable but the root's stands for an atom, no two for one, and each
+-- clause states something. The root's clause comes first and names no other variable; what is learnt has causes, no literal
+-- beside its opposite, and none that stands in no earlier clause.
+pub record IsCoding {N S : Type 0} (c : SolverState N S) : Type 0 where
+  pub ready : IsReady c.search c.watching
+  pub covered : AreCovered c.search c.watching
+  pub kinds : c.search.variables.items ≡ Kinds.Root ∷ map kind_of c.atoms.keys
+  pub each : length c.stated.items ≡ length c.search.clauses
+  pub distinct : AreOnce c.atoms.keys
+  pub learnt : (n : ℕ) (clause : SatClause) → stated_at c.stated.items n ≡ Some Learnt → slice_get c.search.clauses n ≡ Some clause → 0 < length clause.causes.items
+  pub apart : (n : ℕ) (clause : SatClause) → stated_at c.stated.items n ≡ Some Learnt → slice_get c.search.clauses n ≡ Some clause → AreApart clause.literals.items
+  pub drawn : (n : ℕ) (clause : SatClause) → stated_at c.stated.items n ≡ Some Learnt → slice_get c.search.clauses n ≡ Some clause → (l : Signed) → has clause.literals.items l ≡ true → (m : ℕ) × (m < n) × (has (clause_at (clauses_of c.search) m) l ≡ true)
+  pub first : stated_at c.stated.items 0 ≡ Some Root
+  pub rooted : (n : ℕ) → stated_at c.stated.items n ≡ Some Root → n ≡ 0
+  pub alone : (l : Signed) → has (clause_at (clauses_of c.search) 0) l ≡ true → l.variable.0 ≡ 0
+
+-- Atoms, clauses and what these state came behind the others.
+pub record Grows {N S : Type 0} (old new : SolverState N S) : Type 0 where
+  pub atoms : IsFrontOf old.atoms.keys new.atoms.keys
+  pub clauses : IsFrontOf old.search.clauses new.search.clauses
+  pub stated : IsFrontOf old.stated.items new.stated.items
+  pub base_level : new.search.base_level ≡ old.search.base_level
+
+-- the trail is what it was
+pub record SameTrail {N S : Type 0} (old new : SolverState N S) : Type 0 where
+  pub tracker : new.search.tracker ≡ old.search.tracker
+
+-- the root is true at level 1, and nothing else is there
+pub record IsBegun {N S : Type 0} (c : SolverState N S) : Type 0 where
+  pub coding : IsCoding c
+  pub atoms : c.atoms.keys ≡ []
+  pub stated : c.stated.items ≡ Root ∷ []
+  pub clause : IsRootClause c.search.clauses
+  pub trail : c.search.tracker.trail ≡ root_entry ∷ []
+  pub base_level : c.search.base_level ≡ 1
+
+-- The variable stands for the atom. If one did before, nothing changed; else the atom came behind the others.
+pub record Gives {N S : Type 0} (atom : ProofAtom N S) (v : VariableId) (old new : SolverState N S) : Type 0 where
+  pub coding : IsCoding new
+  pub stands : StandsFor new.atoms.keys v atom
+  pub same : (k : ℕ) → slice_get old.atoms.keys k ≡ Some atom → new ≡ old
+  pub added : ((k : ℕ) → slice_get old.atoms.keys k ≡ Some atom → ⊥) → new.atoms.keys ≡ old.atoms.keys ++ atom ∷ []
+  pub grows : Grows old new
+  pub trail : SameTrail old new
+  pub clauses : new.search.clauses ≡ old.search.clauses
+  pub stated : new.stated ≡ old.stated
+
+-- A clause of these literals, which has no causes, came behind the others.
+pub record States {N S : Type 0} (x : Stated N S) (spelled : List Signed) (id : ClauseId) (old new : SolverState N S) : Type 0 where
+  pub coding : IsCoding new
+  pub atoms : new.atoms ≡ old.atoms
+  pub clause : SatClause
+  pub literals : clause.literals.items ≡ spelled
+  pub plain : clause.causes.items ≡ []
+  pub number : id.0 ≡ length old.search.clauses
+  pub added : new.search.clauses ≡ old.search.clauses ++ clause ∷ []
+  pub stated : new.stated.items ≡ old.stated.items ++ x ∷ []
+  pub grows : Grows old new
+  pub trail : SameTrail old new
+
+-- A clause came behind the others that follows from its causes.
+pub record Bars {N S : Type 0} (denies : List Signed) (by : List ClauseId) (id : ClauseId) (old new : SolverState N S) : Type 0 where
+  pub coding : IsCoding new
+  pub atoms : new.atoms ≡ old.atoms
+  pub variables : new.search.variables ≡ old.search.variables
+  pub clause : SatClause
+  pub literals : clause.literals.items ≡ denies
+  pub causes : clause.causes.items ≡ by
+  pub number : id.0 ≡ length old.search.clauses
+  pub added : new.search.clauses ≡ old.search.clauses ++ clause ∷ []
+  pub stated : new.stated.items ≡ old.stated.items ++ Learnt ∷ []
+  pub grows : Grows old new
+  pub trail : SameTrail old new
+
+-- what a step adds to what is stated
+abbrev pub learnt_by : {N S : Type 0} → StepResult → List (Stated N S)
+learnt_by StepResult.Complete = []
+learnt_by (StepResult.Learnt id) = Learnt ∷ []
+learnt_by (StepResult.Refused r) = []
+
+-- one step of the search
+pub record Advances {N S : Type 0} (old new : SolverState N S) (p : StepResult) : Type 0 where
+  pub coding : IsCoding new
+  pub progress : IsProgress old.search old.watching new.search new.watching p
+  pub atoms : new.atoms ≡ old.atoms
+  pub stated : new.stated.items ≡ old.stated.items ++ learnt_by p
+  pub grows : Grows old new
+
+-- variables, clauses, and what they stand for and state, are what they were
+pub record KeepsCode {N S : Type 0} (old new : SolverState N S) : Type 0 where
+  pub coding : IsCoding new
+  pub atoms : new.atoms ≡ old.atoms
+  pub stated : new.stated ≡ old.stated
+  pub variables : new.search.variables ≡ old.search.variables
+  pub clauses : new.search.clauses ≡ old.search.clauses
+
+-- no jump goes below the level
+pub record SetsFloor (level : ℕ) (old new : SatState) : Type 0 where
+  pub state : IsState new
+  pub variables : new.variables ≡ old.variables
+  pub clauses : new.clauses ≡ old.clauses
+  pub tracker : new.tracker ≡ old.tracker
+  pub base_level : new.base_level ≡ level

@@ -1,0 +1,39 @@
+-- A pass over the cases that wait.
+use Rattle.std.proofs.Common.{◌≡◌, ℕ, ◌+◌, ◌<◌, ◌≤◌, inl, inr, ◌⊎◌, Bool, true, false, length, sym, ◌∙◌, subst, arith}
+use Rattle.std.proofs.lemmas.Bool.{both_ways}
+use Rattle.resolvo_state.proofs.Growth.{below_or_not}
+use Rattle.resolvo_state.proofs.Positions.{front_long}
+use Rattle.resolvo_encoder.specs.declared.encoder.Encoder.{Encoder}
+use Rattle.resolvo_encoder.specs.Conditions.{IsSpent}
+use Rattle.resolvo_turn.specs.Encoder.{AddsNeeds}
+use Rattle.resolvo_turn.specs.Turn.{FiresMore}
+
+-- whether one did, by what the last one came to
+abbrev pub IsFired : Bool → Bool → Bool → Type 0
+IsFired before now after = ((now ≡ true) × (after ≡ true)) ⊎ ((now ≡ false) × (after ≡ before))
+
+module _ {N S : Type 0} (same : S → S → Bool) where
+  -- Cases became clauses, or none of the first ones holds and nothing changed.
+  pub record Passed (start e : Encoder N S) (fired : Bool) (count : ℕ) : Type 0 where
+    pub fires : fired ≡ true → FiresMore start e
+    pub unchanged : fired ≡ false → e ≡ start
+    pub spent : fired ≡ false → (i : ℕ) → i < count → IsSpent same e i
+
+  pub passed_none : (e : Encoder N S) (fired : Bool) → fired ≡ false → e ≡ e → Passed e e fired 0
+  passed_none e fired none is = record { fires = λ h. absurd (both_ways _ none h); unchanged = λ h. is; spent = λ h i below. absurd (omega arith) }
+
+  pub passed_more : (start e next : Encoder N S) (fired now after : Bool) (index : ℕ) → Passed start e fired index → AddsNeeds start e → (now ≡ true → FiresMore e next) → (now ≡ false → (next ≡ e) × IsSpent same next index) → IsFired fired now after → Passed start next after (index + 1)
+  passed_more start e next fired now after index before adds fires spent (inl (is, all)) =
+      let long : length start.fired.keys ≤ length e.fired.keys = front_long start.fired.keys e.fired.keys adds.fired in
+      let more : length e.fired.keys < length next.fired.keys = (fires is).more in
+      record { fires = λ h. record { more = omega arith; bounded = (fires is).bounded }; unchanged = λ h. absurd (both_ways _ h all); spent = λ h. absurd (both_ways _ h all) }
+  passed_more start e next fired now after index before adds fires spent (inr (is, as_before)) =
+      let (stays, last) = spent is in
+      record {
+        fires = λ h. subst (λ (x : Encoder N S). FiresMore start x) (sym stays) (before.fires (sym as_before ∙ h));
+        unchanged = λ h. stays ∙ before.unchanged (sym as_before ∙ h);
+        spent = λ h i below. elim (below_or_not i index) [
+          | inl low ↦ subst (λ (x : Encoder N S). IsSpent same x i) (sym stays) (before.spent (sym as_before ∙ h) i low)
+          | inr high ↦ subst (λ n. IsSpent same next n) (let a : i < index + 1 = below in let b : index ≤ i = high in omega arith) last
+        ];
+      }
