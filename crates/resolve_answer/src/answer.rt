@@ -42,7 +42,12 @@ fn installed(
     turns: &[Turn<SolvableId>],
     proof: Vec<ProofStep<NameId, SolvableId>>,
 ) -> R<Report>
-    ensures { IfOk result (λ r. AreRequestLines catalogue.now request.now.lines → IsInstalledOver catalogue.now request.now provider.now wishes.items solvables.now turns.now proof.items → IsReportOf catalogue.now request.now.lines (report_of r)) }
+    ensures { IfOk result
+        (λ r.
+        AreRequestLines catalogue.now request.now.lines
+        → IsInstalledOver catalogue.now request.now provider.now wishes.items solvables.now
+        turns.now proof.items
+        → IsReportOf catalogue.now request.now.lines (report_of r)) }
 {
     let wanted = wanted_steps(alloc, turns)?;
     let Trimmed { steps, numbers } = trim_to(alloc, proof, wanted.as_slice())?;
@@ -85,7 +90,11 @@ fn refused(
     answers: &mut CachedPackages<CatalogueProvider>,
     proof: Vec<ProofStep<NameId, SolvableId>>,
 ) -> R<Report>
-    ensures { IfOk result (λ r. AreRequestLines catalogue.now request.now.lines → IsRefutedOver catalogue.now request.now answers.old proof.items → IsReportOf catalogue.now request.now.lines (report_of r)) }
+    ensures { IfOk result
+        (λ r.
+        AreRequestLines catalogue.now request.now.lines
+        → IsRefutedOver catalogue.now request.now answers.old proof.items
+        → IsReportOf catalogue.now request.now.lines (report_of r)) }
 {
     let steps = trim(alloc, proof)?;
     let report = refused_report(
@@ -113,7 +122,11 @@ fn told(
     wishes: Vec<Wish>,
     solved: Solved<NameId, SolvableId>,
 ) -> R<Report>
-    ensures { IfOk result (λ r. AreRequestLines catalogue.now request.now.lines → IsSolvedOver catalogue.now request.now answers.old wishes.items solved → IsReportOf catalogue.now request.now.lines (report_of r)) }
+    ensures { IfOk result
+        (λ r.
+        AreRequestLines catalogue.now request.now.lines
+        → IsSolvedOver catalogue.now request.now answers.old wishes.items solved
+        → IsReportOf catalogue.now request.now.lines (report_of r)) }
 {
     let Solved { found, proof, .. } = solved;
     match found {
@@ -152,7 +165,13 @@ fn answered(
     answers: &mut CachedPackages<CatalogueProvider>,
     asked: &RequestIds,
 ) -> R<Report>
-    ensures { IfOk result (λ r. AreRequestLines catalogue.now request.now.lines → AreWishesAt catalogue.now request.now → IsOver catalogue.now answers.old → AreAsked answers.old.ids request.now asked.now → IsReportOf catalogue.now request.now.lines (report_of r)) }
+    ensures { IfOk result
+        (λ r.
+        AreRequestLines catalogue.now request.now.lines
+        → AreWishesAt catalogue.now request.now
+        → IsOver catalogue.now answers.old
+        → AreAsked answers.old.ids request.now asked.now
+        → IsReportOf catalogue.now request.now.lines (report_of r)) }
 {
     let wishes = wishes_of(alloc, catalogue, request)?;
     let free = free_wishes(alloc, wishes.as_slice())?;
@@ -178,7 +197,13 @@ fn answered_by(
     provider: CatalogueProvider,
     asked: &RequestIds,
 ) -> R<Report>
-    ensures { IfOk result (λ r. AreRequestLines catalogue.now request.now.lines → AreWishesAt catalogue.now request.now → IsOver catalogue.now provider → AreAsked provider.ids request.now asked.now → IsReportOf catalogue.now request.now.lines (report_of r)) }
+    ensures { IfOk result
+        (λ r.
+        AreRequestLines catalogue.now request.now.lines
+        → AreWishesAt catalogue.now request.now
+        → IsOver catalogue.now provider
+        → AreAsked provider.ids request.now asked.now
+        → IsReportOf catalogue.now request.now.lines (report_of r)) }
 {
     let mut answers = CachedPackages::new(alloc, provider);
     answered(alloc, catalogue, request, &mut answers, asked)
@@ -187,7 +212,11 @@ fn answered_by(
 /// The report of a catalogue and a request over it: the solver's answer. `Memory` where it finds no room; `Ids` where there is more
 /// than numbers can tell.
 pub fn report_for(alloc: Global, catalogue: &Catalogue, request: &Request) -> R<Report>
-    ensures { IfOk result (λ r. AreRequestLines catalogue.now request.now.lines → AreWishesAt catalogue.now request.now → IsReportOf catalogue.now request.now.lines (report_of r)) }
+    ensures { IfOk result
+        (λ r.
+        AreRequestLines catalogue.now request.now.lines
+        → AreWishesAt catalogue.now request.now
+        → IsReportOf catalogue.now request.now.lines (report_of r)) }
 {
     let mut provider = CatalogueProvider::new(alloc, catalogue, Hint::All)?;
     let asked = provider.intern_request(request)?;

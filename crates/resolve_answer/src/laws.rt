@@ -10,12 +10,25 @@ ghost use Rattle.resolve_answer.specs.Verdict.{IsChosen, IsGivenOver, IsRefused,
 /// A solver over the provider of a catalogue chooses only where some set of versions keeps the rules of both texts, and refuses
 /// only where none does.
 pub fn a_verdict_is_that_of_the_texts()
-    ensures chosen { (catalogue : List Line) (said : Said) (provider : Provider) (verdict : Verdict) → IsGivenOver catalogue said provider verdict → IsChosen verdict → (set : Set) × IsRuleKeeping catalogue said.lines set }
-    ensures refused { (catalogue : List Line) (said : Said) (provider : Provider) (verdict : Verdict) → IsGivenOver catalogue said provider verdict → IsRefused verdict → (set : Set) → IsRuleKeeping catalogue said.lines set → ⊥ }
+    ensures chosen { (catalogue : List Line) (said : Said) (provider : Provider) (verdict : Verdict)
+        → IsGivenOver catalogue said provider verdict
+        → IsChosen verdict
+        → (set : Set) × IsRuleKeeping catalogue said.lines set }
+    ensures refused { (catalogue : List Line) (said : Said) (provider : Provider) (verdict : Verdict)
+        → IsGivenOver catalogue said provider verdict
+        → IsRefused verdict
+        → (set : Set)
+        → IsRuleKeeping catalogue said.lines set
+        → ⊥ }
 {}
 
 /// Two providers of one catalogue, whatever each says of dependencies that are at hand, come to one verdict for what one request
 /// asks: where solvables are chosen over one, the other isn't refused.
 pub fn either_hint_gives_one_verdict()
-    ensures { (catalogue : List Line) (said : Said) (one other : Provider) (verdict another : Verdict) → IsGivenOver catalogue said one verdict → IsGivenOver catalogue said other another → IsChosen verdict → IsRefused another → ⊥ }
+    ensures { (catalogue : List Line) (said : Said) (one other : Provider) (verdict another : Verdict)
+        → IsGivenOver catalogue said one verdict
+        → IsGivenOver catalogue said other another
+        → IsChosen verdict
+        → IsRefused another
+        → ⊥ }
 {}

@@ -38,7 +38,10 @@ pub(crate) fn message_of(
     offers: &Offers<SolvableId>,
     steps: &[ProofStep<NameId, SolvableId>],
 ) -> R<Vec<Vec<u8>>>
-    ensures { IfOk result (λ v. IsTextOf ⟦<NameId as PartialEq>⟧.eq ⟦<SolvableId as PartialEq>⟧.eq provider.now (offered_by offers.now) steps.now (messages_of v.items)) }
+    ensures { IfOk result
+        (λ v.
+        IsTextOf ⟦<NameId as PartialEq>⟧.eq ⟦<SolvableId as PartialEq>⟧.eq provider.now
+        (offered_by offers.now) steps.now (messages_of v.items)) }
 {
     let graph = conflict_graph(alloc, provider, offers, steps)?;
     let display = DisplayUnsat::new(alloc, &graph, provider)?;

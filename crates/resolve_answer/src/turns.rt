@@ -86,7 +86,10 @@ impl<'a> Outcome<'a> {
 
     /// The turn of a wish that the solver was asked for, by the place of its turn there.
     fn wished(self, wish: (u32, VersionNo), place: usize) -> R<report::Turn<'a>>
-        ensures { IfOk result (λ t. IsWishedTurn self.entry.chosen.now self.entry.places.now wish (slice_get self.entry.turns.now place) t) }
+        ensures { IfOk result
+            (λ t.
+            IsWishedTurn self.entry.chosen.now self.entry.places.now wish
+            (slice_get self.entry.turns.now place) t) }
     {
         match self.turns.get(place) {
             Some(turn) => {
@@ -127,7 +130,10 @@ pub fn report_turns<'a>(
     wishes: Vec<Wish>,
     steps: &mut Vec<Step>,
 ) -> R<Vec<report::Turn<'a>>>
-    ensures { IfOk result (λ v. AreReportTurns outcome.entry wishes.items (steps_of steps.old.items) v.items (steps_of steps.new.items)) }
+    ensures { IfOk result
+        (λ v.
+        AreReportTurns outcome.entry wishes.items (steps_of steps.old.items) v.items
+        (steps_of steps.new.items)) }
 {
     let mut told = Vec::new(alloc);
     told.push(outcome.first())?;

@@ -25,7 +25,8 @@ pub struct Wish {
 /// The wishes of a request, in the order of their lines. `Memory` where they find no room.
 pub fn wishes_of(alloc: Global, catalogue: &Catalogue, request: &Request) -> R<Vec<Wish>>
     ensures wishes { IfOk result (λ v. AreWishesOf catalogue.now request.now.wishes v.items) }
-    ensures lines { OnOk result (AreAll (map (λ f. f.0) request.now.wishes) (λ n. LineIs request.now.lines n IsWish)) }
+    ensures lines { OnOk result
+        (AreAll (map (λ f. f.0) request.now.wishes) (λ n. LineIs request.now.lines n IsWish)) }
 {
     let mut wishes = Vec::new(alloc);
     for wish in request.wishes() {

@@ -58,8 +58,22 @@ fn answer<C: Source, R: Source, P: Source>(
     request: &mut R,
     report: &mut P,
 ) -> Result<Told, RunFault>
-    ensures ok { IfOk result (λ told. ChecksTexts (C.left catalogue.old) (R.left request.old) (P.left report.old) told.checked told.text.items) }
-    ensures err { IfErr result (λ e. StopsBeforeCheck e (reader_of (C.left catalogue.old) (C.left catalogue.new) (DeviceFailed (C.failures catalogue.old) (C.failures catalogue.new) (C.interruptions catalogue.new))) (reader_of (R.left request.old) (R.left request.new) (DeviceFailed (R.failures request.old) (R.failures request.new) (R.interruptions request.new))) (reader_of (P.left report.old) (P.left report.new) (DeviceFailed (P.failures report.old) (P.failures report.new) (P.interruptions report.new)))) }
+    ensures ok { IfOk result
+        (λ told.
+        ChecksTexts (C.left catalogue.old) (R.left request.old) (P.left report.old)
+        told.checked told.text.items) }
+    ensures err { IfErr result
+        (λ e.
+        StopsBeforeCheck e
+        (reader_of (C.left catalogue.old) (C.left catalogue.new)
+        (DeviceFailed (C.failures catalogue.old) (C.failures catalogue.new)
+        (C.interruptions catalogue.new)))
+        (reader_of (R.left request.old) (R.left request.new)
+        (DeviceFailed (R.failures request.old) (R.failures request.new)
+        (R.interruptions request.new)))
+        (reader_of (P.left report.old) (P.left report.new)
+        (DeviceFailed (P.failures report.old) (P.failures report.new)
+        (P.interruptions report.new)))) }
 {
     let catalogue = match Catalogue::read(alloc, catalogue) {
         Ok(catalogue) => catalogue,
@@ -86,8 +100,39 @@ pub fn check<C: Source, R: Source, P: Source, W: Sink>(
     report: &mut P,
     writer: &mut W,
 ) -> Result<Checked, RunFault>
-    ensures written { IfOk result (λ checked. WritesCheck (reader_of (C.left catalogue.old) (C.left catalogue.new) (DeviceFailed (C.failures catalogue.old) (C.failures catalogue.new) (C.interruptions catalogue.new))) (reader_of (R.left request.old) (R.left request.new) (DeviceFailed (R.failures request.old) (R.failures request.new) (R.interruptions request.new))) (reader_of (P.left report.old) (P.left report.new) (DeviceFailed (P.failures report.old) (P.failures report.new) (P.interruptions report.new))) (writer_of (W.contents writer.old) (W.contents writer.new) (WriterFailed (W.failures writer.old) (W.failures writer.new) (W.interruptions writer.new) (W.empty_writes writer.old) (W.empty_writes writer.new))) checked) }
-    ensures stopped { IfErr result (λ e. StopsCheck e (reader_of (C.left catalogue.old) (C.left catalogue.new) (DeviceFailed (C.failures catalogue.old) (C.failures catalogue.new) (C.interruptions catalogue.new))) (reader_of (R.left request.old) (R.left request.new) (DeviceFailed (R.failures request.old) (R.failures request.new) (R.interruptions request.new))) (reader_of (P.left report.old) (P.left report.new) (DeviceFailed (P.failures report.old) (P.failures report.new) (P.interruptions report.new))) (writer_of (W.contents writer.old) (W.contents writer.new) (WriterFailed (W.failures writer.old) (W.failures writer.new) (W.interruptions writer.new) (W.empty_writes writer.old) (W.empty_writes writer.new)))) }
+    ensures written { IfOk result
+        (λ checked.
+        WritesCheck
+        (reader_of (C.left catalogue.old) (C.left catalogue.new)
+        (DeviceFailed (C.failures catalogue.old) (C.failures catalogue.new)
+        (C.interruptions catalogue.new)))
+        (reader_of (R.left request.old) (R.left request.new)
+        (DeviceFailed (R.failures request.old) (R.failures request.new)
+        (R.interruptions request.new)))
+        (reader_of (P.left report.old) (P.left report.new)
+        (DeviceFailed (P.failures report.old) (P.failures report.new)
+        (P.interruptions report.new)))
+        (writer_of (W.contents writer.old) (W.contents writer.new)
+        (WriterFailed (W.failures writer.old) (W.failures writer.new)
+        (W.interruptions writer.new) (W.empty_writes writer.old)
+        (W.empty_writes writer.new)))
+        checked) }
+    ensures stopped { IfErr result
+        (λ e.
+        StopsCheck e
+        (reader_of (C.left catalogue.old) (C.left catalogue.new)
+        (DeviceFailed (C.failures catalogue.old) (C.failures catalogue.new)
+        (C.interruptions catalogue.new)))
+        (reader_of (R.left request.old) (R.left request.new)
+        (DeviceFailed (R.failures request.old) (R.failures request.new)
+        (R.interruptions request.new)))
+        (reader_of (P.left report.old) (P.left report.new)
+        (DeviceFailed (P.failures report.old) (P.failures report.new)
+        (P.interruptions report.new)))
+        (writer_of (W.contents writer.old) (W.contents writer.new)
+        (WriterFailed (W.failures writer.old) (W.failures writer.new)
+        (W.interruptions writer.new) (W.empty_writes writer.old)
+        (W.empty_writes writer.new)))) }
 {
     match answer(alloc, catalogue, request, report) {
         Ok(told) => match write_all(writer, told.text.as_slice()) {

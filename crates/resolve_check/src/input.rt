@@ -27,7 +27,11 @@ fn read_some<S: Source>(source: &mut S, buffer: &mut [u8]) -> Result<usize, RunF
     ensures came { IfOk result (λ n. Consumes (S.left source.old) (S.left source.new) (take n buffer.new)) }
     ensures end { IfOk result (λ n. n ≡ 0 → IsAtEnd (S.left source.new)) }
     ensures counted { OnOk result (S.failures source.new ≡ S.failures source.old) }
-    ensures fault { MatchResult result (λ _. ⊤) (λ e. IsInputFault e (S.left source.old) 0 (DeviceFailed (S.failures source.old) (S.failures source.new) (S.interruptions source.new))) }
+    ensures fault { MatchResult result (λ _. ⊤)
+        (λ e.
+        IsInputFault e (S.left source.old) 0
+        (DeviceFailed (S.failures source.old) (S.failures source.new)
+        (S.interruptions source.new))) }
     ensures read_fault { MatchResult result (λ _. ⊤) (λ e. e ≡ RunFault.Reader) }
 {
     for _try in 0..MOST_INTERRUPTIONS + 1 {
@@ -46,9 +50,16 @@ pub fn read_input<S: Source>(
     source: &mut S,
     limit: usize,
 ) -> Result<Vec<u8>, RunFault>
-    ensures all { IfOk result (λ bytes. Consumes (S.left source.old) (S.left source.new) bytes.items × IsAtEnd (S.left source.new)) }
+    ensures all { IfOk result
+        (λ bytes.
+        Consumes (S.left source.old) (S.left source.new) bytes.items
+        × IsAtEnd (S.left source.new)) }
     ensures within { IfOk result (λ bytes. vec_len bytes ≤ limit) }
-    ensures fault { MatchResult result (λ _. ⊤) (λ e. IsInputFault e (S.left source.old) limit (DeviceFailed (S.failures source.old) (S.failures source.new) (S.interruptions source.new))) }
+    ensures fault { MatchResult result (λ _. ⊤)
+        (λ e.
+        IsInputFault e (S.left source.old) limit
+        (DeviceFailed (S.failures source.old) (S.failures source.new)
+        (S.interruptions source.new))) }
 {
     let mut all = Vec::new(alloc);
     let mut piece = [0u8; PIECE];

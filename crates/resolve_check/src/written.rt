@@ -25,7 +25,9 @@ fn fault_text(alloc: Global, which: &str, line: u32) -> Result<Vec<u8>, AllocErr
 
 /// A line of a text that is told as faulty.
 pub fn faulty(alloc: Global, which: &str, line: u32) -> Result<Written, RunFault>
-    ensures ok { IfOk result (λ answer. (answer.outcome ≡ Outcome.Faulty) × (answer.text.items ≡ fault_text which.now line)) }
+    ensures ok { IfOk result
+        (λ answer.
+        (answer.outcome ≡ Outcome.Faulty) × (answer.text.items ≡ fault_text which.now line)) }
     ensures err { IfErr result (λ e. e ≡ RunFault.Memory) }
 {
     Ok(Written {

@@ -42,7 +42,10 @@ fn version_at(
 
 /// What an entry says in a report.
 fn entry_line(alloc: Global, catalogue: &Catalogue, entry: Entry) -> Result<AnswerLine, AllocError>
-    ensures says { IfOk result (λ line. answer_of (answer_line_of line) ≡ view.answer_of (listed catalogue.now) (answer.Entry entry)) }
+    ensures says { IfOk result
+        (λ line.
+        answer_of (answer_line_of line)
+        ≡ view.answer_of (listed catalogue.now) (answer.Entry entry)) }
     ensures numbered { IfOk result (λ line. IsNumber (line_of (answer_line_of line))) }
 {
     let version = version_at(alloc, catalogue, entry.version)?;
@@ -70,7 +73,8 @@ fn answer_line(
     catalogue: &Catalogue,
     answer: Answer,
 ) -> Result<AnswerLine, AllocError>
-    ensures says { IfOk result (λ line. answer_of (answer_line_of line) ≡ view.answer_of (listed catalogue.now) answer) }
+    ensures says { IfOk result
+        (λ line. answer_of (answer_line_of line) ≡ view.answer_of (listed catalogue.now) answer) }
     ensures numbered { IfOk result (λ line. IsNumber (line_of (answer_line_of line))) }
 {
     match answer {
@@ -93,8 +97,12 @@ fn answer_lines(
     catalogue: &Catalogue,
     answers: &[Answer],
 ) -> Result<Vec<AnswerLine>, AllocError>
-    ensures say { IfOk result (λ lines. map answer_of (answer_lines_of lines.items) ≡ view.answers_of (listed catalogue.now) answers.now) }
-    ensures numbered { IfOk result (λ lines. AllByRecursion (λ l. IsNumber (line_of l)) (answer_lines_of lines.items)) }
+    ensures say { IfOk result
+        (λ lines.
+        map answer_of (answer_lines_of lines.items)
+        ≡ view.answers_of (listed catalogue.now) answers.now) }
+    ensures numbered { IfOk result
+        (λ lines. AllByRecursion (λ l. IsNumber (line_of l)) (answer_lines_of lines.items)) }
 {
     let mut lines = Vec::new(alloc);
     for answer in answers {
@@ -113,7 +121,11 @@ pub fn install_report(
     turns: &[Turn<'_>],
     steps: Vec<Step>,
 ) -> Result<Report, AllocError>
-    ensures { IfOk result (λ report. Serve catalogue.now request.now.lines turns.now (steps_of steps.items) → IsInstallOf catalogue.now request.now.lines turns.now (steps_of steps.items) (report_of report)) }
+    ensures { IfOk result
+        (λ report.
+        Serve catalogue.now request.now.lines turns.now (steps_of steps.items)
+        → IsInstallOf catalogue.now request.now.lines turns.now (steps_of steps.items)
+        (report_of report)) }
 {
     catalogue.lines_are_in_place();
     let answers = list(alloc, catalogue, request, turns)?;

@@ -54,7 +54,12 @@ impl Chosen {
 
     /// Adds a chosen version. A number that no version has is passed over.
     pub fn add(&mut self, catalogue: &Catalogue, version: VersionNo) -> Result<(), AllocError>
-        ensures { OnOk result ((chosen entries : Set) → Holds (listed catalogue.now) self.old chosen entries → AreOneEach (chosen ++ members (listed catalogue.now) (version ∷ [])) → Holds (listed catalogue.now) self.new (chosen ++ members (listed catalogue.now) (version ∷ [])) entries) }
+        ensures { OnOk result
+            ((chosen entries : Set)
+            → Holds (listed catalogue.now) self.old chosen entries
+            → AreOneEach (chosen ++ members (listed catalogue.now) (version ∷ []))
+            → Holds (listed catalogue.now) self.new
+            (chosen ++ members (listed catalogue.now) (version ∷ [])) entries) }
     {
         if let Some(listed) = version_at(catalogue, version) {
             self.picks.insert(listed.0.clone()?, version)?;
@@ -68,7 +73,12 @@ impl Chosen {
         catalogue: &Catalogue,
         versions: &[VersionNo],
     ) -> Result<(), AllocError>
-        ensures { OnOk result ((chosen entries : Set) → Holds (listed catalogue.now) self.old chosen entries → AreOneEach (chosen ++ members (listed catalogue.now) versions.now) → Holds (listed catalogue.now) self.new (chosen ++ members (listed catalogue.now) versions.now) entries) }
+        ensures { OnOk result
+            ((chosen entries : Set)
+            → Holds (listed catalogue.now) self.old chosen entries
+            → AreOneEach (chosen ++ members (listed catalogue.now) versions.now)
+            → Holds (listed catalogue.now) self.new
+            (chosen ++ members (listed catalogue.now) versions.now) entries) }
     {
         for version in versions {
             self.add(catalogue, *version)?;
@@ -90,7 +100,11 @@ impl Chosen {
     pub fn mark(&mut self, version: VersionNo)
         requires { is_unlisted self.old.listed.items version.0 ≡ true }
         ensures fewer { unlisted self.new.listed.items + 1 ≡ unlisted self.old.listed.items }
-        ensures marked { (versions : List says.Version) (chosen entries : Set) (v : says.Version) → slice_get versions version.0 ≡ Some v → Contains chosen v → Holds versions self.old chosen entries → Holds versions self.new chosen (entries ++ v ∷ []) }
+        ensures marked { (versions : List says.Version) (chosen entries : Set) (v : says.Version)
+            → slice_get versions version.0 ≡ Some v
+            → Contains chosen v
+            → Holds versions self.old chosen entries
+            → Holds versions self.new chosen (entries ++ v ∷ []) }
     {
         self.listed[version.0 as usize] = true;
     }
@@ -104,7 +118,9 @@ impl Chosen {
 
     /// The chosen version that the SPEC matches.
     fn chosen_match(&self, catalogue: &Catalogue, spec: &Spec) -> Option<VersionNo>
-        ensures { (chosen entries : Set) → Holds (listed catalogue.now) self.now chosen entries → IsChosenMatch (listed catalogue.now) chosen (spec_of spec.now) result }
+        ensures { (chosen entries : Set)
+            → Holds (listed catalogue.now) self.now chosen entries
+            → IsChosenMatch (listed catalogue.now) chosen (spec_of spec.now) result }
     {
         match self.pick(&spec.name) {
             Some(version) => {
@@ -121,7 +137,9 @@ impl Chosen {
     /// The chosen version that the SPEC matches, if it is no entry.
     fn unlisted_match(&self, catalogue: &Catalogue, spec: &Spec) -> Option<VersionNo>
         ensures unlisted { IfSome result (λ n. is_unlisted self.now.listed.items n.0 ≡ true) }
-        ensures matched { (chosen entries : Set) → Holds (listed catalogue.now) self.now chosen entries → IsUnlistedMatch (listed catalogue.now) chosen entries (spec_of spec.now) result }
+        ensures matched { (chosen entries : Set)
+            → Holds (listed catalogue.now) self.now chosen entries
+            → IsUnlistedMatch (listed catalogue.now) chosen entries (spec_of spec.now) result }
     {
         match self.chosen_match(catalogue, spec) {
             Some(version) => {
@@ -138,7 +156,9 @@ impl Chosen {
     /// Such a version of the first alternative that has one.
     fn first_match(&self, catalogue: &Catalogue, alternatives: &[Spec]) -> Option<VersionNo>
         ensures unlisted { IfSome result (λ n. is_unlisted self.now.listed.items n.0 ≡ true) }
-        ensures matched { (chosen entries : Set) → Holds (listed catalogue.now) self.now chosen entries → IsFirstMatch (listed catalogue.now) chosen entries (specs_of alternatives.now) result }
+        ensures matched { (chosen entries : Set)
+            → Holds (listed catalogue.now) self.now chosen entries
+            → IsFirstMatch (listed catalogue.now) chosen entries (specs_of alternatives.now) result }
     {
         for spec in alternatives {
             if let Some(version) = self.unlisted_match(catalogue, spec) {
@@ -150,7 +170,9 @@ impl Chosen {
 
     /// Whether an entry matches.
     fn is_met(&self, catalogue: &Catalogue, spec: &Spec) -> bool
-        ensures { (chosen entries : Set) → Holds (listed catalogue.now) self.now chosen entries → result ≡ is_met (spec_of spec.now) entries }
+        ensures { (chosen entries : Set)
+            → Holds (listed catalogue.now) self.now chosen entries
+            → result ≡ is_met (spec_of spec.now) entries }
     {
         match self.chosen_match(catalogue, spec) {
             Some(version) => !self.is_unlisted(version),
@@ -160,7 +182,9 @@ impl Chosen {
 
     /// Whether the condition holds among the entries.
     fn holds(&self, catalogue: &Catalogue, condition: &Cond) -> bool
-        ensures { (chosen entries : Set) → Holds (listed catalogue.now) self.now chosen entries → result ≡ holds (cond_of condition.now) entries }
+        ensures { (chosen entries : Set)
+            → Holds (listed catalogue.now) self.now chosen entries
+            → result ≡ holds (cond_of condition.now) entries }
     {
         match condition {
             Cond::Spec(spec) => self.is_met(catalogue, spec),
@@ -172,7 +196,9 @@ impl Chosen {
     }
 
     fn condition_holds(&self, catalogue: &Catalogue, condition: &Option<Cond>) -> bool
-        ensures { (chosen entries : Set) → Holds (listed catalogue.now) self.now chosen entries → result ≡ condition_holds (condition_of condition.now) entries }
+        ensures { (chosen entries : Set)
+            → Holds (listed catalogue.now) self.now chosen entries
+            → result ≡ condition_holds (condition_of condition.now) entries }
     {
         match condition {
             Some(condition) => self.holds(catalogue, condition),
@@ -188,7 +214,10 @@ impl Chosen {
         condition: &Option<Cond>,
     ) -> Look
         ensures unlisted { IfGives result (λ n. is_unlisted self.now.listed.items n.0 ≡ true) }
-        ensures looked { (chosen entries : Set) → Holds (listed catalogue.now) self.now chosen entries → IsLook (listed catalogue.now) chosen entries (Some (says.Needs (specs_of alternatives.now) (condition_of condition.now))) result }
+        ensures looked { (chosen entries : Set)
+            → Holds (listed catalogue.now) self.now chosen entries
+            → IsLook (listed catalogue.now) chosen entries
+            (Some (says.Needs (specs_of alternatives.now) (condition_of condition.now))) result }
     {
         match self.first_match(catalogue, alternatives) {
             Some(version) => {
@@ -205,7 +234,11 @@ impl Chosen {
     /// What the line of this rule gives. A rule that is no need gives nothing.
     fn look_at_rule(&self, catalogue: &Catalogue, rule: &Rule) -> Look
         ensures unlisted { IfGives result (λ n. is_unlisted self.now.listed.items n.0 ≡ true) }
-        ensures looked { (chosen entries : Set) (versions : List says.Version) (owner : Option says.Version) (line : says.Line) → Holds (listed catalogue.now) self.now chosen entries → States versions rule.now owner line → IsLook (listed catalogue.now) chosen entries (Some line) result }
+        ensures looked { (chosen entries : Set) (versions : List says.Version) (owner : Option says.Version)
+            (line : says.Line)
+            → Holds (listed catalogue.now) self.now chosen entries
+            → States versions rule.now owner line
+            → IsLook (listed catalogue.now) chosen entries (Some line) result }
     {
         match rule {
             Rule::Needs {
@@ -221,7 +254,10 @@ impl Chosen {
     /// What the line of this rule gives. A line without a rule gives nothing.
     pub fn look(&self, catalogue: &Catalogue, rule: Option<&Rule>) -> Look
         ensures unlisted { IfGives result (λ n. is_unlisted self.now.listed.items n.0 ≡ true) }
-        ensures looked { (chosen entries : Set) (line : Option says.Line) → Holds (listed catalogue.now) self.now chosen entries → IsRuleAt line (option_copied rule.entry) → IsLook (listed catalogue.now) chosen entries line result }
+        ensures looked { (chosen entries : Set) (line : Option says.Line)
+            → Holds (listed catalogue.now) self.now chosen entries
+            → IsRuleAt line (option_copied rule.entry)
+            → IsLook (listed catalogue.now) chosen entries line result }
     {
         match rule {
             Some(rule) => self.look_at_rule(catalogue, rule),

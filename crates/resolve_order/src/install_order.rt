@@ -60,7 +60,9 @@ fn push_lines(
 
 /// What the line states, if it states a rule.
 fn rule_at<'a>(catalogue: &'a Catalogue, request: &'a Request, reason: Reason) -> Option<&'a Rule>
-    ensures { IsRuleAt (line_named catalogue.now request.now.lines (reason_of (listed catalogue.now) reason)) (option_copied result) }
+    ensures { IsRuleAt
+        (line_named catalogue.now request.now.lines (reason_of (listed catalogue.now) reason))
+        (option_copied result) }
 {
     match reason {
         Reason::ForRequest { line } => request.rule(line),
@@ -85,10 +87,17 @@ impl Listing {
     /// Lists a version.
     fn give(&mut self, catalogue: &Catalogue, entry: Entry) -> Result<(), AllocError>
         requires { is_unlisted self.old.chosen.listed.items entry.version.0 ≡ true }
-        ensures fewer { OnOk result (unlisted self.new.chosen.listed.items + 1 ≡ unlisted self.old.chosen.listed.items) }
+        ensures fewer { OnOk result
+            (unlisted self.new.chosen.listed.items + 1 ≡ unlisted self.old.chosen.listed.items) }
         ensures answers { OnOk result (self.new.answers.items ≡ self.old.answers.items ++ answer.Entry entry ∷ []) }
-        ensures lines { OnOk result ((more : List Reason) × (self.new.lines.items ≡ self.old.lines.items ++ more)) }
-        ensures listing { OnOk result ((request : List says.Line) (chosen : Set) (v : says.Version) → slice_get (listed catalogue.now) entry.version.0 ≡ Some v → Contains chosen v → IsListing catalogue.now request self.old chosen → IsListing catalogue.now request self.new chosen) }
+        ensures lines { OnOk result
+            ((more : List Reason) × (self.new.lines.items ≡ self.old.lines.items ++ more)) }
+        ensures listing { OnOk result
+            ((request : List says.Line) (chosen : Set) (v : says.Version)
+            → slice_get (listed catalogue.now) entry.version.0 ≡ Some v
+            → Contains chosen v
+            → IsListing catalogue.now request self.old chosen
+            → IsListing catalogue.now request self.new chosen) }
     {
         self.chosen.mark(entry.version);
         self.answers.push(Answer::Entry(entry))?;
@@ -107,9 +116,22 @@ impl Listing {
         request: &Request,
         places: &mut Places,
     ) -> Result<Option<Entry>, AllocError>
-        ensures unlisted { IfOk result (λ found. IfSome found (λ e. is_unlisted self.now.chosen.listed.items e.version.0 ≡ true)) }
-        ensures found { IfOk result (λ found. (chosen : Set) → IsListing catalogue.now request.now.lines self.now chosen → IsLeft catalogue.now request.now.lines self.now chosen places.old → IsFound catalogue.now request.now.lines self.now chosen found) }
-        ensures left { IfOk result (λ found. (chosen : Set) → IsListing catalogue.now request.now.lines self.now chosen → IsLeft catalogue.now request.now.lines self.now chosen places.old → IfSome found (λ e. IsLeft catalogue.now request.now.lines self.now chosen places.new)) }
+        ensures unlisted { IfOk result
+            (λ found.
+            IfSome found (λ e. is_unlisted self.now.chosen.listed.items e.version.0 ≡ true)) }
+        ensures found { IfOk result
+            (λ found.
+            (chosen : Set)
+            → IsListing catalogue.now request.now.lines self.now chosen
+            → IsLeft catalogue.now request.now.lines self.now chosen places.old
+            → IsFound catalogue.now request.now.lines self.now chosen found) }
+        ensures left { IfOk result
+            (λ found.
+            (chosen : Set)
+            → IsListing catalogue.now request.now.lines self.now chosen
+            → IsLeft catalogue.now request.now.lines self.now chosen places.old
+            → IfSome found
+            (λ e. IsLeft catalogue.now request.now.lines self.now chosen places.new)) }
     {
         while let Some(reason) = places.take(&self.lines) {
             match self
@@ -134,8 +156,15 @@ impl Listing {
         catalogue: &Catalogue,
         request: &Request,
     ) -> Result<(), AllocError>
-        ensures listed { OnOk result ((chosen : Set) → IsListing catalogue.now request.now.lines self.old chosen → Extends catalogue.now request.now.lines chosen self.old self.new) }
-        ensures complete { OnOk result ((chosen : Set) → IsListing catalogue.now request.now.lines self.old chosen → IsComplete catalogue.now request.now.lines chosen (entries_in catalogue.now self.new)) }
+        ensures listed { OnOk result
+            ((chosen : Set)
+            → IsListing catalogue.now request.now.lines self.old chosen
+            → Extends catalogue.now request.now.lines chosen self.old self.new) }
+        ensures complete { OnOk result
+            ((chosen : Set)
+            → IsListing catalogue.now request.now.lines self.old chosen
+            → IsComplete catalogue.now request.now.lines chosen
+            (entries_in catalogue.now self.new)) }
     {
         let mut places = Places::new(alloc);
         while let Some(entry) = self.next(catalogue, request, &mut places)? {
@@ -150,8 +179,19 @@ impl Listing {
         catalogue: &Catalogue,
         wish: Option<(u32, VersionNo)>,
     ) -> Result<(), AllocError>
-        ensures listing { OnOk result ((request : List says.Line) (chosen : Set) → IsListing catalogue.now request self.old chosen → IsAccepted (listed catalogue.now) request chosen wish → IsListing catalogue.now request self.new chosen) }
-        ensures listed { OnOk result ((request : List says.Line) (chosen : Set) → IsListing catalogue.now request self.old chosen → IsAccepted (listed catalogue.now) request chosen wish → answers_in catalogue.now self.new ≡ answers_in catalogue.now self.old ++ wish_entry (option_map (wish_at (listed catalogue.now)) wish) (entries_in catalogue.now self.old)) }
+        ensures listing { OnOk result
+            ((request : List says.Line) (chosen : Set)
+            → IsListing catalogue.now request self.old chosen
+            → IsAccepted (listed catalogue.now) request chosen wish
+            → IsListing catalogue.now request self.new chosen) }
+        ensures listed { OnOk result
+            ((request : List says.Line) (chosen : Set)
+            → IsListing catalogue.now request self.old chosen
+            → IsAccepted (listed catalogue.now) request chosen wish
+            → answers_in catalogue.now self.new
+            ≡ answers_in catalogue.now self.old ++ wish_entry
+            (option_map (wish_at (listed catalogue.now)) wish)
+            (entries_in catalogue.now self.old)) }
     {
         if let Some((line, version)) = wish {
             if self.chosen.is_unlisted(version) {
@@ -169,7 +209,12 @@ impl Listing {
 
     /// Tells that a wish is left out.
     fn leave_out(&mut self, wish: (u32, VersionNo), step: u32) -> Result<(), AllocError>
-        ensures { OnOk result ((catalogue request : List says.Line) (chosen : Set) → IsListing catalogue request self.old chosen → wish.1.0 < length (listed catalogue) → TakesTurn catalogue request chosen (LeavesOut (wish_at (listed catalogue) wish) step) self.old self.new) }
+        ensures { OnOk result
+            ((catalogue request : List says.Line) (chosen : Set)
+            → IsListing catalogue request self.old chosen
+            → wish.1.0 < length (listed catalogue)
+            → TakesTurn catalogue request chosen
+            (LeavesOut (wish_at (listed catalogue) wish) step) self.old self.new) }
     {
         self.answers.push(Answer::LeftOut {
             version: wish.1,
@@ -188,7 +233,16 @@ impl Listing {
         wish: Option<(u32, VersionNo)>,
         versions: &[VersionNo],
     ) -> Result<(), AllocError>
-        ensures { OnOk result ((before chosen : Set) → chosen ≡ before ++ members (listed catalogue.now) versions.now → IsListing catalogue.now request.now.lines self.old before → AreOneEach chosen → IsAccepted (listed catalogue.now) request.now.lines chosen wish → TakesTurn catalogue.now request.now.lines chosen (Chose (option_map (wish_at (listed catalogue.now)) wish) (members (listed catalogue.now) versions.now)) self.old self.new) }
+        ensures { OnOk result
+            ((before chosen : Set)
+            → chosen ≡ before ++ members (listed catalogue.now) versions.now
+            → IsListing catalogue.now request.now.lines self.old before
+            → AreOneEach chosen
+            → IsAccepted (listed catalogue.now) request.now.lines chosen wish
+            → TakesTurn catalogue.now request.now.lines chosen
+            (Chose (option_map (wish_at (listed catalogue.now)) wish)
+            (members (listed catalogue.now) versions.now))
+            self.old self.new) }
     {
         self.chosen.add_all(catalogue, versions)?;
         self.begin(catalogue, wish)?;
@@ -204,7 +258,14 @@ impl Listing {
         request: &Request,
         turn: &Turn<'_>,
     ) -> Result<(), AllocError>
-        ensures { OnOk result ((before chosen : Set) → chosen ≡ before ++ chosen_by (turn_of (listed catalogue.now) turn.now) → IsListing catalogue.now request.now.lines self.old before → AreOneEach chosen → IsWishOf (listed catalogue.now) request.now.lines chosen turn.now → TakesTurn catalogue.now request.now.lines chosen (turn_of (listed catalogue.now) turn.now) self.old self.new) }
+        ensures { OnOk result
+            ((before chosen : Set)
+            → chosen ≡ before ++ chosen_by (turn_of (listed catalogue.now) turn.now)
+            → IsListing catalogue.now request.now.lines self.old before
+            → AreOneEach chosen
+            → IsWishOf (listed catalogue.now) request.now.lines chosen turn.now
+            → TakesTurn catalogue.now request.now.lines chosen
+            (turn_of (listed catalogue.now) turn.now) self.old self.new) }
     {
         match *turn {
             Turn::Chose { wish, chosen } => self.take_chosen(
@@ -223,10 +284,30 @@ pub fn list(
     request: &Request,
     turns: &[Turn<'_>],
 ) -> Result<Vec<Answer>, AllocError>
-    ensures order { IfOk result (λ answers. AreTurnsOf catalogue.now request.now.lines turns.now → AreTurns catalogue.now request.now.lines [] [] (turns_of (listed catalogue.now) turns.now) (answers_of (listed catalogue.now) answers.items)) }
-    ensures reasoned { IfOk result (λ answers. AreTurnsOf catalogue.now request.now.lines turns.now → IsReasoned catalogue.now request.now.lines [] (answers_of (listed catalogue.now) answers.items)) }
-    ensures reached { IfOk result (λ answers. AreTurnsOf catalogue.now request.now.lines turns.now → AreReached catalogue.now request.now.lines (chosen_in (turns_of (listed catalogue.now) turns.now)) (wishes_in (turns_of (listed catalogue.now) turns.now)) → (v : says.Version) → Contains (chosen_in (turns_of (listed catalogue.now) turns.now)) v ↔ Contains (entries_of (answers_of (listed catalogue.now) answers.items)) v) }
-    ensures numbered { IfOk result (λ answers. AreTurnsOf catalogue.now request.now.lines turns.now → AreNumbered (listed catalogue.now) answers.items) }
+    ensures order { IfOk result
+        (λ answers.
+        AreTurnsOf catalogue.now request.now.lines turns.now
+        → AreTurns catalogue.now request.now.lines [] []
+        (turns_of (listed catalogue.now) turns.now)
+        (answers_of (listed catalogue.now) answers.items)) }
+    ensures reasoned { IfOk result
+        (λ answers.
+        AreTurnsOf catalogue.now request.now.lines turns.now
+        → IsReasoned catalogue.now request.now.lines []
+        (answers_of (listed catalogue.now) answers.items)) }
+    ensures reached { IfOk result
+        (λ answers.
+        AreTurnsOf catalogue.now request.now.lines turns.now
+        → AreReached catalogue.now request.now.lines
+        (chosen_in (turns_of (listed catalogue.now) turns.now))
+        (wishes_in (turns_of (listed catalogue.now) turns.now))
+        → (v : says.Version)
+        → Contains (chosen_in (turns_of (listed catalogue.now) turns.now)) v ↔ Contains
+        (entries_of (answers_of (listed catalogue.now) answers.items)) v) }
+    ensures numbered { IfOk result
+        (λ answers.
+        AreTurnsOf catalogue.now request.now.lines turns.now
+        → AreNumbered (listed catalogue.now) answers.items) }
 {
     let mut listing = Listing::new(alloc, catalogue, request)?;
     for turn in turns {

@@ -58,7 +58,9 @@ impl Places {
     /// Puts the line that was taken and those that wait back among those to be looked at.
     pub fn rewind(&mut self, reason: Reason) -> Result<(), AllocError>
         ensures waiting { OnOk result (self.new.waiting.items ≡ []) }
-        ensures left { OnOk result ((lines : List Reason) → left_of self.new lines ≡ self.old.waiting.items ++ reason ∷ left_of self.old lines) }
+        ensures left { OnOk result
+            ((lines : List Reason)
+            → left_of self.new lines ≡ self.old.waiting.items ++ reason ∷ left_of self.old lines) }
         ensures below { OnOk result (self.new.below ≡ self.old.below) }
     {
         self.again.push(reason)?;

@@ -27,7 +27,11 @@ pub fn install_steps(
     provider: &CatalogueProvider,
     steps: &[ProofStep<NameId, SolvableId>],
 ) -> R<Vec<Step>>
-    ensures { IfOk result (λ v. IsProofOver catalogue.now request.now provider.now steps.now → AreInstallSteps catalogue.now request.now.lines provider.now.ids steps.now (steps_of v.items)) }
+    ensures { IfOk result
+        (λ v.
+        IsProofOver catalogue.now request.now provider.now steps.now
+        → AreInstallSteps catalogue.now request.now.lines provider.now.ids steps.now
+        (steps_of v.items)) }
 {
     if steps.len() > 4_294_967_295 {
         return Err(Want::Ids);

@@ -68,8 +68,20 @@ impl PlaceLines<'_> {
 impl<'a> Texts<'a> {
     /// What line `line` of a place states, if it states a rule. The place is a version, or none for the request.
     fn rule(self, place: Option<VersionNo>, line: u32) -> Option<&'a Rule>
-        ensures stated { IfSome result (λ r. (l : says.Line) × (versions : List says.Version) × (owner : Option says.Version) × (line_at (text_of self.entry.catalogue.now self.entry.request.now.lines place) line ≡ Some l) × States versions r.now owner l) }
-        ensures none { IfNone result ((l : says.Line) → line_at (text_of self.entry.catalogue.now self.entry.request.now.lines place) line ≡ Some l → is_rule l ≡ false) }
+        ensures stated { IfSome result
+            (λ r.
+            (l : says.Line)
+            × (versions : List says.Version)
+            × (owner : Option says.Version)
+            × (line_at (text_of self.entry.catalogue.now self.entry.request.now.lines place)
+            line
+            ≡ Some l)
+            × States versions r.now owner l) }
+        ensures none { IfNone result
+            ((l : says.Line)
+            → line_at (text_of self.entry.catalogue.now self.entry.request.now.lines place) line
+            ≡ Some l
+            → is_rule l ≡ false) }
     {
         match place {
             None => self.request.rule(line),
@@ -89,7 +101,11 @@ impl<'a> Texts<'a> {
 
     /// The first line of a place that needs these alternatives without a condition.
     pub fn plain_need_line(self, place: Option<VersionNo>, alternatives: &[Spec]) -> Option<u32>
-        ensures { IsLeast result (λ n. IsLineOf self.entry.catalogue.now self.entry.request.now.lines place n × SaysAt (text_of self.entry.catalogue.now self.entry.request.now.lines place) (says.Needs (specs_of alternatives.now) None) n) }
+        ensures { IsLeast result
+            (λ n.
+            IsLineOf self.entry.catalogue.now self.entry.request.now.lines place n
+            × SaysAt (text_of self.entry.catalogue.now self.entry.request.now.lines place)
+            (says.Needs (specs_of alternatives.now) None) n) }
     {
         let lines = self.lines_of(place);
         for at in 0..lines.count() {
@@ -103,7 +119,9 @@ impl<'a> Texts<'a> {
 
     /// Whether line `line` of a place needs these alternatives without a condition.
     fn needs_plainly(self, place: Option<VersionNo>, line: u32, alternatives: &[Spec]) -> bool
-        ensures { Decides result (SaysAt (text_of self.entry.catalogue.now self.entry.request.now.lines place) (says.Needs (specs_of alternatives.now) None) line) }
+        ensures { Decides result
+            (SaysAt (text_of self.entry.catalogue.now self.entry.request.now.lines place)
+            (says.Needs (specs_of alternatives.now) None) line) }
     {
         match self.rule(place, line) {
             Some(rule) => is_plain_need(rule, alternatives),
@@ -119,7 +137,10 @@ impl<'a> Texts<'a> {
         alternatives: &[Spec],
         case: &[Spec],
     ) -> R<Option<NeedLine>>
-        ensures { IfOk result (IsNeedLine (IsLineOf self.entry.catalogue.now self.entry.request.now.lines place) (text_of self.entry.catalogue.now self.entry.request.now.lines place) (specs_of alternatives.now) (specs_of case.now)) }
+        ensures { IfOk result
+            (IsNeedLine (IsLineOf self.entry.catalogue.now self.entry.request.now.lines place)
+            (text_of self.entry.catalogue.now self.entry.request.now.lines place)
+            (specs_of alternatives.now) (specs_of case.now)) }
     {
         let lines = self.lines_of(place);
         for at in 0..lines.count() {
@@ -140,7 +161,9 @@ impl<'a> Texts<'a> {
         alternatives: &[Spec],
         case: &[Spec],
     ) -> R<Option<u32>>
-        ensures { IfOk result (IsCaseAt (text_of self.entry.catalogue.now self.entry.request.now.lines place) (specs_of alternatives.now) (specs_of case.now) line) }
+        ensures { IfOk result
+            (IsCaseAt (text_of self.entry.catalogue.now self.entry.request.now.lines place)
+            (specs_of alternatives.now) (specs_of case.now) line) }
     {
         match self.rule(place, line) {
             Some(rule) => need_case(alloc, rule, alternatives, case),
@@ -150,7 +173,11 @@ impl<'a> Texts<'a> {
 
     /// The first line of a place that limits its set to this SPEC.
     pub fn limit_line(self, place: Option<VersionNo>, spec: &Spec) -> Option<u32>
-        ensures { IsLeast result (λ n. IsLineOf self.entry.catalogue.now self.entry.request.now.lines place n × SaysAt (text_of self.entry.catalogue.now self.entry.request.now.lines place) (says.Limits (spec_of spec.now)) n) }
+        ensures { IsLeast result
+            (λ n.
+            IsLineOf self.entry.catalogue.now self.entry.request.now.lines place n
+            × SaysAt (text_of self.entry.catalogue.now self.entry.request.now.lines place)
+            (says.Limits (spec_of spec.now)) n) }
     {
         let lines = self.lines_of(place);
         for at in 0..lines.count() {
@@ -164,7 +191,9 @@ impl<'a> Texts<'a> {
 
     /// Whether line `line` of a place limits its set to this SPEC.
     fn limits_to(self, place: Option<VersionNo>, line: u32, spec: &Spec) -> bool
-        ensures { Decides result (SaysAt (text_of self.entry.catalogue.now self.entry.request.now.lines place) (says.Limits (spec_of spec.now)) line) }
+        ensures { Decides result
+            (SaysAt (text_of self.entry.catalogue.now self.entry.request.now.lines place)
+            (says.Limits (spec_of spec.now)) line) }
     {
         match self.rule(place, line) {
             Some(rule) => is_limit(rule, spec),
@@ -175,7 +204,9 @@ impl<'a> Texts<'a> {
     /// The line that bars the version: one that locks another version of its package, else one that excludes it, else
     /// one that says that its needs are unknown.
     pub fn barring_line(self, version: VersionNo) -> Option<BarringLine>
-        ensures { (v : says.Version) → slice_get (listed self.entry.catalogue.now) version.0 ≡ Some v → IsBarringLine self.entry.catalogue.now v result }
+        ensures { (v : says.Version)
+            → slice_get (listed self.entry.catalogue.now) version.0 ≡ Some v
+            → IsBarringLine self.entry.catalogue.now v result }
     {
         match barred_line(self.catalogue, version) {
             Some(line) => Some(line),
@@ -188,15 +219,27 @@ impl<'a> Texts<'a> {
 
     /// The line that says that the version's needs are unknown.
     fn unknown_line(self, version: VersionNo) -> Option<u32>
-        ensures { (v : says.Version) → slice_get (listed self.entry.catalogue.now) version.0 ≡ Some v → IsUnknownLine self.entry.catalogue.now v result }
+        ensures { (v : says.Version)
+            → slice_get (listed self.entry.catalogue.now) version.0 ≡ Some v
+            → IsUnknownLine self.entry.catalogue.now v result }
     {
         self.first_unknown(self.catalogue.lines_of(version))
     }
 
     /// The first of these lines of the catalogue that says that something's needs are unknown.
     fn first_unknown(self, lines: &[u32]) -> Option<u32>
-        ensures some { IfSome result (λ n. Contains lines.now n × ((l : says.Line) → line_at self.entry.catalogue.now n ≡ Some l → marks_unknown l ≡ true)) }
-        ensures none { IfNone result ((n : ℕ) → Contains lines.now n → (l : says.Line) → line_at self.entry.catalogue.now n ≡ Some l → marks_unknown l ≡ false) }
+        ensures some { IfSome result
+            (λ n.
+            Contains lines.now n
+            × ((l : says.Line)
+            → line_at self.entry.catalogue.now n ≡ Some l
+            → marks_unknown l ≡ true)) }
+        ensures none { IfNone result
+            ((n : ℕ)
+            → Contains lines.now n
+            → (l : says.Line)
+            → line_at self.entry.catalogue.now n ≡ Some l
+            → marks_unknown l ≡ false) }
     {
         for line in lines {
             if self.is_unknown(*line) {
@@ -208,7 +251,9 @@ impl<'a> Texts<'a> {
 
     /// Whether this line of the catalogue says that something's needs are unknown.
     fn is_unknown(self, line: u32) -> bool
-        ensures { (l : says.Line) → line_at self.entry.catalogue.now line ≡ Some l → result ≡ marks_unknown l }
+        ensures { (l : says.Line)
+            → line_at self.entry.catalogue.now line ≡ Some l
+            → result ≡ marks_unknown l }
     {
         match self.catalogue.rule(line) {
             Some(rule) => marks_unknown(rule),
@@ -243,7 +288,11 @@ fn is_lock(catalogue: &Catalogue, line: u32) -> bool
 /// The number of the first case of a need, from 1, that is this one, if the need has these alternatives. `Ids` where there
 /// are more cases than numbers.
 fn need_case(alloc: Global, rule: &Rule, alternatives: &[Spec], case: &[Spec]) -> R<Option<u32>>
-    ensures { IfOk result (λ found. (versions : List says.Version) (owner : Option says.Version) (line : says.Line) → States versions rule.now owner line → IsCaseOf (specs_of alternatives.now) (specs_of case.now) line found) }
+    ensures { IfOk result
+        (λ found.
+        (versions : List says.Version) (owner : Option says.Version) (line : says.Line)
+        → States versions rule.now owner line
+        → IsCaseOf (specs_of alternatives.now) (specs_of case.now) line found) }
 {
     if !needs(rule, alternatives) {
         return Ok(None);
@@ -272,7 +321,9 @@ fn place_of(cases: &[Vec<Spec>], case: &[Spec]) -> Option<usize>
 
 /// Whether the rule needs these alternatives without a condition.
 fn is_plain_need(rule: &Rule, alternatives: &[Spec]) -> bool
-    ensures { (versions : List says.Version) (owner : Option says.Version) (line : says.Line) → States versions rule.now owner line → Decides result (line ≡ says.Needs (specs_of alternatives.now) None) }
+    ensures { (versions : List says.Version) (owner : Option says.Version) (line : says.Line)
+        → States versions rule.now owner line
+        → Decides result (line ≡ says.Needs (specs_of alternatives.now) None) }
 {
     match rule {
         Rule::Needs {
@@ -286,7 +337,9 @@ fn is_plain_need(rule: &Rule, alternatives: &[Spec]) -> bool
 
 /// Whether the rule limits its set to this SPEC.
 fn is_limit(rule: &Rule, spec: &Spec) -> bool
-    ensures { (versions : List says.Version) (owner : Option says.Version) (line : says.Line) → States versions rule.now owner line → Decides result (line ≡ says.Limits (spec_of spec.now)) }
+    ensures { (versions : List says.Version) (owner : Option says.Version) (line : says.Line)
+        → States versions rule.now owner line
+        → Decides result (line ≡ says.Limits (spec_of spec.now)) }
 {
     match rule {
         Rule::Limits { spec: stated, .. } => same_spec(stated, spec),
@@ -296,7 +349,9 @@ fn is_limit(rule: &Rule, spec: &Spec) -> bool
 
 /// Whether the rule locks a version.
 fn locks(rule: &Rule) -> bool
-    ensures { (versions : List says.Version) (owner : Option says.Version) (line : says.Line) → States versions rule.now owner line → result ≡ locks line }
+    ensures { (versions : List says.Version) (owner : Option says.Version) (line : says.Line)
+        → States versions rule.now owner line
+        → result ≡ locks line }
 {
     match rule {
         Rule::Lock { .. } => true,
@@ -306,7 +361,9 @@ fn locks(rule: &Rule) -> bool
 
 /// Whether the rule says that a version's needs are unknown.
 fn marks_unknown(rule: &Rule) -> bool
-    ensures { (versions : List says.Version) (owner : Option says.Version) (line : says.Line) → States versions rule.now owner line → result ≡ marks_unknown line }
+    ensures { (versions : List says.Version) (owner : Option says.Version) (line : says.Line)
+        → States versions rule.now owner line
+        → result ≡ marks_unknown line }
 {
     match rule {
         Rule::Unknown { .. } => true,
@@ -316,7 +373,11 @@ fn marks_unknown(rule: &Rule) -> bool
 
 /// Whether the rule needs these alternatives, under whatever condition.
 fn needs(rule: &Rule, alternatives: &[Spec]) -> bool
-    ensures { (versions : List says.Version) (owner : Option says.Version) (line : says.Line) → States versions rule.now owner line → Decides result ((condition : Option says.Cond) × (line ≡ says.Needs (specs_of alternatives.now) condition)) }
+    ensures { (versions : List says.Version) (owner : Option says.Version) (line : says.Line)
+        → States versions rule.now owner line
+        → Decides result
+        ((condition : Option says.Cond)
+        × (line ≡ says.Needs (specs_of alternatives.now) condition)) }
 {
     match rule {
         Rule::Needs {

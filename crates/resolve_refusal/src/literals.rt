@@ -25,7 +25,10 @@ pub(crate) fn sorted_literals(
     provider: &CatalogueProvider,
     literals: &[ProofLiteral<NameId, SolvableId>],
 ) -> R<Vec<Literal>>
-    ensures same { IfOk result (λ v. HaveForm catalogue.now provider.now.ids literals.now → AreLiterals catalogue.now provider.now.ids literals.now (literals_of v.items)) }
+    ensures same { IfOk result
+        (λ v.
+        HaveForm catalogue.now provider.now.ids literals.now
+        → AreLiterals catalogue.now provider.now.ids literals.now (literals_of v.items)) }
     ensures rising { IfOk result (λ v. IsTrue (are_rising (map literal_text (literals_of v.items)))) }
 {
     let mut by_text: BTreeMap<String, Literal> = BTreeMap::new(alloc);

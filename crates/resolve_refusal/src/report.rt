@@ -27,8 +27,13 @@ pub fn refused_report(
     provider: &CatalogueProvider,
     steps: &[ProofStep<NameId, SolvableId>],
 ) -> R<Report>
-    ensures refusal { IfOk result (λ r. Refutes catalogue.now request.now provider.now steps.now → IsRefusalOf catalogue.now request.now.lines provider.now.ids steps.now (report_of r)) }
-    ensures refused { IfOk result (λ r. IsRefusedBy catalogue.now request.now.lines provider.now.ids steps.now (report_of r)) }
+    ensures refusal { IfOk result
+        (λ r.
+        Refutes catalogue.now request.now provider.now steps.now
+        → IsRefusalOf catalogue.now request.now.lines provider.now.ids steps.now (report_of r)) }
+    ensures refused { IfOk result
+        (λ r.
+        IsRefusedBy catalogue.now request.now.lines provider.now.ids steps.now (report_of r)) }
 {
     if steps.len() > 4_294_967_295 {
         return Err(Want::Ids);
@@ -62,8 +67,14 @@ pub(crate) fn write_steps(
     provider: &CatalogueProvider,
     steps: &[ProofStep<NameId, SolvableId>],
 ) -> R<Vec<Step>>
-    ensures tells { IfOk result (λ v. AllZip (Tells texts.entry.catalogue.now texts.entry.request.now.lines provider.now.ids) steps.now (steps_of v.items)) }
-    ensures written { IfOk result (λ v. AllZip (IsWritten texts.entry.catalogue.now provider.now.ids) steps.now (steps_of v.items)) }
+    ensures tells { IfOk result
+        (λ v.
+        AllZip (Tells texts.entry.catalogue.now texts.entry.request.now.lines provider.now.ids)
+        steps.now (steps_of v.items)) }
+    ensures written { IfOk result
+        (λ v.
+        AllZip (IsWritten texts.entry.catalogue.now provider.now.ids) steps.now
+        (steps_of v.items)) }
 {
     let writing = Writing {
         alloc,

@@ -36,8 +36,14 @@ pub(crate) struct Writing<'a> {
 impl Writing<'_> {
     /// The step as it stands in a report.
     pub fn step(self, step: &ProofStep<NameId, SolvableId>) -> R<Step>
-        ensures tells { IfOk result (λ w. Tells self.entry.texts.catalogue.now self.entry.texts.request.now.lines self.entry.provider.now.ids step.now (step_of w)) }
-        ensures written { IfOk result (λ w. IsWritten self.entry.texts.catalogue.now self.entry.provider.now.ids step.now (step_of w)) }
+        ensures tells { IfOk result
+            (λ w.
+            Tells self.entry.texts.catalogue.now self.entry.texts.request.now.lines
+            self.entry.provider.now.ids step.now (step_of w)) }
+        ensures written { IfOk result
+            (λ w.
+            IsWritten self.entry.texts.catalogue.now self.entry.provider.now.ids step.now
+            (step_of w)) }
     {
         match step {
             ProofStep::Rule(rule) => self.rule(rule),
@@ -55,8 +61,14 @@ impl Writing<'_> {
 
     /// The step of a rule.
     fn rule(self, rule: &ProofRule<NameId, SolvableId>) -> R<Step>
-        ensures tells { IfOk result (λ w. Tells self.entry.texts.catalogue.now self.entry.texts.request.now.lines self.entry.provider.now.ids (RuleStep rule.now) (step_of w)) }
-        ensures written { IfOk result (λ w. IsWritten self.entry.texts.catalogue.now self.entry.provider.now.ids (RuleStep rule.now) (step_of w)) }
+        ensures tells { IfOk result
+            (λ w.
+            Tells self.entry.texts.catalogue.now self.entry.texts.request.now.lines
+            self.entry.provider.now.ids (RuleStep rule.now) (step_of w)) }
+        ensures written { IfOk result
+            (λ w.
+            IsWritten self.entry.texts.catalogue.now self.entry.provider.now.ids
+            (RuleStep rule.now) (step_of w)) }
     {
         match rule {
             ProofRule::Needs {
@@ -107,8 +119,14 @@ impl Writing<'_> {
         requirement: Requirement,
         case: &[VersionSetId],
     ) -> R<Step>
-        ensures tells { IfOk result (λ w. TellsNeed self.entry.texts.catalogue.now self.entry.texts.request.now.lines self.entry.provider.now.ids parent requirement case.now (step_of w)) }
-        ensures written { IfOk result (λ w. (line k : ℕ) × (step_of w ≡ told.Need (place_at self.entry.texts.catalogue.now parent) line k)) }
+        ensures tells { IfOk result
+            (λ w.
+            TellsNeed self.entry.texts.catalogue.now self.entry.texts.request.now.lines
+            self.entry.provider.now.ids parent requirement case.now (step_of w)) }
+        ensures written { IfOk result
+            (λ w.
+            (line k : ℕ)
+            × (step_of w ≡ told.Need (place_at self.entry.texts.catalogue.now parent) line k)) }
     {
         let found = if case.is_empty() {
             self.plain_need(parent, requirement)?
@@ -125,7 +143,9 @@ impl Writing<'_> {
 
     /// The first line of a parent that needs the requirement without a condition, and its one case.
     fn plain_need(self, parent: Option<SolvableId>, requirement: Requirement) -> R<Option<NeedLine>>
-        ensures { IfOk result (IsNeedLineOf self.entry.texts.catalogue.now self.entry.texts.request.now.lines self.entry.provider.now.ids parent requirement []) }
+        ensures { IfOk result
+            (IsNeedLineOf self.entry.texts.catalogue.now self.entry.texts.request.now.lines
+            self.entry.provider.now.ids parent requirement []) }
     {
         let Some(line) = self.plain_line(parent, requirement)? else {
             return Ok(None);
@@ -140,7 +160,9 @@ impl Writing<'_> {
         requirement: Requirement,
         case: &[VersionSetId],
     ) -> R<Option<NeedLine>>
-        ensures { IfOk result (IsNeedLineOf self.entry.texts.catalogue.now self.entry.texts.request.now.lines self.entry.provider.now.ids parent requirement case.now) }
+        ensures { IfOk result
+            (IsNeedLineOf self.entry.texts.catalogue.now self.entry.texts.request.now.lines
+            self.entry.provider.now.ids parent requirement case.now) }
     {
         let alternatives = self.provider.alternatives_of(requirement)?;
         let case = self.specs(case)?;
@@ -150,7 +172,18 @@ impl Writing<'_> {
 
     /// The first line of a parent that needs the requirement without a condition.
     fn plain_line(self, parent: Option<SolvableId>, requirement: Requirement) -> R<Option<u32>>
-        ensures { IfOk result (λ found. IsLeast found (λ n. IsLineOf self.entry.texts.catalogue.now self.entry.texts.request.now.lines (option_map version_no parent) n × SaysAt (text_of self.entry.texts.catalogue.now self.entry.texts.request.now.lines (option_map version_no parent)) (says.Needs (alternatives_at self.entry.provider.now.ids requirement) None) n)) }
+        ensures { IfOk result
+            (λ found.
+            IsLeast found
+            (λ n.
+            IsLineOf self.entry.texts.catalogue.now self.entry.texts.request.now.lines
+            (option_map version_no parent) n
+            × SaysAt
+            (text_of self.entry.texts.catalogue.now self.entry.texts.request.now.lines
+            (option_map version_no parent))
+            (says.Needs (alternatives_at self.entry.provider.now.ids requirement)
+            None)
+            n)) }
     {
         let alternatives = self.provider.alternatives_of(requirement)?;
         let place = self.place_number(parent);
@@ -159,7 +192,14 @@ impl Writing<'_> {
 
     /// The step of a gate, by the first line that states the need without condition.
     fn gate(self, parent: SolvableId, requirement: Requirement) -> R<Step>
-        ensures { IfOk result (λ w. (line : ℕ) × (step_of w ≡ told.Gate (version_at self.entry.texts.catalogue.now parent) line) × IsFirstLine self.entry.texts.catalogue.now self.entry.texts.request.now.lines (Some (version_no parent)) (says.Needs (alternatives_at self.entry.provider.now.ids requirement) None) line) }
+        ensures { IfOk result
+            (λ w.
+            (line : ℕ)
+            × (step_of w ≡ told.Gate (version_at self.entry.texts.catalogue.now parent) line)
+            × IsFirstLine self.entry.texts.catalogue.now self.entry.texts.request.now.lines
+            (Some (version_no parent))
+            (says.Needs (alternatives_at self.entry.provider.now.ids requirement) None)
+            line) }
     {
         let line = self.plain_line(Some(parent), requirement)?.unwrap_or(0);
         Ok(Step::Gate {
@@ -175,8 +215,15 @@ impl Writing<'_> {
         version_set: VersionSetId,
         barred: Option<SolvableId>,
     ) -> R<Step>
-        ensures tells { IfOk result (λ w. Tells self.entry.texts.catalogue.now self.entry.texts.request.now.lines self.entry.provider.now.ids (RuleStep (Limit parent version_set barred)) (step_of w)) }
-        ensures written { IfOk result (λ w. IsWritten self.entry.texts.catalogue.now self.entry.provider.now.ids (RuleStep (Limit parent version_set barred)) (step_of w)) }
+        ensures tells { IfOk result
+            (λ w.
+            Tells self.entry.texts.catalogue.now self.entry.texts.request.now.lines
+            self.entry.provider.now.ids (RuleStep (Limit parent version_set barred))
+            (step_of w)) }
+        ensures written { IfOk result
+            (λ w.
+            IsWritten self.entry.texts.catalogue.now self.entry.provider.now.ids
+            (RuleStep (Limit parent version_set barred)) (step_of w)) }
     {
         let line = self.limit_line(parent, version_set)?;
         let place = self.place(parent)?;
@@ -192,7 +239,11 @@ impl Writing<'_> {
 
     /// The first line of a parent that limits its set to the version set's SPEC.
     fn limit_line(self, parent: Option<SolvableId>, version_set: VersionSetId) -> R<u32>
-        ensures { IfOk result (λ line. IsFirstLine self.entry.texts.catalogue.now self.entry.texts.request.now.lines (option_map version_no parent) (says.Limits (spec_at self.entry.provider.now.ids version_set)) line) }
+        ensures { IfOk result
+            (λ line.
+            IsFirstLine self.entry.texts.catalogue.now self.entry.texts.request.now.lines
+            (option_map version_no parent)
+            (says.Limits (spec_at self.entry.provider.now.ids version_set)) line) }
     {
         let spec = self.provider.spec_of(version_set)?;
         let place = self.place_number(parent);
@@ -203,7 +254,8 @@ impl Writing<'_> {
     /// else by one that says that its needs are unknown.
     fn bar(self, solvable: SolvableId) -> R<Step>
         ensures tells { IfOk result (λ w. TellsBar self.entry.texts.catalogue.now solvable (step_of w)) }
-        ensures written { IfOk result (λ w. IsBar (version_at self.entry.texts.catalogue.now solvable) (step_of w)) }
+        ensures written { IfOk result
+            (λ w. IsBar (version_at self.entry.texts.catalogue.now solvable) (step_of w)) }
     {
         let version = self.version(solvable)?;
         let number = self.provider.version_of(solvable);
@@ -241,7 +293,8 @@ impl Writing<'_> {
 
     /// The SPECs of version sets, in order.
     fn specs(self, version_sets: &[VersionSetId]) -> R<Vec<Spec>>
-        ensures { IfOk result (λ v. specs_of v.items ≡ map (spec_at self.entry.provider.now.ids) version_sets.now) }
+        ensures { IfOk result
+            (λ v. specs_of v.items ≡ map (spec_at self.entry.provider.now.ids) version_sets.now) }
     {
         let mut specs = Vec::new(self.alloc);
         for version_set in version_sets {

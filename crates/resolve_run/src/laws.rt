@@ -9,5 +9,7 @@ ghost use Rattle.resolve_run.specs.Answer.{IsAnswerOfLines};
 
 /// Of the lines of grammatical texts a run installs exactly if some set of versions keeps the rules of both.
 pub fn installs_exactly_if_some_set_keeps_the_rules()
-    ensures { (catalogue request : List Line) (ended : Outcome) (output : List ℕ) → IsAnswerOfLines catalogue request ended output → (ended ≡ Installed) ↔ ((set : Set) × IsRuleKeeping catalogue request set) }
+    ensures { (catalogue request : List Line) (ended : Outcome) (output : List ℕ)
+        → IsAnswerOfLines catalogue request ended output
+        → (ended ≡ Installed) ↔ ((set : Set) × IsRuleKeeping catalogue request set) }
 {}

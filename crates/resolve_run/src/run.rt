@@ -29,7 +29,11 @@ fn outcome_of(report: &Report) -> Outcome
 
 /// The report of grammatical texts.
 fn report(alloc: Global, catalogue: &Catalogue, request: &Request) -> Result<Written, RunFault>
-    ensures ok { IfOk result (λ answer. AreRequestLines catalogue.now request.now.lines → AreWishesAt catalogue.now request.now → IsAnswerOfLines catalogue.now request.now.lines answer.outcome answer.text.items) }
+    ensures ok { IfOk result
+        (λ answer.
+        AreRequestLines catalogue.now request.now.lines
+        → AreWishesAt catalogue.now request.now
+        → IsAnswerOfLines catalogue.now request.now.lines answer.outcome answer.text.items) }
     ensures err { IfErr result IsLack }
 {
     let report = report_for(alloc, catalogue, request)?;
@@ -45,8 +49,19 @@ fn answer<C: Source, R: Source>(
     catalogue: &mut C,
     request: &mut R,
 ) -> Result<Written, RunFault>
-    ensures ok { IfOk result (λ answer. AnswersTexts (C.left catalogue.old) (R.left request.old) answer.outcome answer.text.items) }
-    ensures err { IfErr result (λ e. StopsBefore e (reader_of (C.left catalogue.old) (C.left catalogue.new) (DeviceFailed (C.failures catalogue.old) (C.failures catalogue.new) (C.interruptions catalogue.new))) (reader_of (R.left request.old) (R.left request.new) (DeviceFailed (R.failures request.old) (R.failures request.new) (R.interruptions request.new)))) }
+    ensures ok { IfOk result
+        (λ answer.
+        AnswersTexts (C.left catalogue.old) (R.left request.old) answer.outcome
+        answer.text.items) }
+    ensures err { IfErr result
+        (λ e.
+        StopsBefore e
+        (reader_of (C.left catalogue.old) (C.left catalogue.new)
+        (DeviceFailed (C.failures catalogue.old) (C.failures catalogue.new)
+        (C.interruptions catalogue.new)))
+        (reader_of (R.left request.old) (R.left request.new)
+        (DeviceFailed (R.failures request.old) (R.failures request.new)
+        (R.interruptions request.new)))) }
 {
     let catalogue = match Catalogue::read(alloc, catalogue) {
         Ok(catalogue) => catalogue,
@@ -67,8 +82,33 @@ pub fn run<C: Source, R: Source, W: Sink>(
     request: &mut R,
     writer: &mut W,
 ) -> Result<Outcome, RunFault>
-    ensures written { IfOk result (λ outcome. Writes (reader_of (C.left catalogue.old) (C.left catalogue.new) (DeviceFailed (C.failures catalogue.old) (C.failures catalogue.new) (C.interruptions catalogue.new))) (reader_of (R.left request.old) (R.left request.new) (DeviceFailed (R.failures request.old) (R.failures request.new) (R.interruptions request.new))) (writer_of (W.contents writer.old) (W.contents writer.new) (WriterFailed (W.failures writer.old) (W.failures writer.new) (W.interruptions writer.new) (W.empty_writes writer.old) (W.empty_writes writer.new))) outcome) }
-    ensures stopped { IfErr result (λ e. StopsRun e (reader_of (C.left catalogue.old) (C.left catalogue.new) (DeviceFailed (C.failures catalogue.old) (C.failures catalogue.new) (C.interruptions catalogue.new))) (reader_of (R.left request.old) (R.left request.new) (DeviceFailed (R.failures request.old) (R.failures request.new) (R.interruptions request.new))) (writer_of (W.contents writer.old) (W.contents writer.new) (WriterFailed (W.failures writer.old) (W.failures writer.new) (W.interruptions writer.new) (W.empty_writes writer.old) (W.empty_writes writer.new)))) }
+    ensures written { IfOk result
+        (λ outcome.
+        Writes
+        (reader_of (C.left catalogue.old) (C.left catalogue.new)
+        (DeviceFailed (C.failures catalogue.old) (C.failures catalogue.new)
+        (C.interruptions catalogue.new)))
+        (reader_of (R.left request.old) (R.left request.new)
+        (DeviceFailed (R.failures request.old) (R.failures request.new)
+        (R.interruptions request.new)))
+        (writer_of (W.contents writer.old) (W.contents writer.new)
+        (WriterFailed (W.failures writer.old) (W.failures writer.new)
+        (W.interruptions writer.new) (W.empty_writes writer.old)
+        (W.empty_writes writer.new)))
+        outcome) }
+    ensures stopped { IfErr result
+        (λ e.
+        StopsRun e
+        (reader_of (C.left catalogue.old) (C.left catalogue.new)
+        (DeviceFailed (C.failures catalogue.old) (C.failures catalogue.new)
+        (C.interruptions catalogue.new)))
+        (reader_of (R.left request.old) (R.left request.new)
+        (DeviceFailed (R.failures request.old) (R.failures request.new)
+        (R.interruptions request.new)))
+        (writer_of (W.contents writer.old) (W.contents writer.new)
+        (WriterFailed (W.failures writer.old) (W.failures writer.new)
+        (W.interruptions writer.new) (W.empty_writes writer.old)
+        (W.empty_writes writer.new)))) }
 {
     match answer(alloc, catalogue, request) {
         Ok(answer) => match write_all(writer, answer.text.as_slice()) {

@@ -43,8 +43,12 @@ impl Conflict {
         solver: &Solver<D>,
     ) -> R<ConflictGraph<D::SolvableId>>
         requires { HoldsConflict solver.now self.now.clauses.items }
-        ensures graph { IfOk result (λ g. IsGraphOf D.NameId.eq D.SolvableId.eq (D.name_of_solvable solver.now.provider) solver.now g) }
-        ensures truth { IfOk result (λ g. IsTrueOf D.SolvableId.eq (D.name_of_solvable solver.now.provider) solver.now g) }
+        ensures graph { IfOk result
+            (λ g.
+            IsGraphOf D.NameId.eq D.SolvableId.eq (D.name_of_solvable solver.now.provider)
+            solver.now g) }
+        ensures truth { IfOk result
+            (λ g. IsTrueOf D.SolvableId.eq (D.name_of_solvable solver.now.provider) solver.now g) }
     {
         conflict_graph(alloc, solver.provider(), solver.offers(), solver.proof())
     }
@@ -56,7 +60,10 @@ impl Conflict {
         solver: &'a Solver<D>,
     ) -> R<DisplayUnsat<'a, D>>
         requires { HoldsConflict solver.now self.now.clauses.items }
-        ensures lines { IfOk result (λ d. TellsConflict D.NameId.eq D.SolvableId.eq (D.name_of_solvable solver.now.provider) solver.now d.lines.items) }
+        ensures lines { IfOk result
+            (λ d.
+            TellsConflict D.NameId.eq D.SolvableId.eq (D.name_of_solvable solver.now.provider)
+            solver.now d.lines.items) }
         ensures interner { IfOk result (λ d. d.interner.now ≡ solver.now.provider) }
     {
         let graph = self.graph(alloc, solver)?;
@@ -70,8 +77,12 @@ fn told_over<'a, D: DependencyProvider>(
     graph: &ConflictGraph<D::SolvableId>,
     solver: &'a Solver<D>,
 ) -> R<DisplayUnsat<'a, D>>
-    requires { IsGraphOf D.NameId.eq D.SolvableId.eq (D.name_of_solvable solver.now.provider) solver.now graph.now }
-    ensures lines { IfOk result (λ d. TellsConflict D.NameId.eq D.SolvableId.eq (D.name_of_solvable solver.now.provider) solver.now d.lines.items) }
+    requires { IsGraphOf D.NameId.eq D.SolvableId.eq (D.name_of_solvable solver.now.provider) solver.now
+        graph.now }
+    ensures lines { IfOk result
+        (λ d.
+        TellsConflict D.NameId.eq D.SolvableId.eq (D.name_of_solvable solver.now.provider)
+        solver.now d.lines.items) }
     ensures interner { IfOk result (λ d. d.interner.now ≡ solver.now.provider) }
 {
     DisplayUnsat::new(alloc, graph, solver.provider())
@@ -102,7 +113,9 @@ pub fn offers_for<A: PackageSource>(
     steps: &[ProofStep<A::NameId, A::SolvableId>],
 ) -> Result<Offers<A::SolvableId>, CacheFault<A::Cancel>>
     ensures same { answers.new ≡ answers.old }
-    ensures offers { IfOk result (λ o. AreOffers A.SolvableId.eq (A.packages answers.old) (A.orders answers.old) steps.now o) }
+    ensures offers { IfOk result
+        (λ o.
+        AreOffers A.SolvableId.eq (A.packages answers.old) (A.orders answers.old) steps.now o) }
     ensures cancelled { IfErr result (IsCancelledBy (A.may_cancel answers.old)) }
 {
     let requirements = requirements_of(alloc, steps)?;
@@ -121,7 +134,10 @@ fn conflict_left<A: PackageSource>(
     solved: &Solved<A::NameId, A::SolvableId>,
 ) -> Result<Option<KeptConflict<A::SolvableId>>, CacheFault<A::Cancel>>
     ensures same { answers.new ≡ answers.old }
-    ensures left { IfOk result (λ c. IsLeft A.SolvableId.eq (A.packages answers.old) (A.orders answers.old) solved.now.found solved.now.proof.items c) }
+    ensures left { IfOk result
+        (λ c.
+        IsLeft A.SolvableId.eq (A.packages answers.old) (A.orders answers.old) solved.now.found
+        solved.now.proof.items c) }
     ensures cancelled { IfErr result (IsCancelledBy (A.may_cancel answers.old)) }
 {
     match &solved.found {
@@ -150,10 +166,19 @@ pub(crate) fn solve_to_conflict<A: PackageSource, C: ScoreMap<A::NameId> + Drop>
     CacheFault<A::Cancel>,
 >
     ensures same { answers.new ≡ answers.old }
-    ensures solved { IfOk result (λ s. (root : Rules) → IsRoot requirements.now constraints.now root → AreCandidates A.SolvableId.eq (A.packages answers.old) wishes.now → IsSolved A.SolvableId.eq (A.packages answers.old) (A.orders answers.old) root wishes.now s.0) }
+    ensures solved { IfOk result
+        (λ s.
+        (root : Rules)
+        → IsRoot requirements.now constraints.now root
+        → AreCandidates A.SolvableId.eq (A.packages answers.old) wishes.now
+        → IsSolved A.SolvableId.eq (A.packages answers.old) (A.orders answers.old) root
+        wishes.now s.0) }
     ensures ends { IfOk result (λ s. EndsSo s.0.found s.0.proof.items) }
     ensures count { IfOk result (λ s. Counts s.0.found s.0.clause_count (length s.0.proof.items)) }
-    ensures left { IfOk result (λ s. IsLeft A.SolvableId.eq (A.packages answers.old) (A.orders answers.old) s.0.found s.0.proof.items s.1) }
+    ensures left { IfOk result
+        (λ s.
+        IsLeft A.SolvableId.eq (A.packages answers.old) (A.orders answers.old) s.0.found
+        s.0.proof.items s.1) }
     ensures cancelled { IfErr result (IsCancelledBy (A.may_cancel answers.old)) }
 {
     let solved = solve::<A, C>(alloc, answers, activity, requirements, constraints, wishes)?;

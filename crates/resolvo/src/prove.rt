@@ -51,9 +51,18 @@ fn steps_of<N: Copy + Exact + Hash + Debug, S: Copy + Exact + Hash + Debug>(
     requires coding { IsCoding coding.now }
     requires denial { IsDenial coding.now found.now }
     ensures proof { IfOk result (λ v. Proves coding.now v.items) }
-    ensures drawn { IfOk result (λ v. (same : S → S → Bool) (p : Packages N S) → Spelled same p coding.now → AreDrawn same p v.items) }
+    ensures drawn { IfOk result
+        (λ v.
+        (same : S → S → Bool) (p : Packages N S)
+        → Spelled same p coding.now
+        → AreDrawn same p v.items) }
     ensures signs { IfOk result (λ v. HaveOneSigns v.items) }
-    ensures places { IfOk result (λ v. (r : Registry N) (package_of : S → N) → AreTied r coding.now → AreNamedBy r coding.now package_of → HaveOnePlace v.items) }
+    ensures places { IfOk result
+        (λ v.
+        (r : Registry N) (package_of : S → N)
+        → AreTied r coding.now
+        → AreNamedBy r coding.now package_of
+        → HaveOnePlace v.items) }
     ensures ends { IfOk result (λ v. EndsSo found.now v.items) }
     ensures count { IfOk result (λ v. Counts found.now (length coding.now.search.clauses) (length v.items)) }
     ensures clauses { IfOk result (λ v. HasSteps coding.now found.now v.items) }
@@ -75,9 +84,18 @@ fn prove<N: Copy + Exact + Hash + Debug + Drop, S: Copy + Exact + Hash + Debug>(
     ensures count { IfOk result (λ s. Counts s.found s.clause_count (length s.proof.items)) }
     ensures deferred { IfOk result (λ s. s.deferred_count ≡ waiting_count encoding.now) }
     ensures proof { IfOk result (λ s. Proves encoding.now.coding s.proof.items) }
-    ensures drawn { IfOk result (λ s. (same : S → S → Bool) (p : Packages N S) → Spelled same p encoding.now.coding → AreDrawn same p s.proof.items) }
+    ensures drawn { IfOk result
+        (λ s.
+        (same : S → S → Bool) (p : Packages N S)
+        → Spelled same p encoding.now.coding
+        → AreDrawn same p s.proof.items) }
     ensures signs { IfOk result (λ s. HaveOneSigns s.proof.items) }
-    ensures places { IfOk result (λ s. (r : Registry N) (package_of : S → N) → AreTied r encoding.now.coding → AreNamedBy r encoding.now.coding package_of → HaveOnePlace s.proof.items) }
+    ensures places { IfOk result
+        (λ s.
+        (r : Registry N) (package_of : S → N)
+        → AreTied r encoding.now.coding
+        → AreNamedBy r encoding.now.coding package_of
+        → HaveOnePlace s.proof.items) }
     ensures ends { IfOk result (λ s. EndsSo s.found s.proof.items) }
     ensures clauses { IfOk result (λ s. HasSteps encoding.now.coding found s.proof.items) }
 {
@@ -102,7 +120,14 @@ fn solve_in<A: PackageSource, C: ScoreMap<A::NameId> + Drop>(
 ) -> Result<Solved<A::NameId, A::SolvableId>, CacheFault<A::Cancel>>
     requires { IsBegunEncoding encoding.old }
     ensures same { answers.new ≡ answers.old }
-    ensures solved { IfOk result (λ s. (root : Rules) → IsRoot requirements.now constraints.now root → AreCandidates A.SolvableId.eq (A.packages answers.old) wishes.now → IsEncoding A.SolvableId.eq (A.packages answers.old) root encoding.old → IsSolved A.SolvableId.eq (A.packages answers.old) (A.orders answers.old) root wishes.now s) }
+    ensures solved { IfOk result
+        (λ s.
+        (root : Rules)
+        → IsRoot requirements.now constraints.now root
+        → AreCandidates A.SolvableId.eq (A.packages answers.old) wishes.now
+        → IsEncoding A.SolvableId.eq (A.packages answers.old) root encoding.old
+        → IsSolved A.SolvableId.eq (A.packages answers.old) (A.orders answers.old) root
+        wishes.now s) }
     ensures ends { IfOk result (λ s. EndsSo s.found s.proof.items) }
     ensures count { IfOk result (λ s. Counts s.found s.clause_count (length s.proof.items)) }
     ensures cancelled { IfErr result (IsCancelledBy (A.may_cancel answers.old)) }
@@ -135,7 +160,13 @@ pub fn solve<A: PackageSource, C: ScoreMap<A::NameId> + Drop>(
     wishes: &[A::SolvableId],
 ) -> Result<Solved<A::NameId, A::SolvableId>, CacheFault<A::Cancel>>
     ensures same { answers.new ≡ answers.old }
-    ensures solved { IfOk result (λ s. (root : Rules) → IsRoot requirements.now constraints.now root → AreCandidates A.SolvableId.eq (A.packages answers.old) wishes.now → IsSolved A.SolvableId.eq (A.packages answers.old) (A.orders answers.old) root wishes.now s) }
+    ensures solved { IfOk result
+        (λ s.
+        (root : Rules)
+        → IsRoot requirements.now constraints.now root
+        → AreCandidates A.SolvableId.eq (A.packages answers.old) wishes.now
+        → IsSolved A.SolvableId.eq (A.packages answers.old) (A.orders answers.old) root
+        wishes.now s) }
     ensures ends { IfOk result (λ s. EndsSo s.found s.proof.items) }
     ensures count { IfOk result (λ s. Counts s.found s.clause_count (length s.proof.items)) }
     ensures cancelled { IfErr result (IsCancelledBy (A.may_cancel answers.old)) }

@@ -73,7 +73,17 @@ fn run_others<A: PackageSource, C: ScoreMap<A::NameId>>(
     requires ended { IsTurn A.SolvableId.eq None encoding.old None }
     requires first { encoding.old.noted.wishes.items ≡ [] }
     ensures same { answers.new ≡ answers.old }
-    ensures found { IfOk result (λ f. (root : Rules) → IsRoot requirements.now constraints.now root → AreCandidates A.SolvableId.eq (A.packages answers.old) wishes.now → IsInOrder A.SolvableId.eq (A.packages answers.old) (A.orders answers.old) root encoding.old → IsInOrder A.SolvableId.eq (A.packages answers.old) (A.orders answers.old) root encoding.new × IsFound A.SolvableId.eq (A.packages answers.old) root wishes.now encoding.new f × IsPreferred A.SolvableId.eq (A.packages answers.old) (A.orders answers.old) root f) }
+    ensures found { IfOk result
+        (λ f.
+        (root : Rules)
+        → IsRoot requirements.now constraints.now root
+        → AreCandidates A.SolvableId.eq (A.packages answers.old) wishes.now
+        → IsInOrder A.SolvableId.eq (A.packages answers.old) (A.orders answers.old) root
+        encoding.old
+        → IsInOrder A.SolvableId.eq (A.packages answers.old) (A.orders answers.old) root
+        encoding.new
+        × IsFound A.SolvableId.eq (A.packages answers.old) root wishes.now encoding.new f
+        × IsPreferred A.SolvableId.eq (A.packages answers.old) (A.orders answers.old) root f) }
     ensures listed { IfOk result (IsListedIn encoding.new) }
     ensures denial { IfOk result (IsDenial encoding.new.coding) }
     ensures built { OnOk result (IsBuilt encoding.new) }
@@ -109,7 +119,17 @@ fn run_turns<A: PackageSource, C: ScoreMap<A::NameId>>(
 ) -> Result<SearchResult<A::SolvableId>, CacheFault<A::Cancel>>
     requires { IsBegunEncoding encoding.old }
     ensures same { answers.new ≡ answers.old }
-    ensures found { IfOk result (λ f. (root : Rules) → IsRoot requirements.now constraints.now root → AreCandidates A.SolvableId.eq (A.packages answers.old) wishes.now → IsInOrder A.SolvableId.eq (A.packages answers.old) (A.orders answers.old) root encoding.old → IsInOrder A.SolvableId.eq (A.packages answers.old) (A.orders answers.old) root encoding.new × IsFound A.SolvableId.eq (A.packages answers.old) root wishes.now encoding.new f × IsPreferred A.SolvableId.eq (A.packages answers.old) (A.orders answers.old) root f) }
+    ensures found { IfOk result
+        (λ f.
+        (root : Rules)
+        → IsRoot requirements.now constraints.now root
+        → AreCandidates A.SolvableId.eq (A.packages answers.old) wishes.now
+        → IsInOrder A.SolvableId.eq (A.packages answers.old) (A.orders answers.old) root
+        encoding.old
+        → IsInOrder A.SolvableId.eq (A.packages answers.old) (A.orders answers.old) root
+        encoding.new
+        × IsFound A.SolvableId.eq (A.packages answers.old) root wishes.now encoding.new f
+        × IsPreferred A.SolvableId.eq (A.packages answers.old) (A.orders answers.old) root f) }
     ensures listed { IfOk result (IsListedIn encoding.new) }
     ensures denial { IfOk result (IsDenial encoding.new.coding) }
     ensures built { OnOk result (IsBuilt encoding.new) }
@@ -156,7 +176,14 @@ pub fn search<A: PackageSource, C: ScoreMap<A::NameId> + Drop>(
 ) -> Result<SearchResult<A::SolvableId>, CacheFault<A::Cancel>>
     requires { IsBegunEncoding encoding.old }
     ensures same { answers.new ≡ answers.old }
-    ensures found { IfOk result (λ f. (root : Rules) → IsRoot requirements.now constraints.now root → AreCandidates A.SolvableId.eq (A.packages answers.old) wishes.now → IsEncoding A.SolvableId.eq (A.packages answers.old) root encoding.old → IsSearch A.SolvableId.eq (A.packages answers.old) (A.orders answers.old) root wishes.now encoding.new f) }
+    ensures found { IfOk result
+        (λ f.
+        (root : Rules)
+        → IsRoot requirements.now constraints.now root
+        → AreCandidates A.SolvableId.eq (A.packages answers.old) wishes.now
+        → IsEncoding A.SolvableId.eq (A.packages answers.old) root encoding.old
+        → IsSearch A.SolvableId.eq (A.packages answers.old) (A.orders answers.old) root
+        wishes.now encoding.new f) }
     ensures listed { IfOk result (IsListedIn encoding.new) }
     ensures provable { IfOk result (IsProvable encoding.new) }
     ensures cancelled { IfErr result (IsCancelledBy (A.may_cancel answers.old)) }

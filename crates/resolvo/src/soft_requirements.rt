@@ -64,9 +64,17 @@ fn run_open<A: PackageSource, C: ScoreMap<A::NameId>>(
     requires wish { IsWish encoding.old variable }
     requires open { has (made_true (history encoding.old.coding.search)) (yes variable) ≡ false }
     ensures same { answers.new ≡ answers.old }
-    ensures stays { OnOk result ((root : Rules) → IsRoot requirements.now constraints.now root → IsInOrder A.SolvableId.eq (A.packages answers.old) (A.orders answers.old) root encoding.old → IsInOrder A.SolvableId.eq (A.packages answers.old) (A.orders answers.old) root encoding.new) }
+    ensures stays { OnOk result
+        ((root : Rules)
+        → IsRoot requirements.now constraints.now root
+        → IsInOrder A.SolvableId.eq (A.packages answers.old) (A.orders answers.old) root
+        encoding.old
+        → IsInOrder A.SolvableId.eq (A.packages answers.old) (A.orders answers.old) root
+        encoding.new) }
     ensures adds { OnOk result (AddsParents (turn_of encoding.old) encoding.new) }
-    ensures turn { OnOk result (IsOpen encoding.new variable × (base_of encoding.new ≡ history encoding.old.coding.search)) }
+    ensures turn { OnOk result
+        (IsOpen encoding.new variable
+        × (base_of encoding.new ≡ history encoding.old.coding.search)) }
     ensures ended { IfOk result (IsTurn A.SolvableId.eq (Some variable) encoding.new) }
     ensures built { OnOk result (IsBuilt encoding.new) }
     ensures cancelled { IfErr result (IsCancelledBy (A.may_cancel answers.old)) }
@@ -94,7 +102,11 @@ fn refuse<N: Copy + Exact + Hash + Debug, S: Copy + Exact + Hash + Debug>(
     requires built { IsBuilt encoding.old }
     requires refused { IsRefusable encoding.old refusal }
     requires some { 0 < length refusal.literals.items }
-    ensures stays { OnOk result ((p : Packages N S) (root : Rules) → IsLawful p → IsEncoding S.eq p root encoding.old → IsEncoding S.eq p root encoding.new) }
+    ensures stays { OnOk result
+        ((p : Packages N S) (root : Rules)
+        → IsLawful p
+        → IsEncoding S.eq p root encoding.old
+        → IsEncoding S.eq p root encoding.new) }
     ensures rest { OnOk result (KeepsRest encoding.old encoding.new) }
     ensures refused { IfOk result (λ clause. IsTurnedDown refusal encoding.old encoding.new (Refused clause)) }
     ensures built { OnOk result (IsBuilt encoding.new) }
@@ -112,7 +124,11 @@ fn refuse_turn<N: Copy + Exact + Hash + Debug, S: Copy + Exact + Hash + Debug>(
 ) -> R<SoftOutcome>
     requires built { IsBuilt encoding.old }
     requires refused { IsRefusable encoding.old refusal }
-    ensures stays { OnOk result ((p : Packages N S) (root : Rules) → IsLawful p → IsEncoding S.eq p root encoding.old → IsEncoding S.eq p root encoding.new) }
+    ensures stays { OnOk result
+        ((p : Packages N S) (root : Rules)
+        → IsLawful p
+        → IsEncoding S.eq p root encoding.old
+        → IsEncoding S.eq p root encoding.new) }
     ensures rest { OnOk result (KeepsRest encoding.old encoding.new) }
     ensures turned { IfOk result (IsTurnedDown refusal encoding.old encoding.new) }
     ensures built { OnOk result (IsBuilt encoding.new) }
@@ -138,7 +154,17 @@ pub fn run_soft_requirement<A: PackageSource, C: ScoreMap<A::NameId>>(
     requires built { IsBuilt encoding.old }
     requires rooted { IsRooted encoding.old }
     ensures same { answers.new ≡ answers.old }
-    ensures stays { IfOk result (λ w. (root : Rules) → IsRoot requirements.now constraints.now root → IsCandidate A.SolvableId.eq (A.packages answers.old) wish → IsInOrder A.SolvableId.eq (A.packages answers.old) (A.orders answers.old) root encoding.old → IsInOrder A.SolvableId.eq (A.packages answers.old) (A.orders answers.old) root encoding.new × IsTold A.SolvableId.eq (A.packages answers.old) root encoding.old encoding.new wish w) }
+    ensures stays { IfOk result
+        (λ w.
+        (root : Rules)
+        → IsRoot requirements.now constraints.now root
+        → IsCandidate A.SolvableId.eq (A.packages answers.old) wish
+        → IsInOrder A.SolvableId.eq (A.packages answers.old) (A.orders answers.old) root
+        encoding.old
+        → IsInOrder A.SolvableId.eq (A.packages answers.old) (A.orders answers.old) root
+        encoding.new
+        × IsTold A.SolvableId.eq (A.packages answers.old) root encoding.old encoding.new wish
+        w) }
     ensures outcome { IfOk result (IsOutcome A.SolvableId.eq wish encoding.old encoding.new) }
     ensures keeps { OnOk result (KeepsTrail encoding.old encoding.new) }
     ensures built { OnOk result (IsBuilt encoding.new) }
@@ -193,7 +219,19 @@ fn run_next<A: PackageSource, C: ScoreMap<A::NameId>>(
     requires rooted { IsRooted encoding.old }
     requires at { AreAt encoding.old turns.old }
     ensures same { answers.new ≡ answers.old }
-    ensures right { IfOk result (λ o. (root : Rules) (first : ℕ) (done : List A.SolvableId) → IsRoot requirements.now constraints.now root → IsCandidate A.SolvableId.eq (A.packages answers.old) wish → IsInOrder A.SolvableId.eq (A.packages answers.old) (A.orders answers.old) root encoding.old → AreRight A.SolvableId.eq (A.packages answers.old) root first done turns.old → HaveReasons encoding.old.coding turns.old → IsInOrder A.SolvableId.eq (A.packages answers.old) (A.orders answers.old) root encoding.new × IsNextRight A.SolvableId.eq (A.packages answers.old) root first (done ++ wish ∷ []) encoding.new turns.new o) }
+    ensures right { IfOk result
+        (λ o.
+        (root : Rules) (first : ℕ) (done : List A.SolvableId)
+        → IsRoot requirements.now constraints.now root
+        → IsCandidate A.SolvableId.eq (A.packages answers.old) wish
+        → IsInOrder A.SolvableId.eq (A.packages answers.old) (A.orders answers.old) root
+        encoding.old
+        → AreRight A.SolvableId.eq (A.packages answers.old) root first done turns.old
+        → HaveReasons encoding.old.coding turns.old
+        → IsInOrder A.SolvableId.eq (A.packages answers.old) (A.orders answers.old) root
+        encoding.new
+        × IsNextRight A.SolvableId.eq (A.packages answers.old) root first (done ++ wish ∷ [])
+        encoding.new turns.new o) }
     ensures stands { IfOk result (StandSo encoding.new turns.new) }
     ensures front { OnOk result (IsFrontOf turns.old.chosen.keys turns.new.chosen.keys) }
     ensures rooted { OnOk result (IsRooted encoding.new) }
@@ -245,7 +283,19 @@ pub fn run_soft_requirements<A: PackageSource, C: ScoreMap<A::NameId>>(
     requires rooted { IsRooted encoding.old }
     requires at { AreAt encoding.old turns.old }
     ensures same { answers.new ≡ answers.old }
-    ensures right { IfOk result (λ o. (root : Rules) (first : ℕ) → IsRoot requirements.now constraints.now root → AreCandidates A.SolvableId.eq (A.packages answers.old) wishes.now → IsInOrder A.SolvableId.eq (A.packages answers.old) (A.orders answers.old) root encoding.old → AreRight A.SolvableId.eq (A.packages answers.old) root first [] turns.old → HaveReasons encoding.old.coding turns.old → IsInOrder A.SolvableId.eq (A.packages answers.old) (A.orders answers.old) root encoding.new × IsNextRight A.SolvableId.eq (A.packages answers.old) root first wishes.now encoding.new turns.new o) }
+    ensures right { IfOk result
+        (λ o.
+        (root : Rules) (first : ℕ)
+        → IsRoot requirements.now constraints.now root
+        → AreCandidates A.SolvableId.eq (A.packages answers.old) wishes.now
+        → IsInOrder A.SolvableId.eq (A.packages answers.old) (A.orders answers.old) root
+        encoding.old
+        → AreRight A.SolvableId.eq (A.packages answers.old) root first [] turns.old
+        → HaveReasons encoding.old.coding turns.old
+        → IsInOrder A.SolvableId.eq (A.packages answers.old) (A.orders answers.old) root
+        encoding.new
+        × IsNextRight A.SolvableId.eq (A.packages answers.old) root first wishes.now
+        encoding.new turns.new o) }
     ensures stands { IfOk result (StandSo encoding.new turns.new) }
     ensures front { OnOk result (IsFrontOf turns.old.chosen.keys turns.new.chosen.keys) }
     ensures built { OnOk result (IsBuilt encoding.new) }

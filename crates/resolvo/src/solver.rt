@@ -70,13 +70,17 @@ pub struct Solver<D: DependencyProvider> {
 impl<D: DependencyProvider> Model for Solver<D> {
     ghost Value = { Kept D D.NameId D.SolvableId };
 
-    ghost view = { λ s. record { provider = s.answers; clause_count = s.clause_count; deferred_count = s.deferred_count; turns = s.turns.items; proof = s.proof.items; conflict = option_map left_of s.conflict } };
+    ghost view = { λ s.
+        record
+        { provider = s.answers; clause_count = s.clause_count; deferred_count = s.deferred_count; turns = s.turns.items; proof = s.proof.items; conflict = option_map left_of s.conflict } };
 }
 
 impl<D: DependencyProvider> Solver<D> {
     /// Forgets the last search.
     fn forget(&mut self)
-        ensures { self.new ≡ record self.old { clause_count = 0; deferred_count = 0; turns = []; proof = []; conflict = None } }
+        ensures { self.new
+            ≡ record self.old
+            { clause_count = 0; deferred_count = 0; turns = []; proof = []; conflict = None } }
     {
         self.clause_count = 0;
         self.deferred_count = 0;
@@ -116,7 +120,9 @@ impl<D: DependencyProvider> Solver<D> {
 
     /// A solver that was asked nothing yet.
     pub fn new(alloc: Global, provider: D) -> Solver<D>
-        ensures { result ≡ record { provider = provider; clause_count = 0; deferred_count = 0; turns = []; proof = []; conflict = None } }
+        ensures { result
+            ≡ record
+            { provider = provider; clause_count = 0; deferred_count = 0; turns = []; proof = []; conflict = None } }
     {
         Solver {
             alloc,
@@ -226,7 +232,21 @@ impl<D: DependencyProvider> Solver<D> {
         requires wishes { I.can_next problem.soft_requirements }
         requires finite { IsFinite (I.remaining problem.soft_requirements) }
         ensures provider { self.new.provider ≡ self.old.provider }
-        ensures answer { IfEnded result ((wishes : List D.SolvableId) × WholeRun I.next_gives problem.soft_requirements (λ p. wishes ≡ p.items) × (AreCandidates D.SolvableId.eq (packages_by D.name_of_solvable D.name_of_version_set D.members_of D.condition_of D.candidates_of D.matches D.dependencies_of self.old.provider) wishes → IsAnswer D.SolvableId.eq (packages_by D.name_of_solvable D.name_of_version_set D.members_of D.condition_of D.candidates_of D.matches D.dependencies_of self.old.provider) (root_of problem) (orders_by D.name_of_version_set D.members_of D.candidates_of D.matches D.sorts D.SolvableId.eq self.old.provider) wishes result self.new)) }
+        ensures answer { IfEnded result
+            ((wishes : List D.SolvableId)
+            × WholeRun I.next_gives problem.soft_requirements (λ p. wishes ≡ p.items)
+            × (AreCandidates D.SolvableId.eq
+            (packages_by D.name_of_solvable D.name_of_version_set D.members_of
+            D.condition_of D.candidates_of D.matches D.dependencies_of self.old.provider)
+            wishes
+            → IsAnswer D.SolvableId.eq
+            (packages_by D.name_of_solvable D.name_of_version_set D.members_of
+            D.condition_of D.candidates_of D.matches D.dependencies_of
+            self.old.provider)
+            (root_of problem)
+            (orders_by D.name_of_version_set D.members_of D.candidates_of D.matches
+            D.sorts D.SolvableId.eq self.old.provider)
+            wishes result self.new)) }
         ensures leaves { Leaves result self.new }
         ensures cancelled { IsStopped (D.may_cancel self.old.provider) result }
     {

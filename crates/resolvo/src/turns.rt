@@ -53,7 +53,8 @@ impl<S: Copy + Exact + Hash + Debug> Turns<S> {
         encoding: &Encoder<N, S>,
     ) -> R<()>
         ensures listed { OnOk result (IsFrontOf self.old.chosen.keys self.new.chosen.keys) }
-        ensures in_order { OnOk result (self.new.chosen.keys ≡ insert_all S.eq self.old.chosen.keys (on_trail encoding.now)) }
+        ensures in_order { OnOk result
+            (self.new.chosen.keys ≡ insert_all S.eq self.old.chosen.keys (on_trail encoding.now)) }
         ensures turns { OnOk result (self.new.turns ≡ self.old.turns) }
     {
         let chosen = encoding.coding.chosen(alloc)?;

@@ -31,7 +31,9 @@ const UNMARKED: CandidateFlags = CandidateFlags {
 
 /// The marks of each version, by its number.
 pub fn marks_of(alloc: Global, ids: &mut IdTable, catalogue: &Catalogue) -> R<Vec<CandidateFlags>>
-    ensures marked { IfOk result (λ marks. AreMarked ids.new catalogue.now catalogue.now (listed catalogue.now) marks.items) }
+    ensures marked { IfOk result
+        (λ marks.
+        AreMarked ids.new catalogue.now catalogue.now (listed catalogue.now) marks.items) }
     ensures interns { Interns ids.old ids.new }
 {
     let mut marks = unmarked(alloc, catalogue.versions().len())?;
@@ -48,7 +50,11 @@ pub fn marks_of(alloc: Global, ids: &mut IdTable, catalogue: &Catalogue) -> R<Ve
 
 /// No marks of so many versions.
 fn unmarked(alloc: Global, count: usize) -> R<Vec<CandidateFlags>>
-    ensures { IfOk result (λ marks. (ids : Ids) (versions : List Version) → length versions ≡ count → AreMarked ids [] [] versions marks.items) }
+    ensures { IfOk result
+        (λ marks.
+        (ids : Ids) (versions : List Version)
+        → length versions ≡ count
+        → AreMarked ids [] [] versions marks.items) }
 {
     let mut marks = Vec::new(alloc);
     for _ in 0..count {
@@ -59,7 +65,13 @@ fn unmarked(alloc: Global, count: usize) -> R<Vec<CandidateFlags>>
 
 /// Adds what a rule says of a version that it names. A need, a limit and an unknown mark name none.
 fn mark(ids: &mut IdTable, marks: &mut Vec<CandidateFlags>, rule: &Rule) -> R<()>
-    ensures marked { OnOk result ((versions : List Version) (owner : Option Version) (line : Line) (lines favours : List Line) → AreDistinct versions → States versions rule.now owner line → AreMarked ids.old lines favours versions marks.old.items → AreMarked ids.new (lines ++ line ∷ []) favours versions marks.new.items) }
+    ensures marked { OnOk result
+        ((versions : List Version) (owner : Option Version) (line : Line)
+        (lines favours : List Line)
+        → AreDistinct versions
+        → States versions rule.now owner line
+        → AreMarked ids.old lines favours versions marks.old.items
+        → AreMarked ids.new (lines ++ line ∷ []) favours versions marks.new.items) }
     ensures interns { Interns ids.old ids.new }
 {
     match rule {
@@ -83,7 +95,11 @@ fn mark(ids: &mut IdTable, marks: &mut Vec<CandidateFlags>, rule: &Rule) -> R<()
 
 /// Marks a version as favoured.
 fn favour(marks: &mut Vec<CandidateFlags>, version: VersionNo)
-    ensures { (ids : Ids) (versions : List Version) (lines favours : List Line) (v : Version) → AreDistinct versions → slice_get versions version.0 ≡ Some v → AreMarked ids lines favours versions marks.old.items → AreMarked ids lines (favours ++ Favour v ∷ []) versions marks.new.items }
+    ensures { (ids : Ids) (versions : List Version) (lines favours : List Line) (v : Version)
+        → AreDistinct versions
+        → slice_get versions version.0 ≡ Some v
+        → AreMarked ids lines favours versions marks.old.items
+        → AreMarked ids lines (favours ++ Favour v ∷ []) versions marks.new.items }
 {
     if let Some(found) = marks.get_mut(version.0 as usize) {
         found.favored = true;

@@ -36,7 +36,11 @@ impl VersionDependencies {
 
     /// Adds what a rule says. A lock and an exclusion say nothing here.
     fn add(&mut self, ids: &mut IdTable, rule: &Rule) -> R<()>
-        ensures tells { OnOk result ((versions : List Version) (owner : Option Version) (line : Line) (lines : List Line) → States versions rule.now owner line → Tells ids.old lines (told_of self.old) → Tells ids.new (lines ++ line ∷ []) (told_of self.new)) }
+        ensures tells { OnOk result
+            ((versions : List Version) (owner : Option Version) (line : Line) (lines : List Line)
+            → States versions rule.now owner line
+            → Tells ids.old lines (told_of self.old)
+            → Tells ids.new (lines ++ line ∷ []) (told_of self.new)) }
         ensures interns { Interns ids.old ids.new }
     {
         match rule {

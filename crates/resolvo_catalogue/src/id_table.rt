@@ -68,7 +68,9 @@ impl Model for IdTable {
 impl IdTable {
     /// A table that holds nothing.
     pub fn new(alloc: Global) -> IdTable
-        ensures { result ≡ record { names = []; words = []; solvables = []; version_sets = []; unions = []; conditions = [] } }
+        ensures { result
+            ≡ record
+            { names = []; words = []; solvables = []; version_sets = []; unions = []; conditions = [] } }
     {
         IdTable {
             pool: Pool::new(alloc),
@@ -91,7 +93,10 @@ impl IdTable {
         ensures package { IfOk result (λ x. IsPackage self.new x.0 name.now) }
         ensures place { IfOk result (λ x. IsPlaced self.old.names self.new.names x.0.raw) }
         ensures id { IfOk result (λ x. x.1.raw ≡ length self.old.solvables) }
-        ensures added { IfOk result (λ x. self.new.solvables ≡ self.old.solvables ++ record { version = number; name = x.0 } ∷ []) }
+        ensures added { IfOk result
+            (λ x.
+            self.new.solvables ≡ self.old.solvables ++ record { version = number; name = x.0 }
+            ∷ []) }
         ensures grows { Grows self.old self.new }
     {
         let package = self.package(name)?;
@@ -119,7 +124,8 @@ impl IdTable {
 
     /// The id of a span of a package.
     fn version_set(&mut self, name: NameId, span: Span) -> R<VersionSetId>
-        ensures version_set { IfOk result (λ v. slice_get self.new.version_sets v.0 ≡ Some (name, record { 0 = span })) }
+        ensures version_set { IfOk result
+            (λ v. slice_get self.new.version_sets v.0 ≡ Some (name, record { 0 = span })) }
         ensures interns { Interns self.old self.new }
     {
         self.pool.intern_version_set(name, Numbers(span))
@@ -221,7 +227,10 @@ impl IdTable {
         alternatives: &[Spec],
         condition: Option<&Cond>,
     ) -> R<ConditionalRequirement>
-        ensures need { IfOk result (λ r. IsNeed self.new r (specs_of alternatives.now, condition_of (option_copied condition.entry))) }
+        ensures need { IfOk result
+            (λ r.
+            IsNeed self.new r
+            (specs_of alternatives.now, condition_of (option_copied condition.entry))) }
         ensures interns { Interns self.old self.new }
     {
         let requirement = self.alternatives(alternatives)?;

@@ -59,7 +59,9 @@ impl Model for CatalogueProvider {
 
     ghost Value = { Provider };
 
-    ghost view = { λ p. record { ids = p.ids; told = map told_of p.told.items; marks = p.marks.items; hint = p.hint } };
+    ghost view = { λ p.
+        record
+        { ids = p.ids; told = map told_of p.told.items; marks = p.marks.items; hint = p.hint } };
 
     ghost invariant = { λ p. AreByPackage p.ids p.packages.items };
 }
@@ -118,8 +120,19 @@ impl CatalogueProvider {
         ensures asked { IfOk result (λ asked. AreAsked self.new.ids request.now asked) }
         ensures interns { ChangesIds self.old self.new }
         ensures over { (catalogue : List says.Line) → IsOver catalogue self.old → IsOver catalogue self.new }
-        ensures rules { IfOk result (λ asked. (catalogue : List says.Line) → IsOver catalogue self.old → AreRequestLines catalogue request.now.lines → KeepsAlike catalogue request.now.lines self.new (root_of asked)) }
-        ensures exempt { IfOk result (λ asked. (catalogue : List says.Line) → IsOver catalogue self.old → AreRequestLines catalogue request.now.lines → KeepsAlikeExempt catalogue request.now.lines self.new (root_of asked) asked.wishes.items) }
+        ensures rules { IfOk result
+            (λ asked.
+            (catalogue : List says.Line)
+            → IsOver catalogue self.old
+            → AreRequestLines catalogue request.now.lines
+            → KeepsAlike catalogue request.now.lines self.new (root_of asked)) }
+        ensures exempt { IfOk result
+            (λ asked.
+            (catalogue : List says.Line)
+            → IsOver catalogue self.old
+            → AreRequestLines catalogue request.now.lines
+            → KeepsAlikeExempt catalogue request.now.lines self.new (root_of asked)
+            asked.wishes.items) }
     {
         let told = VersionDependencies::of_request(self.alloc, &mut self.ids, request);
         self.ids.ids_are_once();
@@ -158,7 +171,9 @@ impl CatalogueProvider {
     #[tactic(auto, using(crate::proofs::CoverLemmas::spec_stands))]
     pub fn spec_of(&self, version_set: VersionSetId) -> R<Spec>
         ensures spec { IfOk result (λ found. spec_of found ≡ spec_at self.now.ids version_set) }
-        ensures stands { (s : says.Spec) → IsSpec self.now.ids version_set s → spec_at self.now.ids version_set ≡ s }
+        ensures stands { (s : says.Spec)
+            → IsSpec self.now.ids version_set s
+            → spec_at self.now.ids version_set ≡ s }
         ensures refusal { IsOkUnless result Memory }
     {
         let name = self.ids.name(self.ids.set_package(version_set));
@@ -172,7 +187,9 @@ impl CatalogueProvider {
     #[tactic(auto, using(crate::proofs::CoverLemmas::alternatives_stand))]
     pub fn alternatives_of(&self, requirement: Requirement) -> R<Vec<Spec>>
         ensures specs { IfOk result (λ found. specs_of found.items ≡ alternatives_at self.now.ids requirement) }
-        ensures stands { (ss : List says.Spec) → AreAlternatives self.now.ids requirement ss → alternatives_at self.now.ids requirement ≡ ss }
+        ensures stands { (ss : List says.Spec)
+            → AreAlternatives self.now.ids requirement ss
+            → alternatives_at self.now.ids requirement ≡ ss }
         ensures refusal { IsOkUnless result Memory }
     {
         match requirement {
@@ -196,7 +213,8 @@ impl CatalogueProvider {
     }
 
     fn specs_of(&self, version_sets: &[VersionSetId]) -> R<Vec<Spec>>
-        ensures specs { IfOk result (λ found. specs_of found.items ≡ map (spec_at self.now.ids) version_sets.now) }
+        ensures specs { IfOk result
+            (λ found. specs_of found.items ≡ map (spec_at self.now.ids) version_sets.now) }
         ensures refusal { IsOkUnless result Memory }
     {
         let mut specs = Vec::new(self.alloc);
@@ -211,7 +229,12 @@ impl CatalogueProvider {
 fn tables_of(alloc: Global, ids: &mut IdTable, catalogue: &Catalogue) -> R<Tables>
     requires names { ids.old.names ≡ [] }
     requires none { ids.old.solvables ≡ [] }
-    ensures over { IfOk result (λ t. (hint : Hint) → IsOver catalogue.now (record { ids = ids.new; told = map told_of t.told.items; marks = t.marks.items; hint = hint })) }
+    ensures over { IfOk result
+        (λ t.
+        (hint : Hint)
+        → IsOver catalogue.now
+        (record
+        { ids = ids.new; told = map told_of t.told.items; marks = t.marks.items; hint = hint })) }
     ensures packages { IfOk result (λ t. AreByPackage ids.new t.packages.items) }
 {
     catalogue.lines_are_in_place();

@@ -40,7 +40,10 @@ impl Model for Catalogue {
 
     ghost view = { λ c. lines_in c.table };
 
-    ghost invariant = { λ c. IsTable c.table × AreCatalogueLines (lines_in c.table) × (length (lines_in c.table) ≤ 16777216) };
+    ghost invariant = { λ c.
+        IsTable c.table
+        × AreCatalogueLines (lines_in c.table)
+        × (length (lines_in c.table) ≤ 16777216) };
 }
 
 impl Catalogue {
@@ -71,7 +74,8 @@ impl Catalogue {
 
     /// The number of a version, if it is listed.
     pub fn find(&self, name: &str, number: u32) -> Option<VersionNo>
-        ensures { IsOnly (option_map number_of result) (λ n. version_at self.now n ≡ Some (record { name = name.now; number = number })) }
+        ensures { IsOnly (option_map number_of result)
+            (λ n. version_at self.now n ≡ Some (record { name = name.now; number = number })) }
     {
         self.table.find(name, number)
     }
@@ -108,7 +112,9 @@ impl Catalogue {
 
     /// The line that bars the version: one that locks another version of its package, or else its `exclude` line.
     pub fn barred(&self, version: VersionNo) -> Option<u32>
-        ensures { IsOnly result (λ n. (v : says.Version) × (version_at self.now version.0 ≡ Some v) × Bars self.now v n) }
+        ensures { IsOnly result
+            (λ n.
+            (v : says.Version) × (version_at self.now version.0 ≡ Some v) × Bars self.now v n) }
     {
         self.table.barred(version)
     }
@@ -121,7 +127,11 @@ impl Catalogue {
 
     /// What the line states, if it states a rule.
     pub fn rule(&self, line: u32) -> Option<&Rule>
-        ensures stated { IfSome result (λ r. (l : says.Line) × (line_at self.now line ≡ Some l) × States (listed self.now) r.now (owner_of self.now line) l) }
+        ensures stated { IfSome result
+            (λ r.
+            (l : says.Line)
+            × (line_at self.now line ≡ Some l)
+            × States (listed self.now) r.now (owner_of self.now line) l) }
         ensures none { IfNone result ((l : says.Line) → line_at self.now line ≡ Some l → is_rule l ≡ false) }
     {
         self.table.rule(line)
@@ -150,16 +160,24 @@ impl Catalogue {
     /// The lines that favour a version, rising.
     pub fn favours(&self) -> &[(u32, VersionNo)]
         ensures lines { AreAll (map (λ f. f.0) result.now) (λ n. LineIs self.now n IsFavour) }
-        ensures versions { (i : ℕ) (f : ℕ × VersionNo) → slice_get result.now i ≡ Some f → FavoursAt (listed self.now) self.now f }
+        ensures versions { (i : ℕ) (f : ℕ × VersionNo)
+            → slice_get result.now i ≡ Some f
+            → FavoursAt (listed self.now) self.now f }
     {
         &self.table.favours
     }
 
     /// Reads a catalogue. There is none where its text has a faulty line, or where the device fails.
     pub fn read<S: Source>(alloc: Global, source: &mut S) -> Result<Self, ReadFault>
-        ensures ok { IfOk result (λ catalogue. IfKnown (S.left source.old) (λ text. IsGrammatical IsCatalogueLine text catalogue)) }
+        ensures ok { IfOk result
+            (λ catalogue.
+            IfKnown (S.left source.old) (λ text. IsGrammatical IsCatalogueLine text catalogue)) }
         ensures lines { IfOk result AreCatalogueLines }
-        ensures fault { IfErr result (λ e. IsTextFault IsCatalogueLine e (S.left source.old) (S.left source.new) 16777216 (DeviceFailed (S.failures source.old) (S.failures source.new) (S.interruptions source.new))) }
+        ensures fault { IfErr result
+            (λ e.
+            IsTextFault IsCatalogueLine e (S.left source.old) (S.left source.new) 16777216
+            (DeviceFailed (S.failures source.old) (S.failures source.new)
+            (S.interruptions source.new))) }
     {
         let mut table = Table::new(alloc);
         let mut reader = LineReader::new(alloc, MOST_BYTES)?;

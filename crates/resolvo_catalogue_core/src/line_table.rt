@@ -52,7 +52,10 @@ impl LineTable {
 
     /// One more line.
     pub fn push(&mut self, said: LineKind) -> Result<(), AllocError>
-        ensures { OnOk result (said_list self.new.rules.items self.new.held.items ≡ said_list self.old.rules.items self.old.held.items ++ said ∷ []) }
+        ensures { OnOk result
+            (said_list self.new.rules.items self.new.held.items
+            ≡ said_list self.old.rules.items self.old.held.items ++ said
+            ∷ []) }
     {
         match said {
             LineKind::Nothing => self.hold(StoredLine::Nothing),
@@ -64,14 +67,21 @@ impl LineTable {
 
     fn hold(&mut self, held: StoredLine) -> Result<(), AllocError>
         requires { is_held (length self.old.rules.items) held ≡ true }
-        ensures { OnOk result (said_list self.new.rules.items self.new.held.items ≡ said_list self.old.rules.items self.old.held.items ++ said_in self.old.rules.items held ∷ []) }
+        ensures { OnOk result
+            (said_list self.new.rules.items self.new.held.items
+            ≡ said_list self.old.rules.items self.old.held.items ++ said_in self.old.rules.items
+            held
+            ∷ []) }
     {
         self.held.push(held)?;
         Ok(())
     }
 
     fn push_rule(&mut self, rule: Rule) -> Result<(), AllocError>
-        ensures { OnOk result (said_list self.new.rules.items self.new.held.items ≡ said_list self.old.rules.items self.old.held.items ++ said.Rule rule ∷ []) }
+        ensures { OnOk result
+            (said_list self.new.rules.items self.new.held.items
+            ≡ said_list self.old.rules.items self.old.held.items ++ said.Rule rule
+            ∷ []) }
     {
         let place = self.rules.len();
         self.rules.push(rule)?;
@@ -97,7 +107,9 @@ impl LineTable {
 
     /// The rule that the line of this number states, if it states one. Lines are numbered from 1.
     pub fn rule(&self, line: u32) -> Option<&Rule>
-        ensures { option_copied result ≡ option_and_then rule_of (said_at (said_list self.now.rules.items self.now.held.items) line) }
+        ensures { option_copied result
+            ≡ option_and_then rule_of
+            (said_at (said_list self.now.rules.items self.now.held.items) line) }
     {
         match self.held_at(line)? {
             StoredLine::Rule(place) => self.rule_at(*place),

@@ -32,7 +32,8 @@ pub fn is_match(spec: &Spec, versions: &[(String, u32)], number: VersionNo) -> b
 }
 
 fn any_matches(spec: &Spec, versions: &[(String, u32)], set: &[VersionNo]) -> bool
-    ensures { result ≡ list_any (λ n. is_match (pair_versions versions.now) (spec_of spec.now) n.0) set.now }
+    ensures { result
+        ≡ list_any (λ n. is_match (pair_versions versions.now) (spec_of spec.now) n.0) set.now }
 {
     set.iter().any(|number| is_match(spec, versions, *number))
 }
@@ -54,7 +55,9 @@ fn holds(condition: &Cond, versions: &[(String, u32)], set: &[VersionNo]) -> boo
 }
 
 fn condition_holds(condition: Option<&Cond>, versions: &[(String, u32)], set: &[VersionNo]) -> bool
-    ensures { result ≡ condition_holds (condition_of (option_copied condition.entry)) (members (pair_versions versions.now) set.now) }
+    ensures { result
+        ≡ condition_holds (condition_of (option_copied condition.entry))
+        (members (pair_versions versions.now) set.now) }
 {
     match condition {
         Some(condition) => holds(condition, versions, set),
@@ -63,13 +66,16 @@ fn condition_holds(condition: Option<&Cond>, versions: &[(String, u32)], set: &[
 }
 
 fn any_is_met(alternatives: &[Spec], versions: &[(String, u32)], set: &[VersionNo]) -> bool
-    ensures { result ≡ list_any (λ s. is_met (spec_of s) (members (pair_versions versions.now) set.now)) alternatives.now }
+    ensures { result
+        ≡ list_any (λ s. is_met (spec_of s) (members (pair_versions versions.now) set.now))
+        alternatives.now }
 {
     alternatives.iter().any(|spec| is_met(spec, versions, set))
 }
 
 fn is_met_by_one(alternatives: &[Spec], versions: &[(String, u32)], set: &[VersionNo]) -> bool
-    ensures { result ≡ is_met_by_one (specs_of alternatives.now) (members (pair_versions versions.now) set.now) }
+    ensures { result
+        ≡ is_met_by_one (specs_of alternatives.now) (members (pair_versions versions.now) set.now) }
 {
     any_is_met(alternatives, versions, set)
 }
@@ -81,20 +87,28 @@ fn is_told(number: VersionNo, set: &[VersionNo]) -> bool
 }
 
 fn is_member(number: VersionNo, set: &[VersionNo]) -> bool
-    ensures { (versions : List Version) (v : Version) → AreDistinct versions → slice_get versions number.0 ≡ Some v → result ≡ is_member v (members versions set.now) }
+    ensures { (versions : List Version) (v : Version)
+        → AreDistinct versions
+        → slice_get versions number.0 ≡ Some v
+        → result ≡ is_member v (members versions set.now) }
 {
     is_told(number, set)
 }
 
 /// Whether the version is of another package, or matches.
 fn is_within(spec: &Spec, version: &(String, u32)) -> bool
-    ensures { result ≡ (not (bytes_eq (pair_version version.now).name (spec_of spec.now).name) || matches (spec_of spec.now) (pair_version version.now)) }
+    ensures { result
+        ≡ (not (bytes_eq (pair_version version.now).name (spec_of spec.now).name) || matches
+        (spec_of spec.now) (pair_version version.now)) }
 {
     version.0 != spec.name || fits(spec, version)
 }
 
 fn is_within_at(spec: &Spec, versions: &[(String, u32)], number: VersionNo) -> bool
-    ensures { result ≡ option_map_or (λ v. not (bytes_eq v.name (spec_of spec.now).name) || matches (spec_of spec.now) v) (slice_get (pair_versions versions.now) number.0) true }
+    ensures { result
+        ≡ option_map_or
+        (λ v. not (bytes_eq v.name (spec_of spec.now).name) || matches (spec_of spec.now) v)
+        (slice_get (pair_versions versions.now) number.0) true }
 {
     match versions.get(number.0 as usize) {
         Some(version) => is_within(spec, version),
@@ -103,27 +117,44 @@ fn is_within_at(spec: &Spec, versions: &[(String, u32)], number: VersionNo) -> b
 }
 
 fn all_are_within(spec: &Spec, versions: &[(String, u32)], set: &[VersionNo]) -> bool
-    ensures { result ≡ list_all (λ n. option_map_or (λ v. not (bytes_eq v.name (spec_of spec.now).name) || matches (spec_of spec.now) v) (slice_get (pair_versions versions.now) n.0) true) set.now }
+    ensures { result
+        ≡ list_all
+        (λ n.
+        option_map_or
+        (λ v.
+        not (bytes_eq v.name (spec_of spec.now).name) || matches (spec_of spec.now) v)
+        (slice_get (pair_versions versions.now) n.0) true)
+        set.now }
 {
     set.iter()
         .all(|number| is_within_at(spec, versions, *number))
 }
 
 fn are_within(spec: &Spec, versions: &[(String, u32)], set: &[VersionNo]) -> bool
-    ensures { result ≡ list_all (λ v. not (bytes_eq v.name (spec_of spec.now).name) || matches (spec_of spec.now) v) (members (pair_versions versions.now) set.now) }
+    ensures { result
+        ≡ list_all
+        (λ v. not (bytes_eq v.name (spec_of spec.now).name) || matches (spec_of spec.now) v)
+        (members (pair_versions versions.now) set.now) }
 {
     all_are_within(spec, versions, set)
 }
 
 /// Whether the version is of another package than the locked one, or has its number.
 fn keeps_lock(locked: &(String, u32), version: &(String, u32)) -> bool
-    ensures { result ≡ (not (same_package (pair_version version.now) (pair_version locked.now)) || (pair_version version.now).number == (pair_version locked.now).number) }
+    ensures { result
+        ≡ (not (same_package (pair_version version.now) (pair_version locked.now)) ||
+        (pair_version version.now).number == (pair_version locked.now).number) }
 {
     version.0 != locked.0 || version.1 == locked.1
 }
 
 fn keeps_lock_at(locked: &(String, u32), versions: &[(String, u32)], number: VersionNo) -> bool
-    ensures { result ≡ option_map_or (λ w. not (same_package w (pair_version locked.now)) || w.number == (pair_version locked.now).number) (slice_get (pair_versions versions.now) number.0) true }
+    ensures { result
+        ≡ option_map_or
+        (λ w.
+        not (same_package w (pair_version locked.now)) || w.number ==
+        (pair_version locked.now).number)
+        (slice_get (pair_versions versions.now) number.0) true }
 {
     match versions.get(number.0 as usize) {
         Some(version) => keeps_lock(locked, version),
@@ -132,7 +163,15 @@ fn keeps_lock_at(locked: &(String, u32), versions: &[(String, u32)], number: Ver
 }
 
 fn all_keep_lock(locked: &(String, u32), versions: &[(String, u32)], set: &[VersionNo]) -> bool
-    ensures { result ≡ list_all (λ n. option_map_or (λ w. not (same_package w (pair_version locked.now)) || w.number == (pair_version locked.now).number) (slice_get (pair_versions versions.now) n.0) true) set.now }
+    ensures { result
+        ≡ list_all
+        (λ n.
+        option_map_or
+        (λ w.
+        not (same_package w (pair_version locked.now)) || w.number ==
+        (pair_version locked.now).number)
+        (slice_get (pair_versions versions.now) n.0) true)
+        set.now }
 {
     set.iter()
         .all(|number| keeps_lock_at(locked, versions, *number))
@@ -140,13 +179,16 @@ fn all_keep_lock(locked: &(String, u32), versions: &[(String, u32)], set: &[Vers
 
 /// The listed version of this number.
 pub fn version_at(versions: &[(String, u32)], number: VersionNo) -> Option<&(String, u32)>
-    ensures { option_map (λ p. pair_version p.now) result ≡ slice_get (pair_versions versions.now) number.0 }
+    ensures { option_map (λ p. pair_version p.now) result
+        ≡ slice_get (pair_versions versions.now) number.0 }
 {
     versions.get(number.0 as usize)
 }
 
 fn obeys_lock(locked: VersionNo, versions: &[(String, u32)], set: &[VersionNo]) -> bool
-    ensures { (v : Version) → slice_get (pair_versions versions.now) locked.0 ≡ Some v → result ≡ obeys None (Lock v) (members (pair_versions versions.now) set.now) }
+    ensures { (v : Version)
+        → slice_get (pair_versions versions.now) locked.0 ≡ Some v
+        → result ≡ obeys None (Lock v) (members (pair_versions versions.now) set.now) }
 {
     match version_at(versions, locked) {
         Some(locked) => all_keep_lock(locked, versions, set),
@@ -155,7 +197,10 @@ fn obeys_lock(locked: VersionNo, versions: &[(String, u32)], set: &[VersionNo]) 
 }
 
 fn binds(owner: Option<VersionNo>, set: &[VersionNo]) -> bool
-    ensures { (versions : List Version) (whose : Option Version) → AreDistinct versions → IsOwner versions owner whose → result ≡ binds whose (members versions set.now) }
+    ensures { (versions : List Version) (whose : Option Version)
+        → AreDistinct versions
+        → IsOwner versions owner whose
+        → result ≡ binds whose (members versions set.now) }
 {
     match owner {
         Some(version) => is_member(version, set),
@@ -166,7 +211,9 @@ fn binds(owner: Option<VersionNo>, set: &[VersionNo]) -> bool
 /// Whether the set obeys the rule. The numbers in the rule are those of listed versions.
 pub fn obeys(rule: &Rule, versions: &[(String, u32)], set: &[VersionNo]) -> bool
     requires { AreDistinct (pair_versions versions.now) }
-    ensures { (owner : Option Version) (line : Line) → States (pair_versions versions.now) rule.now owner line → result ≡ obeys owner line (members (pair_versions versions.now) set.now) }
+    ensures { (owner : Option Version) (line : Line)
+        → States (pair_versions versions.now) rule.now owner line
+        → result ≡ obeys owner line (members (pair_versions versions.now) set.now) }
 {
     match rule {
         Rule::Needs {

@@ -52,7 +52,10 @@ impl Package {
     /// Adds a version, if the package has none of this number; whether it was added.
     pub fn add(&mut self, number: u32, version: VersionNo) -> Result<bool, AllocError>
         requires { IsNumbered self.old }
-        ensures new { IfOk result (λ added. added ≡ not (is_some (beside self.old.numbers.items self.old.versions.items number))) }
+        ensures new { IfOk result
+            (λ added.
+            added
+            ≡ not (is_some (beside self.old.numbers.items self.old.versions.items number))) }
         ensures put { IfOk result (λ added. IsTrue added → AddsNumber (Some self.old) number version self.new) }
     {
         if self.goes_on(number) {

@@ -36,7 +36,10 @@ impl Model for Request {
 
     ghost view = { λ r. record { lines = asked_lines r.asks; wishes = r.asks.wishes.items } };
 
-    ghost invariant = { λ r. ((n : ℕ) (x : RequestLine) → slice_get r.asks.asks.items n ≡ Some x → IsAsk x) × AreAll (map (λ f. f.0) r.asks.wishes.items) (λ n. LineIs (asked_lines r.asks) n IsWish) × (length (asked_lines r.asks) ≤ 16777216) };
+    ghost invariant = { λ r.
+        ((n : ℕ) (x : RequestLine) → slice_get r.asks.asks.items n ≡ Some x → IsAsk x)
+        × AreAll (map (λ f. f.0) r.asks.wishes.items) (λ n. LineIs (asked_lines r.asks) n IsWish)
+        × (length (asked_lines r.asks) ≤ 16777216) };
 }
 
 impl Request {
@@ -58,8 +61,13 @@ impl Request {
 
     /// What the line states, if it states a rule.
     pub fn rule(&self, line: u32) -> Option<&Rule>
-        ensures stated { IfSome result (λ r. (l : says.Line) × (line_at self.now.lines line ≡ Some l) × ((versions : List says.Version) → States versions r.now None l)) }
-        ensures none { IfNone result ((l : says.Line) → line_at self.now.lines line ≡ Some l → is_rule l ≡ false) }
+        ensures stated { IfSome result
+            (λ r.
+            (l : says.Line)
+            × (line_at self.now.lines line ≡ Some l)
+            × ((versions : List says.Version) → States versions r.now None l)) }
+        ensures none { IfNone result
+            ((l : says.Line) → line_at self.now.lines line ≡ Some l → is_rule l ≡ false) }
     {
         self.asks.rule(line)
     }
@@ -105,10 +113,22 @@ impl Request {
         source: &mut S,
         catalogue: &Catalogue,
     ) -> Result<Self, ReadFault>
-        ensures ok { IfOk result (λ request. IfKnown (S.left source.old) (λ text. IsGrammatical (IsRequestLine catalogue.now) text request.lines)) }
+        ensures ok { IfOk result
+            (λ request.
+            IfKnown (S.left source.old)
+            (λ text. IsGrammatical (IsRequestLine catalogue.now) text request.lines)) }
         ensures lines { IfOk result (λ request. AreRequestLines catalogue.now request.lines) }
-        ensures wishes { IfOk result (λ request. (i : ℕ) (f : ℕ × VersionNo) → slice_get request.wishes i ≡ Some f → WishesAt (listed catalogue.now) request.lines f) }
-        ensures fault { IfErr result (λ e. IsTextFault (IsRequestLine catalogue.now) e (S.left source.old) (S.left source.new) 16777216 (DeviceFailed (S.failures source.old) (S.failures source.new) (S.interruptions source.new))) }
+        ensures wishes { IfOk result
+            (λ request.
+            (i : ℕ) (f : ℕ × VersionNo)
+            → slice_get request.wishes i ≡ Some f
+            → WishesAt (listed catalogue.now) request.lines f) }
+        ensures fault { IfErr result
+            (λ e.
+            IsTextFault (IsRequestLine catalogue.now) e (S.left source.old) (S.left source.new)
+            16777216
+            (DeviceFailed (S.failures source.old) (S.failures source.new)
+            (S.interruptions source.new))) }
     {
         let mut asks = RequestLines::new(alloc);
         let mut reader = LineReader::new(alloc, MOST_BYTES)?;

@@ -105,7 +105,9 @@ impl RequestLines {
         condition: Option<Cond>,
     ) -> Result<(), LineFault>
         requires { AreAsks (listed catalogue.now) self.old }
-        ensures ok { OnOk result (AddsAsk (listed catalogue.now) self.old (says.Needs (specs_of alternatives.items) (condition_of condition)) self.new) }
+        ensures ok { OnOk result
+            (AddsAsk (listed catalogue.now) self.old
+            (says.Needs (specs_of alternatives.items) (condition_of condition)) self.new) }
         ensures memory { result ≡ Err Fault → ⊥ }
     {
         self.asks.push(RequestLine::Rule(Rule::Needs {
@@ -118,7 +120,8 @@ impl RequestLines {
 
     fn limit(&mut self, catalogue: &Catalogue, spec: Spec) -> Result<(), LineFault>
         requires { AreAsks (listed catalogue.now) self.old }
-        ensures ok { OnOk result (AddsAsk (listed catalogue.now) self.old (says.Limits (spec_of spec)) self.new) }
+        ensures ok { OnOk result
+            (AddsAsk (listed catalogue.now) self.old (says.Limits (spec_of spec)) self.new) }
         ensures memory { result ≡ Err Fault → ⊥ }
     {
         self.asks
@@ -129,9 +132,15 @@ impl RequestLines {
     fn wish(&mut self, catalogue: &Catalogue, line: u32, version: Version) -> Result<(), LineFault>
         requires asks { AreAsks (listed catalogue.now) self.old }
         requires line { line ≡ length (asked_lines self.old) + 1 }
-        ensures ok { OnOk result (AddsAsk (listed catalogue.now) self.old (says.Wish (version_of version)) self.new) }
-        ensures placed { OnOk result (MayFollowInRequest catalogue.now (asked_lines self.old) (says.Wish (version_of version))) }
-        ensures fault { result ≡ Err Fault → MayFollowInRequest catalogue.now (asked_lines self.old) (says.Wish (version_of version)) → ⊥ }
+        ensures ok { OnOk result
+            (AddsAsk (listed catalogue.now) self.old (says.Wish (version_of version)) self.new) }
+        ensures placed { OnOk result
+            (MayFollowInRequest catalogue.now (asked_lines self.old)
+            (says.Wish (version_of version))) }
+        ensures fault { result ≡ Err Fault
+            → MayFollowInRequest catalogue.now (asked_lines self.old)
+            (says.Wish (version_of version))
+            → ⊥ }
     {
         let number = catalogue.listed(&version)?;
         if self.is_wished(number) {
@@ -149,7 +158,9 @@ impl RequestLines {
         requires number { number ≡ length (asked_lines self.old) + 1 }
         ensures ok { OnOk result (AddsAsk (listed catalogue.now) self.old (view line) self.new) }
         ensures placed { OnOk result (MayFollowInRequest catalogue.now (asked_lines self.old) (view line)) }
-        ensures fault { result ≡ Err Fault → MayFollowInRequest catalogue.now (asked_lines self.old) (view line) → ⊥ }
+        ensures fault { result ≡ Err Fault
+            → MayFollowInRequest catalogue.now (asked_lines self.old) (view line)
+            → ⊥ }
     {
         match line {
             Line::Skipped => self.skip(catalogue),
@@ -177,8 +188,14 @@ impl RequestLines {
     ) -> Result<(), LineFault>
         requires asks { AreAsks (listed catalogue.now) self.old }
         requires number { number ≡ length (asked_lines self.old) + 1 }
-        ensures ok { OnOk result ((line : says.Line) × IsRequestLine catalogue.now (asked_lines self.old) text.now line × AddsAsk (listed catalogue.now) self.old line self.new) }
-        ensures fault { result ≡ Err Fault → (line : says.Line) → IsRequestLine catalogue.now (asked_lines self.old) text.now line → ⊥ }
+        ensures ok { OnOk result
+            ((line : says.Line)
+            × IsRequestLine catalogue.now (asked_lines self.old) text.now line
+            × AddsAsk (listed catalogue.now) self.old line self.new) }
+        ensures fault { result ≡ Err Fault
+            → (line : says.Line)
+            → IsRequestLine catalogue.now (asked_lines self.old) text.now line
+            → ⊥ }
     {
         let line = line_in(alloc, text)?;
         self.add(catalogue, number, line)

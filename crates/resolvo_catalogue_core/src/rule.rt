@@ -48,7 +48,11 @@ impl Rule {
 
     /// The cases of a need. Another rule has none.
     pub fn cases(&self, alloc: Global) -> Result<Vec<Vec<Spec>>, AllocError>
-        ensures { IfOk result (λ v. (versions : List Version) (owner : Option Version) (line : Line) → States versions self.now owner line → cases_of v.items ≡ cases_of_line (Some line)) }
+        ensures { IfOk result
+            (λ v.
+            (versions : List Version) (owner : Option Version) (line : Line)
+            → States versions self.now owner line
+            → cases_of v.items ≡ cases_of_line (Some line)) }
     {
         match self {
             Rule::Needs { condition, .. } => match condition {

@@ -65,8 +65,18 @@ fn add_version(
     number: VersionNo,
 ) -> Result<bool, AllocError>
     requires kept { (name : List ℕ) (p : Package) → get_by_text packages.old name ≡ Some p → IsNumbered p }
-    ensures new { IfOk result (λ added. added ≡ not (is_some (number_in (get_by_text packages.old (string_bytes version.now.name)) version.now.number))) }
-    ensures put { IfOk result (λ added. IsTrue added → AddsVersion (λ name. get_by_text packages.old name) (version_of version.now) number (λ name. get_by_text packages.new name)) }
+    ensures new { IfOk result
+        (λ added.
+        added
+        ≡ not
+        (is_some
+        (number_in (get_by_text packages.old (string_bytes version.now.name))
+        version.now.number))) }
+    ensures put { IfOk result
+        (λ added.
+        IsTrue added
+        → AddsVersion (λ name. get_by_text packages.old name) (version_of version.now) number
+        (λ name. get_by_text packages.new name)) }
 {
     if let Some(package) = packages.get_mut(version.name.as_str()) {
         return package.add(version.number, number);
@@ -142,7 +152,9 @@ impl Table {
 
     /// Whether the line locks another version.
     fn locks_another(&self, line: u32, version: VersionNo) -> bool
-        ensures { result ≡ option_map_or (λ r. is_lock_of_another r version.0) (option_and_then rule_of (said_at (saids_in self.now) line)) false }
+        ensures { result
+            ≡ option_map_or (λ r. is_lock_of_another r version.0)
+            (option_and_then rule_of (said_at (saids_in self.now) line)) false }
     {
         match self.rule(line) {
             Some(rule) => rule.is_lock_of_another(version),
@@ -153,7 +165,10 @@ impl Table {
     /// The line that locks another version of the package.
     fn other_lock(&self, name: &str, version: VersionNo) -> Option<u32>
         requires { IsTable self.now }
-        ensures { (v : says.Version) → slice_get (versions_in self.now) version.0 ≡ Some v → name.now ≡ v.name → IsOnly result (λ n. LineIs (lines_in self.now) n (LocksAnother v)) }
+        ensures { (v : says.Version)
+            → slice_get (versions_in self.now) version.0 ≡ Some v
+            → name.now ≡ v.name
+            → IsOnly result (λ n. LineIs (lines_in self.now) n (LocksAnother v)) }
     {
         match self.lock_of(name) {
             Some(line) => {
@@ -169,7 +184,10 @@ impl Table {
 
     fn barred_as(&self, name: &str, version: VersionNo) -> Option<u32>
         requires { IsTable self.now }
-        ensures { (v : says.Version) → slice_get (versions_in self.now) version.0 ≡ Some v → name.now ≡ v.name → IsOnly result (λ n. Bars (lines_in self.now) v n) }
+        ensures { (v : says.Version)
+            → slice_get (versions_in self.now) version.0 ≡ Some v
+            → name.now ≡ v.name
+            → IsOnly result (λ n. Bars (lines_in self.now) v n) }
     {
         match self.other_lock(name, version) {
             Some(line) => Some(line),
@@ -179,7 +197,11 @@ impl Table {
 
     pub fn barred(&self, version: VersionNo) -> Option<u32>
         requires { IsTable self.now }
-        ensures { IsOnly result (λ n. (v : says.Version) × (slice_get (versions_in self.now) version.0 ≡ Some v) × Bars (lines_in self.now) v n) }
+        ensures { IsOnly result
+            (λ n.
+            (v : says.Version)
+            × (slice_get (versions_in self.now) version.0 ≡ Some v)
+            × Bars (lines_in self.now) v n) }
     {
         match version_at(&self.versions, version) {
             Some(found) => self.barred_as(&found.0, version),
@@ -215,7 +237,8 @@ impl Table {
     fn owner(&self) -> Result<VersionNo, LineFault>
         requires table { IsTable self.now }
         requires short { length (lines_in self.now) < 16777216 }
-        ensures found { IfOk result (λ n. IsOwner (versions_in self.now) (Some n) (owner_below (lines_in self.now))) }
+        ensures found { IfOk result
+            (λ n. IsOwner (versions_in self.now) (Some n) (owner_below (lines_in self.now))) }
         ensures last { IfOk result (λ n. n.0 + 1 ≡ length (versions_in self.now)) }
         ensures absent { OnErr result (owner_below (lines_in self.now) ≡ None) }
     {
@@ -252,7 +275,9 @@ impl Table {
         requires short { length (lines_in self.old) < 16777216 }
         ensures ok { OnOk result (Adds self.old (says.Listed (version_of version)) self.new) }
         ensures placed { OnOk result (MayFollow (lines_in self.old) (says.Listed (version_of version))) }
-        ensures fault { result ≡ Err Fault → MayFollow (lines_in self.old) (says.Listed (version_of version)) → ⊥ }
+        ensures fault { result ≡ Err Fault
+            → MayFollow (lines_in self.old) (says.Listed (version_of version))
+            → ⊥ }
     {
         let number = VersionNo(self.versions.len() as u32);
         if !add_version(&mut self.packages, alloc, &version, number)? {
@@ -273,9 +298,16 @@ impl Table {
         requires table { IsTable self.old }
         requires line { line ≡ length (lines_in self.old) + 1 }
         requires short { line < 16777217 }
-        ensures ok { OnOk result (Adds self.old (says.Needs (specs_of alternatives.items) (condition_of condition)) self.new) }
-        ensures placed { OnOk result (MayFollow (lines_in self.old) (says.Needs (specs_of alternatives.items) (condition_of condition))) }
-        ensures fault { result ≡ Err Fault → MayFollow (lines_in self.old) (says.Needs (specs_of alternatives.items) (condition_of condition)) → ⊥ }
+        ensures ok { OnOk result
+            (Adds self.old (says.Needs (specs_of alternatives.items) (condition_of condition))
+            self.new) }
+        ensures placed { OnOk result
+            (MayFollow (lines_in self.old)
+            (says.Needs (specs_of alternatives.items) (condition_of condition))) }
+        ensures fault { result ≡ Err Fault
+            → MayFollow (lines_in self.old)
+            (says.Needs (specs_of alternatives.items) (condition_of condition))
+            → ⊥ }
     {
         let owner = self.owner()?;
         self.belonging.add_line(owner, line)?;
@@ -310,7 +342,9 @@ impl Table {
         requires short { line < 16777217 }
         ensures ok { OnOk result (Adds self.old (says.Unknown (string_bytes word)) self.new) }
         ensures placed { OnOk result (MayFollow (lines_in self.old) (says.Unknown (string_bytes word))) }
-        ensures fault { result ≡ Err Fault → MayFollow (lines_in self.old) (says.Unknown (string_bytes word)) → ⊥ }
+        ensures fault { result ≡ Err Fault
+            → MayFollow (lines_in self.old) (says.Unknown (string_bytes word))
+            → ⊥ }
     {
         let version = self.owner()?;
         if self.is_unknown(version) {
@@ -326,9 +360,14 @@ impl Table {
     fn exclude(&mut self, line: u32, version: Version, word: String) -> Result<(), LineFault>
         requires table { IsTable self.old }
         requires line { line ≡ length (lines_in self.old) + 1 }
-        ensures ok { OnOk result (Adds self.old (says.Exclude (version_of version) (string_bytes word)) self.new) }
-        ensures placed { OnOk result (MayFollow (lines_in self.old) (says.Exclude (version_of version) (string_bytes word))) }
-        ensures fault { result ≡ Err Fault → MayFollow (lines_in self.old) (says.Exclude (version_of version) (string_bytes word)) → ⊥ }
+        ensures ok { OnOk result
+            (Adds self.old (says.Exclude (version_of version) (string_bytes word)) self.new) }
+        ensures placed { OnOk result
+            (MayFollow (lines_in self.old)
+            (says.Exclude (version_of version) (string_bytes word))) }
+        ensures fault { result ≡ Err Fault
+            → MayFollow (lines_in self.old) (says.Exclude (version_of version) (string_bytes word))
+            → ⊥ }
     {
         let version = self.listed(&version)?;
         if self.is_excluded(version) {
@@ -345,7 +384,9 @@ impl Table {
         requires line { line ≡ length (lines_in self.old) + 1 }
         ensures ok { OnOk result (Adds self.old (says.Favour (version_of version)) self.new) }
         ensures placed { OnOk result (MayFollow (lines_in self.old) (says.Favour (version_of version))) }
-        ensures fault { result ≡ Err Fault → MayFollow (lines_in self.old) (says.Favour (version_of version)) → ⊥ }
+        ensures fault { result ≡ Err Fault
+            → MayFollow (lines_in self.old) (says.Favour (version_of version))
+            → ⊥ }
     {
         let favoured = self.listed(&version)?;
         if self.is_favoured(&version.name) {
@@ -404,8 +445,14 @@ impl Table {
         requires table { IsTable self.old }
         requires number { number ≡ length (lines_in self.old) + 1 }
         requires short { number < 16777217 }
-        ensures ok { OnOk result ((line : says.Line) × IsCatalogueLine (lines_in self.old) text.now line × Adds self.old line self.new) }
-        ensures fault { result ≡ Err Fault → (line : says.Line) → IsCatalogueLine (lines_in self.old) text.now line → ⊥ }
+        ensures ok { OnOk result
+            ((line : says.Line)
+            × IsCatalogueLine (lines_in self.old) text.now line
+            × Adds self.old line self.new) }
+        ensures fault { result ≡ Err Fault
+            → (line : says.Line)
+            → IsCatalogueLine (lines_in self.old) text.now line
+            → ⊥ }
     {
         let line = line_in(alloc, text)?;
         self.add(alloc, number, line)

@@ -55,7 +55,8 @@ impl Assignment {
 
     fn push_unset(&mut self) -> Result<(), AllocError>
         ensures len { OnOk result (vec_len self.new.marks ≡ vec_len self.old.marks + 1) }
-        ensures known { known_in self.new.marks.items self.new.pass ≡ known_in self.old.marks.items self.old.pass }
+        ensures known { known_in self.new.marks.items self.new.pass
+            ≡ known_in self.old.marks.items self.old.pass }
         ensures pass { self.new.pass ≡ self.old.pass }
     {
         self.marks.push(Mark {
@@ -68,7 +69,8 @@ impl Assignment {
     /// Makes room for the variable.
     fn reach(&mut self, variable: usize) -> Result<(), AllocError>
         ensures len { OnOk result (variable < vec_len self.new.marks) }
-        ensures known { known_in self.new.marks.items self.new.pass ≡ known_in self.old.marks.items self.old.pass }
+        ensures known { known_in self.new.marks.items self.new.pass
+            ≡ known_in self.old.marks.items self.old.pass }
         ensures pass { self.new.pass ≡ self.old.pass }
     {
         for _ in self.marks.len()..variable {
@@ -82,7 +84,9 @@ impl Assignment {
 
     fn put(&mut self, variable: usize, value: bool)
         requires { variable < vec_len self.old.marks }
-        ensures known { known_in self.new.marks.items self.new.pass ≡ assign nat_eq (known_in self.old.marks.items self.old.pass) (record { atom = variable; positive = value }) }
+        ensures known { known_in self.new.marks.items self.new.pass
+            ≡ assign nat_eq (known_in self.old.marks.items self.old.pass)
+            (record { atom = variable; positive = value }) }
         ensures pass { self.new.pass ≡ self.old.pass }
     {
         let pass = self.pass;
@@ -93,7 +97,10 @@ impl Assignment {
     }
 
     pub fn set(&mut self, variable: usize, value: bool) -> Result<(), AllocError>
-        ensures known { OnOk result (known_in self.new.marks.items self.new.pass ≡ assign nat_eq (known_in self.old.marks.items self.old.pass) (record { atom = variable; positive = value })) }
+        ensures known { OnOk result
+            (known_in self.new.marks.items self.new.pass
+            ≡ assign nat_eq (known_in self.old.marks.items self.old.pass)
+            (record { atom = variable; positive = value })) }
         ensures pass { self.new.pass ≡ self.old.pass }
     {
         self.reach(variable)?;

@@ -72,7 +72,8 @@ fn in_request(scope: &Premises, line: u32) -> bool
 
 /// Whether the line that the step takes its rule from may be rested on.
 fn is_named(scope: &Premises, step: &Step) -> bool
-    ensures { result ≡ rests_on_named (names_catalogue scope.now) (names_request scope.now) (step_of step.now) }
+    ensures { result
+        ≡ rests_on_named (names_catalogue scope.now) (names_request scope.now) (step_of step.now) }
 {
     match step {
         Step::Need {
@@ -113,7 +114,11 @@ fn push_said(
     literal: &report::Literal,
 ) -> Result<bool, AllocError>
     ensures fine { IfOk result (λ fine. fine ≡ is_atom catalogue.now (atom_of literal.now.atom)) }
-    ensures extends { IfOk result (λ fine. IsTrue fine → Extends (listed catalogue.now) numbers.old out.old.items numbers.new out.new.items (plain_literal (literal_of literal.now) ∷ [])) }
+    ensures extends { IfOk result
+        (λ fine.
+        IsTrue fine
+        → Extends (listed catalogue.now) numbers.old out.old.items numbers.new out.new.items
+        (plain_literal (literal_of literal.now) ∷ [])) }
 {
     let positive = literal.positive;
     match &literal.atom {
@@ -139,8 +144,13 @@ fn number_said(
     out: &mut Vec<Literal>,
     literals: &[report::Literal],
 ) -> Result<bool, AllocError>
-    ensures fine { IfOk result (λ fine. fine ≡ list_all (λ l. is_atom catalogue.now l.atom) (said_literals literals.now)) }
-    ensures extends { IfOk result (λ fine. IsTrue fine → Extends (listed catalogue.now) numbers.old [] numbers.new out.new.items (map plain_literal (said_literals literals.now))) }
+    ensures fine { IfOk result
+        (λ fine. fine ≡ list_all (λ l. is_atom catalogue.now l.atom) (said_literals literals.now)) }
+    ensures extends { IfOk result
+        (λ fine.
+        IsTrue fine
+        → Extends (listed catalogue.now) numbers.old [] numbers.new out.new.items
+        (map plain_literal (said_literals literals.now))) }
 {
     out.clear();
     for literal in literals {
@@ -160,7 +170,10 @@ fn number_rule(
     out: &mut Vec<Literal>,
     step: &Step,
 ) -> Result<bool, AllocError>
-    ensures { IfOk result (λ there. NumbersOf (rule_clause_of catalogue.now request.now.lines (step_of step.now)) there (listed catalogue.now) numbers.old numbers.new out.new.items) }
+    ensures { IfOk result
+        (λ there.
+        NumbersOf (rule_clause_of catalogue.now request.now.lines (step_of step.now)) there
+        (listed catalogue.now) numbers.old numbers.new out.new.items) }
 {
     match clause_of(alloc, catalogue, request, step)? {
         Some(built) => {
@@ -180,7 +193,10 @@ fn number_step(
     out: &mut Vec<Literal>,
     step: &Step,
 ) -> Result<bool, AllocError>
-    ensures { IfOk result (λ there. NumbersOf (clause_of_lem catalogue.now request.now.lines (step_of step.now)) there (listed catalogue.now) numbers.old numbers.new out.new.items) }
+    ensures { IfOk result
+        (λ there.
+        NumbersOf (clause_of_lem catalogue.now request.now.lines (step_of step.now)) there
+        (listed catalogue.now) numbers.old numbers.new out.new.items) }
 {
     if let Step::Derive { literals, .. } = step {
         return number_said(alloc, catalogue, numbers, out, literals);
@@ -226,9 +242,16 @@ fn is_derived(
     requires later { truth.old.pass ≤ length clauses.now }
     requires short { length clauses.now + 1 < 2 ^ 32 }
     requires room { readings.old.read + length causes.now < 2 ^ 64 }
-    ensures answer { IfOk result (λ fine. fine ≡ (list_all (is_earlier (length clauses.now)) causes.now && one_pass nat_eq (literals_of derived.now) (map (clause_at clauses.now) causes.now))) }
+    ensures answer { IfOk result
+        (λ fine.
+        fine
+        ≡ (list_all (is_earlier (length clauses.now)) causes.now && one_pass nat_eq
+        (literals_of derived.now) (map (clause_at clauses.now) causes.now))) }
     ensures pass { truth.new.pass ≤ length clauses.now + 1 }
-    ensures read { IfOk result (λ fine. IsTrue fine → readings.new ≡ record readings.old { read = readings.old.read + length causes.now }) }
+    ensures read { IfOk result
+        (λ fine.
+        IsTrue fine
+        → readings.new ≡ record readings.old { read = readings.old.read + length causes.now }) }
 {
     if !are_earlier(causes, clauses.len()) {
         return Ok(false);
@@ -244,7 +267,10 @@ fn has_no_other(
     version: &Version,
     place: u32,
 ) -> bool
-    ensures { (earlier : List SaidStep) → is_listed catalogue.now (version_of version.now) ≡ true → Given catalogue.now places.now earlier → result ≡ list_all (allows_place (version_of version.now) place) earlier }
+    ensures { (earlier : List SaidStep)
+        → is_listed catalogue.now (version_of version.now) ≡ true
+        → Given catalogue.now places.now earlier
+        → result ≡ list_all (allows_place (version_of version.now) place) earlier }
 {
     match number_of(catalogue, version) {
         Some(number) => may_have(places, number, place),
@@ -267,9 +293,22 @@ fn follows(
     requires later { truth.old.pass ≤ length clauses.now }
     requires short { length clauses.now + 1 < 2 ^ 32 }
     requires room { readings.old.read + causes_in (step_of step.now) < 2 ^ 64 }
-    ensures answer { IfOk result (λ fine. (request : List says.Line) (earlier : List SaidStep) (count : ℕ) → AreNumbers numbers.now count → AreDistinct (listed catalogue.now) → is_some (clause_of_lem catalogue.now request (step_of step.now)) ≡ true → StandFor catalogue.now request numbers.now clauses.now places.now earlier → Numbered (listed catalogue.now) numbers.now (clause_or_none catalogue.now request (step_of step.now)) literals.now → fine ≡ follows_lem catalogue.now request earlier (step_of step.now)) }
+    ensures answer { IfOk result
+        (λ fine.
+        (request : List says.Line) (earlier : List SaidStep) (count : ℕ)
+        → AreNumbers numbers.now count
+        → AreDistinct (listed catalogue.now)
+        → is_some (clause_of_lem catalogue.now request (step_of step.now)) ≡ true
+        → StandFor catalogue.now request numbers.now clauses.now places.now earlier
+        → Numbered (listed catalogue.now) numbers.now
+        (clause_or_none catalogue.now request (step_of step.now)) literals.now
+        → fine ≡ follows_lem catalogue.now request earlier (step_of step.now)) }
     ensures pass { truth.new.pass ≤ length clauses.now + 1 }
-    ensures read { IfOk result (λ fine. IsTrue fine → readings.new ≡ record readings.old { read = readings.old.read + causes_in (step_of step.now) }) }
+    ensures read { IfOk result
+        (λ fine.
+        IsTrue fine
+        → readings.new
+        ≡ record readings.old { read = readings.old.read + causes_in (step_of step.now) }) }
 {
     match step {
         Step::Digit { version, place, .. } => Ok(has_no_other(catalogue, places, version, *place)),
@@ -291,7 +330,12 @@ fn follows(
 fn note_place(catalogue: &Catalogue, places: &mut Vec<Option<u32>>, step: &Step)
     requires { length places.old.items ≡ length (listed catalogue.now) }
     ensures long { length places.new.items ≡ length (listed catalogue.now) }
-    ensures given { (request : List says.Line) (earlier : List SaidStep) → AreDistinct (listed catalogue.now) → is_some (clause_of_lem catalogue.now request (step_of step.now)) ≡ true → follows_lem catalogue.now request earlier (step_of step.now) ≡ true → Given catalogue.now places.old.items earlier → Given catalogue.now places.new.items (earlier ++ step_of step.now ∷ []) }
+    ensures given { (request : List says.Line) (earlier : List SaidStep)
+        → AreDistinct (listed catalogue.now)
+        → is_some (clause_of_lem catalogue.now request (step_of step.now)) ≡ true
+        → follows_lem catalogue.now request earlier (step_of step.now) ≡ true
+        → Given catalogue.now places.old.items earlier
+        → Given catalogue.now places.new.items (earlier ++ step_of step.now ∷ []) }
 {
     if let Step::Digit { version, place, .. } = step {
         if let Some(number) = number_of(catalogue, version) {
@@ -316,12 +360,32 @@ pub fn advance(
     requires long { length checker.old.places.items ≡ length (listed catalogue.now) }
     requires short { length checker.old.clauses + 1 < 2 ^ 32 }
     requires room { readings.old.read + causes_in (step_of step.now) < 2 ^ 64 }
-    ensures answer { IfOk result (λ fine. (earlier : List SaidStep) → StandFor catalogue.now request.now.lines checker.old.numbers checker.old.clauses checker.old.places.items earlier → fine ≡ may_stand catalogue.now request.now.lines (names_catalogue scope.now) (names_request scope.now) earlier (step_of step.now)) }
-    ensures stands { IfOk result (λ fine. IsTrue fine → (earlier : List SaidStep) → StandFor catalogue.now request.now.lines checker.old.numbers checker.old.clauses checker.old.places.items earlier → StandFor catalogue.now request.now.lines checker.new.numbers checker.new.clauses checker.new.places.items (earlier ++ step_of step.now ∷ [])) }
+    ensures answer { IfOk result
+        (λ fine.
+        (earlier : List SaidStep)
+        → StandFor catalogue.now request.now.lines checker.old.numbers checker.old.clauses
+        checker.old.places.items earlier
+        → fine
+        ≡ may_stand catalogue.now request.now.lines (names_catalogue scope.now)
+        (names_request scope.now) earlier (step_of step.now)) }
+    ensures stands { IfOk result
+        (λ fine.
+        IsTrue fine
+        → (earlier : List SaidStep)
+        → StandFor catalogue.now request.now.lines checker.old.numbers checker.old.clauses
+        checker.old.places.items earlier
+        → StandFor catalogue.now request.now.lines checker.new.numbers checker.new.clauses
+        checker.new.places.items (earlier ++ step_of step.now ∷ [])) }
     ensures later { IfOk result (λ fine. IsTrue fine → checker.new.truth.pass ≤ length checker.new.clauses) }
-    ensures long { IfOk result (λ fine. IsTrue fine → length checker.new.places.items ≡ length (listed catalogue.now)) }
-    ensures count { IfOk result (λ fine. IsTrue fine → length checker.new.clauses ≡ length checker.old.clauses + 1) }
-    ensures read { IfOk result (λ fine. IsTrue fine → readings.new ≡ record readings.old { read = readings.old.read + causes_in (step_of step.now) }) }
+    ensures long { IfOk result
+        (λ fine. IsTrue fine → length checker.new.places.items ≡ length (listed catalogue.now)) }
+    ensures count { IfOk result
+        (λ fine. IsTrue fine → length checker.new.clauses ≡ length checker.old.clauses + 1) }
+    ensures read { IfOk result
+        (λ fine.
+        IsTrue fine
+        → readings.new
+        ≡ record readings.old { read = readings.old.read + causes_in (step_of step.now) }) }
 {
     let there = number_step(
         alloc,

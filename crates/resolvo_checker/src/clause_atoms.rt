@@ -25,7 +25,11 @@ fn push_key(
     key: &[usize],
     positive: bool,
 ) -> Result<(), AllocError>
-    ensures { OnOk result ((vs : List says.Version) (a : SaidAtom) → IsKey vs a key.now → Extends vs numbers.old out.old.items numbers.new out.new.items (literal a positive ∷ [])) }
+    ensures { OnOk result
+        ((vs : List says.Version) (a : SaidAtom)
+        → IsKey vs a key.now
+        → Extends vs numbers.old out.old.items numbers.new out.new.items
+        (literal a positive ∷ [])) }
 {
     let atom = numbers.number(alloc, key)?;
     out.push(Literal { atom, positive })?;
@@ -40,7 +44,10 @@ pub fn push_version(
     version: VersionNo,
     positive: bool,
 ) -> Result<(), AllocError>
-    ensures { OnOk result ((vs : List says.Version) (clause : SaidClause) → somes clause ≡ member_of vs positive version.0 ∷ [] → Extends vs numbers.old out.old.items numbers.new out.new.items clause) }
+    ensures { OnOk result
+        ((vs : List says.Version) (clause : SaidClause)
+        → somes clause ≡ member_of vs positive version.0 ∷ []
+        → Extends vs numbers.old out.old.items numbers.new out.new.items clause) }
 {
     push_key(alloc, numbers, out, &[0, version.0 as usize], positive)?;
     Ok(())
@@ -63,7 +70,10 @@ pub fn push_any(
     name: &str,
     positive: bool,
 ) -> Result<(), AllocError>
-    ensures { OnOk result ((vs : List says.Version) → Extends vs numbers.old out.old.items numbers.new out.new.items (literal (AnyOf name.now) positive ∷ [])) }
+    ensures { OnOk result
+        ((vs : List says.Version)
+        → Extends vs numbers.old out.old.items numbers.new out.new.items
+        (literal (AnyOf name.now) positive ∷ [])) }
 {
     let mut key = vec![in alloc; 1]?;
     push_name(&mut key, name)?;
@@ -79,7 +89,10 @@ pub fn push_bit(
     name: &str,
     positive: bool,
 ) -> Result<(), AllocError>
-    ensures { OnOk result ((vs : List says.Version) → Extends vs numbers.old out.old.items numbers.new out.new.items (literal (BitOf bit name.now) positive ∷ [])) }
+    ensures { OnOk result
+        ((vs : List says.Version)
+        → Extends vs numbers.old out.old.items numbers.new out.new.items
+        (literal (BitOf bit name.now) positive ∷ [])) }
 {
     let mut key = vec![in alloc; 4, bit as usize]?;
     push_name(&mut key, name)?;
@@ -115,7 +128,10 @@ pub fn push_outside(
     spec: &Spec,
     positive: bool,
 ) -> Result<(), AllocError>
-    ensures { OnOk result ((vs : List says.Version) → Extends vs numbers.old out.old.items numbers.new out.new.items (literal (OutsideOf (spec_of spec.now)) positive ∷ [])) }
+    ensures { OnOk result
+        ((vs : List says.Version)
+        → Extends vs numbers.old out.old.items numbers.new out.new.items
+        (literal (OutsideOf (spec_of spec.now)) positive ∷ [])) }
 {
     let mut key = vec![in alloc; 3]?;
     push_spec(&mut key, spec)?;
@@ -140,7 +156,10 @@ pub fn push_shared(
     alternatives: &[Spec],
     positive: bool,
 ) -> Result<(), AllocError>
-    ensures { OnOk result ((vs : List says.Version) → Extends vs numbers.old out.old.items numbers.new out.new.items (literal (SharedBy (specs_of alternatives.now)) positive ∷ [])) }
+    ensures { OnOk result
+        ((vs : List says.Version)
+        → Extends vs numbers.old out.old.items numbers.new out.new.items
+        (literal (SharedBy (specs_of alternatives.now)) positive ∷ [])) }
 {
     let key = shared_key(alloc, alternatives)?;
     push_key(alloc, numbers, out, &key, positive)?;
@@ -153,7 +172,10 @@ fn push_literal(
     out: &mut Vec<Literal>,
     built: &Built,
 ) -> Result<(), AllocError>
-    ensures { OnOk result ((vs : List says.Version) (clause : SaidClause) → somes clause ≡ literal_of vs built.now.atom built.now.positive ∷ [] → Extends vs numbers.old out.old.items numbers.new out.new.items clause) }
+    ensures { OnOk result
+        ((vs : List says.Version) (clause : SaidClause)
+        → somes clause ≡ literal_of vs built.now.atom built.now.positive ∷ []
+        → Extends vs numbers.old out.old.items numbers.new out.new.items clause) }
 {
     match &built.atom {
         Atom::Version(version) => push_version(alloc, numbers, out, *version, built.positive)?,
@@ -174,7 +196,10 @@ pub fn number_all(
     out: &mut Vec<Literal>,
     built: &[Built],
 ) -> Result<(), AllocError>
-    ensures { OnOk result ((vs : List says.Version) (clause : SaidClause) → somes clause ≡ literals_in vs built.now → Extends vs numbers.old [] numbers.new out.new.items clause) }
+    ensures { OnOk result
+        ((vs : List says.Version) (clause : SaidClause)
+        → somes clause ≡ literals_in vs built.now
+        → Extends vs numbers.old [] numbers.new out.new.items clause) }
 {
     out.clear();
     for literal in built {

@@ -15,7 +15,11 @@ use std::alloc::{AllocError, Global};
 pub type Clause = Vec<Built>;
 
 pub fn push_version(out: &mut Clause, version: VersionNo, positive: bool) -> Result<(), AllocError>
-    ensures { OnOk result ((vs : List says.Version) → literals_in vs out.new.items ≡ literals_in vs out.old.items ++ member_of vs positive version.0 ∷ []) }
+    ensures { OnOk result
+        ((vs : List says.Version)
+        → literals_in vs out.new.items
+        ≡ literals_in vs out.old.items ++ member_of vs positive version.0
+        ∷ []) }
 {
     out.push(Built {
         atom: Atom::Version(version),
@@ -30,7 +34,11 @@ pub fn push_any(
     name: &str,
     positive: bool,
 ) -> Result<(), AllocError>
-    ensures { OnOk result ((vs : List says.Version) → literals_in vs out.new.items ≡ literals_in vs out.old.items ++ Some (literal (AnyOf name.now) positive) ∷ []) }
+    ensures { OnOk result
+        ((vs : List says.Version)
+        → literals_in vs out.new.items
+        ≡ literals_in vs out.old.items ++ Some (literal (AnyOf name.now) positive)
+        ∷ []) }
 {
     let name = String::from_str(alloc, name)?;
     out.push(Built {
@@ -47,7 +55,11 @@ pub fn push_bit(
     name: &str,
     positive: bool,
 ) -> Result<(), AllocError>
-    ensures { OnOk result ((vs : List says.Version) → literals_in vs out.new.items ≡ literals_in vs out.old.items ++ Some (literal (BitOf bit name.now) positive) ∷ []) }
+    ensures { OnOk result
+        ((vs : List says.Version)
+        → literals_in vs out.new.items
+        ≡ literals_in vs out.old.items ++ Some (literal (BitOf bit name.now) positive)
+        ∷ []) }
 {
     let name = String::from_str(alloc, name)?;
     out.push(Built {
@@ -73,7 +85,12 @@ pub fn push_shared(
     alternatives: &[Spec],
     positive: bool,
 ) -> Result<(), AllocError>
-    ensures { OnOk result ((vs : List says.Version) → literals_in vs out.new.items ≡ literals_in vs out.old.items ++ Some (literal (SharedBy (specs_of alternatives.now)) positive) ∷ []) }
+    ensures { OnOk result
+        ((vs : List says.Version)
+        → literals_in vs out.new.items
+        ≡ literals_in vs out.old.items ++ Some
+        (literal (SharedBy (specs_of alternatives.now)) positive)
+        ∷ []) }
 {
     let alternatives = copies_of(alloc, alternatives)?;
     out.push(Built {
@@ -84,7 +101,12 @@ pub fn push_shared(
 }
 
 pub fn push_outside(out: &mut Clause, spec: &Spec, positive: bool) -> Result<(), AllocError>
-    ensures { OnOk result ((vs : List says.Version) → literals_in vs out.new.items ≡ literals_in vs out.old.items ++ Some (literal (OutsideOf (spec_of spec.now)) positive) ∷ []) }
+    ensures { OnOk result
+        ((vs : List says.Version)
+        → literals_in vs out.new.items
+        ≡ literals_in vs out.old.items ++ Some
+        (literal (OutsideOf (spec_of spec.now)) positive)
+        ∷ []) }
 {
     let spec = spec.copy()?;
     out.push(Built {
@@ -101,7 +123,10 @@ fn push_each(
     spec: &Spec,
     outside: bool,
 ) -> Result<(), AllocError>
-    ensures { OnOk result (literals_in (listed catalogue.now) out.new.items ≡ literals_in (listed catalogue.now) out.old.items ++ somes (each_listed catalogue.now (passes (spec_of spec.now) outside))) }
+    ensures { OnOk result
+        (literals_in (listed catalogue.now) out.new.items
+        ≡ literals_in (listed catalogue.now) out.old.items ++ somes
+        (each_listed catalogue.now (passes (spec_of spec.now) outside))) }
 {
     let versions = catalogue.versions_of(&spec.name);
     for version in versions {
@@ -118,7 +143,10 @@ pub fn push_matches(
     catalogue: &Catalogue,
     alternatives: &[Spec],
 ) -> Result<(), AllocError>
-    ensures { OnOk result (literals_in (listed catalogue.now) out.new.items ≡ literals_in (listed catalogue.now) out.old.items ++ somes (some_match catalogue.now (specs_of alternatives.now))) }
+    ensures { OnOk result
+        (literals_in (listed catalogue.now) out.new.items
+        ≡ literals_in (listed catalogue.now) out.old.items ++ somes
+        (some_match catalogue.now (specs_of alternatives.now))) }
 {
     for spec in alternatives {
         push_each(out, catalogue, spec, false)?;
@@ -133,7 +161,10 @@ pub fn push_case(
     catalogue: &Catalogue,
     specs: &[Spec],
 ) -> Result<(), AllocError>
-    ensures { OnOk result (literals_in (listed catalogue.now) out.new.items ≡ literals_in (listed catalogue.now) out.old.items ++ somes (case_fails catalogue.now (specs_of specs.now))) }
+    ensures { OnOk result
+        (literals_in (listed catalogue.now) out.new.items
+        ≡ literals_in (listed catalogue.now) out.old.items ++ somes
+        (case_fails catalogue.now (specs_of specs.now))) }
 {
     for spec in specs {
         push_any(alloc, out, &spec.name, false)?;

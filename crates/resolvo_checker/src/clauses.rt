@@ -71,8 +71,12 @@ fn push_piece(
 ) -> Result<(), AllocError>
     requires { AreEnds 0 ends.old.items (length literals.old.items) }
     ensures ends { AreEnds 0 ends.new.items (length literals.new.items) }
-    ensures ok { OnOk result (pieces literals.new.items 0 ends.new.items ≡ pieces literals.old.items 0 ends.old.items ++ piece.now ∷ []) }
-    ensures err { OnErr result (pieces literals.new.items 0 ends.new.items ≡ pieces literals.old.items 0 ends.old.items) }
+    ensures ok { OnOk result
+        (pieces literals.new.items 0 ends.new.items
+        ≡ pieces literals.old.items 0 ends.old.items ++ piece.now
+        ∷ []) }
+    ensures err { OnErr result
+        (pieces literals.new.items 0 ends.new.items ≡ pieces literals.old.items 0 ends.old.items) }
 {
     let before = literals.len();
     literals.extend_from_slice(piece)?;

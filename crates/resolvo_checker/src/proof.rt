@@ -39,7 +39,8 @@ pub fn nothing_each<T: Copy>(alloc: Global, count: usize) -> Result<Vec<Option<T
 
 /// What is kept of no step.
 pub fn begin(alloc: Global, catalogue: &Catalogue, request: &Request) -> Result<Checker, AllocError>
-    ensures stands { IfOk result (λ c. StandFor catalogue.now request.now.lines c.numbers c.clauses c.places.items []) }
+    ensures stands { IfOk result
+        (λ c. StandFor catalogue.now request.now.lines c.numbers c.clauses c.places.items []) }
     ensures pass { IfOk result (λ c. c.truth.pass ≡ 0) }
     ensures count { IfOk result (λ c. c.clauses ≡ []) }
     ensures long { IfOk result (λ c. length c.places.items ≡ length (listed catalogue.now)) }
@@ -85,14 +86,23 @@ fn check_from(
     checker: &mut Checker,
     steps: &[Step],
 ) -> Result<Checked, AllocError>
-    requires stands { StandFor catalogue.now request.now.lines checker.old.numbers checker.old.clauses checker.old.places.items [] }
+    requires stands { StandFor catalogue.now request.now.lines checker.old.numbers checker.old.clauses
+        checker.old.places.items [] }
     requires pass { checker.old.truth.pass ≡ 0 }
     requires count { checker.old.clauses ≡ [] }
     requires long { length checker.old.places.items ≡ length (listed catalogue.now) }
     requires few { length steps.now + 1 < 2 ^ 32 }
     requires room { count_causes (steps_of steps.now) < 2 ^ 64 }
-    ensures wrong { IfOk result (λ c. IfSome c.wrong (IsWrongAt catalogue.now request.now.lines (names_catalogue scope.now) (names_request scope.now) (steps_of steps.now))) }
-    ensures proof { IfOk result (λ c. IfNone c.wrong (IsProof catalogue.now request.now.lines (names_catalogue scope.now) (names_request scope.now) (steps_of steps.now))) }
+    ensures wrong { IfOk result
+        (λ c.
+        IfSome c.wrong
+        (IsWrongAt catalogue.now request.now.lines (names_catalogue scope.now)
+        (names_request scope.now) (steps_of steps.now))) }
+    ensures proof { IfOk result
+        (λ c.
+        IfNone c.wrong
+        (IsProof catalogue.now request.now.lines (names_catalogue scope.now)
+        (names_request scope.now) (steps_of steps.now))) }
     ensures named { IfOk result (λ c. IfNone c.wrong (c.readings.named ≡ count_causes (steps_of steps.now))) }
     ensures read { IfOk result (λ c. IfNone c.wrong (c.readings.read ≡ count_causes (steps_of steps.now))) }
 {
@@ -132,13 +142,29 @@ pub fn check_steps(
     requires few { length steps.now + 1 < 2 ^ 32 }
     requires room { count_causes (steps_of steps.now) < 2 ^ 64 }
     // The first step that may not stand where it does, or else the steps are a proof.
-    ensures wrong { IfOk result (λ c. IfSome c.wrong (IsWrongAt catalogue.now request.now.lines (names_catalogue scope.now) (names_request scope.now) (steps_of steps.now))) }
-    ensures proof { IfOk result (λ c. IfNone c.wrong (IsProof catalogue.now request.now.lines (names_catalogue scope.now) (names_request scope.now) (steps_of steps.now))) }
+    ensures wrong { IfOk result
+        (λ c.
+        IfSome c.wrong
+        (IsWrongAt catalogue.now request.now.lines (names_catalogue scope.now)
+        (names_request scope.now) (steps_of steps.now))) }
+    ensures proof { IfOk result
+        (λ c.
+        IfNone c.wrong
+        (IsProof catalogue.now request.now.lines (names_catalogue scope.now)
+        (names_request scope.now) (steps_of steps.now))) }
     // Each named clause was read once for each naming.
     ensures named { IfOk result (λ c. IfNone c.wrong (c.readings.named ≡ count_causes (steps_of steps.now))) }
     ensures read { IfOk result (λ c. IfNone c.wrong (c.readings.read ≡ count_causes (steps_of steps.now))) }
     // A proof that ends with the empty clause: no single set obeys the lines.
-    ensures refutes { IfOk result (λ c. IfNone c.wrong (ends_empty (steps_of steps.now) ≡ true → (set : Set) → IsSingle catalogue.now set → ObeysTested catalogue.now request.now.lines (names_catalogue scope.now) (names_request scope.now) set → ⊥)) }
+    ensures refutes { IfOk result
+        (λ c.
+        IfNone c.wrong
+        (ends_empty (steps_of steps.now) ≡ true
+        → (set : Set)
+        → IsSingle catalogue.now set
+        → ObeysTested catalogue.now request.now.lines (names_catalogue scope.now)
+        (names_request scope.now) set
+        → ⊥)) }
 {
     let mut checker = begin(alloc, catalogue, request)?;
     let checked = check_from(alloc, catalogue, request, scope, &mut checker, steps)?;

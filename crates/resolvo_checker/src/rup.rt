@@ -14,7 +14,8 @@ use crate::literal::{Literal, RupResult};
 use std::alloc::AllocError;
 
 fn is_false(truth: &Assignment, literal: Literal) -> bool
-    ensures { result ≡ is_denied (known_in truth.now.marks.items truth.now.pass literal.atom) literal.positive }
+    ensures { result
+        ≡ is_denied (known_in truth.now.marks.items truth.now.pass literal.atom) literal.positive }
 {
     match truth.known(literal.atom) {
         None => false,
@@ -41,7 +42,8 @@ fn met(rest: RupResult, literal: Literal) -> RupResult
 
 /// What is left of the clause without its false literals.
 fn rest_of(truth: &Assignment, clause: &[Literal]) -> RupResult
-    ensures { rest_of_lem result ≡ reading nat_eq (known_in truth.now.marks.items truth.now.pass) (literals_of clause.now) }
+    ensures { rest_of_lem result
+        ≡ reading nat_eq (known_in truth.now.marks.items truth.now.pass) (literals_of clause.now) }
 {
     let mut rest = RupResult::Broken;
     for literal in clause {
@@ -54,8 +56,17 @@ fn rest_of(truth: &Assignment, clause: &[Literal]) -> RupResult
 
 /// Reads one clause: whether it is broken. A literal that is left alone, and has no value, is made true.
 fn read(truth: &mut Assignment, clause: &[Literal]) -> Result<bool, AllocError>
-    ensures broken { IfOk result (λ broken. broken ≡ is_broken (reading nat_eq (known_in truth.old.marks.items truth.old.pass) (literals_of clause.now))) }
-    ensures known { OnOk result (known_in truth.new.marks.items truth.new.pass ≡ learn nat_eq (known_in truth.old.marks.items truth.old.pass) (reading nat_eq (known_in truth.old.marks.items truth.old.pass) (literals_of clause.now))) }
+    ensures broken { IfOk result
+        (λ broken.
+        broken
+        ≡ is_broken
+        (reading nat_eq (known_in truth.old.marks.items truth.old.pass)
+        (literals_of clause.now))) }
+    ensures known { OnOk result
+        (known_in truth.new.marks.items truth.new.pass
+        ≡ learn nat_eq (known_in truth.old.marks.items truth.old.pass)
+        (reading nat_eq (known_in truth.old.marks.items truth.old.pass)
+        (literals_of clause.now))) }
     ensures pass { truth.new.pass ≡ truth.old.pass }
 {
     match rest_of(truth, clause) {
@@ -72,7 +83,9 @@ fn read(truth: &mut Assignment, clause: &[Literal]) -> Result<bool, AllocError>
 
 /// Makes all literals of the clause false.
 fn deny_all(truth: &mut Assignment, clause: &[Literal]) -> Result<(), AllocError>
-    ensures known { OnOk result (known_in truth.new.marks.items truth.new.pass ≡ deny nat_eq (known_in truth.old.marks.items truth.old.pass) (literals_of clause.now)) }
+    ensures known { OnOk result
+        (known_in truth.new.marks.items truth.new.pass
+        ≡ deny nat_eq (known_in truth.old.marks.items truth.old.pass) (literals_of clause.now)) }
     ensures pass { truth.new.pass ≡ truth.old.pass }
 {
     for literal in clause {
@@ -95,8 +108,12 @@ pub fn is_rup(
     requires later { truth.old.pass < pass }
     requires causes { list_all (is_earlier (length clauses.now)) causes.now ≡ true }
     requires room { readings.old.read + length causes.now < 2 ^ 64 }
-    ensures answer { IfOk result (λ refuted. refuted ≡ one_pass nat_eq (literals_of denied.now) (map (clause_at clauses.now) causes.now)) }
-    ensures read { OnOk result (readings.new ≡ record readings.old { read = readings.old.read + length causes.now }) }
+    ensures answer { IfOk result
+        (λ refuted.
+        refuted
+        ≡ one_pass nat_eq (literals_of denied.now) (map (clause_at clauses.now) causes.now)) }
+    ensures read { OnOk result
+        (readings.new ≡ record readings.old { read = readings.old.read + length causes.now }) }
     ensures pass { truth.new.pass ≡ pass }
 {
     truth.begin(pass);

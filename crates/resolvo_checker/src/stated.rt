@@ -18,7 +18,8 @@ use resolvo_report::Place;
 
 /// What a line of the catalogue states, if it states a rule.
 pub fn rule_of(catalogue: &Catalogue, line: u32) -> Option<&Rule>
-    ensures said { rule_line (line_at catalogue.now line) ≡ option_and_then (line_said (listed catalogue.now)) (option_copied result) }
+    ensures said { rule_line (line_at catalogue.now line)
+        ≡ option_and_then (line_said (listed catalogue.now)) (option_copied result) }
     ensures valid { IfSome result (λ r. IsValid (listed catalogue.now) (owner_of catalogue.now line) r.now) }
 {
     match catalogue.rule(line) {
@@ -29,7 +30,9 @@ pub fn rule_of(catalogue: &Catalogue, line: u32) -> Option<&Rule>
 
 /// What a line of a request states, if it is a `needs` or `limits` line.
 fn rule_asked(request: &Request, line: u32) -> Option<&Rule>
-    ensures said { (vs : List says.Version) → owned_line (line_at request.now.lines line) ≡ option_and_then (line_said vs) (option_copied result) }
+    ensures said { (vs : List says.Version)
+        → owned_line (line_at request.now.lines line)
+        ≡ option_and_then (line_said vs) (option_copied result) }
     ensures none { IfSome result (λ r. owner_in r.now ≡ None) }
 {
     match request.rule(line) {
@@ -73,8 +76,13 @@ fn is_owned(versions: &[(String, u32)], rule: &Rule, version: &Version) -> bool
 
 /// What a line of the catalogue states, if it is a `needs` or `limits` line of the version.
 pub fn rule_owned<'a>(catalogue: &'a Catalogue, version: &Version, line: u32) -> Option<&'a Rule>
-    ensures said { (request : List says.Line) → owned_line (line_of catalogue.now request (OfVersion (version_of version.now)) line) ≡ option_and_then (line_said (listed catalogue.now)) (option_copied result) }
-    ensures owner { IfSome result (λ r. owner_literals (listed catalogue.now) (owner_in r.now) ≡ somes (place_fails (OfVersion (version_of version.now)))) }
+    ensures said { (request : List says.Line)
+        → owned_line (line_of catalogue.now request (OfVersion (version_of version.now)) line)
+        ≡ option_and_then (line_said (listed catalogue.now)) (option_copied result) }
+    ensures owner { IfSome result
+        (λ r.
+        owner_literals (listed catalogue.now) (owner_in r.now)
+        ≡ somes (place_fails (OfVersion (version_of version.now)))) }
 {
     match catalogue.rule(line) {
         Some(rule) => {
@@ -95,8 +103,12 @@ pub fn rule_at<'a>(
     place: &Place,
     line: u32,
 ) -> Option<&'a Rule>
-    ensures said { owned_line (line_of catalogue.now request.now.lines (place_of place.now) line) ≡ option_and_then (line_said (listed catalogue.now)) (option_copied result) }
-    ensures owner { IfSome result (λ r. owner_literals (listed catalogue.now) (owner_in r.now) ≡ somes (place_fails (place_of place.now))) }
+    ensures said { owned_line (line_of catalogue.now request.now.lines (place_of place.now) line)
+        ≡ option_and_then (line_said (listed catalogue.now)) (option_copied result) }
+    ensures owner { IfSome result
+        (λ r.
+        owner_literals (listed catalogue.now) (owner_in r.now)
+        ≡ somes (place_fails (place_of place.now))) }
 {
     match place {
         Place::Request => rule_asked(request, line),

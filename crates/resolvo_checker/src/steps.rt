@@ -50,7 +50,9 @@ fn is_locked_by(locked: &(String, u32), version: &Version) -> bool
 
 /// Whether the version is another one of the package whose version of this number is locked.
 fn is_locked_out(versions: &[(String, u32)], locked: VersionNo, version: &Version) -> bool
-    ensures { result ≡ option_map_or (λ w. is_locked_out_lem w (version_of version.now)) (slice_get (pair_versions versions.now) locked.0) false }
+    ensures { result
+        ≡ option_map_or (λ w. is_locked_out_lem w (version_of version.now))
+        (slice_get (pair_versions versions.now) locked.0) false }
 {
     match versions.get(locked.0 as usize) {
         Some(pair) => is_locked_by(pair, version),
@@ -64,7 +66,9 @@ fn case_at(
     condition: &Option<Cond>,
     case: u32,
 ) -> Result<Option<Vec<Spec>>, AllocError>
-    ensures { IfOk result (λ o. option_map (λ c. specs_of c.items) o ≡ case_at_lem (condition_of condition.now) case) }
+    ensures { IfOk result
+        (λ o.
+        option_map (λ c. specs_of c.items) o ≡ case_at_lem (condition_of condition.now) case) }
 {
     if case == 0 {
         return Ok(None);
@@ -86,7 +90,9 @@ fn case_at(
 
 /// Adds that the owner isn't in the set.
 fn push_owner(out: &mut Clause, owner: Option<VersionNo>) -> Result<(), AllocError>
-    ensures { OnOk result ((vs : List says.Version) → literals_in vs out.new.items ≡ literals_in vs out.old.items ++ owner_literals vs owner) }
+    ensures { OnOk result
+        ((vs : List says.Version)
+        → literals_in vs out.new.items ≡ literals_in vs out.old.items ++ owner_literals vs owner) }
 {
     if let Some(version) = owner {
         push_version(out, version, false)?;
@@ -96,7 +102,9 @@ fn push_owner(out: &mut Clause, owner: Option<VersionNo>) -> Result<(), AllocErr
 
 /// The clause that the version isn't in the set.
 fn absent(alloc: Global, version: VersionNo) -> Result<Clause, AllocError>
-    ensures { IfOk result (λ c. (vs : List says.Version) → literals_in vs c.items ≡ member_of vs false version.0 ∷ []) }
+    ensures { IfOk result
+        (λ c.
+        (vs : List says.Version) → literals_in vs c.items ≡ member_of vs false version.0 ∷ []) }
 {
     let mut out = Vec::new(alloc);
     push_version(&mut out, version, false)?;
@@ -111,7 +119,12 @@ fn need(
     alternatives: &[Spec],
     specs: &[Spec],
 ) -> Result<Clause, AllocError>
-    ensures { IfOk result (λ c. literals_in (listed catalogue.now) c.items ≡ owner_literals (listed catalogue.now) owner ++ somes (case_fails catalogue.now (specs_of specs.now)) ++ somes (some_match catalogue.now (specs_of alternatives.now))) }
+    ensures { IfOk result
+        (λ c.
+        literals_in (listed catalogue.now) c.items
+        ≡ owner_literals (listed catalogue.now) owner ++ somes
+        (case_fails catalogue.now (specs_of specs.now)) ++ somes
+        (some_match catalogue.now (specs_of alternatives.now))) }
 {
     let mut out = Vec::new(alloc);
     push_owner(&mut out, owner)?;
@@ -126,7 +139,16 @@ fn need_in(
     rule: Option<&Rule>,
     case: u32,
 ) -> Result<Option<Clause>, AllocError>
-    ensures { (p : SaidPlace) → IfSome (option_copied rule.entry) (λ r. owner_literals (listed catalogue.now) (owner_in r) ≡ somes (place_fails p)) → IfOk result (λ o. seen (listed catalogue.now) o ≡ option_map somes (need_clause catalogue.now p case (option_and_then (line_said (listed catalogue.now)) (option_copied rule.entry)))) }
+    ensures { (p : SaidPlace)
+        → IfSome (option_copied rule.entry)
+        (λ r. owner_literals (listed catalogue.now) (owner_in r) ≡ somes (place_fails p))
+        → IfOk result
+        (λ o.
+        seen (listed catalogue.now) o
+        ≡ option_map somes
+        (need_clause catalogue.now p case
+        (option_and_then (line_said (listed catalogue.now))
+        (option_copied rule.entry)))) }
 {
     let Some(
         Rule::Needs {
@@ -149,7 +171,18 @@ fn gate_in(
     catalogue: &Catalogue,
     rule: Option<&Rule>,
 ) -> Result<Option<Clause>, AllocError>
-    ensures { (v : says.Version) → IfSome (option_copied rule.entry) (λ r. owner_literals (listed catalogue.now) (owner_in r) ≡ somes (place_fails (OfVersion v))) → IfOk result (λ o. seen (listed catalogue.now) o ≡ option_map somes (gate_clause v (option_and_then (line_said (listed catalogue.now)) (option_copied rule.entry)))) }
+    ensures { (v : says.Version)
+        → IfSome (option_copied rule.entry)
+        (λ r.
+        owner_literals (listed catalogue.now) (owner_in r)
+        ≡ somes (place_fails (OfVersion v)))
+        → IfOk result
+        (λ o.
+        seen (listed catalogue.now) o
+        ≡ option_map somes
+        (gate_clause v
+        (option_and_then (line_said (listed catalogue.now))
+        (option_copied rule.entry)))) }
 {
     match rule {
         Some(
@@ -173,7 +206,16 @@ fn limit_in(
     catalogue: &Catalogue,
     rule: Option<&Rule>,
 ) -> Result<Option<Clause>, AllocError>
-    ensures { (p : SaidPlace) → IfSome (option_copied rule.entry) (λ r. owner_literals (listed catalogue.now) (owner_in r) ≡ somes (place_fails p)) → IfOk result (λ o. seen (listed catalogue.now) o ≡ option_map somes (limit_clause p (option_and_then (line_said (listed catalogue.now)) (option_copied rule.entry)))) }
+    ensures { (p : SaidPlace)
+        → IfSome (option_copied rule.entry)
+        (λ r. owner_literals (listed catalogue.now) (owner_in r) ≡ somes (place_fails p))
+        → IfOk result
+        (λ o.
+        seen (listed catalogue.now) o
+        ≡ option_map somes
+        (limit_clause p
+        (option_and_then (line_said (listed catalogue.now))
+        (option_copied rule.entry)))) }
 {
     match rule {
         Some(Rule::Limits { owner, spec }) => {
@@ -192,7 +234,16 @@ fn limit_bars_in(
     rule: Option<&Rule>,
     version: &Version,
 ) -> Result<Option<Clause>, AllocError>
-    ensures { (p : SaidPlace) → IfSome (option_copied rule.entry) (λ r. owner_literals (listed catalogue.now) (owner_in r) ≡ somes (place_fails p)) → IfOk result (λ o. seen (listed catalogue.now) o ≡ option_map somes (limit_bars_clause catalogue.now p (version_of version.now) (option_and_then (line_said (listed catalogue.now)) (option_copied rule.entry)))) }
+    ensures { (p : SaidPlace)
+        → IfSome (option_copied rule.entry)
+        (λ r. owner_literals (listed catalogue.now) (owner_in r) ≡ somes (place_fails p))
+        → IfOk result
+        (λ o.
+        seen (listed catalogue.now) o
+        ≡ option_map somes
+        (limit_bars_clause catalogue.now p (version_of version.now)
+        (option_and_then (line_said (listed catalogue.now))
+        (option_copied rule.entry)))) }
 {
     let Some(number) = number_of(catalogue, version) else {
         return Ok(None);
@@ -217,7 +268,13 @@ fn lock_in(
     rule: Option<&Rule>,
     version: &Version,
 ) -> Result<Option<Clause>, AllocError>
-    ensures { IfOk result (λ o. seen (listed catalogue.now) o ≡ option_map somes (lock_clause catalogue.now (version_of version.now) (option_and_then (line_said (listed catalogue.now)) (option_copied rule.entry)))) }
+    ensures { IfOk result
+        (λ o.
+        seen (listed catalogue.now) o
+        ≡ option_map somes
+        (lock_clause catalogue.now (version_of version.now)
+        (option_and_then (line_said (listed catalogue.now))
+        (option_copied rule.entry)))) }
 {
     let Some(number) = number_of(catalogue, version) else {
         return Ok(None);
@@ -238,7 +295,15 @@ fn exclude_in(
     catalogue: &Catalogue,
     rule: Option<&Rule>,
 ) -> Result<Option<Clause>, AllocError>
-    ensures { (owner : Option says.Version) → IfSome (option_copied rule.entry) (IsValid (listed catalogue.now) owner) → IfOk result (λ o. seen (listed catalogue.now) o ≡ option_map somes (exclude_clause (option_and_then (line_said (listed catalogue.now)) (option_copied rule.entry)))) }
+    ensures { (owner : Option says.Version)
+        → IfSome (option_copied rule.entry) (IsValid (listed catalogue.now) owner)
+        → IfOk result
+        (λ o.
+        seen (listed catalogue.now) o
+        ≡ option_map somes
+        (exclude_clause
+        (option_and_then (line_said (listed catalogue.now))
+        (option_copied rule.entry)))) }
 {
     match rule {
         Some(Rule::Exclude { version, .. }) => Ok(Some(absent(alloc, *version)?)),
@@ -251,7 +316,15 @@ fn unknown_in(
     catalogue: &Catalogue,
     rule: Option<&Rule>,
 ) -> Result<Option<Clause>, AllocError>
-    ensures { (owner : Option says.Version) → IfSome (option_copied rule.entry) (IsValid (listed catalogue.now) owner) → IfOk result (λ o. seen (listed catalogue.now) o ≡ option_map somes (unknown_clause owner (option_and_then (line_said (listed catalogue.now)) (option_copied rule.entry)))) }
+    ensures { (owner : Option says.Version)
+        → IfSome (option_copied rule.entry) (IsValid (listed catalogue.now) owner)
+        → IfOk result
+        (λ o.
+        seen (listed catalogue.now) o
+        ≡ option_map somes
+        (unknown_clause owner
+        (option_and_then (line_said (listed catalogue.now))
+        (option_copied rule.entry)))) }
 {
     match rule {
         Some(Rule::Unknown { version, .. }) => Ok(Some(absent(alloc, *version)?)),
@@ -260,7 +333,10 @@ fn unknown_in(
 }
 
 fn shared(alloc: Global, catalogue: &Catalogue, alternatives: &[Spec]) -> Result<Clause, AllocError>
-    ensures { IfOk result (λ c. literals_in (listed catalogue.now) c.items ≡ somes (shared_clause catalogue.now (specs_of alternatives.now))) }
+    ensures { IfOk result
+        (λ c.
+        literals_in (listed catalogue.now) c.items
+        ≡ somes (shared_clause catalogue.now (specs_of alternatives.now))) }
 {
     let mut out = Vec::new(alloc);
     push_shared(alloc, &mut out, alternatives, false)?;
@@ -274,7 +350,11 @@ fn outside(
     spec: &Spec,
     version: &Version,
 ) -> Result<Option<Clause>, AllocError>
-    ensures { IfOk result (λ o. seen (listed catalogue.now) o ≡ option_map somes (outside_clause catalogue.now (spec_of spec.now) (version_of version.now))) }
+    ensures { IfOk result
+        (λ o.
+        seen (listed catalogue.now) o
+        ≡ option_map somes
+        (outside_clause catalogue.now (spec_of spec.now) (version_of version.now))) }
 {
     let Some(number) = number_of(catalogue, version) else {
         return Ok(None);
@@ -302,7 +382,10 @@ fn digit(
     place: u32,
     bit: u32,
 ) -> Result<Option<Clause>, AllocError>
-    ensures { IfOk result (λ o. seen (listed catalogue.now) o ≡ option_map somes (digit_clause catalogue.now (version_of version.now) place bit)) }
+    ensures { IfOk result
+        (λ o.
+        seen (listed catalogue.now) o
+        ≡ option_map somes (digit_clause catalogue.now (version_of version.now) place bit)) }
 {
     let Some(number) = number_of(catalogue, version) else {
         return Ok(None);
@@ -321,7 +404,10 @@ fn any(
     catalogue: &Catalogue,
     version: &Version,
 ) -> Result<Option<Clause>, AllocError>
-    ensures { IfOk result (λ o. seen (listed catalogue.now) o ≡ option_map somes (any_clause catalogue.now (version_of version.now))) }
+    ensures { IfOk result
+        (λ o.
+        seen (listed catalogue.now) o
+        ≡ option_map somes (any_clause catalogue.now (version_of version.now))) }
 {
     let Some(number) = number_of(catalogue, version) else {
         return Ok(None);
@@ -340,7 +426,12 @@ fn need_at(
     line: u32,
     case: u32,
 ) -> Result<Option<Clause>, AllocError>
-    ensures { IfOk result (λ o. seen (listed catalogue.now) o ≡ option_map somes (need_clause catalogue.now (place_of place.now) case (line_of catalogue.now request.now.lines (place_of place.now) line))) }
+    ensures { IfOk result
+        (λ o.
+        seen (listed catalogue.now) o
+        ≡ option_map somes
+        (need_clause catalogue.now (place_of place.now) case
+        (line_of catalogue.now request.now.lines (place_of place.now) line))) }
 {
     let rule = rule_at(catalogue, request, place, line);
     need_in(alloc, catalogue, rule, case)
@@ -352,7 +443,13 @@ fn gate_at(
     version: &Version,
     line: u32,
 ) -> Result<Option<Clause>, AllocError>
-    ensures { (request : List says.Line) → IfOk result (λ o. seen (listed catalogue.now) o ≡ option_map somes (gate_clause (version_of version.now) (line_of catalogue.now request (OfVersion (version_of version.now)) line))) }
+    ensures { (request : List says.Line)
+        → IfOk result
+        (λ o.
+        seen (listed catalogue.now) o
+        ≡ option_map somes
+        (gate_clause (version_of version.now)
+        (line_of catalogue.now request (OfVersion (version_of version.now)) line))) }
 {
     let rule = rule_owned(catalogue, version, line);
     gate_in(alloc, catalogue, rule)
@@ -365,7 +462,12 @@ fn limit_at(
     place: &Place,
     line: u32,
 ) -> Result<Option<Clause>, AllocError>
-    ensures { IfOk result (λ o. seen (listed catalogue.now) o ≡ option_map somes (limit_clause (place_of place.now) (line_of catalogue.now request.now.lines (place_of place.now) line))) }
+    ensures { IfOk result
+        (λ o.
+        seen (listed catalogue.now) o
+        ≡ option_map somes
+        (limit_clause (place_of place.now)
+        (line_of catalogue.now request.now.lines (place_of place.now) line))) }
 {
     let rule = rule_at(catalogue, request, place, line);
     limit_in(alloc, catalogue, rule)
@@ -379,7 +481,12 @@ fn limit_bars_at(
     line: u32,
     version: &Version,
 ) -> Result<Option<Clause>, AllocError>
-    ensures { IfOk result (λ o. seen (listed catalogue.now) o ≡ option_map somes (limit_bars_clause catalogue.now (place_of place.now) (version_of version.now) (line_of catalogue.now request.now.lines (place_of place.now) line))) }
+    ensures { IfOk result
+        (λ o.
+        seen (listed catalogue.now) o
+        ≡ option_map somes
+        (limit_bars_clause catalogue.now (place_of place.now) (version_of version.now)
+        (line_of catalogue.now request.now.lines (place_of place.now) line))) }
 {
     let rule = rule_at(catalogue, request, place, line);
     limit_bars_in(alloc, catalogue, rule, version)
@@ -391,21 +498,32 @@ fn lock_at(
     line: u32,
     version: &Version,
 ) -> Result<Option<Clause>, AllocError>
-    ensures { IfOk result (λ o. seen (listed catalogue.now) o ≡ option_map somes (lock_clause catalogue.now (version_of version.now) (line_at catalogue.now line))) }
+    ensures { IfOk result
+        (λ o.
+        seen (listed catalogue.now) o
+        ≡ option_map somes
+        (lock_clause catalogue.now (version_of version.now) (line_at catalogue.now line))) }
 {
     let rule = rule_of(catalogue, line);
     lock_in(alloc, catalogue, rule, version)
 }
 
 fn exclude_at(alloc: Global, catalogue: &Catalogue, line: u32) -> Result<Option<Clause>, AllocError>
-    ensures { IfOk result (λ o. seen (listed catalogue.now) o ≡ option_map somes (exclude_clause (line_at catalogue.now line))) }
+    ensures { IfOk result
+        (λ o.
+        seen (listed catalogue.now) o
+        ≡ option_map somes (exclude_clause (line_at catalogue.now line))) }
 {
     let rule = rule_of(catalogue, line);
     exclude_in(alloc, catalogue, rule)
 }
 
 fn unknown_at(alloc: Global, catalogue: &Catalogue, line: u32) -> Result<Option<Clause>, AllocError>
-    ensures { IfOk result (λ o. seen (listed catalogue.now) o ≡ option_map somes (unknown_clause (owner_of catalogue.now line) (line_at catalogue.now line))) }
+    ensures { IfOk result
+        (λ o.
+        seen (listed catalogue.now) o
+        ≡ option_map somes
+        (unknown_clause (owner_of catalogue.now line) (line_at catalogue.now line))) }
 {
     let rule = rule_of(catalogue, line);
     unknown_in(alloc, catalogue, rule)
@@ -418,7 +536,10 @@ pub fn clause_of(
     request: &Request,
     step: &Step,
 ) -> Result<Option<Clause>, AllocError>
-    ensures { IfOk result (λ o. seen (listed catalogue.now) o ≡ option_map somes (rule_clause_of catalogue.now request.now.lines (step_of step.now))) }
+    ensures { IfOk result
+        (λ o.
+        seen (listed catalogue.now) o
+        ≡ option_map somes (rule_clause_of catalogue.now request.now.lines (step_of step.now))) }
 {
     match step {
         Step::Need { place, line, case } => {

@@ -32,8 +32,14 @@ pub fn conflict_graph<I: Interner>(
     offers: &Offers<I::SolvableId>,
     steps: &[ProofStep<I::NameId, I::SolvableId>],
 ) -> R<ConflictGraph<I::SolvableId>>
-    ensures graph { IfOk result (λ g. g ≡ conflict_drawing I.NameId.eq I.SolvableId.eq (I.name_of_solvable interner.now) (offered_by offers.now) (conflict_rules steps.now)) }
-    ensures truth { IfOk result (TellsTruth I.SolvableId.eq (I.name_of_solvable interner.now) (offered_by offers.now) steps.now) }
+    ensures graph { IfOk result
+        (λ g.
+        g
+        ≡ conflict_drawing I.NameId.eq I.SolvableId.eq (I.name_of_solvable interner.now)
+        (offered_by offers.now) (conflict_rules steps.now)) }
+    ensures truth { IfOk result
+        (TellsTruth I.SolvableId.eq (I.name_of_solvable interner.now) (offered_by offers.now)
+        steps.now) }
     ensures refusal { IsOkUnless result Memory }
 {
     let order = conflict_rules(alloc, steps)?;
@@ -83,7 +89,9 @@ fn put_node<S: Copy + Exact + Hash + Debug>(
 ) -> R<NodeIndex>
     ensures index { IfOk result (λ i. i ≡ index_among S.eq graph.new.nodes node) }
     ensures within { IfOk result (λ i. i.0 < length graph.new.nodes) }
-    ensures put { OnOk result (graph.new ≡ record graph.old { nodes = insert_key (same_node S.eq) graph.old.nodes node }) }
+    ensures put { OnOk result
+        (graph.new
+        ≡ record graph.old { nodes = insert_key (same_node S.eq) graph.old.nodes node }) }
     ensures agrees { (m n : ConflictNode S) → ⟦<ConflictNode<S> as PartialEq>⟧.eq m n ≡ same_node S.eq m n }
     ensures refusal { IsOkUnless result Memory }
 {

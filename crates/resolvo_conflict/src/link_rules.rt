@@ -63,9 +63,13 @@ fn share<N: Copy + Exact + Hash + Debug, S: Copy + Exact + Hash + Debug>(
     shares: &mut Shares<S>,
     rule: &ProofRule<N, S>,
 ) -> R<()>
-    ensures gates { OnOk result (shares.new.gates.items ≡ shares.old.gates.items ++ option_to_list (gate_in rule.now)) }
-    ensures limits { OnOk result (shares.new.limits.items ≡ shares.old.limits.items ++ option_to_list (limit_in rule.now)) }
-    ensures outsides { OnOk result (shares.new.outsides.items ≡ shares.old.outsides.items ++ option_to_list (outside_in rule.now)) }
+    ensures gates { OnOk result
+        (shares.new.gates.items ≡ shares.old.gates.items ++ option_to_list (gate_in rule.now)) }
+    ensures limits { OnOk result
+        (shares.new.limits.items ≡ shares.old.limits.items ++ option_to_list (limit_in rule.now)) }
+    ensures outsides { OnOk result
+        (shares.new.outsides.items
+        ≡ shares.old.outsides.items ++ option_to_list (outside_in rule.now)) }
     ensures refusal { IsOkUnless result Memory }
 {
     match rule {
@@ -99,7 +103,11 @@ pub(crate) fn links_of<I: Interner>(
     steps: &[ProofStep<I::NameId, I::SolvableId>],
     order: &[usize],
 ) -> R<Vec<Link<I::SolvableId>>>
-    ensures links { IfOk result (λ v. v.items ≡ all_links I.NameId.eq (I.name_of_solvable interner.now) (offered_by offers.now) (rules_at steps.now order.now)) }
+    ensures links { IfOk result
+        (λ v.
+        v.items
+        ≡ all_links I.NameId.eq (I.name_of_solvable interner.now) (offered_by offers.now)
+        (rules_at steps.now order.now)) }
     ensures refusal { IsOkUnless result Memory }
 {
     let shares = shares_of(alloc, steps, order)?;
@@ -120,8 +128,17 @@ fn note_instance<I: Interner>(
     rule: &ProofRule<I::NameId, I::SolvableId>,
     instances: &mut HashMap<I::NameId, I::SolvableId>,
 ) -> R<Option<I::SolvableId>>
-    ensures before { IfOk result (λ b. b ≡ before_in I.NameId.eq (I.name_of_solvable interner.now) (get I.NameId.eq instances.old) rule.now) }
-    ensures noted { OnOk result ((n : I.NameId) → get I.NameId.eq instances.new n ≡ option_or (named I.NameId.eq (I.name_of_solvable interner.now) n (instance_in rule.now)) (get I.NameId.eq instances.old n)) }
+    ensures before { IfOk result
+        (λ b.
+        b
+        ≡ before_in I.NameId.eq (I.name_of_solvable interner.now)
+        (get I.NameId.eq instances.old) rule.now) }
+    ensures noted { OnOk result
+        ((n : I.NameId)
+        → get I.NameId.eq instances.new n
+        ≡ option_or
+        (named I.NameId.eq (I.name_of_solvable interner.now) n (instance_in rule.now))
+        (get I.NameId.eq instances.old n)) }
     ensures refusal { IsOkUnless result Memory }
 {
     if let ProofRule::Digit { solvable, .. } = rule {
@@ -141,7 +158,10 @@ fn link<N: Copy + Exact + Hash + Debug, S: Copy + Exact + Hash + Debug>(
     rule: &ProofRule<N, S>,
     links: &mut Vec<Link<S>>,
 ) -> R<()>
-    ensures links { OnOk result (links.new.items ≡ links.old.items ++ links_at (offered_by offers.now) shares.now.gates.items shares.now.limits.items shares.now.outsides.items before rule.now) }
+    ensures links { OnOk result
+        (links.new.items
+        ≡ links.old.items ++ links_at (offered_by offers.now) shares.now.gates.items
+        shares.now.limits.items shares.now.outsides.items before rule.now) }
     ensures refusal { IsOkUnless result Memory }
 {
     match rule {
@@ -203,7 +223,9 @@ fn link_need<S: Copy + Exact + Hash + Debug>(
     requirement: Requirement,
     links: &mut Vec<Link<S>>,
 ) -> R<()>
-    ensures links { OnOk result (links.new.items ≡ links.old.items ++ needed parent requirement (offered_by offers.now requirement)) }
+    ensures links { OnOk result
+        (links.new.items
+        ≡ links.old.items ++ needed parent requirement (offered_by offers.now requirement)) }
     ensures refusal { IsOkUnless result Memory }
 {
     let candidates = offers.candidates(requirement);
@@ -232,7 +254,11 @@ fn link_gate<S: Copy + Exact + Hash + Debug>(
     requirement: Requirement,
     links: &mut Vec<Link<S>>,
 ) -> R<()>
-    ensures links { OnOk result (links.new.items ≡ links.old.items ++ flat_map (λ s. needed (Some s) requirement (offered_by offers.now requirement)) (requirers gates.now requirement)) }
+    ensures links { OnOk result
+        (links.new.items
+        ≡ links.old.items ++ flat_map
+        (λ s. needed (Some s) requirement (offered_by offers.now requirement))
+        (requirers gates.now requirement)) }
     ensures refusal { IsOkUnless result Memory }
 {
     for (shared, parent) in gates {
@@ -250,7 +276,10 @@ fn link_limit<S: Copy + Exact + Hash + Debug>(
     outsides: &[(VersionSetId, S)],
     links: &mut Vec<Link<S>>,
 ) -> R<()>
-    ensures links { OnOk result (links.new.items ≡ links.old.items ++ map (λ s. Constrains parent version_set s) (under_set outsides.now version_set)) }
+    ensures links { OnOk result
+        (links.new.items
+        ≡ links.old.items ++ map (λ s. Constrains parent version_set s)
+        (under_set outsides.now version_set)) }
     ensures refusal { IsOkUnless result Memory }
 {
     for (limited, solvable) in outsides {
@@ -272,7 +301,10 @@ fn link_outside<S: Copy + Exact + Hash + Debug>(
     limits: &[(VersionSetId, Option<S>)],
     links: &mut Vec<Link<S>>,
 ) -> R<()>
-    ensures links { OnOk result (links.new.items ≡ links.old.items ++ map (λ parent. Constrains parent version_set solvable) (under_set limits.now version_set)) }
+    ensures links { OnOk result
+        (links.new.items
+        ≡ links.old.items ++ map (λ parent. Constrains parent version_set solvable)
+        (under_set limits.now version_set)) }
     ensures refusal { IsOkUnless result Memory }
 {
     for (limited, parent) in limits {
@@ -314,7 +346,10 @@ fn is_new<S: Copy + Exact + Hash + Debug>(
     link: Link<S>,
 ) -> R<bool>
     ensures new { IfOk result (λ b. b ≡ is_new S.eq limits.old.keys (limited_in link)) }
-    ensures noted { OnOk result (limits.new.keys ≡ cond (is_new S.eq limits.old.keys (limited_in link)) (limits.old.keys ++ option_to_list (limited_in link)) limits.old.keys) }
+    ensures noted { OnOk result
+        (limits.new.keys
+        ≡ cond (is_new S.eq limits.old.keys (limited_in link))
+        (limits.old.keys ++ option_to_list (limited_in link)) limits.old.keys) }
     ensures refusal { IsOkUnless result Memory }
 {
     match link {

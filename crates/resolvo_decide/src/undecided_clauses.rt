@@ -155,8 +155,12 @@ impl UndecidedClauses {
 
     /// Opens the clauses of a parent.
     fn open_needs_of(&mut self, parent: VariableId)
-        ensures opened { (i : ℕ) → Contains (places_at self.old.places.items parent.0) i → state_at self.new.states i ≡ Open }
-        ensures others { (i : ℕ) → (state_at self.new.states i ≡ state_at self.old.states i) ⊎ (state_at self.new.states i ≡ Open) }
+        ensures opened { (i : ℕ)
+            → Contains (places_at self.old.places.items parent.0) i
+            → state_at self.new.states i ≡ Open }
+        ensures others { (i : ℕ)
+            → (state_at self.new.states i ≡ state_at self.old.states i) ⊎
+            (state_at self.new.states i ≡ Open) }
         ensures len { length self.new.states ≡ length self.old.states }
         ensures rest { self.new ≡ record self.old { states = self.new.states } }
     {
@@ -206,7 +210,10 @@ impl UndecidedClauses {
         requires within { position < length queue.now }
         requires fits { Fits (literals_in lists.now) self.old queue.now }
         requires values { (v : ℕ) → value_at values.now v ≡ value_in self.old.seen.items v }
-        ensures nothing { result ≡ false → (score : N → ℕ) (q : NeedClause) → slice_get queue.now position ≡ Some q → offer lists.now (value_at values.now) score q ≡ None }
+        ensures nothing { result ≡ false
+            → (score : N → ℕ) (q : NeedClause)
+            → slice_get queue.now position ≡ Some q
+            → offer lists.now (value_at values.now) score q ≡ None }
         ensures fits { Fits (literals_in lists.now) self.new queue.now }
         ensures seen { self.new.seen ≡ self.old.seen }
     {
@@ -250,7 +257,9 @@ impl UndecidedClauses {
 /// Whether the first candidate that isn't false is true. One that is true behind an undecided one isn't
 /// looked for, which would cost a look at each.
 fn begins_true<N: Copy>(candidates: &[Candidate<N>], values: &DecisionMap) -> bool
-    ensures { result ≡ true → list_any (λ c. is_true (value_under (value_at values.now) c.literal)) candidates.now ≡ true }
+    ensures { result ≡ true
+        → list_any (λ c. is_true (value_under (value_at values.now) c.literal)) candidates.now
+        ≡ true }
 {
     for candidate in candidates {
         match candidate.literal.eval(values) {
@@ -292,7 +301,8 @@ fn is_beaten<N: Copy + Eq, C: ScoreMap<N>>(
 ) -> bool
 where
     N: Drop,
-    ensures { result ≡ true → later best (offer lists.now (value_at values.now) (C.score_of scores.now) need.now) ≡ best }
+    ensures { result ≡ true
+        → later best (offer lists.now (value_at values.now) (C.score_of scores.now) need.now) ≡ best }
 {
     let Some(best) = best else {
         return false;
@@ -311,7 +321,8 @@ fn first_undecided<'a, N: Copy>(
     candidates: &'a [Candidate<N>],
     values: &DecisionMap,
 ) -> Option<&'a Candidate<N>>
-    ensures { option_copied result ≡ find (λ c. is_open (value_under (value_at values.now) c.literal)) candidates.now }
+    ensures { option_copied result
+        ≡ find (λ c. is_open (value_under (value_at values.now) c.literal)) candidates.now }
 {
     candidates
         .iter()

@@ -52,7 +52,14 @@ impl<N: Copy + Exact + Hash + Debug + Drop, S: Copy + Exact + Hash + Debug> Enco
         conjuncts: Vec<DeferredConjunct<S>>,
     ) -> R<()>
         requires { IsBuilt self.old }
-        ensures encoded { OnOk result ((p : Packages N S) (root : Rules) → IsEncoding S.eq p root self.old → AreConjuncts S.eq p conjuncts.items → Contains (rules_for S.eq p root parent).requirements need → Contains (cases_for S.eq p need) (case_of conjuncts.items) → IsEncoding S.eq p root self.new × IsDeferred self.new parent need (case_of conjuncts.items)) }
+        ensures encoded { OnOk result
+            ((p : Packages N S) (root : Rules)
+            → IsEncoding S.eq p root self.old
+            → AreConjuncts S.eq p conjuncts.items
+            → Contains (rules_for S.eq p root parent).requirements need
+            → Contains (cases_for S.eq p need) (case_of conjuncts.items)
+            → IsEncoding S.eq p root self.new
+            × IsDeferred self.new parent need (case_of conjuncts.items)) }
         ensures kept { OnOk result (Defers self.old self.new) }
         ensures built { OnOk result (IsBuilt self.new) }
     {
@@ -67,7 +74,8 @@ impl<N: Copy + Exact + Hash + Debug + Drop, S: Copy + Exact + Hash + Debug> Enco
     /// Whether the case at this place isn't a clause yet, and each of its version sets has a chosen match.
     pub fn is_due(&self, index: usize) -> bool
         requires { IsBuilt self.now }
-        ensures due { result ≡ true → (index < length self.now.deferred.items) × (Contains self.now.fired.keys index → ⊥) }
+        ensures due { result ≡ true
+            → (index < length self.now.deferred.items) × (Contains self.now.fired.keys index → ⊥) }
         ensures met { result ≡ true → IsMetNow self.now index }
         ensures spent { result ≡ false → IsSpent S.eq self.now index }
     {
@@ -82,8 +90,14 @@ impl<N: Copy + Exact + Hash + Debug + Drop, S: Copy + Exact + Hash + Debug> Enco
     /// Whether each version set has a chosen match.
     fn has_each(&self, conjuncts: &[DeferredConjunct<S>]) -> bool
         requires { IsBuilt self.now }
-        ensures chosen { result ≡ true → (c : DeferredConjunct S) → Contains conjuncts.now c → IsOneChosen self.now (candidates_of c) }
-        ensures missing { result ≡ false → (c : DeferredConjunct S) × Contains conjuncts.now c × (IsOneChosen self.now (candidates_of c) → ⊥) }
+        ensures chosen { result ≡ true
+            → (c : DeferredConjunct S)
+            → Contains conjuncts.now c
+            → IsOneChosen self.now (candidates_of c) }
+        ensures missing { result ≡ false
+            → (c : DeferredConjunct S)
+            × Contains conjuncts.now c
+            × (IsOneChosen self.now (candidates_of c) → ⊥) }
     {
         for conjunct in conjuncts {
             if !self.has_one(conjunct.candidates()) {
@@ -144,7 +158,17 @@ impl<N: Copy + Exact + Hash + Debug + Drop, S: Copy + Exact + Hash + Debug> Enco
         offered: &[Offered<N, S>],
     ) -> R<()>
         requires { IsBuilt self.old }
-        ensures encoded { OnOk result ((p : Packages N S) (root : Rules) → IsLawful p → IsEncoding S.eq p root self.old → AreSets S.eq p sets.now → AreOffered S.eq p need.requirement offered.now → IsGuarded S.eq p (rules_of self.old) need.requirement → Contains (rules_for S.eq p root parent).requirements need → Contains (cases_for S.eq p need) (sets_case sets.now) → IsEncoding S.eq p root self.new × IsNeedEncoded S.eq p (rules_of self.new) parent need (sets_case sets.now)) }
+        ensures encoded { OnOk result
+            ((p : Packages N S) (root : Rules)
+            → IsLawful p
+            → IsEncoding S.eq p root self.old
+            → AreSets S.eq p sets.now
+            → AreOffered S.eq p need.requirement offered.now
+            → IsGuarded S.eq p (rules_of self.old) need.requirement
+            → Contains (rules_for S.eq p root parent).requirements need
+            → Contains (cases_for S.eq p need) (sets_case sets.now)
+            → IsEncoding S.eq p root self.new
+            × IsNeedEncoded S.eq p (rules_of self.new) parent need (sets_case sets.now)) }
         ensures candidates { OnOk result (AddsCandidates need.requirement offered.now self.old self.new) }
         ensures kept { OnOk result (Extends self.old self.new) }
         ensures built { OnOk result (IsBuilt self.new) }
@@ -166,7 +190,14 @@ impl<N: Copy + Exact + Hash + Debug + Drop, S: Copy + Exact + Hash + Debug> Enco
     pub fn end_case(&mut self, index: usize) -> R<()>
         requires { index < length self.old.deferred.items }
         ensures fired { OnOk result (Fires index self.old self.new) }
-        ensures encoding { OnOk result ((p : Packages N S) (root : Rules) → IsEncoding S.eq p root self.old → ((d : Kept S) → slice_get self.old.deferred.items index ≡ Some d → IsNeedEncoded S.eq p (rules_of self.old) d.parent d.need (case_of d.conjuncts.items)) → IsEncoding S.eq p root self.new) }
+        ensures encoding { OnOk result
+            ((p : Packages N S) (root : Rules)
+            → IsEncoding S.eq p root self.old
+            → ((d : Kept S)
+            → slice_get self.old.deferred.items index ≡ Some d
+            → IsNeedEncoded S.eq p (rules_of self.old) d.parent d.need
+            (case_of d.conjuncts.items))
+            → IsEncoding S.eq p root self.new) }
         ensures built { OnOk result (IsBuilt self.old → IsBuilt self.new) }
     {
         add_key(&mut self.fired, index)?;
@@ -188,7 +219,12 @@ fn keeps_out<N, S: Copy + Exact + Hash + Debug>(
     sets: &[ConditionSet<N, S>],
     parent: Option<S>,
 ) -> bool
-    ensures { result ≡ true → (s : S) × (c : Set N S) × (parent ≡ Some s) × Contains sets.now c × Contains (offered_solvables c.outside.items) s }
+    ensures { result ≡ true
+        → (s : S)
+        × (c : Set N S)
+        × (parent ≡ Some s)
+        × Contains sets.now c
+        × Contains (offered_solvables c.outside.items) s }
 {
     match parent {
         None => false,

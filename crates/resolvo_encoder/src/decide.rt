@@ -53,7 +53,11 @@ impl<N: Copy + Exact + Hash + Debug + Drop, S: Copy + Exact + Hash + Debug> Enco
     /// Chooses the next candidate, or tells that none is left to choose.
     pub fn choose_next<C: ScoreMap<N>>(&mut self, scores: &C) -> R<bool>
         requires { IsBuilt self.old }
-        ensures stays { OnOk result ((p : Packages N S) (root : Rules) → IsLawful p → IsEncoding S.eq p root self.old → IsEncoding S.eq p root self.new) }
+        ensures stays { OnOk result
+            ((p : Packages N S) (root : Rules)
+            → IsLawful p
+            → IsEncoding S.eq p root self.old
+            → IsEncoding S.eq p root self.new) }
         ensures goes_on { OnOk result (GoesOn self.old self.new) }
         ensures built { OnOk result (IsBuilt self.new) }
         ensures first { OnOk result (KeepsFirst self.old self.new) }
@@ -71,10 +75,14 @@ impl<N: Copy + Exact + Hash + Debug + Drop, S: Copy + Exact + Hash + Debug> Enco
     /// Takes what was chosen since the turn began away, and what follows from it.
     pub fn undo_turn(&mut self)
         requires { IsBuilt self.old }
-        ensures stays { (p : Packages N S) (root : Rules) → IsLawful p → IsEncoding S.eq p root self.old → IsEncoding S.eq p root self.new }
+        ensures stays { (p : Packages N S) (root : Rules)
+            → IsLawful p
+            → IsEncoding S.eq p root self.old
+            → IsEncoding S.eq p root self.new }
         ensures goes_on { GoesOn self.old self.new }
         ensures built { IsBuilt self.new }
-        ensures undone { Undoes (max (self.old.coding.search.base_level - 1) 1) self.old.coding.search self.new.coding.search }
+        ensures undone { Undoes (max (self.old.coding.search.base_level - 1) 1) self.old.coding.search
+            self.new.coding.search }
         ensures turn { KeepsTurns self.old self.new }
     {
         let level = self.coding.search.base_level.saturating_sub(1);
@@ -85,7 +93,11 @@ impl<N: Copy + Exact + Hash + Debug + Drop, S: Copy + Exact + Hash + Debug> Enco
     /// Sets what follows; then learns where a clause is broken, and chooses where none is.
     pub fn step<C: ScoreMap<N>>(&mut self, alloc: Global, scores: &C) -> R<Step>
         requires { IsBuilt self.old }
-        ensures stays { OnOk result ((p : Packages N S) (root : Rules) → IsLawful p → IsEncoding S.eq p root self.old → IsEncoding S.eq p root self.new) }
+        ensures stays { OnOk result
+            ((p : Packages N S) (root : Rules)
+            → IsLawful p
+            → IsEncoding S.eq p root self.old
+            → IsEncoding S.eq p root self.new) }
         ensures goes_on { OnOk result (GoesOn self.old self.new) }
         ensures built { OnOk result (IsBuilt self.new) }
         ensures first { OnOk result (KeepsFirst self.old self.new) }

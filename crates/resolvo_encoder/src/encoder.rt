@@ -160,7 +160,8 @@ impl<N: Copy + Exact + Hash + Debug + Drop, S: Copy + Exact + Hash + Debug> Enco
     /// Nothing but the root, whose needs are to be encoded.
     pub fn begin(alloc: Global) -> R<Encoder<N, S>>
         ensures begun { IfOk result IsBegunEncoding }
-        ensures encoding { IfOk result (λ e. (p : Packages N S) (root : Rules) → IsLawful p → IsEncoding S.eq p root e) }
+        ensures encoding { IfOk result
+            (λ e. (p : Packages N S) (root : Rules) → IsLawful p → IsEncoding S.eq p root e) }
         ensures built { IfOk result IsBuilt }
     {
         let mut parents = IndexSet::new(alloc);
@@ -181,7 +182,15 @@ impl<N: Copy + Exact + Hash + Debug + Drop, S: Copy + Exact + Hash + Debug> Enco
         offered: &[Offered<N, S>],
     ) -> R<()>
         requires { IsBuilt self.old }
-        ensures encoded { OnOk result ((p : Packages N S) (root : Rules) → IsLawful p → IsEncoding S.eq p root self.old → AreOffered S.eq p need.requirement offered.now → IsGuarded S.eq p (rules_of self.old) need.requirement → Needs S.eq p root parent need → IsEncoding S.eq p root self.new × IsNeedEncoded S.eq p (rules_of self.new) parent need []) }
+        ensures encoded { OnOk result
+            ((p : Packages N S) (root : Rules)
+            → IsLawful p
+            → IsEncoding S.eq p root self.old
+            → AreOffered S.eq p need.requirement offered.now
+            → IsGuarded S.eq p (rules_of self.old) need.requirement
+            → Needs S.eq p root parent need
+            → IsEncoding S.eq p root self.new
+            × IsNeedEncoded S.eq p (rules_of self.new) parent need []) }
         ensures candidates { OnOk result (AddsCandidates need.requirement offered.now self.old self.new) }
         ensures kept { OnOk result (Extends self.old self.new) }
         ensures built { OnOk result (IsBuilt self.new) }
@@ -208,7 +217,15 @@ impl<N: Copy + Exact + Hash + Debug + Drop, S: Copy + Exact + Hash + Debug> Enco
         count: usize,
     ) -> R<()>
         requires { IsBuilt self.old }
-        ensures encoded { OnOk result ((p : Packages N S) (root : Rules) → IsLawful p → IsEncoding S.eq p root self.old → has_candidates self.old.lists need.requirement ≡ true → IsGuarded S.eq p (rules_of self.old) need.requirement → Needs S.eq p root (Some solvable) need → IsEncoding S.eq p root self.new × IsNeedEncoded S.eq p (rules_of self.new) (Some solvable) need []) }
+        ensures encoded { OnOk result
+            ((p : Packages N S) (root : Rules)
+            → IsLawful p
+            → IsEncoding S.eq p root self.old
+            → has_candidates self.old.lists need.requirement ≡ true
+            → IsGuarded S.eq p (rules_of self.old) need.requirement
+            → Needs S.eq p root (Some solvable) need
+            → IsEncoding S.eq p root self.new
+            × IsNeedEncoded S.eq p (rules_of self.new) (Some solvable) need []) }
         ensures lists { OnOk result (self.new.lists ≡ self.old.lists) }
         ensures kept { OnOk result (Extends self.old self.new) }
         ensures built { OnOk result (IsBuilt self.new) }
@@ -274,7 +291,10 @@ impl<N: Copy + Exact + Hash + Debug + Drop, S: Copy + Exact + Hash + Debug> Enco
     ) -> R<()>
         requires coding { IsCoding self.old.coding }
         requires rule { IsSome (rule_of stated) }
-        requires in_range { AreInRange (count_of self.old.coding.search) (no variable ∷ (condition_in self.old.lists condition ++ candidate_literals (candidates_in self.old.lists requirement))) }
+        requires in_range { AreInRange (count_of self.old.coding.search)
+            (no variable
+            ∷ (condition_in self.old.lists condition ++ candidate_literals
+            (candidates_in self.old.lists requirement))) }
         ensures stated { OnOk result (StatesNeed stated variable condition requirement self.old self.new) }
     {
         let literals = self.literals_of(alloc, variable, condition, requirement)?;
@@ -292,7 +312,14 @@ impl<N: Copy + Exact + Hash + Debug + Drop, S: Copy + Exact + Hash + Debug> Enco
     /// The variable of the gate of a requirement that some solvable asks for, with its clause.
     fn gate(&mut self, alloc: Global, requirement: Requirement) -> R<VariableId>
         requires { IsBuilt self.old }
-        ensures encoded { OnOk result ((p : Packages N S) (root : Rules) → IsLawful p → IsEncoding S.eq p root self.old → has_candidates self.old.lists requirement ≡ true → IsGuarded S.eq p (rules_of self.old) requirement → IsRule S.eq p root (Rule.shared requirement) → IsEncoding S.eq p root self.new × rules_of self.new (Rule.shared requirement)) }
+        ensures encoded { OnOk result
+            ((p : Packages N S) (root : Rules)
+            → IsLawful p
+            → IsEncoding S.eq p root self.old
+            → has_candidates self.old.lists requirement ≡ true
+            → IsGuarded S.eq p (rules_of self.old) requirement
+            → IsRule S.eq p root (Rule.shared requirement)
+            → IsEncoding S.eq p root self.new × rules_of self.new (Rule.shared requirement)) }
         ensures stands { IfOk result (λ gate. StandsFor self.new.coding.atoms.keys gate (Gate requirement)) }
         ensures lists { OnOk result (self.new.lists ≡ self.old.lists) }
         ensures kept { OnOk result (Extends self.old self.new) }
@@ -348,7 +375,11 @@ impl<N: Copy + Exact + Hash + Debug + Drop, S: Copy + Exact + Hash + Debug> Enco
         requirement: Requirement,
     ) -> R<Vec<Literal>>
         requires { variable.0 < 2147483648 }
-        ensures literals { IfOk result (λ v. v.items ≡ no variable ∷ (condition_in self.now.lists condition ++ candidate_literals (candidates_in self.now.lists requirement))) }
+        ensures literals { IfOk result
+            (λ v.
+            v.items ≡ no variable
+            ∷ (condition_in self.now.lists condition ++ candidate_literals
+            (candidates_in self.now.lists requirement))) }
     {
         let mut literals = Vec::new(alloc);
         literals.push(Literal::new(variable, true))?;
@@ -372,7 +403,10 @@ impl<N: Copy + Exact + Hash + Debug + Drop, S: Copy + Exact + Hash + Debug> Enco
     /// Lets the needs of a solvable be encoded in their turn, unless they were or will be.
     pub fn add_parent(&mut self, solvable: S) -> R<()>
         ensures added { OnOk result (AddsParent self.old self.new) }
-        ensures encoding { OnOk result ((p : Packages N S) (root : Rules) → IsEncoding S.eq p root self.old → IsEncoding S.eq p root self.new) }
+        ensures encoding { OnOk result
+            ((p : Packages N S) (root : Rules)
+            → IsEncoding S.eq p root self.old
+            → IsEncoding S.eq p root self.new) }
         ensures built { OnOk result (IsBuilt self.old → IsBuilt self.new) }
         ensures stands { OnOk result (Contains self.new.parents.keys (Parent solvable)) }
     {
@@ -384,7 +418,10 @@ impl<N: Copy + Exact + Hash + Debug + Drop, S: Copy + Exact + Hash + Debug> Enco
     pub fn end_parent(&mut self)
         requires { self.old.encoded < length self.old.parents.keys }
         ensures next { self.new ≡ record self.old { encoded = self.old.encoded + 1 } }
-        ensures encoding { (p : Packages N S) (root : Rules) → IsEncoding S.eq p root self.old → IsNextEncoded S.eq p root self.old → IsEncoding S.eq p root self.new }
+        ensures encoding { (p : Packages N S) (root : Rules)
+            → IsEncoding S.eq p root self.old
+            → IsNextEncoded S.eq p root self.old
+            → IsEncoding S.eq p root self.new }
         ensures built { IsBuilt self.old → IsBuilt self.new }
         ensures bounded { self.old.encoded < 18446744073709551615 }
     {
@@ -407,8 +444,12 @@ pub(crate) fn push_candidates<N>(candidates: &[Candidate<N>], literals: &mut Vec
 /// Puts a value behind the others, unless it stands there.
 pub fn add_key<K: Copy + Eq + Hash + Drop>(keys: &mut IndexSet<K>, key: K) -> R<()>
     ensures front { OnOk result (IsFrontOf keys.old.keys keys.new.keys) }
-    ensures stands { OnOk result (((other : K) → K.eq key other ≡ true → other ≡ key) → Contains keys.new.keys key) }
-    ensures only { OnOk result ((other : K) → Contains keys.new.keys other → Contains keys.old.keys other ⊎ (other ≡ key)) }
+    ensures stands { OnOk result
+        (((other : K) → K.eq key other ≡ true → other ≡ key) → Contains keys.new.keys key) }
+    ensures only { OnOk result
+        ((other : K)
+        → Contains keys.new.keys other
+        → Contains keys.old.keys other ⊎ (other ≡ key)) }
     ensures added { OnOk result (keys.new.keys ≡ insert_key K.eq keys.old.keys key) }
 {
     keys.insert(key)?;

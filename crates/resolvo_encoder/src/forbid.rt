@@ -37,7 +37,13 @@ impl<N: Copy + Exact + Hash + Debug + Drop, S: Copy + Exact + Hash + Debug> Enco
     /// States what locks and exclusions keep out of a package.
     pub fn bar(&mut self, alloc: Global, name: N, barred: &[Barred<S>]) -> R<()>
         requires { IsBuilt self.old }
-        ensures encoded { OnOk result ((p : Packages N S) (root : Rules) → IsLawful p → IsEncoding S.eq p root self.old → AreBarred S.eq p name barred.now → IsEncoding S.eq p root self.new × ((s : S) → IsBarredIn S.eq p name s → HasBar (rules_of self.new) s)) }
+        ensures encoded { OnOk result
+            ((p : Packages N S) (root : Rules)
+            → IsLawful p
+            → IsEncoding S.eq p root self.old
+            → AreBarred S.eq p name barred.now
+            → IsEncoding S.eq p root self.new
+            × ((s : S) → IsBarredIn S.eq p name s → HasBar (rules_of self.new) s)) }
         ensures lists { OnOk result (self.new.lists ≡ self.old.lists) }
         ensures kept { OnOk result (Extends self.old self.new) }
         ensures built { OnOk result (IsBuilt self.new) }
@@ -66,7 +72,14 @@ impl<N: Copy + Exact + Hash + Debug + Drop, S: Copy + Exact + Hash + Debug> Enco
         outside: &[Offered<N, S>],
     ) -> R<()>
         requires { IsBuilt self.old }
-        ensures encoded { OnOk result ((p : Packages N S) (root : Rules) → IsLawful p → IsEncoding S.eq p root self.old → AreOutside S.eq p version_set outside.now → Contains (rules_for S.eq p root parent).constraints version_set → IsEncoding S.eq p root self.new × IsLimitEncoded S.eq p (rules_of self.new) parent version_set) }
+        ensures encoded { OnOk result
+            ((p : Packages N S) (root : Rules)
+            → IsLawful p
+            → IsEncoding S.eq p root self.old
+            → AreOutside S.eq p version_set outside.now
+            → Contains (rules_for S.eq p root parent).constraints version_set
+            → IsEncoding S.eq p root self.new
+            × IsLimitEncoded S.eq p (rules_of self.new) parent version_set) }
         ensures lists { OnOk result (self.new.lists ≡ self.old.lists) }
         ensures kept { OnOk result (Extends self.old self.new) }
         ensures built { OnOk result (IsBuilt self.new) }
@@ -88,7 +101,17 @@ impl<N: Copy + Exact + Hash + Debug + Drop, S: Copy + Exact + Hash + Debug> Enco
         outside: &[Offered<N, S>],
     ) -> R<()>
         requires { IsBuilt self.old }
-        ensures encoded { OnOk result ((p : Packages N S) (root : Rules) → IsLawful p → IsEncoding S.eq p root self.old → AreOutside S.eq p version_set outside.now → (parent : Option S) → Contains (rules_for S.eq p root parent).constraints version_set → IsEncoding S.eq p root self.new × ((s : S) → is_outside S.eq p version_set s ≡ true → rules_of self.new (Rule.is_out version_set s))) }
+        ensures encoded { OnOk result
+            ((p : Packages N S) (root : Rules)
+            → IsLawful p
+            → IsEncoding S.eq p root self.old
+            → AreOutside S.eq p version_set outside.now
+            → (parent : Option S)
+            → Contains (rules_for S.eq p root parent).constraints version_set
+            → IsEncoding S.eq p root self.new
+            × ((s : S)
+            → is_outside S.eq p version_set s ≡ true
+            → rules_of self.new (Rule.is_out version_set s))) }
         ensures lists { OnOk result (self.new.lists ≡ self.old.lists) }
         ensures kept { OnOk result (Extends self.old self.new) }
         ensures built { OnOk result (IsBuilt self.new) }
@@ -149,7 +172,10 @@ impl<N: Copy + Exact + Hash + Debug + Drop, S: Copy + Exact + Hash + Debug> Enco
     fn deny(&mut self, alloc: Global, solvable: S, stated: Stated<N, S>) -> R<()>
         requires built { IsBuilt self.old }
         requires rule { IsSome (rule_of stated) }
-        ensures { OnOk result ((w : Bar S) → rule_of stated ≡ Some (Rule.bars w solvable) → Tells S.eq (Rule.bars w solvable ∷ []) self.old self.new) }
+        ensures { OnOk result
+            ((w : Bar S)
+            → rule_of stated ≡ Some (Rule.bars w solvable)
+            → Tells S.eq (Rule.bars w solvable ∷ []) self.old self.new) }
     {
         let variable = self.give(ProofAtom::Solvable(solvable))?;
         self.state_pair(alloc, stated, variable, Literal::new(variable, true))?;

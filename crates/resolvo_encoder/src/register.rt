@@ -78,7 +78,8 @@ fn register_all<N: Copy + Exact + Hash + Debug, S: Copy + Exact + Hash + Debug>(
 ) -> R<Vec<Candidate<N>>>
     requires coding { IsCoding coding.old }
     requires tied { AreTied registry.old coding.old }
-    ensures registered { IfOk result (λ v. RegistersAll offered.now v.items registry.old coding.old registry.new coding.new) }
+    ensures registered { IfOk result
+        (λ v. RegistersAll offered.now v.items registry.old coding.old registry.new coding.new) }
 {
     let mut candidates = Vec::new(alloc);
     for one in offered {

@@ -27,7 +27,10 @@ impl<N: Copy + Exact + Hash + Debug + Drop, S: Copy + Exact + Hash + Debug> Enco
     pub fn begin_turn(&mut self)
         requires { IsBuilt self.old }
         ensures begun { self.new ≡ turn_of self.old }
-        ensures stays { (p : Packages N S) (root : Rules) → IsLawful p → IsEncoding S.eq p root self.old → IsEncoding S.eq p root self.new }
+        ensures stays { (p : Packages N S) (root : Rules)
+            → IsLawful p
+            → IsEncoding S.eq p root self.old
+            → IsEncoding S.eq p root self.new }
         ensures built { IsBuilt self.new }
     {
         let level = self.coding.search.top_level() + 1;
@@ -38,7 +41,11 @@ impl<N: Copy + Exact + Hash + Debug + Drop, S: Copy + Exact + Hash + Debug> Enco
     pub fn assume_soft(&mut self, alloc: Global, variable: VariableId) -> R<Option<FinalConflict>>
         requires built { IsBuilt self.old }
         requires turn { HasTurn (Some variable) self.old }
-        ensures stays { OnOk result ((p : Packages N S) (root : Rules) → IsLawful p → IsEncoding S.eq p root self.old → IsEncoding S.eq p root self.new) }
+        ensures stays { OnOk result
+            ((p : Packages N S) (root : Rules)
+            → IsLawful p
+            → IsEncoding S.eq p root self.old
+            → IsEncoding S.eq p root self.new) }
         ensures goes_on { OnOk result (GoesOn self.old self.new) }
         ensures built { OnOk result (IsBuilt self.new) }
         ensures turn { OnOk result (KeepsTurn (Some variable) self.old self.new) }
@@ -57,7 +64,11 @@ impl<N: Copy + Exact + Hash + Debug + Drop, S: Copy + Exact + Hash + Debug> Enco
         requires built { IsBuilt self.old }
         requires above { top_level (history self.old.coding.search) < self.old.coding.search.base_level }
         requires turn { HasTurn (Some variable) self.old }
-        ensures stays { OnOk result ((p : Packages N S) (root : Rules) → IsLawful p → IsEncoding S.eq p root self.old → IsEncoding S.eq p root self.new) }
+        ensures stays { OnOk result
+            ((p : Packages N S) (root : Rules)
+            → IsLawful p
+            → IsEncoding S.eq p root self.old
+            → IsEncoding S.eq p root self.new) }
         ensures goes_on { OnOk result (GoesOn self.old self.new) }
         ensures built { OnOk result (IsBuilt self.new) }
         ensures turn { OnOk result (KeepsTurn (Some variable) self.old self.new) }
@@ -75,11 +86,18 @@ impl<N: Copy + Exact + Hash + Debug + Drop, S: Copy + Exact + Hash + Debug> Enco
         requires built { IsBuilt self.old }
         requires some { 0 < length refusal.literals.items }
         requires bar { IsBar self.old.coding.search refusal.literals.items refusal.causes.items }
-        ensures stays { OnOk result ((p : Packages N S) (root : Rules) → IsLawful p → IsEncoding S.eq p root self.old → IsEncoding S.eq p root self.new) }
+        ensures stays { OnOk result
+            ((p : Packages N S) (root : Rules)
+            → IsLawful p
+            → IsEncoding S.eq p root self.old
+            → IsEncoding S.eq p root self.new) }
         ensures goes_on { OnOk result (GoesOn self.old self.new) }
         ensures built { OnOk result (IsBuilt self.new) }
         ensures turn { OnOk result (KeepsTurns self.old self.new) }
-        ensures barred { IfOk result (λ id. Bars refusal.literals.items refusal.causes.items id self.old.coding self.new.coding) }
+        ensures barred { IfOk result
+            (λ id.
+            Bars refusal.literals.items refusal.causes.items id self.old.coding
+            self.new.coding) }
     {
         let clause = self.coding.bar(refusal)?;
         Ok(clause)

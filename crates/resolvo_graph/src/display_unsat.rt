@@ -39,7 +39,10 @@ impl<'a, I: Interner> DisplayUnsat<'a, I> {
         graph: &ConflictGraph<I::SolvableId>,
         interner: &'a I,
     ) -> R<DisplayUnsat<'a, I>>
-        ensures lines { IfOk result (λ d. IsMessage I.NameId.eq I.SolvableId.eq (I.name_of_solvable interner.now) graph.now d.lines.items) }
+        ensures lines { IfOk result
+            (λ d.
+            IsMessage I.NameId.eq I.SolvableId.eq (I.name_of_solvable interner.now) graph.now
+            d.lines.items) }
         ensures interner { IfOk result (λ d. d.interner.now ≡ interner.now) }
     {
         let lines = message_lines(alloc, graph, interner)?;
@@ -48,7 +51,12 @@ impl<'a, I: Interner> DisplayUnsat<'a, I> {
 }
 
 impl<I: Interner> fmt::Display for DisplayUnsat<'_, I> {
-    ghost output = { λ d. Some (text_of (record { name_of = I.name_of_version_set d.interner.now; members_of = I.members_of d.interner.now; name_text = I.name_text d.interner.now; version_set_text = I.version_set_text d.interner.now; versions_text = I.merged_text d.interner.now; word_text = I.string_text d.interner.now }) d.lines.items) };
+    ghost output = { λ d.
+        Some
+        (text_of
+        (record
+        { name_of = I.name_of_version_set d.interner.now; members_of = I.members_of d.interner.now; name_text = I.name_text d.interner.now; version_set_text = I.version_set_text d.interner.now; versions_text = I.merged_text d.interner.now; word_text = I.string_text d.interner.now })
+        d.lines.items) };
 
     fn fmt<W: fmt::Write>(&self, f: &mut fmt::Formatter<W>) -> fmt::Result {
         for line in &self.lines {
@@ -68,7 +76,8 @@ fn message_lines<S: SolverId, I: Interner<SolvableId = S>>(
     graph: &ConflictGraph<S>,
     interner: &I,
 ) -> R<Vec<MessageLine<S>>>
-    ensures { IfOk result (λ v. IsMessage I.NameId.eq S.eq (I.name_of_solvable interner.now) graph.now v.items) }
+    ensures { IfOk result
+        (λ v. IsMessage I.NameId.eq S.eq (I.name_of_solvable interner.now) graph.now v.items) }
 {
     let order = post_order(alloc, graph)?;
     let merged = graph.simplify(alloc, interner)?;
@@ -82,7 +91,10 @@ fn lines_along<S: Copy + Exact + Hash + Debug>(
     order: &[NodeIndex],
     merged: HashMap<S, Rc<MergedConflictNode<S>>>,
 ) -> R<Vec<MessageLine<S>>>
-    ensures { IfOk result (λ v. AreParts (findings S.eq graph.now (installable_in graph.now order.now) merged) (missing_in graph.now order.now) (edges_of graph.now (record { 0 = 0 })) v.items) }
+    ensures { IfOk result
+        (λ v.
+        AreParts (findings S.eq graph.now (installable_in graph.now order.now) merged)
+        (missing_in graph.now order.now) (edges_of graph.now (record { 0 = 0 })) v.items) }
 {
     let findings = Findings {
         graph,
@@ -95,7 +107,12 @@ fn lines_along<S: Copy + Exact + Hash + Debug>(
 impl<S: Copy + Exact + Hash + Debug> Findings<'_, S> {
     /// The lines of the message along a walk.
     fn message_along(&self, alloc: Global, order: &[NodeIndex]) -> R<Vec<MessageLine<S>>>
-        ensures { IfOk result (λ v. AreParts (findings S.eq self.now.graph.now self.now.installable.keys self.now.merged) (missing_in self.now.graph.now order.now) (edges_of self.now.graph.now (record { 0 = 0 })) v.items) }
+        ensures { IfOk result
+            (λ v.
+            AreParts
+            (findings S.eq self.now.graph.now self.now.installable.keys self.now.merged)
+            (missing_in self.now.graph.now order.now)
+            (edges_of self.now.graph.now (record { 0 = 0 })) v.items) }
     {
         let missing = missing(alloc, self.graph, order)?;
         self.message(alloc, &missing)
@@ -103,7 +120,11 @@ impl<S: Copy + Exact + Hash + Debug> Findings<'_, S> {
 
     /// The lines of the message, where these nodes miss a candidate.
     fn message(&self, alloc: Global, missing: &IndexSet<NodeIndex>) -> R<Vec<MessageLine<S>>>
-        ensures { IfOk result (λ v. AreParts (findings S.eq self.now.graph.now self.now.installable.keys self.now.merged) missing.now.keys (edges_of self.now.graph.now (record { 0 = 0 })) v.items) }
+        ensures { IfOk result
+            (λ v.
+            AreParts
+            (findings S.eq self.now.graph.now self.now.installable.keys self.now.merged)
+            missing.now.keys (edges_of self.now.graph.now (record { 0 = 0 })) v.items) }
     {
         let edges = self.graph.edges(alloc, self.graph.root_node())?;
         let without = missing_edges(alloc, &edges, missing)?;
@@ -122,7 +143,11 @@ impl<S: Copy + Exact + Hash + Debug> Findings<'_, S> {
         others: &[Edge<S>],
         edges: &[Edge<S>],
     ) -> R<Vec<MessageLine<S>>>
-        ensures { IfOk result (λ v. IsSecondPart (findings S.eq self.now.graph.now self.now.installable.keys self.now.merged) others.now edges.now v.items) }
+        ensures { IfOk result
+            (λ v.
+            IsSecondPart
+            (findings S.eq self.now.graph.now self.now.installable.keys self.now.merged)
+            others.now edges.now v.items) }
     {
         let mut lines = Vec::new(alloc);
         if others.is_empty() {

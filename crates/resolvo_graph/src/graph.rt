@@ -146,7 +146,10 @@ impl<S: Eq + Hash> Model for ConflictGraph<S> {
 
     ghost view = { λ g. record { nodes = g.nodes.keys; edges = edges_in g.edges.items } };
 
-    ghost invariant = { λ g. (slice_get g.nodes.keys 0 ≡ Some Root) × All (IsWithin g.nodes.keys) (edges_in g.edges.items) × AreLinked g.newest.items g.edges.items };
+    ghost invariant = { λ g.
+        (slice_get g.nodes.keys 0 ≡ Some Root)
+        × All (IsWithin g.nodes.keys) (edges_in g.edges.items)
+        × AreLinked g.newest.items g.edges.items };
 }
 
 impl<S: Copy + Exact + Hash> ConflictGraph<S> {
@@ -166,8 +169,12 @@ impl<S: Copy + Exact + Hash> ConflictGraph<S> {
 
     /// Adds a node behind the others, unless an equal one is there, and answers its index.
     pub fn add_node(&mut self, node: ConflictNode<S>) -> R<NodeIndex>
-        ensures index { IfOk result (λ i. i.0 ≡ position_or_len (⟦<ConflictNode<S> as PartialEq>⟧.eq node) self.old.nodes) }
-        ensures put { OnOk result (self.new ≡ record self.old { nodes = insert_key ⟦<ConflictNode<S> as PartialEq>⟧.eq self.old.nodes node }) }
+        ensures index { IfOk result
+            (λ i. i.0 ≡ position_or_len (⟦<ConflictNode<S> as PartialEq>⟧.eq node) self.old.nodes) }
+        ensures put { OnOk result
+            (self.new
+            ≡ record self.old
+            { nodes = insert_key ⟦<ConflictNode<S> as PartialEq>⟧.eq self.old.nodes node }) }
         ensures err { OnErr result (self.new ≡ self.old) }
         ensures refusal { IsOkUnless result Memory }
     {
@@ -192,7 +199,10 @@ impl<S: Copy + Exact + Hash> ConflictGraph<S> {
         requires source { source.0 < length self.old.nodes }
         requires target { target.0 < length self.old.nodes }
         ensures index { IfOk result (λ i. i.0 ≡ length self.old.edges) }
-        ensures put { OnOk result (self.new ≡ record self.old { edges = self.old.edges ++ record { source = source; target = target; weight = weight } ∷ [] }) }
+        ensures put { OnOk result
+            (self.new
+            ≡ record self.old
+            { edges = self.old.edges ++ record { source = source; target = target; weight = weight } ∷ [] }) }
         ensures err { OnErr result (self.new ≡ self.old) }
         ensures refusal { IsOkUnless result Memory }
     {

@@ -150,7 +150,12 @@ pub(crate) struct DisplayLine<'a, I: Interner> {
 }
 
 impl<I: Interner> fmt::Display for DisplayLine<'_, I> {
-    ghost output = { λ d. Some (line_text (record { name_of = I.name_of_version_set d.interner.now; members_of = I.members_of d.interner.now; name_text = I.name_text d.interner.now; version_set_text = I.version_set_text d.interner.now; versions_text = I.merged_text d.interner.now; word_text = I.string_text d.interner.now }) d.line.now) };
+    ghost output = { λ d.
+        Some
+        (line_text
+        (record
+        { name_of = I.name_of_version_set d.interner.now; members_of = I.members_of d.interner.now; name_text = I.name_text d.interner.now; version_set_text = I.version_set_text d.interner.now; versions_text = I.merged_text d.interner.now; word_text = I.string_text d.interner.now })
+        d.line.now) };
 
     fn fmt<W: fmt::Write>(&self, f: &mut fmt::Formatter<W>) -> fmt::Result {
         let indent = &self.line.indenter;
@@ -163,7 +168,12 @@ impl<I: Interner> fmt::Display for DisplayLine<'_, I> {
 impl<I: Interner> DisplayLine<'_, I> {
     /// Writes what the line says.
     fn write_sentence<W: fmt::Write>(&self, f: &mut fmt::Formatter<W>) -> fmt::Result
-        ensures { WritesOnOk W.write_str_gives f.old result (sentence_words (record { name_of = I.name_of_version_set self.now.interner.now; members_of = I.members_of self.now.interner.now; name_text = I.name_text self.now.interner.now; version_set_text = I.version_set_text self.now.interner.now; versions_text = I.merged_text self.now.interner.now; word_text = I.string_text self.now.interner.now }) (length self.now.line.now.indenter.levels == 1) self.now.line.now.sentence) f.new }
+        ensures { WritesOnOk W.write_str_gives f.old result
+            (sentence_words
+            (record
+            { name_of = I.name_of_version_set self.now.interner.now; members_of = I.members_of self.now.interner.now; name_text = I.name_text self.now.interner.now; version_set_text = I.version_set_text self.now.interner.now; versions_text = I.merged_text self.now.interner.now; word_text = I.string_text self.now.interner.now })
+            (length self.now.line.now.indenter.levels == 1) self.now.line.now.sentence)
+            f.new }
     {
         match &self.line.sentence {
             Sentence::Incompatible => f.write_str("The following packages are incompatible"),
@@ -182,7 +192,12 @@ impl<I: Interner> DisplayLine<'_, I> {
         version_set: VersionSetId,
         f: &mut fmt::Formatter<W>,
     ) -> fmt::Result
-        ensures { WritesOnOk W.write_str_gives f.old result (admitted_words (record { name_of = I.name_of_version_set self.now.interner.now; members_of = I.members_of self.now.interner.now; name_text = I.name_text self.now.interner.now; version_set_text = I.version_set_text self.now.interner.now; versions_text = I.merged_text self.now.interner.now; word_text = I.string_text self.now.interner.now }) version_set) f.new }
+        ensures { WritesOnOk W.write_str_gives f.old result
+            (admitted_words
+            (record
+            { name_of = I.name_of_version_set self.now.interner.now; members_of = I.members_of self.now.interner.now; name_text = I.name_text self.now.interner.now; version_set_text = I.version_set_text self.now.interner.now; versions_text = I.merged_text self.now.interner.now; word_text = I.string_text self.now.interner.now })
+            version_set)
+            f.new }
     {
         self.write_set(version_set, f)?;
         f.write_str(", which conflicts with any installable versions previously reported")
@@ -194,7 +209,12 @@ impl<I: Interner> DisplayLine<'_, I> {
         version_set: VersionSetId,
         f: &mut fmt::Formatter<W>,
     ) -> fmt::Result
-        ensures { WritesOnOk W.write_str_gives f.old result (constraint_words (record { name_of = I.name_of_version_set self.now.interner.now; members_of = I.members_of self.now.interner.now; name_text = I.name_text self.now.interner.now; version_set_text = I.version_set_text self.now.interner.now; versions_text = I.merged_text self.now.interner.now; word_text = I.string_text self.now.interner.now }) version_set) f.new }
+        ensures { WritesOnOk W.write_str_gives f.old result
+            (constraint_words
+            (record
+            { name_of = I.name_of_version_set self.now.interner.now; members_of = I.members_of self.now.interner.now; name_text = I.name_text self.now.interner.now; version_set_text = I.version_set_text self.now.interner.now; versions_text = I.merged_text self.now.interner.now; word_text = I.string_text self.now.interner.now })
+            version_set)
+            f.new }
     {
         f.write_str("the constraint ")?;
         self.write_set(version_set, f)?;
@@ -208,7 +228,12 @@ impl<I: Interner> DisplayLine<'_, I> {
         outlook: Outlook,
         f: &mut fmt::Formatter<W>,
     ) -> fmt::Result
-        ensures { WritesOnOk W.write_str_gives f.old result (requirement_words (record { name_of = I.name_of_version_set self.now.interner.now; members_of = I.members_of self.now.interner.now; name_text = I.name_text self.now.interner.now; version_set_text = I.version_set_text self.now.interner.now; versions_text = I.merged_text self.now.interner.now; word_text = I.string_text self.now.interner.now }) (length self.now.line.now.indenter.levels == 1) requirement outlook) f.new }
+        ensures { WritesOnOk W.write_str_gives f.old result
+            (requirement_words
+            (record
+            { name_of = I.name_of_version_set self.now.interner.now; members_of = I.members_of self.now.interner.now; name_text = I.name_text self.now.interner.now; version_set_text = I.version_set_text self.now.interner.now; versions_text = I.merged_text self.now.interner.now; word_text = I.string_text self.now.interner.now })
+            (length self.now.line.now.indenter.levels == 1) requirement outlook)
+            f.new }
     {
         let top = self.line.indenter.is_at_top_level();
         let shown = DisplayRequirement {
@@ -227,7 +252,12 @@ impl<I: Interner> DisplayLine<'_, I> {
         verdict: Verdict,
         f: &mut fmt::Formatter<W>,
     ) -> fmt::Result
-        ensures { WritesOnOk W.write_str_gives f.old result (versions_words (record { name_of = I.name_of_version_set self.now.interner.now; members_of = I.members_of self.now.interner.now; name_text = I.name_text self.now.interner.now; version_set_text = I.version_set_text self.now.interner.now; versions_text = I.merged_text self.now.interner.now; word_text = I.string_text self.now.interner.now }) versions.now verdict) f.new }
+        ensures { WritesOnOk W.write_str_gives f.old result
+            (versions_words
+            (record
+            { name_of = I.name_of_version_set self.now.interner.now; members_of = I.members_of self.now.interner.now; name_text = I.name_text self.now.interner.now; version_set_text = I.version_set_text self.now.interner.now; versions_text = I.merged_text self.now.interner.now; word_text = I.string_text self.now.interner.now })
+            versions.now verdict)
+            f.new }
     {
         self.interner.display_merged_solvables(versions.ids(), f)?;
         f.write_str(verdict.words())?;
@@ -243,7 +273,12 @@ impl<I: Interner> DisplayLine<'_, I> {
         version_set: VersionSetId,
         f: &mut fmt::Formatter<W>,
     ) -> fmt::Result
-        ensures { WritesOnOk W.write_str_gives f.old result (set_words (record { name_of = I.name_of_version_set self.now.interner.now; members_of = I.members_of self.now.interner.now; name_text = I.name_text self.now.interner.now; version_set_text = I.version_set_text self.now.interner.now; versions_text = I.merged_text self.now.interner.now; word_text = I.string_text self.now.interner.now }) version_set) f.new }
+        ensures { WritesOnOk W.write_str_gives f.old result
+            (set_words
+            (record
+            { name_of = I.name_of_version_set self.now.interner.now; members_of = I.members_of self.now.interner.now; name_text = I.name_text self.now.interner.now; version_set_text = I.version_set_text self.now.interner.now; versions_text = I.merged_text self.now.interner.now; word_text = I.string_text self.now.interner.now })
+            version_set)
+            f.new }
     {
         let name = self.interner.version_set_name(version_set);
         self.interner.display_name(name, f)?;

@@ -74,7 +74,8 @@ pub(crate) fn newest_on(newest: &[Links], node: NodeIndex, side: Side) -> Option
 pub(crate) fn newest_at_ends<S: Copy>(newest: &[Links], edge: Edge<S>) -> Links
     requires source { edge.source.0 < length newest.now }
     requires target { edge.target.0 < length newest.now }
-    ensures { (side : Side) → link_on side result ≡ link_on side (links_of newest.now (end_on side edge).0) }
+    ensures { (side : Side)
+        → link_on side result ≡ link_on side (links_of newest.now (end_on side edge).0) }
 {
     Links {
         leaving: newest[edge.source.0].leaving,
@@ -86,7 +87,10 @@ pub(crate) fn newest_at_ends<S: Copy>(newest: &[Links], edge: Edge<S>) -> Links
 pub(crate) fn put_newest<S: Copy>(newest: &mut Vec<Links>, edge: Edge<S>, index: EdgeIndex)
     requires source { edge.source.0 < vec_len newest.old }
     requires target { edge.target.0 < vec_len newest.old }
-    ensures { (side : Side) (n : ℕ) → link_on side (links_of newest.new.items n) ≡ cond (is_at side (record { 0 = n }) edge) (Some index) (link_on side (links_of newest.old.items n)) }
+    ensures { (side : Side) (n : ℕ)
+        → link_on side (links_of newest.new.items n)
+        ≡ cond (is_at side (record { 0 = n }) edge) (Some index)
+        (link_on side (links_of newest.old.items n)) }
 {
     newest[edge.source.0].leaving = Some(index);
     newest[edge.target.0].entering = Some(index);

@@ -47,7 +47,9 @@ impl<N, S> Model for Profile<N, S> {
 
     ghost Value = { Profile N S };
 
-    ghost view = { λ p. record { solvable = p.solvable; name = p.likeness.name; before = p.likeness.before.items; after = p.likeness.after.items } };
+    ghost view = { λ p.
+        record
+        { solvable = p.solvable; name = p.likeness.name; before = p.likeness.before.items; after = p.likeness.after.items } };
 }
 
 /// A version, with the number of those that it is told with.
@@ -77,7 +79,10 @@ impl<S: SolverId> ConflictGraph<S> {
         alloc: Global,
         interner: &I,
     ) -> R<HashMap<S, Rc<MergedConflictNode<S>>>>
-        ensures { IfOk result (λ m. IsMerged I.NameId.eq S.eq self.now (I.name_of_solvable interner.now) (kept_with S.eq m)) }
+        ensures { IfOk result
+            (λ m.
+            IsMerged I.NameId.eq S.eq self.now (I.name_of_solvable interner.now)
+            (kept_with S.eq m)) }
     {
         let members = members(alloc, profiles(alloc, self, interner)?)?;
         let groups = shared(alloc, groups(alloc, &members)?)?;
@@ -123,7 +128,10 @@ fn add<S: Copy + Exact + Hash + Debug>(
     member: Member<S>,
 ) -> R<()>
     requires { member.group < vec_len groups.old }
-    ensures { OnOk result ((g : ℕ) → ids_at groups.new.items g ≡ ids_at groups.old.items g ++ cond (member.group == g) (member.solvable ∷ []) []) }
+    ensures { OnOk result
+        ((g : ℕ)
+        → ids_at groups.new.items g
+        ≡ ids_at groups.old.items g ++ cond (member.group == g) (member.solvable ∷ []) []) }
 {
     groups[member.group].ids.push(member.solvable)?;
     Ok(())
@@ -166,7 +174,11 @@ fn merged<S: Copy + Exact + Hash + Debug>(
     members: &[Member<S>],
     groups: &[Rc<MergedConflictNode<S>>],
 ) -> R<HashMap<S, Rc<MergedConflictNode<S>>>>
-    ensures { IfOk result (λ m. (s : S) → kept_with S.eq m s ≡ told_together S.eq (ids_at (map (λ r. r.value) groups.now)) members.now s) }
+    ensures { IfOk result
+        (λ m.
+        (s : S)
+        → kept_with S.eq m s
+        ≡ told_together S.eq (ids_at (map (λ r. r.value) groups.now)) members.now s) }
 {
     let mut merged = HashMap::new(alloc);
     for member in members {
@@ -183,7 +195,11 @@ fn keep<S: Copy + Exact + Hash + Debug>(
     solvable: S,
     group: &Rc<MergedConflictNode<S>>,
 ) -> R<()>
-    ensures { OnOk result ((s : S) → kept_with S.eq merged.new s ≡ cond (S.eq solvable s && nat_lt 1 (length group.now.value.ids.items)) (Some group.now.value.ids.items) (kept_with S.eq merged.old s)) }
+    ensures { OnOk result
+        ((s : S)
+        → kept_with S.eq merged.new s
+        ≡ cond (S.eq solvable s && nat_lt 1 (length group.now.value.ids.items))
+        (Some group.now.value.ids.items) (kept_with S.eq merged.old s)) }
 {
     if group.ids.len() > 1 {
         merged.insert(solvable, group.clone()?)?;

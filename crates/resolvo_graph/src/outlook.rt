@@ -36,7 +36,8 @@ fn mark_installable<S: Copy + Exact + Hash>(
     order: &[NodeIndex],
     marked: &mut IndexSet<NodeIndex>,
 ) -> R<()>
-    ensures marked { OnOk result (marked.new.keys ≡ marked_along (can_be_installed graph.now) marked.old.keys order.now) }
+    ensures marked { OnOk result
+        (marked.new.keys ≡ marked_along (can_be_installed graph.now) marked.old.keys order.now) }
     ensures refusal { IsOkUnless result Memory }
 {
     for node in order {
@@ -100,7 +101,8 @@ fn mark_missing<S: Copy + Exact + Hash>(
     order: &[NodeIndex],
     marked: &mut IndexSet<NodeIndex>,
 ) -> R<()>
-    ensures marked { OnOk result (marked.new.keys ≡ marked_along (misses_one graph.now) marked.old.keys order.now) }
+    ensures marked { OnOk result
+        (marked.new.keys ≡ marked_along (misses_one graph.now) marked.old.keys order.now) }
     ensures refusal { IsOkUnless result Memory }
 {
     for node in order {

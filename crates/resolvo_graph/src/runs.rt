@@ -41,7 +41,10 @@ impl Run {
 
     /// This run with one edge more.
     fn with(self, target: NodeIndex) -> R<Run>
-        ensures run { IfOk result (λ r. r ≡ record { requirement = self.requirement; targets = self.targets ++ target ∷ [] }) }
+        ensures run { IfOk result
+            (λ r.
+            r
+            ≡ record { requirement = self.requirement; targets = self.targets ++ target ∷ [] }) }
         ensures refusal { IsOkUnless result Memory }
     {
         let Run {

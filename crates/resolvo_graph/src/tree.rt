@@ -81,7 +81,10 @@ impl<S: Copy + Exact + Hash + Debug> Findings<'_, S> {
         edges: &[Edge<S>],
         top_level_indent: bool,
     ) -> R<Vec<MessageLine<S>>>
-        ensures { IfOk result (λ v. IsTree (findings S.eq self.now.graph.now self.now.installable.keys self.now.merged) top_level_indent (runs_of edges.now) v.items) }
+        ensures { IfOk result
+            (λ v.
+            IsTree (findings S.eq self.now.graph.now self.now.installable.keys self.now.merged)
+            top_level_indent (runs_of edges.now) v.items) }
     {
         let mut telling = Telling {
             told: IndexSet::new(alloc),
@@ -103,7 +106,15 @@ impl<S: Copy + Exact + Hash + Debug> Findings<'_, S> {
         top_level_indent: bool,
         stack: &mut Vec<Entry<S>>,
     ) -> R<()>
-        ensures { OnOk result (stack.new.items ≡ stack.old.items ++ reverse (siblings (record { levels = []; top_level_indent = top_level_indent }) [] (reverse (in_rank (findings S.eq self.now.graph.now self.now.installable.keys self.now.merged) (runs_of edges.now))))) }
+        ensures { OnOk result
+            (stack.new.items
+            ≡ stack.old.items ++ reverse
+            (siblings (record { levels = []; top_level_indent = top_level_indent }) []
+            (reverse
+            (in_rank
+            (findings S.eq self.now.graph.now self.now.installable.keys
+            self.now.merged)
+            (runs_of edges.now))))) }
     {
         let ops = self.in_rank(alloc, runs(alloc, edges)?)?;
         place(
@@ -117,9 +128,22 @@ impl<S: Copy + Exact + Hash + Debug> Findings<'_, S> {
 
     /// Tells an entry's own lines, and puts the entries below it on top of the stack.
     fn tell(&self, alloc: Global, entry: Entry<S>, telling: &mut Telling<S>) -> R<()>
-        ensures told { OnOk result (telling.new.told.keys ≡ told_after (findings S.eq self.now.graph.now self.now.installable.keys self.now.merged) telling.old.told.keys entry.op entry.above) }
-        ensures stack { OnOk result (telling.new.stack.items ≡ telling.old.stack.items ++ reverse (entries_below (findings S.eq self.now.graph.now self.now.installable.keys self.now.merged) telling.old.told.keys entry.op entry.indent entry.above)) }
-        ensures lines { OnOk result (telling.new.lines.items ≡ telling.old.lines.items ++ lines_at (findings S.eq self.now.graph.now self.now.installable.keys self.now.merged) telling.old.told.keys entry.op entry.indent entry.above) }
+        ensures told { OnOk result
+            (telling.new.told.keys
+            ≡ told_after
+            (findings S.eq self.now.graph.now self.now.installable.keys self.now.merged)
+            telling.old.told.keys entry.op entry.above) }
+        ensures stack { OnOk result
+            (telling.new.stack.items
+            ≡ telling.old.stack.items ++ reverse
+            (entries_below
+            (findings S.eq self.now.graph.now self.now.installable.keys self.now.merged)
+            telling.old.told.keys entry.op entry.indent entry.above)) }
+        ensures lines { OnOk result
+            (telling.new.lines.items
+            ≡ telling.old.lines.items ++ lines_at
+            (findings S.eq self.now.graph.now self.now.installable.keys self.now.merged)
+            telling.old.told.keys entry.op entry.indent entry.above) }
     {
         let Entry {
             op,
@@ -151,7 +175,9 @@ impl<S: Copy + Exact + Hash + Debug> Findings<'_, S> {
         version: S,
         above: &[NodeIndex],
     ) -> bool
-        ensures { result ≡ is_passed (findings S.eq self.now.graph.now self.now.installable.keys self.now.merged) told.now.keys node version above.now }
+        ensures { result
+            ≡ is_passed (findings S.eq self.now.graph.now self.now.installable.keys self.now.merged)
+            told.now.keys node version above.now }
     {
         told.contains(&version) || above.contains(&node)
     }
@@ -166,8 +192,17 @@ impl<S: Copy + Exact + Hash + Debug> Findings<'_, S> {
         telling: &mut Telling<S>,
     ) -> R<()>
         ensures told { telling.new.told.keys ≡ telling.old.told.keys }
-        ensures stack { OnOk result (telling.new.stack.items ≡ telling.old.stack.items ++ reverse (entries_below (findings S.eq self.now.graph.now self.now.installable.keys self.now.merged) [] (DisplayOp.Requirement run.now) indenter above.now)) }
-        ensures lines { OnOk result (telling.new.lines.items ≡ telling.old.lines.items ++ lines_at (findings S.eq self.now.graph.now self.now.installable.keys self.now.merged) [] (DisplayOp.Requirement run.now) indenter above.now) }
+        ensures stack { OnOk result
+            (telling.new.stack.items
+            ≡ telling.old.stack.items ++ reverse
+            (entries_below
+            (findings S.eq self.now.graph.now self.now.installable.keys self.now.merged)
+            [] (DisplayOp.Requirement run.now) indenter above.now)) }
+        ensures lines { OnOk result
+            (telling.new.lines.items
+            ≡ telling.old.lines.items ++ lines_at
+            (findings S.eq self.now.graph.now self.now.installable.keys self.now.merged) []
+            (DisplayOp.Requirement run.now) indenter above.now) }
     {
         let outlook = self.outlook(run);
         let options = self.options(alloc, run, outlook)?;
@@ -189,9 +224,29 @@ impl<S: Copy + Exact + Hash + Debug> Findings<'_, S> {
         above: Vec<NodeIndex>,
         telling: &mut Telling<S>,
     ) -> R<()>
-        ensures told { OnOk result (telling.new.told.keys ≡ told_with (findings S.eq self.now.graph.now self.now.installable.keys self.now.merged) telling.old.told.keys version) }
-        ensures stack { OnOk result (telling.new.stack.items ≡ telling.old.stack.items ++ reverse (siblings indenter (above.items ++ node ∷ []) (reverse (needs_of (findings S.eq self.now.graph.now self.now.installable.keys self.now.merged) (verdict_of (findings S.eq self.now.graph.now self.now.installable.keys self.now.merged) node) (edges_of self.now.graph.now node))))) }
-        ensures lines { OnOk result (telling.new.lines.items ≡ telling.old.lines.items ++ version_lines (findings S.eq self.now.graph.now self.now.installable.keys self.now.merged) node version indenter) }
+        ensures told { OnOk result
+            (telling.new.told.keys
+            ≡ told_with
+            (findings S.eq self.now.graph.now self.now.installable.keys self.now.merged)
+            telling.old.told.keys version) }
+        ensures stack { OnOk result
+            (telling.new.stack.items
+            ≡ telling.old.stack.items ++ reverse
+            (siblings indenter (above.items ++ node ∷ [])
+            (reverse
+            (needs_of
+            (findings S.eq self.now.graph.now self.now.installable.keys
+            self.now.merged)
+            (verdict_of
+            (findings S.eq self.now.graph.now self.now.installable.keys
+            self.now.merged)
+            node)
+            (edges_of self.now.graph.now node))))) }
+        ensures lines { OnOk result
+            (telling.new.lines.items
+            ≡ telling.old.lines.items ++ version_lines
+            (findings S.eq self.now.graph.now self.now.installable.keys self.now.merged) node
+            version indenter) }
     {
         let edges = self.graph.edges(alloc, node)?;
         self.place_needs(alloc, node, &edges, &indenter, above, &mut telling.stack)?;
@@ -209,7 +264,16 @@ impl<S: Copy + Exact + Hash + Debug> Findings<'_, S> {
         above: Vec<NodeIndex>,
         stack: &mut Vec<Entry<S>>,
     ) -> R<()>
-        ensures { OnOk result (stack.new.items ≡ stack.old.items ++ reverse (siblings indenter.now (above.items ++ node ∷ []) (reverse (needs_of (findings S.eq self.now.graph.now self.now.installable.keys self.now.merged) (verdict_for (reason_in self.now.graph.now edges.now) edges.now) edges.now)))) }
+        ensures { OnOk result
+            (stack.new.items
+            ≡ stack.old.items ++ reverse
+            (siblings indenter.now (above.items ++ node ∷ [])
+            (reverse
+            (needs_of
+            (findings S.eq self.now.graph.now self.now.installable.keys
+            self.now.merged)
+            (verdict_for (reason_in self.now.graph.now edges.now) edges.now)
+            edges.now)))) }
     {
         let mut above = above;
         above.push(node)?;
@@ -226,7 +290,12 @@ impl<S: Copy + Exact + Hash + Debug> Findings<'_, S> {
         indenter: Indenter,
         lines: &mut Vec<MessageLine<S>>,
     ) -> R<()>
-        ensures { OnOk result (lines.new.items ≡ lines.old.items ++ record { indenter = indenter; sentence = Says.Versions (unwrap_or (kept_with S.eq self.now.merged version) (version ∷ [])) (verdict_for (reason_in self.now.graph.now edges.now) edges.now) } ∷ further_lines (verdict_for (reason_in self.now.graph.now edges.now) edges.now) indenter edges.now) }
+        ensures { OnOk result
+            (lines.new.items
+            ≡ lines.old.items ++ record
+            { indenter = indenter; sentence = Says.Versions (unwrap_or (kept_with S.eq self.now.merged version) (version ∷ [])) (verdict_for (reason_in self.now.graph.now edges.now) edges.now) }
+            ∷ further_lines (verdict_for (reason_in self.now.graph.now edges.now) edges.now)
+            indenter edges.now) }
     {
         let verdict = self.verdict(edges);
         let mut further = further_lines(alloc, verdict, &indenter, edges)?;
@@ -240,7 +309,9 @@ impl<S: Copy + Exact + Hash + Debug> Findings<'_, S> {
 
     /// What is told of a run.
     fn outlook(&self, run: &Run) -> Outlook
-        ensures { result ≡ outlook_of (findings S.eq self.now.graph.now self.now.installable.keys self.now.merged) run.now }
+        ensures { result
+            ≡ outlook_of
+            (findings S.eq self.now.graph.now self.now.installable.keys self.now.merged) run.now }
     {
         if self.is_missing(run.targets()) {
             Outlook::Missing
@@ -263,7 +334,14 @@ impl<S: Copy + Exact + Hash + Debug> Findings<'_, S> {
 
     /// The versions that stand below a run.
     fn options(&self, alloc: Global, run: &Run, outlook: Outlook) -> R<Vec<DisplayOp<S>>>
-        ensures { IfOk result (λ v. v.items ≡ firsts_after (findings S.eq self.now.graph.now self.now.installable.keys self.now.merged) [] (shown_of (findings S.eq self.now.graph.now self.now.installable.keys self.now.merged) outlook run.now)) }
+        ensures { IfOk result
+            (λ v.
+            v.items
+            ≡ firsts_after
+            (findings S.eq self.now.graph.now self.now.installable.keys self.now.merged) []
+            (shown_of
+            (findings S.eq self.now.graph.now self.now.installable.keys self.now.merged)
+            outlook run.now)) }
     {
         match outlook {
             Outlook::Missing => Ok(Vec::new(alloc)),
@@ -313,7 +391,12 @@ impl<S: Copy + Exact + Hash + Debug> Findings<'_, S> {
 
     /// Of versions that are merged only the first.
     fn firsts(&self, alloc: Global, candidates: &[(NodeIndex, S)]) -> R<Vec<DisplayOp<S>>>
-        ensures { IfOk result (λ v. v.items ≡ firsts_after (findings S.eq self.now.graph.now self.now.installable.keys self.now.merged) [] candidates.now) }
+        ensures { IfOk result
+            (λ v.
+            v.items
+            ≡ firsts_after
+            (findings S.eq self.now.graph.now self.now.installable.keys self.now.merged) []
+            candidates.now) }
     {
         let mut told = IndexSet::new(alloc);
         let mut found = Vec::new(alloc);
@@ -331,8 +414,23 @@ impl<S: Copy + Exact + Hash + Debug> Findings<'_, S> {
         told: &mut IndexSet<S>,
         found: &mut Vec<DisplayOp<S>>,
     ) -> R<()>
-        ensures told { OnOk result (told.new.keys ≡ cond (was_told (findings S.eq self.now.graph.now self.now.installable.keys self.now.merged) told.old.keys version) told.old.keys (told_with (findings S.eq self.now.graph.now self.now.installable.keys self.now.merged) told.old.keys version)) }
-        ensures found { OnOk result (found.new.items ≡ found.old.items ++ cond (was_told (findings S.eq self.now.graph.now self.now.installable.keys self.now.merged) told.old.keys version) [] (DisplayOp.Candidate node version ∷ [])) }
+        ensures told { OnOk result
+            (told.new.keys
+            ≡ cond
+            (was_told
+            (findings S.eq self.now.graph.now self.now.installable.keys self.now.merged)
+            told.old.keys version)
+            told.old.keys
+            (told_with
+            (findings S.eq self.now.graph.now self.now.installable.keys self.now.merged)
+            told.old.keys version)) }
+        ensures found { OnOk result
+            (found.new.items
+            ≡ found.old.items ++ cond
+            (was_told
+            (findings S.eq self.now.graph.now self.now.installable.keys self.now.merged)
+            told.old.keys version)
+            [] (DisplayOp.Candidate node version ∷ [])) }
     {
         if !told.contains(&version) {
             self.mark(version, told)?;
@@ -343,7 +441,11 @@ impl<S: Copy + Exact + Hash + Debug> Findings<'_, S> {
 
     /// Puts the versions that are told with one among the told ones.
     fn mark(&self, version: S, told: &mut IndexSet<S>) -> R<()>
-        ensures { OnOk result (told.new.keys ≡ told_with (findings S.eq self.now.graph.now self.now.installable.keys self.now.merged) told.old.keys version) }
+        ensures { OnOk result
+            (told.new.keys
+            ≡ told_with
+            (findings S.eq self.now.graph.now self.now.installable.keys self.now.merged)
+            told.old.keys version) }
     {
         if let Some(group) = self.merged.get(&version) {
             for id in &group.ids {
@@ -398,7 +500,12 @@ impl<S: Copy + Exact + Hash + Debug> Findings<'_, S> {
 
     /// The runs that stand below a version with this verdict and these edges.
     fn needs(&self, alloc: Global, verdict: Verdict, edges: &[Edge<S>]) -> R<Vec<DisplayOp<S>>>
-        ensures { IfOk result (λ v. v.items ≡ needs_of (findings S.eq self.now.graph.now self.now.installable.keys self.now.merged) verdict edges.now) }
+        ensures { IfOk result
+            (λ v.
+            v.items
+            ≡ needs_of
+            (findings S.eq self.now.graph.now self.now.installable.keys self.now.merged)
+            verdict edges.now) }
     {
         match verdict {
             Verdict::Requires => self.in_rank(alloc, runs(alloc, edges)?),
@@ -408,7 +515,12 @@ impl<S: Copy + Exact + Hash + Debug> Findings<'_, S> {
 
     /// Runs with a target that can be installed behind the others.
     fn in_rank(&self, alloc: Global, runs: Vec<Run>) -> R<Vec<DisplayOp<S>>>
-        ensures { IfOk result (λ v. v.items ≡ in_rank (findings S.eq self.now.graph.now self.now.installable.keys self.now.merged) runs.items) }
+        ensures { IfOk result
+            (λ v.
+            v.items
+            ≡ in_rank
+            (findings S.eq self.now.graph.now self.now.installable.keys self.now.merged)
+            runs.items) }
     {
         let mut ranked = Vec::new(alloc);
         let mut installable = Vec::new(alloc);
@@ -432,7 +544,9 @@ fn place<S: Copy + Exact + Hash + Debug>(
     above: &[NodeIndex],
     stack: &mut Vec<Entry<S>>,
 ) -> R<()>
-    ensures { OnOk result (stack.new.items ≡ stack.old.items ++ reverse (siblings indenter.now above.now (reverse ops.items))) }
+    ensures { OnOk result
+        (stack.new.items
+        ≡ stack.old.items ++ reverse (siblings indenter.now above.now (reverse ops.items))) }
 {
     let mut order = ChildOrder::Last;
     for op in ops {
@@ -450,7 +564,8 @@ fn sibling<S: Copy + Exact + Hash + Debug>(
     order: ChildOrder,
     above: &[NodeIndex],
 ) -> R<Entry<S>>
-    ensures { IfOk result (λ e. e ≡ record { op = op; indent = level_below indenter.now order; above = above.now }) }
+    ensures { IfOk result
+        (λ e. e ≡ record { op = op; indent = level_below indenter.now order; above = above.now }) }
 {
     Ok(Entry {
         op,

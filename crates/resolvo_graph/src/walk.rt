@@ -75,8 +75,13 @@ impl Walk {
         graph: &ConflictGraph<S>,
         node: NodeIndex,
     ) -> R<()>
-        ensures seen { OnOk result (self.new.seen.keys ≡ cond (is_among self.old.seen.keys node) self.old.seen.keys (self.old.seen.keys ++ node ∷ [])) }
-        ensures stack { OnOk result (self.new.stack.items ≡ self.old.stack.items ++ steps_into graph.now self.old.seen.keys node) }
+        ensures seen { OnOk result
+            (self.new.seen.keys
+            ≡ cond (is_among self.old.seen.keys node) self.old.seen.keys
+            (self.old.seen.keys ++ node ∷ [])) }
+        ensures stack { OnOk result
+            (self.new.stack.items
+            ≡ self.old.stack.items ++ steps_into graph.now self.old.seen.keys node) }
         ensures order { self.new.order ≡ self.old.order }
         ensures refusal { IsOkUnless result Memory }
     {
@@ -96,7 +101,8 @@ fn enter_neighbours<S: Copy + Exact + Hash>(
     node: NodeIndex,
     stack: &mut Vec<Step>,
 ) -> R<()>
-    ensures put { OnOk result (stack.new.items ≡ stack.old.items ++ map (λ e. Enter e.target) (edges_of graph.now node)) }
+    ensures put { OnOk result
+        (stack.new.items ≡ stack.old.items ++ map (λ e. Enter e.target) (edges_of graph.now node)) }
     ensures refusal { IsOkUnless result Memory }
 {
     let edges = graph.edges(alloc, node)?;

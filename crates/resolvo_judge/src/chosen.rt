@@ -53,7 +53,11 @@ impl Chosen {
     pub fn add(&mut self, version: &Version) -> Result<(), AllocError>
         requires { self.old.count < 2 ^ 32 }
         ensures count { OnOk result (self.new.count ≡ self.old.count + 1) }
-        ensures added { OnOk result ((set : Set) → Holds self.old set → list_any (same_package (version_of version.now)) set ≡ false → Holds self.new (set ++ version_of version.now ∷ [])) }
+        ensures added { OnOk result
+            ((set : Set)
+            → Holds self.old set
+            → list_any (same_package (version_of version.now)) set ≡ false
+            → Holds self.new (set ++ version_of version.now ∷ [])) }
     {
         let pick = Pick {
             number: version.number,
@@ -83,7 +87,9 @@ impl Chosen {
 
     /// Whether a version, as the catalogue lists it, is among the first so many.
     pub fn has_listed_among(&self, version: &(String, u32), first: usize) -> bool
-        ensures { (set : Set) → Holds self.now set → result ≡ is_member (pair_version version.now) (take first set) }
+        ensures { (set : Set)
+            → Holds self.now set
+            → result ≡ is_member (pair_version version.now) (take first set) }
     {
         match self.pick(&version.0) {
             Some(pick) => version.1 == pick.number && pick.index < first,
@@ -93,7 +99,9 @@ impl Chosen {
 
     /// Whether a version of this version's package is chosen.
     pub fn has_package_of(&self, version: &Version) -> bool
-        ensures { (set : Set) → Holds self.now set → result ≡ list_any (same_package (version_of version.now)) set }
+        ensures { (set : Set)
+            → Holds self.now set
+            → result ≡ list_any (same_package (version_of version.now)) set }
     {
         self.number(&version.name).is_some()
     }
@@ -119,7 +127,13 @@ impl Chosen {
 
     /// Whether each chosen version of the SPEC's package matches.
     pub fn are_within(&self, spec: &Spec) -> bool
-        ensures { (set : Set) → Holds self.now set → result ≡ list_all (λ v. not (bytes_eq v.name (spec_of spec.now).name) || matches (spec_of spec.now) v) set }
+        ensures { (set : Set)
+            → Holds self.now set
+            → result
+            ≡ list_all
+            (λ v.
+            not (bytes_eq v.name (spec_of spec.now).name) || matches (spec_of spec.now) v)
+            set }
     {
         match self.number(&spec.name) {
             Some(number) => is_in_span(spec.span, number),
@@ -129,7 +143,14 @@ impl Chosen {
 
     /// Whether no other version of the locked one's package is chosen.
     pub fn keeps_lock(&self, locked: &(String, u32)) -> bool
-        ensures { (set : Set) → Holds self.now set → result ≡ list_all (λ w. not (same_package w (pair_version locked.now)) || w.number == (pair_version locked.now).number) set }
+        ensures { (set : Set)
+            → Holds self.now set
+            → result
+            ≡ list_all
+            (λ w.
+            not (same_package w (pair_version locked.now)) || w.number ==
+            (pair_version locked.now).number)
+            set }
     {
         match self.number(&locked.0) {
             Some(number) => number == locked.1,
@@ -149,7 +170,9 @@ impl Chosen {
 
     /// Whether a chosen version matches one of the alternatives.
     pub fn is_met_by_one(&self, alternatives: &[Spec]) -> bool
-        ensures { (set : Set) → Holds self.now set → result ≡ is_met_by_one (specs_of alternatives.now) set }
+        ensures { (set : Set)
+            → Holds self.now set
+            → result ≡ is_met_by_one (specs_of alternatives.now) set }
     {
         for spec in alternatives {
             if self.is_met(spec) {
@@ -171,7 +194,9 @@ impl Chosen {
     }
 
     pub fn condition_holds(&self, condition: &Option<Cond>) -> bool
-        ensures { (set : Set) → Holds self.now set → result ≡ condition_holds (condition_of condition.now) set }
+        ensures { (set : Set)
+            → Holds self.now set
+            → result ≡ condition_holds (condition_of condition.now) set }
     {
         match condition {
             Some(condition) => self.holds(condition),

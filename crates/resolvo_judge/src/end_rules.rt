@@ -15,14 +15,18 @@ use resolvo_catalogue_core::{Catalogue, Request, Rule, VersionNo};
 
 /// The listed version of this number.
 fn listed_at(versions: &[(String, u32)], number: VersionNo) -> Option<&(String, u32)>
-    ensures { option_map (λ p. pair_version p.now) result ≡ slice_get (pair_versions versions.now) number.0 }
+    ensures { option_map (λ p. pair_version p.now) result
+        ≡ slice_get (pair_versions versions.now) number.0 }
 {
     versions.get(number.0 as usize)
 }
 
 /// Whether the version of this number is chosen.
 fn is_chosen(chosen: &Chosen, versions: &[(String, u32)], number: VersionNo) -> bool
-    ensures { (set : Set) (v : says.Version) → Holds chosen.now set → slice_get (pair_versions versions.now) number.0 ≡ Some v → result ≡ is_member v set }
+    ensures { (set : Set) (v : says.Version)
+        → Holds chosen.now set
+        → slice_get (pair_versions versions.now) number.0 ≡ Some v
+        → result ≡ is_member v set }
 {
     match listed_at(versions, number) {
         Some(version) => chosen.has_listed(version),
@@ -32,7 +36,10 @@ fn is_chosen(chosen: &Chosen, versions: &[(String, u32)], number: VersionNo) -> 
 
 /// Whether a rule of this owner binds: its owner is chosen, or it has none.
 fn binds(chosen: &Chosen, versions: &[(String, u32)], owner: Option<VersionNo>) -> bool
-    ensures { (set : Set) (whose : Option says.Version) → Holds chosen.now set → IsOwner (pair_versions versions.now) owner whose → result ≡ binds_lem whose set }
+    ensures { (set : Set) (whose : Option says.Version)
+        → Holds chosen.now set
+        → IsOwner (pair_versions versions.now) owner whose
+        → result ≡ binds_lem whose set }
 {
     match owner {
         Some(number) => is_chosen(chosen, versions, number),
@@ -41,7 +48,10 @@ fn binds(chosen: &Chosen, versions: &[(String, u32)], owner: Option<VersionNo>) 
 }
 
 fn keeps_lock(chosen: &Chosen, versions: &[(String, u32)], locked: VersionNo) -> bool
-    ensures { (set : Set) (v : says.Version) → Holds chosen.now set → slice_get (pair_versions versions.now) locked.0 ≡ Some v → result ≡ obeys_lem None (Lock v) set }
+    ensures { (set : Set) (v : says.Version)
+        → Holds chosen.now set
+        → slice_get (pair_versions versions.now) locked.0 ≡ Some v
+        → result ≡ obeys_lem None (Lock v) set }
 {
     match listed_at(versions, locked) {
         Some(version) => chosen.keeps_lock(version),
@@ -51,7 +61,10 @@ fn keeps_lock(chosen: &Chosen, versions: &[(String, u32)], locked: VersionNo) ->
 
 /// Whether the chosen versions obey the rule. The numbers in the rule are those of listed versions.
 fn obeys(chosen: &Chosen, versions: &[(String, u32)], rule: &Rule) -> bool
-    ensures { (set : Set) (owner : Option says.Version) (line : says.Line) → Holds chosen.now set → States (pair_versions versions.now) rule.now owner line → result ≡ obeys_lem owner line set }
+    ensures { (set : Set) (owner : Option says.Version) (line : says.Line)
+        → Holds chosen.now set
+        → States (pair_versions versions.now) rule.now owner line
+        → result ≡ obeys_lem owner line set }
 {
     match rule {
         Rule::Needs {
@@ -94,8 +107,16 @@ fn keeps_request_line(chosen: &Chosen, catalogue: &Catalogue, request: &Request,
 
 /// Whether they obey all lines of the catalogue.
 fn keeps_catalogue(chosen: &Chosen, catalogue: &Catalogue) -> bool
-    ensures yes { (set : Set) → Holds chosen.now set → IsTrue result → (n : ℕ) → IsTrue (keeps catalogue.now n set) }
-    ensures no { (set : Set) → Holds chosen.now set → result ≡ false → ((n : ℕ) → IsTrue (keeps catalogue.now n set)) → ⊥ }
+    ensures yes { (set : Set)
+        → Holds chosen.now set
+        → IsTrue result
+        → (n : ℕ)
+        → IsTrue (keeps catalogue.now n set) }
+    ensures no { (set : Set)
+        → Holds chosen.now set
+        → result ≡ false
+        → ((n : ℕ) → IsTrue (keeps catalogue.now n set))
+        → ⊥ }
 {
     for index in 0..catalogue.line_count() {
         if !keeps_line(chosen, catalogue, index + 1) {
@@ -107,8 +128,16 @@ fn keeps_catalogue(chosen: &Chosen, catalogue: &Catalogue) -> bool
 
 /// Whether they obey all lines of the request.
 fn keeps_request(chosen: &Chosen, catalogue: &Catalogue, request: &Request) -> bool
-    ensures yes { (set : Set) → Holds chosen.now set → IsTrue result → (n : ℕ) → IsTrue (keeps_in_request request.now.lines n set) }
-    ensures no { (set : Set) → Holds chosen.now set → result ≡ false → ((n : ℕ) → IsTrue (keeps_in_request request.now.lines n set)) → ⊥ }
+    ensures yes { (set : Set)
+        → Holds chosen.now set
+        → IsTrue result
+        → (n : ℕ)
+        → IsTrue (keeps_in_request request.now.lines n set) }
+    ensures no { (set : Set)
+        → Holds chosen.now set
+        → result ≡ false
+        → ((n : ℕ) → IsTrue (keeps_in_request request.now.lines n set))
+        → ⊥ }
 {
     for index in 0..request.line_count() {
         if !keeps_request_line(chosen, catalogue, request, index + 1) {

@@ -60,7 +60,11 @@ fn one_matches(alternatives: &[Spec], version: &Version) -> bool
 
 /// Whether the rule is a need that the version meets, and whose condition holds.
 fn gives(chosen: &Chosen, rule: Option<&Rule>, version: &Version) -> bool
-    ensures { (set : Set) (vs : List says.Version) → Holds chosen.now set → result ≡ gives_lem (option_and_then (line_said vs) (option_copied rule.entry)) set (version_of version.now) }
+    ensures { (set : Set) (vs : List says.Version)
+        → Holds chosen.now set
+        → result
+        ≡ gives_lem (option_and_then (line_said vs) (option_copied rule.entry)) set
+        (version_of version.now) }
 {
     match rule {
         Some(
@@ -97,7 +101,9 @@ impl Entries {
 
     /// Whether the version may be an entry, for whatever reason.
     fn may_enter(&self, catalogue: &Catalogue, version: &Version) -> bool
-        ensures { (before : List said.AnswerLine) → KeepsAnswers self.now before → result ≡ may_enter_lem catalogue.now before (version_of version.now) }
+        ensures { (before : List said.AnswerLine)
+            → KeepsAnswers self.now before
+            → result ≡ may_enter_lem catalogue.now before (version_of version.now) }
     {
         number_of(catalogue, version).is_some()
             && !self.chosen.has_package_of(version)
@@ -105,7 +111,9 @@ impl Entries {
     }
 
     fn is_place_taken(&self, place: &Place) -> bool
-        ensures { (before : List said.AnswerLine) → KeepsAnswers self.now before → result ≡ is_place_taken_lem (place_of place.now) (entries_of before) }
+        ensures { (before : List said.AnswerLine)
+            → KeepsAnswers self.now before
+            → result ≡ is_place_taken_lem (place_of place.now) (entries_of before) }
     {
         match place {
             Place::Request => true,
@@ -122,7 +130,11 @@ impl Entries {
         line: u32,
         version: &Version,
     ) -> bool
-        ensures { (before : List said.AnswerLine) → KeepsAnswers self.now before → result ≡ is_reason_lem catalogue.now request.now.lines (entries_of before) (place_of place.now) line (version_of version.now) }
+        ensures { (before : List said.AnswerLine)
+            → KeepsAnswers self.now before
+            → result
+            ≡ is_reason_lem catalogue.now request.now.lines (entries_of before)
+            (place_of place.now) line (version_of version.now) }
     {
         self.is_place_taken(place)
             && gives(
@@ -144,7 +156,9 @@ impl Entries {
 
     /// Whether the line of the request wishes the version, and may be named now.
     fn is_wish(&self, request: &Request, line: u32, version: &Version) -> bool
-        ensures { (before : List said.AnswerLine) → KeepsAnswers self.now before → result ≡ is_wish_lem request.now.lines before line (version_of version.now) }
+        ensures { (before : List said.AnswerLine)
+            → KeepsAnswers self.now before
+            → result ≡ is_wish_lem request.now.lines before line (version_of version.now) }
     {
         match request.wish(line) {
             Some(wish) => is_same(version, wish) && self.is_next_wish(line),
@@ -162,9 +176,28 @@ impl Entries {
         line: u32,
     ) -> Result<bool, AllocError>
         requires { self.old.chosen.count < 2 ^ 32 }
-        ensures fits { IfOk result (λ fits. (before : List said.AnswerLine) → KeepsAnswers self.old before → fits ≡ answer_fits catalogue.now request.now.lines before (said.Entry (version_of version.now) (place_of place.now) line)) }
-        ensures kept { IfOk result (λ fits. (before : List said.AnswerLine) → KeepsAnswers self.old before → IsTrue fits → KeepsAnswers self.new (before ++ said.Entry (version_of version.now) (place_of place.now) line ∷ [])) }
-        ensures lines { IfOk result (λ fits. (before : List said.AnswerLine) → KeepsAnswers self.old before → KeepsLines request.now.lines self.old before → IsTrue fits → KeepsLines request.now.lines self.new (before ++ said.Entry (version_of version.now) (place_of place.now) line ∷ [])) }
+        ensures fits { IfOk result
+            (λ fits.
+            (before : List said.AnswerLine)
+            → KeepsAnswers self.old before
+            → fits
+            ≡ answer_fits catalogue.now request.now.lines before
+            (said.Entry (version_of version.now) (place_of place.now) line)) }
+        ensures kept { IfOk result
+            (λ fits.
+            (before : List said.AnswerLine)
+            → KeepsAnswers self.old before
+            → IsTrue fits
+            → KeepsAnswers self.new
+            (before ++ said.Entry (version_of version.now) (place_of place.now) line ∷ [])) }
+        ensures lines { IfOk result
+            (λ fits.
+            (before : List said.AnswerLine)
+            → KeepsAnswers self.old before
+            → KeepsLines request.now.lines self.old before
+            → IsTrue fits
+            → KeepsLines request.now.lines self.new
+            (before ++ said.Entry (version_of version.now) (place_of place.now) line ∷ [])) }
         ensures few { IfOk result (λ fits. self.new.chosen.count < self.old.chosen.count + 2) }
     {
         if !self.may_enter(catalogue, version)
@@ -185,9 +218,27 @@ impl Entries {
         line: u32,
     ) -> Result<bool, AllocError>
         requires { self.old.chosen.count < 2 ^ 32 }
-        ensures fits { IfOk result (λ fits. (before : List said.AnswerLine) → KeepsAnswers self.old before → fits ≡ answer_fits catalogue.now request.now.lines before (said.Wished (version_of version.now) line)) }
-        ensures kept { IfOk result (λ fits. (before : List said.AnswerLine) → KeepsAnswers self.old before → IsTrue fits → KeepsAnswers self.new (before ++ said.Wished (version_of version.now) line ∷ [])) }
-        ensures lines { IfOk result (λ fits. (before : List said.AnswerLine) → KeepsAnswers self.old before → KeepsLines request.now.lines self.old before → IsTrue fits → KeepsLines request.now.lines self.new (before ++ said.Wished (version_of version.now) line ∷ [])) }
+        ensures fits { IfOk result
+            (λ fits.
+            (before : List said.AnswerLine)
+            → KeepsAnswers self.old before
+            → fits
+            ≡ answer_fits catalogue.now request.now.lines before
+            (said.Wished (version_of version.now) line)) }
+        ensures kept { IfOk result
+            (λ fits.
+            (before : List said.AnswerLine)
+            → KeepsAnswers self.old before
+            → IsTrue fits
+            → KeepsAnswers self.new (before ++ said.Wished (version_of version.now) line ∷ [])) }
+        ensures lines { IfOk result
+            (λ fits.
+            (before : List said.AnswerLine)
+            → KeepsAnswers self.old before
+            → KeepsLines request.now.lines self.old before
+            → IsTrue fits
+            → KeepsLines request.now.lines self.new
+            (before ++ said.Wished (version_of version.now) line ∷ [])) }
         ensures few { IfOk result (λ fits. self.new.chosen.count < self.old.chosen.count + 2) }
     {
         if !self.may_enter(catalogue, version) || !self.is_wish(request, line, version) {
@@ -207,9 +258,28 @@ impl Entries {
         line: u32,
         step: u32,
     ) -> Result<bool, AllocError>
-        ensures fits { IfOk result (λ fits. (catalogue : List says.Line) (before : List said.AnswerLine) → KeepsAnswers self.old before → fits ≡ answer_fits catalogue request.now.lines before (said.LeftOut (version_of version.now) line step)) }
-        ensures kept { IfOk result (λ fits. (before : List said.AnswerLine) → KeepsAnswers self.old before → IsTrue fits → KeepsAnswers self.new (before ++ said.LeftOut (version_of version.now) line step ∷ [])) }
-        ensures lines { IfOk result (λ fits. (before : List said.AnswerLine) → KeepsAnswers self.old before → KeepsLines request.now.lines self.old before → IsTrue fits → KeepsLines request.now.lines self.new (before ++ said.LeftOut (version_of version.now) line step ∷ [])) }
+        ensures fits { IfOk result
+            (λ fits.
+            (catalogue : List says.Line) (before : List said.AnswerLine)
+            → KeepsAnswers self.old before
+            → fits
+            ≡ answer_fits catalogue request.now.lines before
+            (said.LeftOut (version_of version.now) line step)) }
+        ensures kept { IfOk result
+            (λ fits.
+            (before : List said.AnswerLine)
+            → KeepsAnswers self.old before
+            → IsTrue fits
+            → KeepsAnswers self.new
+            (before ++ said.LeftOut (version_of version.now) line step ∷ [])) }
+        ensures lines { IfOk result
+            (λ fits.
+            (before : List said.AnswerLine)
+            → KeepsAnswers self.old before
+            → KeepsLines request.now.lines self.old before
+            → IsTrue fits
+            → KeepsLines request.now.lines self.new
+            (before ++ said.LeftOut (version_of version.now) line step ∷ [])) }
         ensures few { IfOk result (λ fits. self.new.chosen.count ≡ self.old.chosen.count) }
     {
         if !self.is_wish(request, line, version) || self.chosen.has(version) {
@@ -228,7 +298,10 @@ impl Entries {
 
     /// Whether the wish of this request line, if it is one, is an entry or left out.
     fn is_wish_told(&self, request: &Request, line: u32) -> bool
-        ensures { (before : List said.AnswerLine) → KeepsAnswers self.now before → KeepsLines request.now.lines self.now before → IsWishTold request.now.lines before line result }
+        ensures { (before : List said.AnswerLine)
+            → KeepsAnswers self.now before
+            → KeepsLines request.now.lines self.now before
+            → IsWishTold request.now.lines before line result }
     {
         match request.wish(line) {
             Some(wish) => self.chosen.has(wish) || self.lines.contains_key(&line),
@@ -238,7 +311,10 @@ impl Entries {
 
     /// Whether each wish of the request is an entry or left out.
     pub fn are_wishes_told(&self, request: &Request) -> bool
-        ensures { (before : List said.AnswerLine) → KeepsAnswers self.now before → KeepsLines request.now.lines self.now before → AreWishesTold request.now.lines before result }
+        ensures { (before : List said.AnswerLine)
+            → KeepsAnswers self.now before
+            → KeepsLines request.now.lines self.now before
+            → AreWishesTold request.now.lines before result }
     {
         for index in 0..request.line_count() {
             if !self.is_wish_told(request, index + 1) {
@@ -257,9 +333,25 @@ impl Entries {
         line: &AnswerLine,
     ) -> Result<bool, AllocError>
         requires { self.old.chosen.count < 2 ^ 32 }
-        ensures fits { IfOk result (λ fits. (before : List said.AnswerLine) → KeepsAnswers self.old before → fits ≡ answer_fits catalogue.now request.now.lines before (answer_line_of line.now)) }
-        ensures kept { IfOk result (λ fits. (before : List said.AnswerLine) → KeepsAnswers self.old before → IsTrue fits → KeepsAnswers self.new (before ++ answer_line_of line.now ∷ [])) }
-        ensures lines { IfOk result (λ fits. (before : List said.AnswerLine) → KeepsAnswers self.old before → KeepsLines request.now.lines self.old before → IsTrue fits → KeepsLines request.now.lines self.new (before ++ answer_line_of line.now ∷ [])) }
+        ensures fits { IfOk result
+            (λ fits.
+            (before : List said.AnswerLine)
+            → KeepsAnswers self.old before
+            → fits
+            ≡ answer_fits catalogue.now request.now.lines before (answer_line_of line.now)) }
+        ensures kept { IfOk result
+            (λ fits.
+            (before : List said.AnswerLine)
+            → KeepsAnswers self.old before
+            → IsTrue fits
+            → KeepsAnswers self.new (before ++ answer_line_of line.now ∷ [])) }
+        ensures lines { IfOk result
+            (λ fits.
+            (before : List said.AnswerLine)
+            → KeepsAnswers self.old before
+            → KeepsLines request.now.lines self.old before
+            → IsTrue fits
+            → KeepsLines request.now.lines self.new (before ++ answer_line_of line.now ∷ [])) }
         ensures few { IfOk result (λ fits. self.new.chosen.count < self.old.chosen.count + 2) }
     {
         match line {

@@ -93,16 +93,63 @@ fn take_line(
     requires short { length judging.old.log.checker.clauses + 1 < 2 ^ 32 }
     requires few { judging.old.entries.chosen.count < 2 ^ 32 }
     requires room { readings.old.read + causes_of_line_lem (report_line_of line.now) < 2 ^ 64 }
-    ensures answer { IfOk result (λ fine. (above : List SaidLine) → LogStands catalogue.now request.now.lines judging.old.log.checker.numbers judging.old.log.checker.clauses judging.old.log.checker.places.items judging.old.log.scope judging.old.log.ends_empty above → KeepsAnswers judging.old.entries (answers_in above) → fine ≡ passes catalogue.now request.now.lines above (report_line_of line.now)) }
-    ensures log { IfOk result (λ fine. IsTrue fine → (above : List SaidLine) → is_head (report_line_of line.now) ≡ false → LogStands catalogue.now request.now.lines judging.old.log.checker.numbers judging.old.log.checker.clauses judging.old.log.checker.places.items judging.old.log.scope judging.old.log.ends_empty above → LogStands catalogue.now request.now.lines judging.new.log.checker.numbers judging.new.log.checker.clauses judging.new.log.checker.places.items judging.new.log.scope judging.new.log.ends_empty (above ++ report_line_of line.now ∷ [])) }
-    ensures entries { IfOk result (λ fine. IsTrue fine → (above : List SaidLine) → KeepsAnswers judging.old.entries (answers_in above) → KeepsAnswers judging.new.entries (answers_in (above ++ report_line_of line.now ∷ []))) }
-    ensures lines { IfOk result (λ fine. IsTrue fine → (above : List SaidLine) → KeepsAnswers judging.old.entries (answers_in above) → KeepsLines request.now.lines judging.old.entries (answers_in above) → KeepsLines request.now.lines judging.new.entries (answers_in (above ++ report_line_of line.now ∷ []))) }
+    ensures answer { IfOk result
+        (λ fine.
+        (above : List SaidLine)
+        → LogStands catalogue.now request.now.lines judging.old.log.checker.numbers
+        judging.old.log.checker.clauses judging.old.log.checker.places.items
+        judging.old.log.scope judging.old.log.ends_empty above
+        → KeepsAnswers judging.old.entries (answers_in above)
+        → fine ≡ passes catalogue.now request.now.lines above (report_line_of line.now)) }
+    ensures log { IfOk result
+        (λ fine.
+        IsTrue fine
+        → (above : List SaidLine)
+        → is_head (report_line_of line.now) ≡ false
+        → LogStands catalogue.now request.now.lines judging.old.log.checker.numbers
+        judging.old.log.checker.clauses judging.old.log.checker.places.items
+        judging.old.log.scope judging.old.log.ends_empty above
+        → LogStands catalogue.now request.now.lines judging.new.log.checker.numbers
+        judging.new.log.checker.clauses judging.new.log.checker.places.items
+        judging.new.log.scope judging.new.log.ends_empty
+        (above ++ report_line_of line.now ∷ [])) }
+    ensures entries { IfOk result
+        (λ fine.
+        IsTrue fine
+        → (above : List SaidLine)
+        → KeepsAnswers judging.old.entries (answers_in above)
+        → KeepsAnswers judging.new.entries
+        (answers_in (above ++ report_line_of line.now ∷ []))) }
+    ensures lines { IfOk result
+        (λ fine.
+        IsTrue fine
+        → (above : List SaidLine)
+        → KeepsAnswers judging.old.entries (answers_in above)
+        → KeepsLines request.now.lines judging.old.entries (answers_in above)
+        → KeepsLines request.now.lines judging.new.entries
+        (answers_in (above ++ report_line_of line.now ∷ []))) }
     ensures refused { judging.new.refused ≡ judging.old.refused }
-    ensures later { IfOk result (λ fine. IsTrue fine → judging.new.log.checker.truth.pass ≤ length judging.new.log.checker.clauses) }
-    ensures long { IfOk result (λ fine. IsTrue fine → length judging.new.log.checker.places.items ≡ length (listed catalogue.now)) }
-    ensures count { IfOk result (λ fine. IsTrue fine → length judging.new.log.checker.clauses ≤ length judging.old.log.checker.clauses + 1) }
-    ensures few { IfOk result (λ fine. IsTrue fine → judging.new.entries.chosen.count < judging.old.entries.chosen.count + 2) }
-    ensures read { IfOk result (λ fine. IsTrue fine → readings.new ≡ record readings.old { read = readings.old.read + causes_of_line_lem (report_line_of line.now) }) }
+    ensures later { IfOk result
+        (λ fine.
+        IsTrue fine
+        → judging.new.log.checker.truth.pass ≤ length judging.new.log.checker.clauses) }
+    ensures long { IfOk result
+        (λ fine.
+        IsTrue fine
+        → length judging.new.log.checker.places.items ≡ length (listed catalogue.now)) }
+    ensures count { IfOk result
+        (λ fine.
+        IsTrue fine
+        → length judging.new.log.checker.clauses ≤ length judging.old.log.checker.clauses + 1) }
+    ensures few { IfOk result
+        (λ fine.
+        IsTrue fine → judging.new.entries.chosen.count < judging.old.entries.chosen.count + 2) }
+    ensures read { IfOk result
+        (λ fine.
+        IsTrue fine
+        → readings.new
+        ≡ record readings.old
+        { read = readings.old.read + causes_of_line_lem (report_line_of line.now) }) }
 {
     match line {
         ReportLine::Install | ReportLine::Refused | ReportLine::Message { .. } => Ok(true),
@@ -151,14 +198,43 @@ pub fn take(
     requires few { judging.old.entries.chosen.count < 2 ^ 32 }
     requires room { readings.old.read + causes_of_line_lem (report_line_of line) < 2 ^ 64 }
     requires named { readings.old.named + causes_of_line_lem (report_line_of line) < 2 ^ 64 }
-    ensures answer { IfOk result (λ fine. (above : List SaidLine) → Stands catalogue.now request.now.lines judging.old above → fine ≡ passes catalogue.now request.now.lines above (report_line_of line)) }
-    ensures stands { IfOk result (λ fine. IsTrue fine → (above : List SaidLine) → is_head (report_line_of line) ≡ false → is_refusal_lem (above ++ report_line_of line ∷ []) ≡ is_refusal_lem above → Stands catalogue.now request.now.lines judging.old above → Stands catalogue.now request.now.lines judging.new (above ++ report_line_of line ∷ [])) }
-    ensures later { IfOk result (λ fine. IsTrue fine → judging.new.log.checker.truth.pass ≤ length judging.new.log.checker.clauses) }
-    ensures long { IfOk result (λ fine. IsTrue fine → length judging.new.log.checker.places.items ≡ length (listed catalogue.now)) }
-    ensures count { IfOk result (λ fine. IsTrue fine → length judging.new.log.checker.clauses ≤ length judging.old.log.checker.clauses + 1) }
-    ensures few { IfOk result (λ fine. IsTrue fine → judging.new.entries.chosen.count < judging.old.entries.chosen.count + 2) }
-    ensures read { IfOk result (λ fine. IsTrue fine → readings.new.read ≡ readings.old.read + causes_of_line_lem (report_line_of line)) }
-    ensures named { IfOk result (λ fine. IsTrue fine → readings.new.named ≡ readings.old.named + causes_of_line_lem (report_line_of line)) }
+    ensures answer { IfOk result
+        (λ fine.
+        (above : List SaidLine)
+        → Stands catalogue.now request.now.lines judging.old above
+        → fine ≡ passes catalogue.now request.now.lines above (report_line_of line)) }
+    ensures stands { IfOk result
+        (λ fine.
+        IsTrue fine
+        → (above : List SaidLine)
+        → is_head (report_line_of line) ≡ false
+        → is_refusal_lem (above ++ report_line_of line ∷ []) ≡ is_refusal_lem above
+        → Stands catalogue.now request.now.lines judging.old above
+        → Stands catalogue.now request.now.lines judging.new
+        (above ++ report_line_of line ∷ [])) }
+    ensures later { IfOk result
+        (λ fine.
+        IsTrue fine
+        → judging.new.log.checker.truth.pass ≤ length judging.new.log.checker.clauses) }
+    ensures long { IfOk result
+        (λ fine.
+        IsTrue fine
+        → length judging.new.log.checker.places.items ≡ length (listed catalogue.now)) }
+    ensures count { IfOk result
+        (λ fine.
+        IsTrue fine
+        → length judging.new.log.checker.clauses ≤ length judging.old.log.checker.clauses + 1) }
+    ensures few { IfOk result
+        (λ fine.
+        IsTrue fine → judging.new.entries.chosen.count < judging.old.entries.chosen.count + 2) }
+    ensures read { IfOk result
+        (λ fine.
+        IsTrue fine
+        → readings.new.read ≡ readings.old.read + causes_of_line_lem (report_line_of line)) }
+    ensures named { IfOk result
+        (λ fine.
+        IsTrue fine
+        → readings.new.named ≡ readings.old.named + causes_of_line_lem (report_line_of line)) }
 {
     if !take_line(alloc, catalogue, request, judging, readings, &line)? {
         return Ok(false);
@@ -174,7 +250,13 @@ fn installs(
     request: &Request,
     judging: &JudgeState,
 ) -> Result<bool, AllocError>
-    ensures { IfOk result (λ fine. (r : SaidReport) → is_refusal_lem (report_lines r) ≡ false → ArePassed catalogue.now request.now.lines (report_lines r) → Stands catalogue.now request.now.lines judging.now (report_lines r) → EndsSo catalogue.now request.now.lines (report_lines r) fine) }
+    ensures { IfOk result
+        (λ fine.
+        (r : SaidReport)
+        → is_refusal_lem (report_lines r) ≡ false
+        → ArePassed catalogue.now request.now.lines (report_lines r)
+        → Stands catalogue.now request.now.lines judging.now (report_lines r)
+        → EndsSo catalogue.now request.now.lines (report_lines r) fine) }
 {
     let entries = &judging.entries;
     if !keeps_all(&entries.chosen, catalogue, request) || !entries.are_wishes_told(request) {
@@ -196,7 +278,12 @@ pub fn may_end(
     request: &Request,
     judging: &JudgeState,
 ) -> Result<bool, AllocError>
-    ensures { IfOk result (λ fine. (r : SaidReport) → ArePassed catalogue.now request.now.lines (report_lines r) → Stands catalogue.now request.now.lines judging.now (report_lines r) → EndsSo catalogue.now request.now.lines (report_lines r) fine) }
+    ensures { IfOk result
+        (λ fine.
+        (r : SaidReport)
+        → ArePassed catalogue.now request.now.lines (report_lines r)
+        → Stands catalogue.now request.now.lines judging.now (report_lines r)
+        → EndsSo catalogue.now request.now.lines (report_lines r) fine) }
 {
     if judging.refused {
         return Ok(judging.log.ends_empty);

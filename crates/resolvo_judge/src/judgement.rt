@@ -63,9 +63,18 @@ fn judge_lines<S: Source>(
     readings: &mut Readings,
 ) -> Result<Verdict, ReportFault>
     requires { readings.old ≡ none_read }
-    ensures verdict { IfOk result (λ verdict. IfKnown (S.left source.old) (λ text. IsVerdict catalogue.now request.now.lines text verdict)) }
-    ensures counted { IfOk result (λ verdict. IfKnown (S.left source.old) (λ text. CountsReadings text verdict readings.new)) }
-    ensures fault { IfErr result (λ e. IsStop catalogue.now request.now.lines e (S.left source.old) (S.left source.new) (DeviceFailed (S.failures source.old) (S.failures source.new) (S.interruptions source.new))) }
+    ensures verdict { IfOk result
+        (λ verdict.
+        IfKnown (S.left source.old)
+        (λ text. IsVerdict catalogue.now request.now.lines text verdict)) }
+    ensures counted { IfOk result
+        (λ verdict.
+        IfKnown (S.left source.old) (λ text. CountsReadings text verdict readings.new)) }
+    ensures fault { IfErr result
+        (λ e.
+        IsStop catalogue.now request.now.lines e (S.left source.old) (S.left source.new)
+        (DeviceFailed (S.failures source.old) (S.failures source.new)
+        (S.interruptions source.new))) }
 {
     let mut reader = ReportReader::new(alloc)?;
     let Some(first) = reader.next(alloc, source)? else {
@@ -96,10 +105,21 @@ pub fn judge_counted<S: Source>(
     request: &Request,
     source: &mut S,
 ) -> Result<Judged, JudgeFault>
-    ensures verdict { IfOk result (λ j. IfKnown (S.left source.old) (λ text. IsVerdict catalogue.now request.now.lines text j.verdict)) }
-    ensures claim { IfOk result (λ j. IfKnown (S.left source.old) (λ text. ClaimsTruth catalogue.now request.now.lines text j.verdict)) }
-    ensures counted { IfOk result (λ j. IfKnown (S.left source.old) (λ text. CountsReadings text j.verdict j.readings)) }
-    ensures fault { IfErr result (λ e. IsJudgeFault catalogue.now request.now.lines e (S.left source.old) (S.left source.new) (DeviceFailed (S.failures source.old) (S.failures source.new) (S.interruptions source.new))) }
+    ensures verdict { IfOk result
+        (λ j.
+        IfKnown (S.left source.old)
+        (λ text. IsVerdict catalogue.now request.now.lines text j.verdict)) }
+    ensures claim { IfOk result
+        (λ j.
+        IfKnown (S.left source.old)
+        (λ text. ClaimsTruth catalogue.now request.now.lines text j.verdict)) }
+    ensures counted { IfOk result
+        (λ j. IfKnown (S.left source.old) (λ text. CountsReadings text j.verdict j.readings)) }
+    ensures fault { IfErr result
+        (λ e.
+        IsJudgeFault catalogue.now request.now.lines e (S.left source.old) (S.left source.new)
+        (DeviceFailed (S.failures source.old) (S.failures source.new)
+        (S.interruptions source.new))) }
 {
     let mut readings = Readings::new();
     let verdict = match judge_lines(alloc, catalogue, request, source, &mut readings) {
@@ -122,9 +142,19 @@ pub fn judge<S: Source>(
     request: &Request,
     source: &mut S,
 ) -> Result<Verdict, JudgeFault>
-    ensures verdict { IfOk result (λ verdict. IfKnown (S.left source.old) (λ text. IsVerdict catalogue.now request.now.lines text verdict)) }
-    ensures claim { IfOk result (λ verdict. IfKnown (S.left source.old) (λ text. ClaimsTruth catalogue.now request.now.lines text verdict)) }
-    ensures fault { IfErr result (λ e. IsJudgeFault catalogue.now request.now.lines e (S.left source.old) (S.left source.new) (DeviceFailed (S.failures source.old) (S.failures source.new) (S.interruptions source.new))) }
+    ensures verdict { IfOk result
+        (λ verdict.
+        IfKnown (S.left source.old)
+        (λ text. IsVerdict catalogue.now request.now.lines text verdict)) }
+    ensures claim { IfOk result
+        (λ verdict.
+        IfKnown (S.left source.old)
+        (λ text. ClaimsTruth catalogue.now request.now.lines text verdict)) }
+    ensures fault { IfErr result
+        (λ e.
+        IsJudgeFault catalogue.now request.now.lines e (S.left source.old) (S.left source.new)
+        (DeviceFailed (S.failures source.old) (S.failures source.new)
+        (S.interruptions source.new))) }
 {
     let judged = judge_counted(alloc, catalogue, request, source)?;
     Ok(judged.verdict)

@@ -18,41 +18,73 @@ ghost use Rattle.resolvo_judge.specs.Judgement.{IsUpheld, IsRefusedAt};
 /// The clause of each step of a proof is true in each single set that obeys the lines which the proof rests on,
 /// with one place for each version and helpers by what they mean.
 pub fn steps_are_true()
-    ensures { (catalogue request : List Line) (catalogue_lines request_lines : List ℕ) (steps : List Step) (set : Set) → IsProof catalogue request (is_named catalogue_lines) (is_named request_lines) steps → IsSingle catalogue set → ObeysLines catalogue request catalogue_lines request_lines set → IsTrueIn catalogue request set steps }
+    ensures { (catalogue request : List Line) (catalogue_lines request_lines : List ℕ) (steps : List Step)
+        (set : Set)
+        → IsProof catalogue request (is_named catalogue_lines) (is_named request_lines) steps
+        → IsSingle catalogue set
+        → ObeysLines catalogue request catalogue_lines request_lines set
+        → IsTrueIn catalogue request set steps }
 {}
 
 /// A proof that ends with the empty clause refutes the lines which it rests on.
 pub fn proof_refutes()
-    ensures { (catalogue request : List Line) (catalogue_lines request_lines : List ℕ) (steps : List Step) → IsProof catalogue request (is_named catalogue_lines) (is_named request_lines) steps → ends_empty steps ≡ true → AreRefuted catalogue request catalogue_lines request_lines }
+    ensures { (catalogue request : List Line) (catalogue_lines request_lines : List ℕ) (steps : List Step)
+        → IsProof catalogue request (is_named catalogue_lines) (is_named request_lines) steps
+        → ends_empty steps ≡ true
+        → AreRefuted catalogue request catalogue_lines request_lines }
 {}
 
 /// A step of a proof whose clause has no literal but `not` of a wish and of entries: no rule-keeping set holds these.
 pub fn proof_bars()
-    ensures { (catalogue request : List Line) (steps : List Step) (entries : Set) (wish : Version) (n : ℕ) (step : Step) (clause : Clause) → IsProof catalogue request every_line every_line steps → slice_get steps n ≡ Some step → clause_of catalogue request step ≡ Some clause → bars entries wish clause ≡ true → AreApart catalogue request entries wish }
+    ensures { (catalogue request : List Line) (steps : List Step) (entries : Set) (wish : Version) (n : ℕ)
+        (step : Step) (clause : Clause)
+        → IsProof catalogue request every_line every_line steps
+        → slice_get steps n ≡ Some step
+        → clause_of catalogue request step ≡ Some clause
+        → bars entries wish clause ≡ true
+        → AreApart catalogue request entries wish }
 {}
 
 /// The claim of a refusal whose lines and end pass: no single set obeys the lines that it names.
 pub fn accepted_refusal_is_true()
-    ensures { (catalogue request : List Line) (lines : List ReportLine) → IsAccepted catalogue request (RefusedHead ∷ lines) → ClaimsRefusal catalogue request (catalogue_lines_in lines) (request_lines_in lines) }
+    ensures { (catalogue request : List Line) (lines : List ReportLine)
+        → IsAccepted catalogue request (RefusedHead ∷ lines)
+        → ClaimsRefusal catalogue request (catalogue_lines_in lines) (request_lines_in lines) }
 {}
 
 /// The claim of an install report whose lines and end pass: its entries are a rule-keeping set, each for the reason
 /// that it names, and its account of the wishes is right.
 pub fn accepted_install_is_true()
-    ensures { (catalogue request : List Line) (lines : List ReportLine) → IsAccepted catalogue request (InstallHead ∷ lines) → ClaimsInstall catalogue request (answers_claimed lines) }
+    ensures { (catalogue request : List Line) (lines : List ReportLine)
+        → IsAccepted catalogue request (InstallHead ∷ lines)
+        → ClaimsInstall catalogue request (answers_claimed lines) }
 {}
 
 /// A text is refused at one line at most.
 pub fn places_are_one()
-    ensures { (catalogue request : List Line) (text : List ℕ) (m n : ℕ) → IsRefusedAt catalogue request text m → IsRefusedAt catalogue request text n → m ≡ n }
+    ensures { (catalogue request : List Line) (text : List ℕ) (m n : ℕ)
+        → IsRefusedAt catalogue request text m
+        → IsRefusedAt catalogue request text n
+        → m ≡ n }
 {}
 
 /// A text that holds is refused nowhere. So a verdict is yes exactly where there is no place of refusal, and else tells it.
 pub fn upheld_texts_are_refused_nowhere()
-    ensures { (catalogue request : List Line) (text : List ℕ) (r : Report) (n : ℕ) → IsUpheld catalogue request text r → IsRefusedAt catalogue request text n → ⊥ }
+    ensures { (catalogue request : List Line) (text : List ℕ) (r : Report) (n : ℕ)
+        → IsUpheld catalogue request text r
+        → IsRefusedAt catalogue request text n
+        → ⊥ }
 {}
 
 /// The message of a refused report changes nothing: with other lines of message in its place, or with none, the judge says the same.
 pub fn messages_change_nothing()
-    ensures { (catalogue request : List Line) (catalogue_lines request_lines : List ℕ) (steps : List Step) (message other : List (List ℕ)) → AllByRecursion HasText (map Message other) → IsUpheld catalogue request (report_text (Refused catalogue_lines request_lines steps message)) (Refused catalogue_lines request_lines steps message) → IsUpheld catalogue request (report_text (Refused catalogue_lines request_lines steps other)) (Refused catalogue_lines request_lines steps other) }
+    ensures { (catalogue request : List Line) (catalogue_lines request_lines : List ℕ) (steps : List Step)
+        (message other : List (List ℕ))
+        → AllByRecursion HasText (map Message other)
+        → IsUpheld catalogue request
+        (report_text (Refused catalogue_lines request_lines steps message))
+        (Refused catalogue_lines request_lines steps message)
+        → IsUpheld catalogue request
+        (report_text (Refused catalogue_lines request_lines steps other))
+        (Refused catalogue_lines request_lines steps other) }
 {}

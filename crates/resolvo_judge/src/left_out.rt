@@ -46,7 +46,8 @@ fn version_told<'a>(
     atoms: &[Option<usize>],
     atom: usize,
 ) -> Option<&'a (String, u32)>
-    ensures { option_map (λ p. pair_version p.now) result ≡ version_told_lem (pair_versions versions.now) atoms.now atom }
+    ensures { option_map (λ p. pair_version p.now) result
+        ≡ version_told_lem (pair_versions versions.now) atoms.now atom }
 {
     match atoms.get(atom) {
         Some(Some(number)) => versions.get(*number),
@@ -68,7 +69,11 @@ fn is_barring(
     barred: &Barred,
     literal: Literal,
 ) -> bool
-    ensures { (set : Set) → Holds chosen.now set → result ≡ is_barring_lem (pair_versions versions.now) atoms.now (take barred.now.above set) (version_of barred.now.wish) literal }
+    ensures { (set : Set)
+        → Holds chosen.now set
+        → result
+        ≡ is_barring_lem (pair_versions versions.now) atoms.now (take barred.now.above set)
+        (version_of barred.now.wish) literal }
 {
     match version_told(versions, atoms, literal.atom) {
         Some(version) => {
@@ -87,7 +92,13 @@ fn are_barring(
     barred: &Barred,
     literals: &[Literal],
 ) -> bool
-    ensures { (set : Set) → Holds chosen.now set → result ≡ list_all (is_barring_lem (pair_versions versions.now) atoms.now (take barred.now.above set) (version_of barred.now.wish)) literals.now }
+    ensures { (set : Set)
+        → Holds chosen.now set
+        → result
+        ≡ list_all
+        (is_barring_lem (pair_versions versions.now) atoms.now (take barred.now.above set)
+        (version_of barred.now.wish))
+        literals.now }
 {
     for literal in literals {
         if !is_barring(chosen, versions, atoms, barred, *literal) {
@@ -105,7 +116,11 @@ fn clause_bars(
     clauses: &Clauses,
     barred: &Barred,
 ) -> bool
-    ensures { (set : Set) → Holds chosen.now set → result ≡ clause_bars_lem (pair_versions versions.now) atoms.now clauses.now set (barred_of barred.now) }
+    ensures { (set : Set)
+        → Holds chosen.now set
+        → result
+        ≡ clause_bars_lem (pair_versions versions.now) atoms.now clauses.now set
+        (barred_of barred.now) }
 {
     if barred.step == 0 || clauses.len() < barred.step as usize {
         return false;
@@ -123,7 +138,11 @@ fn each_bars(
     clauses: &Clauses,
     all: &[Barred],
 ) -> bool
-    ensures { (set : Set) → Holds chosen.now set → result ≡ list_all (clause_bars_lem (pair_versions versions.now) atoms.now clauses.now set) (map barred_of all.now) }
+    ensures { (set : Set)
+        → Holds chosen.now set
+        → result
+        ≡ list_all (clause_bars_lem (pair_versions versions.now) atoms.now clauses.now set)
+        (map barred_of all.now) }
 {
     for barred in all {
         if !clause_bars(chosen, versions, atoms, clauses, barred) {
@@ -141,7 +160,14 @@ pub fn are_barred(
     chosen: &Chosen,
     all: &[Barred],
 ) -> Result<bool, AllocError>
-    ensures { IfOk result (λ fine. (request : List says.Line) (c r : ℕ → Bool) (steps : List SaidStep) (set : Set) → IsProof catalogue.now request c r steps → StandFor catalogue.now request checker.now.numbers checker.now.clauses checker.now.places.items steps → Holds chosen.now set → fine ≡ list_all (is_barred catalogue.now request steps set) (map barred_of all.now)) }
+    ensures { IfOk result
+        (λ fine.
+        (request : List says.Line) (c r : ℕ → Bool) (steps : List SaidStep) (set : Set)
+        → IsProof catalogue.now request c r steps
+        → StandFor catalogue.now request checker.now.numbers checker.now.clauses
+        checker.now.places.items steps
+        → Holds chosen.now set
+        → fine ≡ list_all (is_barred catalogue.now request steps set) (map barred_of all.now)) }
 {
     let versions = catalogue.versions();
     // The proof rests on what this says: no two keys have one number.

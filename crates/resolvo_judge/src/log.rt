@@ -35,7 +35,10 @@ pub fn install_log(
     catalogue: &Catalogue,
     request: &Request,
 ) -> Result<ProofState, AllocError>
-    ensures stands { IfOk result (λ l. LogStands catalogue.now request.now.lines l.checker.numbers l.checker.clauses l.checker.places.items l.scope l.ends_empty (InstallHead ∷ [])) }
+    ensures stands { IfOk result
+        (λ l.
+        LogStands catalogue.now request.now.lines l.checker.numbers l.checker.clauses
+        l.checker.places.items l.scope l.ends_empty (InstallHead ∷ [])) }
     ensures later { IfOk result (λ l. l.checker.truth.pass ≤ length l.checker.clauses) }
     ensures long { IfOk result (λ l. length l.checker.places.items ≡ length (listed catalogue.now)) }
     ensures count { IfOk result (λ l. length l.checker.clauses ≡ 0) }
@@ -53,7 +56,10 @@ pub fn refusal_log(
     catalogue: &Catalogue,
     request: &Request,
 ) -> Result<ProofState, AllocError>
-    ensures stands { IfOk result (λ l. LogStands catalogue.now request.now.lines l.checker.numbers l.checker.clauses l.checker.places.items l.scope l.ends_empty (RefusedHead ∷ [])) }
+    ensures stands { IfOk result
+        (λ l.
+        LogStands catalogue.now request.now.lines l.checker.numbers l.checker.clauses
+        l.checker.places.items l.scope l.ends_empty (RefusedHead ∷ [])) }
     ensures later { IfOk result (λ l. l.checker.truth.pass ≤ length l.checker.clauses) }
     ensures long { IfOk result (λ l. length l.checker.places.items ≡ length (listed catalogue.now)) }
     ensures count { IfOk result (λ l. length l.checker.clauses ≡ 0) }
@@ -90,12 +96,36 @@ pub fn take_step(
     requires long { length log.old.checker.places.items ≡ length (listed catalogue.now) }
     requires short { length log.old.checker.clauses + 1 < 2 ^ 32 }
     requires room { readings.old.read + causes_in (step_of step.now) < 2 ^ 64 }
-    ensures answer { IfOk result (λ fine. (above : List ReportLine) (n : ℕ) → LogStands catalogue.now request.now.lines log.old.checker.numbers log.old.checker.clauses log.old.checker.places.items log.old.scope log.old.ends_empty above → fine ≡ passes catalogue.now request.now.lines above (Numbered n (step_of step.now))) }
-    ensures stands { IfOk result (λ fine. IsTrue fine → (above : List ReportLine) (n : ℕ) → LogStands catalogue.now request.now.lines log.old.checker.numbers log.old.checker.clauses log.old.checker.places.items log.old.scope log.old.ends_empty above → LogStands catalogue.now request.now.lines log.new.checker.numbers log.new.checker.clauses log.new.checker.places.items log.new.scope log.new.ends_empty (above ++ Numbered n (step_of step.now) ∷ [])) }
-    ensures later { IfOk result (λ fine. IsTrue fine → log.new.checker.truth.pass ≤ length log.new.checker.clauses) }
-    ensures long { IfOk result (λ fine. IsTrue fine → length log.new.checker.places.items ≡ length (listed catalogue.now)) }
-    ensures count { IfOk result (λ fine. IsTrue fine → length log.new.checker.clauses ≡ length log.old.checker.clauses + 1) }
-    ensures read { IfOk result (λ fine. IsTrue fine → readings.new ≡ record readings.old { read = readings.old.read + causes_in (step_of step.now) }) }
+    ensures answer { IfOk result
+        (λ fine.
+        (above : List ReportLine) (n : ℕ)
+        → LogStands catalogue.now request.now.lines log.old.checker.numbers
+        log.old.checker.clauses log.old.checker.places.items log.old.scope
+        log.old.ends_empty above
+        → fine ≡ passes catalogue.now request.now.lines above (Numbered n (step_of step.now))) }
+    ensures stands { IfOk result
+        (λ fine.
+        IsTrue fine
+        → (above : List ReportLine) (n : ℕ)
+        → LogStands catalogue.now request.now.lines log.old.checker.numbers
+        log.old.checker.clauses log.old.checker.places.items log.old.scope
+        log.old.ends_empty above
+        → LogStands catalogue.now request.now.lines log.new.checker.numbers
+        log.new.checker.clauses log.new.checker.places.items log.new.scope
+        log.new.ends_empty (above ++ Numbered n (step_of step.now) ∷ [])) }
+    ensures later { IfOk result
+        (λ fine. IsTrue fine → log.new.checker.truth.pass ≤ length log.new.checker.clauses) }
+    ensures long { IfOk result
+        (λ fine.
+        IsTrue fine → length log.new.checker.places.items ≡ length (listed catalogue.now)) }
+    ensures count { IfOk result
+        (λ fine.
+        IsTrue fine → length log.new.checker.clauses ≡ length log.old.checker.clauses + 1) }
+    ensures read { IfOk result
+        (λ fine.
+        IsTrue fine
+        → readings.new
+        ≡ record readings.old { read = readings.old.read + causes_in (step_of step.now) }) }
 {
     let fine = advance(
         alloc,
@@ -116,8 +146,19 @@ pub fn take_catalogue_line(
     log: &mut ProofState,
     line: u32,
 ) -> Result<bool, AllocError>
-    ensures answer { IfOk result (λ fine. (request : List Line) (above : List ReportLine) → fine ≡ passes catalogue.now request above (CatalogueLine line)) }
-    ensures stands { IfOk result (λ fine. IsTrue fine → (request : List Line) (above : List ReportLine) → LogStands catalogue.now request log.old.checker.numbers log.old.checker.clauses log.old.checker.places.items log.old.scope log.old.ends_empty above → LogStands catalogue.now request log.new.checker.numbers log.new.checker.clauses log.new.checker.places.items log.new.scope log.new.ends_empty (above ++ CatalogueLine line ∷ [])) }
+    ensures answer { IfOk result
+        (λ fine.
+        (request : List Line) (above : List ReportLine)
+        → fine ≡ passes catalogue.now request above (CatalogueLine line)) }
+    ensures stands { IfOk result
+        (λ fine.
+        IsTrue fine
+        → (request : List Line) (above : List ReportLine)
+        → LogStands catalogue.now request log.old.checker.numbers log.old.checker.clauses
+        log.old.checker.places.items log.old.scope log.old.ends_empty above
+        → LogStands catalogue.now request log.new.checker.numbers log.new.checker.clauses
+        log.new.checker.places.items log.new.scope log.new.ends_empty
+        (above ++ CatalogueLine line ∷ [])) }
     ensures checker { log.new.checker ≡ log.old.checker }
 {
     let fine = name_catalogue(catalogue, &mut log.scope, line)?;
@@ -130,8 +171,19 @@ pub fn take_request_line(
     log: &mut ProofState,
     line: u32,
 ) -> Result<bool, AllocError>
-    ensures answer { IfOk result (λ fine. (catalogue : List Line) (above : List ReportLine) → fine ≡ passes catalogue request.now.lines above (RequestLine line)) }
-    ensures stands { IfOk result (λ fine. IsTrue fine → (catalogue : List Line) (above : List ReportLine) → LogStands catalogue request.now.lines log.old.checker.numbers log.old.checker.clauses log.old.checker.places.items log.old.scope log.old.ends_empty above → LogStands catalogue request.now.lines log.new.checker.numbers log.new.checker.clauses log.new.checker.places.items log.new.scope log.new.ends_empty (above ++ RequestLine line ∷ [])) }
+    ensures answer { IfOk result
+        (λ fine.
+        (catalogue : List Line) (above : List ReportLine)
+        → fine ≡ passes catalogue request.now.lines above (RequestLine line)) }
+    ensures stands { IfOk result
+        (λ fine.
+        IsTrue fine
+        → (catalogue : List Line) (above : List ReportLine)
+        → LogStands catalogue request.now.lines log.old.checker.numbers log.old.checker.clauses
+        log.old.checker.places.items log.old.scope log.old.ends_empty above
+        → LogStands catalogue request.now.lines log.new.checker.numbers log.new.checker.clauses
+        log.new.checker.places.items log.new.scope log.new.ends_empty
+        (above ++ RequestLine line ∷ [])) }
     ensures checker { log.new.checker ≡ log.old.checker }
 {
     let fine = name_request(request, &mut log.scope, line)?;
@@ -144,8 +196,13 @@ fn name_catalogue(
     line: u32,
 ) -> Result<bool, AllocError>
     ensures fine { IfOk result (λ fine. fine ≡ states_rule (line_at catalogue.now line)) }
-    ensures named { IfOk result (λ fine. IsTrue fine → (n : ℕ) → names_catalogue scope.new n ≡ ((line == n) || names_catalogue scope.old n)) }
-    ensures others { IfOk result (λ fine. IsTrue fine → (n : ℕ) → names_request scope.new n ≡ names_request scope.old n) }
+    ensures named { IfOk result
+        (λ fine.
+        IsTrue fine
+        → (n : ℕ)
+        → names_catalogue scope.new n ≡ ((line == n) || names_catalogue scope.old n)) }
+    ensures others { IfOk result
+        (λ fine. IsTrue fine → (n : ℕ) → names_request scope.new n ≡ names_request scope.old n) }
 {
     match scope {
         Premises::Named {
@@ -158,8 +215,14 @@ fn name_catalogue(
 
 fn name_request(request: &Request, scope: &mut Premises, line: u32) -> Result<bool, AllocError>
     ensures fine { IfOk result (λ fine. fine ≡ states_rule (line_at request.now.lines line)) }
-    ensures named { IfOk result (λ fine. IsTrue fine → (n : ℕ) → names_request scope.new n ≡ ((line == n) || names_request scope.old n)) }
-    ensures others { IfOk result (λ fine. IsTrue fine → (n : ℕ) → names_catalogue scope.new n ≡ names_catalogue scope.old n) }
+    ensures named { IfOk result
+        (λ fine.
+        IsTrue fine
+        → (n : ℕ)
+        → names_request scope.new n ≡ ((line == n) || names_request scope.old n)) }
+    ensures others { IfOk result
+        (λ fine.
+        IsTrue fine → (n : ℕ) → names_catalogue scope.new n ≡ names_catalogue scope.old n) }
 {
     match scope {
         Premises::Named { request: marks, .. } => name_in_request(request, marks, line),

@@ -22,7 +22,8 @@ fn reach(marks: &mut Vec<bool>, line: u32) -> Result<(), AllocError>
 
 /// Marks the line.
 fn mark(marks: &mut Vec<bool>, line: u32) -> Result<(), AllocError>
-    ensures { OnOk result ((n : ℕ) → flag_at marks.new.items n ≡ ((line == n) || flag_at marks.old.items n)) }
+    ensures { OnOk result
+        ((n : ℕ) → flag_at marks.new.items n ≡ ((line == n) || flag_at marks.old.items n)) }
 {
     reach(marks, line)?;
     marks[line as usize] = true;
@@ -36,7 +37,11 @@ pub fn name_in_catalogue(
     line: u32,
 ) -> Result<bool, AllocError>
     ensures fine { IfOk result (λ fine. fine ≡ states_rule (line_at catalogue.now line)) }
-    ensures marks { IfOk result (λ fine. IsTrue fine → (n : ℕ) → flag_at marks.new.items n ≡ ((line == n) || flag_at marks.old.items n)) }
+    ensures marks { IfOk result
+        (λ fine.
+        IsTrue fine
+        → (n : ℕ)
+        → flag_at marks.new.items n ≡ ((line == n) || flag_at marks.old.items n)) }
 {
     match catalogue.rule(line) {
         Some(_) => {
@@ -64,7 +69,11 @@ pub fn name_in_request(
     line: u32,
 ) -> Result<bool, AllocError>
     ensures fine { IfOk result (λ fine. fine ≡ states_rule (line_at request.now.lines line)) }
-    ensures marks { IfOk result (λ fine. IsTrue fine → (n : ℕ) → flag_at marks.new.items n ≡ ((line == n) || flag_at marks.old.items n)) }
+    ensures marks { IfOk result
+        (λ fine.
+        IsTrue fine
+        → (n : ℕ)
+        → flag_at marks.new.items n ≡ ((line == n) || flag_at marks.old.items n)) }
 {
     if !is_rule(request, line) {
         return Ok(false);

@@ -24,7 +24,9 @@ fn add_number(
     numbers: &mut HashMap<String, Vec<u32>>,
     version: &Version,
 ) -> Result<(), AllocError>
-    ensures { OnOk result (AddsNumber (λ name. get_by_text numbers.old name) (version_of version.now) (λ name. get_by_text numbers.new name)) }
+    ensures { OnOk result
+        (AddsNumber (λ name. get_by_text numbers.old name) (version_of version.now)
+        (λ name. get_by_text numbers.new name)) }
 {
     if let Some(kept) = numbers.get_mut(version.name.as_str()) {
         kept.push(version.number)?;
@@ -46,7 +48,10 @@ impl Versions {
     }
 
     pub fn add(&mut self, alloc: Global, version: &Version) -> Result<(), AllocError>
-        ensures { OnOk result ((set : Set) → HoldsAll self.old set → HoldsAll self.new (set ++ version_of version.now ∷ [])) }
+        ensures { OnOk result
+            ((set : Set)
+            → HoldsAll self.old set
+            → HoldsAll self.new (set ++ version_of version.now ∷ [])) }
     {
         add_number(alloc, &mut self.numbers, version)
     }

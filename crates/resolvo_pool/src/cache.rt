@@ -97,7 +97,9 @@ impl<D: DependencyProvider> Model for SolverCache<D> {
 
     ghost Value = { Cached D D.NameId D.SolvableId };
 
-    ghost view = { λ c. record { provider = c.provider; names = keys c.lists; matching = keys c.matching; non_matching = keys c.non_matching; sorted = lists_of c.sorted.entries; unions = keys c.unions; solvables = keys c.dependencies } };
+    ghost view = { λ c.
+        record
+        { provider = c.provider; names = keys c.lists; matching = keys c.matching; non_matching = keys c.non_matching; sorted = lists_of c.sorted.entries; unions = keys c.unions; solvables = keys c.dependencies } };
 
     ghost invariant = { λ c.
         IsKept D.NameId.eq (IsListing (D.candidates_of c.provider)) c.lists.entries
@@ -113,7 +115,9 @@ impl<D: DependencyProvider> SolverCache<D> {
     /// A cache that has asked nothing.
     #[tactic(auto, using(crate::proofs::HintedLemmas::hinted_none))]
     pub fn new(alloc: Global, provider: D) -> SolverCache<D>
-        ensures { result ≡ record { provider = provider; names = []; matching = []; non_matching = []; sorted = []; unions = []; solvables = [] } }
+        ensures { result
+            ≡ record
+            { provider = provider; names = []; matching = []; non_matching = []; sorted = []; unions = []; solvables = [] } }
     {
         SolverCache {
             provider,
@@ -188,7 +192,8 @@ impl<D: DependencyProvider> SolverCache<D> {
         &mut self,
         name: D::NameId,
     ) -> Result<&Candidates<D::SolvableId>, CacheFault<D::Cancel>>
-        ensures answer { IfOk result (λ r. listing r.now ≡ listing_or_empty (D.candidates_of self.old.provider name)) }
+        ensures answer { IfOk result
+            (λ r. listing r.now ≡ listing_or_empty (D.candidates_of self.old.provider name)) }
         ensures cached { among D.NameId.eq self.old.names name ≡ true → IsOk result }
         ensures cancelled { IfErr result (IsCancelledBy (D.may_cancel self.old.provider)) }
     {
@@ -206,7 +211,9 @@ impl<D: DependencyProvider> SolverCache<D> {
     /// The kept candidates of a version set's package that match it.
     pub fn matching_candidates(&self, version_set: VersionSetId) -> &[D::SolvableId]
         requires { among same_set self.now.matching version_set ≡ true }
-        ensures { result.now ≡ matching_in (D.name_of_version_set self.now.provider) (D.candidates_of self.now.provider) (D.matches self.now.provider) false version_set }
+        ensures { result.now
+            ≡ matching_in (D.name_of_version_set self.now.provider)
+            (D.candidates_of self.now.provider) (D.matches self.now.provider) false version_set }
     {
         match self.matching.get(&version_set) {
             Some(list) => list.as_slice(),
@@ -220,7 +227,8 @@ impl<D: DependencyProvider> SolverCache<D> {
         version_set: VersionSetId,
     ) -> Result<(), CacheFault<D::Cancel>>
         ensures there { OnOk result (among same_set self.new.matching version_set ≡ true) }
-        ensures cached { among same_set self.old.matching version_set ≡ true → IsOk result × (self.new ≡ self.old) }
+        ensures cached { among same_set self.old.matching version_set ≡ true
+            → IsOk result × (self.new ≡ self.old) }
         ensures extends { Extends D.NameId.eq D.SolvableId.eq self.old self.new }
         ensures cancelled { IfErr result (IsCancelledBy (D.may_cancel self.old.provider)) }
     {
@@ -235,7 +243,8 @@ impl<D: DependencyProvider> SolverCache<D> {
 
     /// Filters the kept candidates of a version set's package, and keeps those that match it.
     fn keep_matching(&mut self, version_set: VersionSetId) -> R<()>
-        requires { among D.NameId.eq self.old.names (D.name_of_version_set self.old.provider version_set) ≡ true }
+        requires { among D.NameId.eq self.old.names (D.name_of_version_set self.old.provider version_set)
+            ≡ true }
         ensures there { OnOk result (among same_set self.new.matching version_set ≡ true) }
         ensures extends { Extends D.NameId.eq D.SolvableId.eq self.old self.new }
         ensures err { OnErr result (self.new ≡ self.old) }
@@ -250,7 +259,12 @@ impl<D: DependencyProvider> SolverCache<D> {
         &mut self,
         version_set: VersionSetId,
     ) -> Result<&[D::SolvableId], CacheFault<D::Cancel>>
-        ensures answer { IfOk result (λ r. r.now ≡ matching_in (D.name_of_version_set self.old.provider) (D.candidates_of self.old.provider) (D.matches self.old.provider) false version_set) }
+        ensures answer { IfOk result
+            (λ r.
+            r.now
+            ≡ matching_in (D.name_of_version_set self.old.provider)
+            (D.candidates_of self.old.provider) (D.matches self.old.provider) false
+            version_set) }
         ensures cached { among same_set self.old.matching version_set ≡ true → IsOk result }
         ensures cancelled { IfErr result (IsCancelledBy (D.may_cancel self.old.provider)) }
     {
@@ -268,7 +282,9 @@ impl<D: DependencyProvider> SolverCache<D> {
     /// The kept candidates of a version set's package that don't match it.
     pub fn non_matching_candidates(&self, version_set: VersionSetId) -> &[D::SolvableId]
         requires { among same_set self.now.non_matching version_set ≡ true }
-        ensures { result.now ≡ matching_in (D.name_of_version_set self.now.provider) (D.candidates_of self.now.provider) (D.matches self.now.provider) true version_set }
+        ensures { result.now
+            ≡ matching_in (D.name_of_version_set self.now.provider)
+            (D.candidates_of self.now.provider) (D.matches self.now.provider) true version_set }
     {
         match self.non_matching.get(&version_set) {
             Some(list) => list.as_slice(),
@@ -282,7 +298,8 @@ impl<D: DependencyProvider> SolverCache<D> {
         version_set: VersionSetId,
     ) -> Result<(), CacheFault<D::Cancel>>
         ensures there { OnOk result (among same_set self.new.non_matching version_set ≡ true) }
-        ensures cached { among same_set self.old.non_matching version_set ≡ true → IsOk result × (self.new ≡ self.old) }
+        ensures cached { among same_set self.old.non_matching version_set ≡ true
+            → IsOk result × (self.new ≡ self.old) }
         ensures extends { Extends D.NameId.eq D.SolvableId.eq self.old self.new }
         ensures cancelled { IfErr result (IsCancelledBy (D.may_cancel self.old.provider)) }
     {
@@ -297,7 +314,8 @@ impl<D: DependencyProvider> SolverCache<D> {
 
     /// Filters the kept candidates of a version set's package, and keeps those that don't match it.
     fn keep_non_matching(&mut self, version_set: VersionSetId) -> R<()>
-        requires { among D.NameId.eq self.old.names (D.name_of_version_set self.old.provider version_set) ≡ true }
+        requires { among D.NameId.eq self.old.names (D.name_of_version_set self.old.provider version_set)
+            ≡ true }
         ensures there { OnOk result (among same_set self.new.non_matching version_set ≡ true) }
         ensures extends { Extends D.NameId.eq D.SolvableId.eq self.old self.new }
         ensures err { OnErr result (self.new ≡ self.old) }
@@ -312,7 +330,12 @@ impl<D: DependencyProvider> SolverCache<D> {
         &mut self,
         version_set: VersionSetId,
     ) -> Result<&[D::SolvableId], CacheFault<D::Cancel>>
-        ensures answer { IfOk result (λ r. r.now ≡ matching_in (D.name_of_version_set self.old.provider) (D.candidates_of self.old.provider) (D.matches self.old.provider) true version_set) }
+        ensures answer { IfOk result
+            (λ r.
+            r.now
+            ≡ matching_in (D.name_of_version_set self.old.provider)
+            (D.candidates_of self.old.provider) (D.matches self.old.provider) true
+            version_set) }
         ensures cached { among same_set self.old.non_matching version_set ≡ true → IsOk result }
         ensures cancelled { IfErr result (IsCancelledBy (D.may_cancel self.old.provider)) }
     {
@@ -322,8 +345,14 @@ impl<D: DependencyProvider> SolverCache<D> {
 
     /// What the provider keeps of the kept candidates of a version set's package.
     fn filtered(&self, version_set: VersionSetId, inverse: bool) -> R<Vec<D::SolvableId>>
-        requires { among D.NameId.eq self.now.names (D.name_of_version_set self.now.provider version_set) ≡ true }
-        ensures { IfOk result (λ v. v.items ≡ matching_in (D.name_of_version_set self.now.provider) (D.candidates_of self.now.provider) (D.matches self.now.provider) inverse version_set) }
+        requires { among D.NameId.eq self.now.names (D.name_of_version_set self.now.provider version_set)
+            ≡ true }
+        ensures { IfOk result
+            (λ v.
+            v.items
+            ≡ matching_in (D.name_of_version_set self.now.provider)
+            (D.candidates_of self.now.provider) (D.matches self.now.provider) inverse
+            version_set) }
     {
         let name = self.provider.version_set_name(version_set);
         let list = self.candidates(name);
@@ -348,8 +377,15 @@ impl<D: DependencyProvider> SolverCache<D> {
     /// The kept sorted candidates of a requirement.
     pub fn sorted_candidates(&self, requirement: Requirement) -> &[D::SolvableId]
         requires { has_sorted self.now requirement ≡ true }
-        ensures in_order { result.now ≡ flat_map (sorted_of self.now.sorted) (alternatives_of (D.members_of self.now.provider) requirement) }
-        ensures tried { IsTriedFor (D.sorts self.now.provider) D.SolvableId.eq (tried_first (D.name_of_version_set self.now.provider) (D.candidates_of self.now.provider)) (matching_in (D.name_of_version_set self.now.provider) (D.candidates_of self.now.provider) (D.matches self.now.provider) false) (alternatives_of (D.members_of self.now.provider) requirement) result.now }
+        ensures in_order { result.now
+            ≡ flat_map (sorted_of self.now.sorted)
+            (alternatives_of (D.members_of self.now.provider) requirement) }
+        ensures tried { IsTriedFor (D.sorts self.now.provider) D.SolvableId.eq
+            (tried_first (D.name_of_version_set self.now.provider)
+            (D.candidates_of self.now.provider))
+            (matching_in (D.name_of_version_set self.now.provider)
+            (D.candidates_of self.now.provider) (D.matches self.now.provider) false)
+            (alternatives_of (D.members_of self.now.provider) requirement) result.now }
     {
         match requirement {
             Requirement::Single(version_set) => self.sorted_of_set(version_set),
@@ -361,7 +397,13 @@ impl<D: DependencyProvider> SolverCache<D> {
     fn sorted_of_set(&self, version_set: VersionSetId) -> &[D::SolvableId]
         requires { is_sorted self.now.sorted version_set ≡ true }
         ensures kept { lookup (same_set version_set) self.now.sorted ≡ Some result.now }
-        ensures tried { IsTried (D.sorts self.now.provider) D.SolvableId.eq (tried_first (D.name_of_version_set self.now.provider) (D.candidates_of self.now.provider) version_set) (matching_in (D.name_of_version_set self.now.provider) (D.candidates_of self.now.provider) (D.matches self.now.provider) false version_set) result.now }
+        ensures tried { IsTried (D.sorts self.now.provider) D.SolvableId.eq
+            (tried_first (D.name_of_version_set self.now.provider)
+            (D.candidates_of self.now.provider) version_set)
+            (matching_in (D.name_of_version_set self.now.provider)
+            (D.candidates_of self.now.provider) (D.matches self.now.provider) false
+            version_set)
+            result.now }
     {
         match self.sorted.get(&version_set) {
             Some(list) => list.as_slice(),
@@ -373,7 +415,12 @@ impl<D: DependencyProvider> SolverCache<D> {
     fn sorted_of_union(&self, union: VersionSetUnionId) -> &[D::SolvableId]
         requires { among same_union self.now.unions union ≡ true }
         ensures in_order { result.now ≡ flat_map (sorted_of self.now.sorted) (D.members_of self.now.provider union) }
-        ensures tried { IsTriedFor (D.sorts self.now.provider) D.SolvableId.eq (tried_first (D.name_of_version_set self.now.provider) (D.candidates_of self.now.provider)) (matching_in (D.name_of_version_set self.now.provider) (D.candidates_of self.now.provider) (D.matches self.now.provider) false) (D.members_of self.now.provider union) result.now }
+        ensures tried { IsTriedFor (D.sorts self.now.provider) D.SolvableId.eq
+            (tried_first (D.name_of_version_set self.now.provider)
+            (D.candidates_of self.now.provider))
+            (matching_in (D.name_of_version_set self.now.provider)
+            (D.candidates_of self.now.provider) (D.matches self.now.provider) false)
+            (D.members_of self.now.provider union) result.now }
     {
         match self.unions.get(&union) {
             Some(list) => list.as_slice(),
@@ -404,7 +451,8 @@ impl<D: DependencyProvider> SolverCache<D> {
     /// Sorts the kept matching candidates of a version set, and keeps the list.
     fn keep_sorted(&mut self, version_set: VersionSetId) -> R<()>
         requires matching { among same_set self.old.matching version_set ≡ true }
-        requires listed { among D.NameId.eq self.old.names (D.name_of_version_set self.old.provider version_set) ≡ true }
+        requires listed { among D.NameId.eq self.old.names (D.name_of_version_set self.old.provider version_set)
+            ≡ true }
         ensures there { OnOk result (is_sorted self.new.sorted version_set ≡ true) }
         ensures extends { Extends D.NameId.eq D.SolvableId.eq self.old self.new }
         ensures err { OnErr result (self.new ≡ self.old) }
@@ -420,8 +468,17 @@ impl<D: DependencyProvider> SolverCache<D> {
     /// The kept matching candidates of a version set in the order in which they are tried.
     fn sorted_list(&self, version_set: VersionSetId) -> R<Vec<D::SolvableId>>
         requires matching { among same_set self.now.matching version_set ≡ true }
-        requires listed { among D.NameId.eq self.now.names (D.name_of_version_set self.now.provider version_set) ≡ true }
-        ensures { IfOk result (λ v. IsTried (D.sorts self.now.provider) D.SolvableId.eq (tried_first (D.name_of_version_set self.now.provider) (D.candidates_of self.now.provider) version_set) (matching_in (D.name_of_version_set self.now.provider) (D.candidates_of self.now.provider) (D.matches self.now.provider) false version_set) v.items) }
+        requires listed { among D.NameId.eq self.now.names (D.name_of_version_set self.now.provider version_set)
+            ≡ true }
+        ensures { IfOk result
+            (λ v.
+            IsTried (D.sorts self.now.provider) D.SolvableId.eq
+            (tried_first (D.name_of_version_set self.now.provider)
+            (D.candidates_of self.now.provider) version_set)
+            (matching_in (D.name_of_version_set self.now.provider)
+            (D.candidates_of self.now.provider) (D.matches self.now.provider) false
+            version_set)
+            v.items) }
     {
         let mut list = Vec::from_slice(self.alloc, self.matching_candidates(version_set))?;
         self.provider
@@ -439,8 +496,20 @@ impl<D: DependencyProvider> SolverCache<D> {
         &mut self,
         version_set: VersionSetId,
     ) -> Result<&[D::SolvableId], CacheFault<D::Cancel>>
-        ensures answer { IfOk result (λ r. IsTried (D.sorts self.old.provider) D.SolvableId.eq (tried_first (D.name_of_version_set self.old.provider) (D.candidates_of self.old.provider) version_set) (matching_in (D.name_of_version_set self.old.provider) (D.candidates_of self.old.provider) (D.matches self.old.provider) false version_set) r.now) }
-        ensures cached { IfOk result (λ r. (xs : List D.SolvableId) → lookup (same_set version_set) self.old.sorted ≡ Some xs → r.now ≡ xs) }
+        ensures answer { IfOk result
+            (λ r.
+            IsTried (D.sorts self.old.provider) D.SolvableId.eq
+            (tried_first (D.name_of_version_set self.old.provider)
+            (D.candidates_of self.old.provider) version_set)
+            (matching_in (D.name_of_version_set self.old.provider)
+            (D.candidates_of self.old.provider) (D.matches self.old.provider) false
+            version_set)
+            r.now) }
+        ensures cached { IfOk result
+            (λ r.
+            (xs : List D.SolvableId)
+            → lookup (same_set version_set) self.old.sorted ≡ Some xs
+            → r.now ≡ xs) }
         ensures succeeds { is_sorted self.old.sorted version_set ≡ true → IsOk result }
         ensures cancelled { IfErr result (IsCancelledBy (D.may_cancel self.old.provider)) }
     {
@@ -526,8 +595,20 @@ impl<D: DependencyProvider> SolverCache<D> {
         &mut self,
         requirement: Requirement,
     ) -> Result<&[D::SolvableId], CacheFault<D::Cancel>>
-        ensures answer { IfOk result (λ r. IsTriedFor (D.sorts self.old.provider) D.SolvableId.eq (tried_first (D.name_of_version_set self.old.provider) (D.candidates_of self.old.provider)) (matching_in (D.name_of_version_set self.old.provider) (D.candidates_of self.old.provider) (D.matches self.old.provider) false) (alternatives_of (D.members_of self.old.provider) requirement) r.now) }
-        ensures cached { has_sorted self.old requirement ≡ true → IfOk result (λ r. r.now ≡ flat_map (sorted_of self.old.sorted) (alternatives_of (D.members_of self.old.provider) requirement)) }
+        ensures answer { IfOk result
+            (λ r.
+            IsTriedFor (D.sorts self.old.provider) D.SolvableId.eq
+            (tried_first (D.name_of_version_set self.old.provider)
+            (D.candidates_of self.old.provider))
+            (matching_in (D.name_of_version_set self.old.provider)
+            (D.candidates_of self.old.provider) (D.matches self.old.provider) false)
+            (alternatives_of (D.members_of self.old.provider) requirement) r.now) }
+        ensures cached { has_sorted self.old requirement ≡ true
+            → IfOk result
+            (λ r.
+            r.now
+            ≡ flat_map (sorted_of self.old.sorted)
+            (alternatives_of (D.members_of self.old.provider) requirement)) }
         ensures succeeds { has_sorted self.old requirement ≡ true → IsOk result }
         ensures cancelled { IfErr result (IsCancelledBy (D.may_cancel self.old.provider)) }
     {
@@ -559,7 +640,8 @@ impl<D: DependencyProvider> SolverCache<D> {
         solvable: D::SolvableId,
     ) -> Result<(), CacheFault<D::Cancel>>
         ensures there { OnOk result (among D.SolvableId.eq self.new.solvables solvable ≡ true) }
-        ensures cached { among D.SolvableId.eq self.old.solvables solvable ≡ true → IsOk result × (self.new ≡ self.old) }
+        ensures cached { among D.SolvableId.eq self.old.solvables solvable ≡ true
+            → IsOk result × (self.new ≡ self.old) }
         ensures extends { Extends D.NameId.eq D.SolvableId.eq self.old self.new }
         ensures err { OnErr result (self.new ≡ self.old) }
         ensures cancelled { IfErr result (IsCancelledBy (D.may_cancel self.old.provider)) }
@@ -601,7 +683,14 @@ impl<D: DependencyProvider> SolverCache<D> {
     /// Whether the dependencies of a solvable are kept, or the kept candidates of its package say
     /// that the provider has them at hand.
     pub fn are_dependencies_available_for(&self, solvable: D::SolvableId) -> bool
-        ensures { result ≡ (among D.SolvableId.eq self.now.solvables solvable || (among D.NameId.eq self.now.names (D.name_of_solvable self.now.provider solvable) && hints D.SolvableId.eq (listing_or_empty (D.candidates_of self.now.provider (D.name_of_solvable self.now.provider solvable))) solvable)) }
+        ensures { result
+            ≡ (among D.SolvableId.eq self.now.solvables solvable ||
+            (among D.NameId.eq self.now.names (D.name_of_solvable self.now.provider solvable)
+            && hints D.SolvableId.eq
+            (listing_or_empty
+            (D.candidates_of self.now.provider
+            (D.name_of_solvable self.now.provider solvable)))
+            solvable)) }
     {
         if self.has_dependencies(solvable) {
             return true;

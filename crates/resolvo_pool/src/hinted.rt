@@ -17,8 +17,15 @@ pub fn put_hinted<D: DependencyProvider>(
     name: D::NameId,
     list: &Candidates<D::SolvableId>,
 ) -> R<()>
-    ensures grows { Grows (hints_own D.NameId.eq D.SolvableId.eq (D.name_of_solvable provider.now) name (listing list.now)) (D.SolvableId.Set.has set.old) (D.SolvableId.Set.has set.new) }
-    ensures each { OnOk result (HasEach (hints_own D.NameId.eq D.SolvableId.eq (D.name_of_solvable provider.now) name (listing list.now)) (D.SolvableId.Set.has set.new)) }
+    ensures grows { Grows
+        (hints_own D.NameId.eq D.SolvableId.eq (D.name_of_solvable provider.now) name
+        (listing list.now))
+        (D.SolvableId.Set.has set.old) (D.SolvableId.Set.has set.new) }
+    ensures each { OnOk result
+        (HasEach
+        (hints_own D.NameId.eq D.SolvableId.eq (D.name_of_solvable provider.now) name
+        (listing list.now))
+        (D.SolvableId.Set.has set.new)) }
 {
     match &list.hint_dependencies_available {
         HintDependenciesAvailable::None => Ok(()),
@@ -34,8 +41,15 @@ fn put_own<D: DependencyProvider>(
     name: D::NameId,
     solvables: &[D::SolvableId],
 ) -> R<()>
-    ensures grows { Grows (among_own D.NameId.eq D.SolvableId.eq (D.name_of_solvable provider.now) name solvables.now) (D.SolvableId.Set.has set.old) (D.SolvableId.Set.has set.new) }
-    ensures each { OnOk result (HasEach (among_own D.NameId.eq D.SolvableId.eq (D.name_of_solvable provider.now) name solvables.now) (D.SolvableId.Set.has set.new)) }
+    ensures grows { Grows
+        (among_own D.NameId.eq D.SolvableId.eq (D.name_of_solvable provider.now) name
+        solvables.now)
+        (D.SolvableId.Set.has set.old) (D.SolvableId.Set.has set.new) }
+    ensures each { OnOk result
+        (HasEach
+        (among_own D.NameId.eq D.SolvableId.eq (D.name_of_solvable provider.now) name
+        solvables.now)
+        (D.SolvableId.Set.has set.new)) }
 {
     for solvable in solvables {
         if provider.solvable_name(*solvable) == name {

@@ -162,7 +162,9 @@ impl<TId: DenseIndex, TValue> Mapping<TId, TValue> {
         F: Drop,
         requires { F.IsAlwaysCallable make }
         ensures* writes_back { sem 𝓛 (lends_kept TId.row TValue.row self.entry (TId.index_of id) result) }
-        ensures value { IfOk result (λ r. MatchOption (at self.old (TId.index_of id)) (F.post make r.now) (λ v. r.now ≡ v)) }
+        ensures value { IfOk result
+            (λ r.
+            MatchOption (at self.old (TId.index_of id)) (F.post make r.now) (λ v. r.now ≡ v)) }
         ensures ids { IsErrOf result Ids → TId.index_of id ≡ 4294967295 }
     {
         if self.get(id).is_none() {
@@ -226,7 +228,8 @@ where
     requires few { vec_len slots.old ≤ 4294967295 }
     ensures old { IfOk result (λ old. old ≡ at slots.old.items index) }
     ensures put { OnOk result (PutsSlot slots.old.items slots.new.items index (Some value)) }
-    ensures count { IfOk result (λ old. sum_by filled slots.new.items + filled old ≡ sum_by filled slots.old.items + 1) }
+    ensures count { IfOk result
+        (λ old. sum_by filled slots.new.items + filled old ≡ sum_by filled slots.old.items + 1) }
     ensures few { vec_len slots.new ≤ 4294967295 }
     ensures slots { OnOk result (vec_len slots.new ≡ max wanted (vec_len slots.old)) }
     ensures err { OnErr result (slots.new.items ≡ slots.old.items) }

@@ -86,15 +86,24 @@ impl<VS: VersionSet, N: PackageName> Model for Pool<VS, N> {
 
     ghost Value = { Interned VS.V VS N };
 
-    ghost view = { λ p. record { names = p.names.keys; strings = map string_bytes p.strings.keys; solvables = p.solvables; version_sets = p.version_sets.keys; unions = map (λ u. u.items) p.unions; conditions = p.conditions.keys } };
+    ghost view = { λ p.
+        record
+        { names = p.names.keys; strings = map string_bytes p.strings.keys; solvables = p.solvables; version_sets = p.version_sets.keys; unions = map (λ u. u.items) p.unions; conditions = p.conditions.keys } };
 
-    ghost invariant = { λ p. (length p.names.keys ≤ 4294967295) × (length p.strings.keys ≤ 4294967295) × (length p.version_sets.keys ≤ 4294967295) × (length p.conditions.keys ≤ 4294967295) × AreBelow p.conditions.keys };
+    ghost invariant = { λ p.
+        (length p.names.keys ≤ 4294967295)
+        × (length p.strings.keys ≤ 4294967295)
+        × (length p.version_sets.keys ≤ 4294967295)
+        × (length p.conditions.keys ≤ 4294967295)
+        × AreBelow p.conditions.keys };
 }
 
 impl<VS: VersionSet, N: PackageName> Pool<VS, N> {
     /// A pool that holds nothing.
     pub fn new(alloc: Global) -> Pool<VS, N>
-        ensures { result ≡ record { names = []; strings = []; solvables = []; version_sets = []; unions = []; conditions = [] } }
+        ensures { result
+            ≡ record
+            { names = []; strings = []; solvables = []; version_sets = []; unions = []; conditions = [] } }
     {
         Pool {
             names: IndexSet::new(alloc),
@@ -111,7 +120,12 @@ impl<VS: VersionSet, N: PackageName> Pool<VS, N> {
     pub fn intern_package_name<Q: IntoPackageName<N>>(&mut self, name: Q) -> R<NameId>
     where
         N: Drop,
-        ensures named { IfOk result (λ id. (n : N) × Q.gives name n × (id.raw ≡ position_or_len (N.eq n) self.old.names) × (self.new ≡ record self.old { names = insert_key N.eq self.old.names n })) }
+        ensures named { IfOk result
+            (λ id.
+            (n : N)
+            × Q.gives name n
+            × (id.raw ≡ position_or_len (N.eq n) self.old.names)
+            × (self.new ≡ record self.old { names = insert_key N.eq self.old.names n })) }
         ensures err { OnErr result (self.new ≡ self.old) }
         ensures ids { IsErrOf result Ids → length self.old.names ≡ 4294967295 }
     {
@@ -151,7 +165,9 @@ impl<VS: VersionSet, N: PackageName> Pool<VS, N> {
     /// The id of a text, which is new where an equal one was not interned.
     pub fn intern_string(&mut self, text: &str) -> R<StringId>
         ensures id { IfOk result (λ id. id.0 ≡ position_or_len (bytes_eq text.now) self.old.strings) }
-        ensures put { OnOk result (self.new ≡ record self.old { strings = insert_key bytes_eq self.old.strings text.now }) }
+        ensures put { OnOk result
+            (self.new
+            ≡ record self.old { strings = insert_key bytes_eq self.old.strings text.now }) }
         ensures err { OnErr result (self.new ≡ self.old) }
         ensures ids { IsErrOf result Ids → length self.old.strings ≡ 4294967295 }
     {
@@ -183,7 +199,10 @@ impl<VS: VersionSet, N: PackageName> Pool<VS, N> {
     where
         VS::V: Drop,
         ensures id { IfOk result (λ id. id.raw ≡ length self.old.solvables) }
-        ensures put { OnOk result (self.new ≡ record self.old { solvables = self.old.solvables ++ record { version = version; name = name } ∷ [] }) }
+        ensures put { OnOk result
+            (self.new
+            ≡ record self.old
+            { solvables = self.old.solvables ++ record { version = version; name = name } ∷ [] }) }
         ensures err { OnErr result (self.new ≡ self.old) }
         ensures ids { IsErrOf result Ids → length self.old.solvables ≡ 4294967295 }
     {
@@ -217,8 +236,15 @@ impl<VS: VersionSet, N: PackageName> Pool<VS, N> {
     pub fn intern_version_set(&mut self, name: NameId, version_set: VS) -> R<VersionSetId>
     where
         VS: Drop,
-        ensures id { IfOk result (λ id. id.0 ≡ position_or_len (⟦<(NameId, VS) as PartialEq>⟧.eq (name, version_set)) self.old.version_sets) }
-        ensures put { OnOk result (self.new ≡ record self.old { version_sets = insert_key ⟦<(NameId, VS) as PartialEq>⟧.eq self.old.version_sets (name, version_set) }) }
+        ensures id { IfOk result
+            (λ id.
+            id.0
+            ≡ position_or_len (⟦<(NameId, VS) as PartialEq>⟧.eq (name, version_set))
+            self.old.version_sets) }
+        ensures put { OnOk result
+            (self.new
+            ≡ record self.old
+            { version_sets = insert_key ⟦<(NameId, VS) as PartialEq>⟧.eq self.old.version_sets (name, version_set) }) }
         ensures err { OnErr result (self.new ≡ self.old) }
         ensures ids { IsErrOf result Ids → length self.old.version_sets ≡ 4294967295 }
     {
@@ -262,7 +288,8 @@ impl<VS: VersionSet, N: PackageName> Pool<VS, N> {
         others: &[VersionSetId],
     ) -> R<VersionSetUnionId>
         ensures id { IfOk result (λ id. id.0 ≡ length self.old.unions) }
-        ensures put { OnOk result (self.new ≡ record self.old { unions = self.old.unions ++ (first ∷ others.now) ∷ [] }) }
+        ensures put { OnOk result
+            (self.new ≡ record self.old { unions = self.old.unions ++ (first ∷ others.now) ∷ [] }) }
         ensures err { OnErr result (self.new ≡ self.old) }
         ensures ids { IsErrOf result Ids → length self.old.unions ≡ 4294967295 }
     {
@@ -290,8 +317,14 @@ impl<VS: VersionSet, N: PackageName> Pool<VS, N> {
     /// The id of a condition, which is new where an equal one was not interned.
     pub fn intern_condition(&mut self, condition: Condition) -> R<ConditionId>
         requires { OperandsBelow condition (record { 0 = length self.old.conditions }) }
-        ensures id { IfOk result (λ id. id.0 ≡ position_or_len (⟦<Condition as PartialEq>⟧.eq condition) self.old.conditions) }
-        ensures put { OnOk result (self.new ≡ record self.old { conditions = insert_key ⟦<Condition as PartialEq>⟧.eq self.old.conditions condition }) }
+        ensures id { IfOk result
+            (λ id.
+            id.0
+            ≡ position_or_len (⟦<Condition as PartialEq>⟧.eq condition) self.old.conditions) }
+        ensures put { OnOk result
+            (self.new
+            ≡ record self.old
+            { conditions = insert_key ⟦<Condition as PartialEq>⟧.eq self.old.conditions condition }) }
         ensures err { OnErr result (self.new ≡ self.old) }
         ensures ids { IsErrOf result Ids → length self.old.conditions ≡ 4294967295 }
     {

@@ -123,7 +123,10 @@ struct DisplayAlternative<'a, I: Interner> {
 }
 
 impl<I: Interner> fmt::Display for DisplayAlternative<'_, I> {
-    ghost output = { λ d. Some (set_text (I.name_text d.interner.now) (I.version_set_text d.interner.now) (I.name_of_version_set d.interner.now) d.version_set) };
+    ghost output = { λ d.
+        Some
+        (set_text (I.name_text d.interner.now) (I.version_set_text d.interner.now)
+        (I.name_of_version_set d.interner.now) d.version_set) };
 
     fn fmt<W: fmt::Write>(&self, f: &mut fmt::Formatter<W>) -> fmt::Result {
         let name = self.interner.version_set_name(self.version_set);
@@ -134,7 +137,12 @@ impl<I: Interner> fmt::Display for DisplayAlternative<'_, I> {
 }
 
 impl<I: Interner> fmt::Display for DisplayRequirement<'_, I> {
-    ghost output = { λ d. Some (requirement_text (set_text (I.name_text d.interner.now) (I.version_set_text d.interner.now) (I.name_of_version_set d.interner.now)) (I.members_of d.interner.now) d.requirement) };
+    ghost output = { λ d.
+        Some
+        (requirement_text
+        (set_text (I.name_text d.interner.now) (I.version_set_text d.interner.now)
+        (I.name_of_version_set d.interner.now))
+        (I.members_of d.interner.now) d.requirement) };
 
     fn fmt<W: fmt::Write>(&self, f: &mut fmt::Formatter<W>) -> fmt::Result {
         let interner = self.interner;
@@ -158,7 +166,13 @@ impl<I: Interner> DisplayRequirement<'_, I> {
         union: VersionSetUnionId,
         f: &mut fmt::Formatter<W>,
     ) -> fmt::Result
-        ensures { WritesOnOk W.write_str_gives f.old result (requirement_text (set_text (I.name_text self.now.interner.now) (I.version_set_text self.now.interner.now) (I.name_of_version_set self.now.interner.now)) (I.members_of self.now.interner.now) (Union union)) f.new }
+        ensures { WritesOnOk W.write_str_gives f.old result
+            (requirement_text
+            (set_text (I.name_text self.now.interner.now)
+            (I.version_set_text self.now.interner.now)
+            (I.name_of_version_set self.now.interner.now))
+            (I.members_of self.now.interner.now) (Union union))
+            f.new }
     {
         let interner = self.interner;
         let sets = interner.version_sets_in_union(union);
@@ -254,7 +268,8 @@ impl<V: Drop> RequirementMap<V> {
         F: Drop,
         requires { F.IsAlwaysCallable make }
         ensures* writes_back { sem 𝓛 (lends_made V.row self.entry requirement result) }
-        ensures value { IfOk result (λ r. MatchOption (slot_of self.old requirement) (F.post make r.now) (λ v. r.now ≡ v)) }
+        ensures value { IfOk result
+            (λ r. MatchOption (slot_of self.old requirement) (F.post make r.now) (λ v. r.now ≡ v)) }
         ensures ids { IsErrOf result Ids → index_in requirement ≡ 4294967295 }
     {
         match requirement {

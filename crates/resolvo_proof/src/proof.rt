@@ -30,12 +30,26 @@ pub fn proof_of<N: Copy + Exact + Hash + Debug, S: Copy + Exact + Hash + Debug>(
 ) -> R<Vec<ProofStep<N, S>>>
     requires coding { IsCoding coding.now }
     requires refusal { IfSome last (λ r. IsRefusal coding.now.search r.now.literals.items r.now.causes.items) }
-    ensures steps { IfOk result (λ v. MatchOption last.entry (AreSteps coding.now v.items) (λ r. AreStepsThen coding.now r.now.literals.items r.now.causes.items v.items)) }
+    ensures steps { IfOk result
+        (λ v.
+        MatchOption last.entry (AreSteps coding.now v.items)
+        (λ r. AreStepsThen coding.now r.now.literals.items r.now.causes.items v.items)) }
     ensures proof { IfOk result (λ v. Proves coding.now v.items) }
-    ensures empty { IfOk result (λ v. IfSome last.entry (λ r. DenyRoot r.now.literals.items → EndsEmpty v.items)) }
+    ensures empty { IfOk result
+        (λ v. IfSome last.entry (λ r. DenyRoot r.now.literals.items → EndsEmpty v.items)) }
     ensures convinces { IfOk result (λ v. Convinces v.items) }
-    ensures places { IfOk result (λ v. (r : Registry N) (package_of : S → N) → AreTied r coding.now → AreNamedBy r coding.now package_of → HaveOnePlace v.items) }
-    ensures drawn { IfOk result (λ v. IfSome last.entry (λ r. DenyRoot r.now.literals.items) → (same : S → S → Bool) (p : Packages N S) → Spelled same p coding.now → AreDrawn same p v.items) }
+    ensures places { IfOk result
+        (λ v.
+        (r : Registry N) (package_of : S → N)
+        → AreTied r coding.now
+        → AreNamedBy r coding.now package_of
+        → HaveOnePlace v.items) }
+    ensures drawn { IfOk result
+        (λ v.
+        IfSome last.entry (λ r. DenyRoot r.now.literals.items)
+        → (same : S → S → Bool) (p : Packages N S)
+        → Spelled same p coding.now
+        → AreDrawn same p v.items) }
     ensures signs { IfOk result (λ v. HaveOneSigns v.items) }
     ensures refusal { IsOkUnless result Memory }
 {

@@ -48,7 +48,8 @@ pub fn trim_to<N: Copy + Exact + Hash + Debug, S: Copy + Exact + Hash + Debug>(
     steps: Vec<ProofStep<N, S>>,
     wanted: &[usize],
 ) -> R<Trimmed<N, S>>
-    ensures kept { IfOk result (λ t. IsTrimmedWith (Contains wanted.now) steps.items t.steps.items t.numbers.items) }
+    ensures kept { IfOk result
+        (λ t. IsTrimmedWith (Contains wanted.now) steps.items t.steps.items t.numbers.items) }
     ensures proof { IfOk result (λ t. StaysProof steps.items t.steps.items) }
     ensures places { IfOk result (λ t. HaveOnePlace steps.items → HaveOnePlace t.steps.items) }
     ensures signs { IfOk result (λ t. HaveOneSigns steps.items → HaveOneSigns t.steps.items) }

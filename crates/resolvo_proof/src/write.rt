@@ -70,7 +70,8 @@ fn write_literals<N: Copy + Exact + Hash + Debug, S: Copy + Exact + Hash + Debug
 ) -> R<Vec<ProofLiteral<N, S>>>
     requires coding { IsCoding coding.now }
     requires in_range { AreInRange (count_of coding.now.search) literals.now }
-    ensures written { IfOk result (λ v. map literal_in v.items ≡ meanings (origin coding.now.atoms.keys) literals.now) }
+    ensures written { IfOk result
+        (λ v. map literal_in v.items ≡ meanings (origin coding.now.atoms.keys) literals.now) }
     ensures refusal { IsOkUnless result Memory }
 {
     let mut written = Vec::new(alloc);

@@ -107,7 +107,10 @@ impl ReportReader {
     ) -> Result<Option<ReportLine>, ReportFault>
         ensures given { IfOk result (λ next. IfSome next (λ line. GivesLine (left self.old (S.left source.old)) self.old (report_line_of line)
             (left self.new (S.left source.new)) self.new)) }
-        ensures end { IfOk result (λ next. IfNone next (IsAtEnd (left self.old (S.left source.old)) × IsTrue (may_end self.old.part))) }
+        ensures end { IfOk result
+            (λ next.
+            IfNone next
+            (IsAtEnd (left self.old (S.left source.old)) × IsTrue (may_end self.old.part))) }
         ensures failures { OnOk result (S.failures source.new ≡ S.failures source.old) }
         ensures fault { IfErr result (λ e. IsLineFault e self.old (left self.old (S.left source.old)) (S.left source.new)
             (DeviceFailed (S.failures source.old) (S.failures source.new) (S.interruptions source.new))) }
@@ -151,7 +154,9 @@ impl Report {
     /// Reads a report.
     pub fn read<S: Source>(alloc: Global, source: &mut S) -> Result<Report, ReportFault>
         ensures report { IfOk result (λ report. IsReport (report_of report)) }
-        ensures text { IfOk result (λ report. IfKnown (S.left source.old) (λ text. text ≡ report_text (report_of report))) }
+        ensures text { IfOk result
+            (λ report.
+            IfKnown (S.left source.old) (λ text. text ≡ report_text (report_of report))) }
         ensures fault { IfErr result (λ e. IsReportFault e (S.left source.old) (S.left source.new)
             (DeviceFailed (S.failures source.old) (S.failures source.new) (S.interruptions source.new))) }
     {

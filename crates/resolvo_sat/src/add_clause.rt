@@ -19,7 +19,8 @@ impl SatState {
     pub fn add_clause(&mut self, watching: &mut WatchLists, clause: SatClause) -> R<ClauseId>
         requires ready { IsReady self.old watching.old }
         requires covered { AreCovered self.old watching.old }
-        requires follows { 0 < length clause.causes.items → IsDerived (clauses_of self.old) clause.literals.items clause.causes.items }
+        requires follows { 0 < length clause.causes.items
+            → IsDerived (clauses_of self.old) clause.literals.items clause.causes.items }
         requires in_range { AreInRange (count_of self.old) clause.literals.items }
         requires some { 0 < length clause.literals.items }
         ensures added { IfOk result (λ id. Comes clause id self.old watching.old self.new watching.new) }
@@ -64,9 +65,13 @@ impl WatchLists {
 
     /// Notes a clause of one literal.
     fn note(&mut self, single: UnitClause, is_rule: bool) -> R<()>
-        ensures assertions { IfOk result (λ _. self.new.assertions.items ≡ with_last is_rule single self.old.assertions.items) }
-        ensures learnt { IfOk result (λ _. self.new.learnt.items ≡ with_last (not is_rule) single self.old.learnt.items) }
-        ensures others { (self.new.watched ≡ self.old.watched) × (self.new.watches ≡ self.old.watches) × (self.new.waiting ≡ self.old.waiting) }
+        ensures assertions { IfOk result
+            (λ _. self.new.assertions.items ≡ with_last is_rule single self.old.assertions.items) }
+        ensures learnt { IfOk result
+            (λ _. self.new.learnt.items ≡ with_last (not is_rule) single self.old.learnt.items) }
+        ensures others { (self.new.watched ≡ self.old.watched)
+            × (self.new.watches ≡ self.old.watches)
+            × (self.new.waiting ≡ self.old.waiting) }
         ensures refusal { IsOkUnless result Memory }
     {
         if is_rule {

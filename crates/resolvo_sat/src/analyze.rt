@@ -106,7 +106,9 @@ impl SatState {
         below: u32,
     ) -> R<Analysis>
         requires { entry.decision.variable.0 < 2147483648 }
-        ensures learnt { IfOk result (IsLearntOf literals.items kept.items causes.items entry (max self.now.base_level below)) }
+        ensures learnt { IfOk result
+            (IsLearntOf literals.items kept.items causes.items entry
+            (max self.now.base_level below)) }
         ensures refusal { IsOkUnless result Memory }
     {
         let asserting = literal_made_true(entry).negate();

@@ -84,7 +84,8 @@ impl SatState {
     /// Adds a clause: a rule, or one that follows from its causes.
     pub fn hold(&mut self, clause: SatClause) -> R<ClauseId>
         requires state { IsState self.old }
-        requires follows { 0 < length clause.causes.items → IsDerived (clauses_of self.old) clause.literals.items clause.causes.items }
+        requires follows { 0 < length clause.causes.items
+            → IsDerived (clauses_of self.old) clause.literals.items clause.causes.items }
         requires in_range { AreInRange (count_of self.old) clause.literals.items }
         ensures added { IfOk result (λ id. Adds clause id self.old self.new) }
         ensures ids { IsErrOf result Ids → length self.old.clauses ≡ 4294967295 }

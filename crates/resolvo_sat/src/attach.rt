@@ -64,7 +64,8 @@ impl SatState {
     /// Makes the first of the two true where the clause forces it; false where the clause is wholly false.
     fn assign_first(&mut self, clause: ClauseId, watched: &WatchedLiterals) -> R<bool>
         requires state { IsState self.old }
-        requires best { IsBestPair (made_true (history self.old)) (clause_at (clauses_of self.old) clause.0) watched.now }
+        requires best { IsBestPair (made_true (history self.old)) (clause_at (clauses_of self.old) clause.0)
+            watched.now }
         ensures set { IfOk result (IsFirstSet clause.0 watched.now self.old self.new) }
         ensures refusal { IsOkUnless result Memory }
     {
@@ -85,7 +86,8 @@ impl SatState {
     fn watch_pair(&self, clause: ClauseId) -> WatchedLiterals
         requires state { IsState self.now }
         requires two { HasTwo (clause_at (clauses_of self.now) clause.0) }
-        ensures { IsBestPair (made_true (history self.now)) (clause_at (clauses_of self.now) clause.0) result }
+        ensures { IsBestPair (made_true (history self.now)) (clause_at (clauses_of self.now) clause.0)
+            result }
     {
         let any = self.literals(clause)[0];
         let best = self.best_beside(clause, any).unwrap();
@@ -106,7 +108,8 @@ impl SatState {
     fn best_beside(&self, clause: ClauseId, beside: Literal) -> Option<Literal>
         requires state { IsState self.now }
         requires in_range { clause.0 < length self.now.clauses }
-        ensures { IsBestBeside (made_true (history self.now)) (clause_at (clauses_of self.now) clause.0) beside result }
+        ensures { IsBestBeside (made_true (history self.now)) (clause_at (clauses_of self.now) clause.0)
+            beside result }
     {
         let mut best = None;
         for literal in self.literals(clause) {

@@ -33,7 +33,8 @@ impl SatState {
     fn free_literal(&self, clause: ClauseId, watched: &WatchedLiterals) -> Option<Literal>
         requires state { IsState self.now }
         requires in_range { clause.0 < length self.now.clauses }
-        ensures { IsFree (made_true (history self.now)) (clause_at (clauses_of self.now) clause.0) watched.now result }
+        ensures { IsFree (made_true (history self.now)) (clause_at (clauses_of self.now) clause.0)
+            watched.now result }
     {
         for literal in self.literals(clause) {
             let is_watched = watched.watches(*literal);
@@ -57,7 +58,9 @@ impl SatState {
         requires known { has (made_true (history self.old)) (negation cursor.literal) ≡ true }
         requires stands { slice_get (watchers watching.old.watches cursor.literal) cursor.place ≡ Some clause }
         requires pair { pair_at watching.old.watched.items clause.0 ≡ Some watched }
-        ensures met { IfOk result (IsMeeting cursor.literal cursor.place clause.0 watched self.old watching.old self.new watching.new) }
+        ensures met { IfOk result
+            (IsMeeting cursor.literal cursor.place clause.0 watched self.old watching.old self.new
+            watching.new) }
         ensures refusal { IsOkUnless result Memory }
     {
         let other = watched.other(cursor.literal);

@@ -40,7 +40,8 @@ impl<N: Copy + Exact + Hash + Debug, S: Copy + Exact + Hash + Debug> SolverState
         requires coding { IsCoding self.old }
         requires some { 0 < length refusal.literals.items }
         requires bar { IsBar self.old.search refusal.literals.items refusal.causes.items }
-        ensures barred { IfOk result (λ id. Bars refusal.literals.items refusal.causes.items id self.old self.new) }
+        ensures barred { IfOk result
+            (λ id. Bars refusal.literals.items refusal.causes.items id self.old self.new) }
         ensures ids { IsErrOf result Ids → length self.old.search.clauses ≡ 4294967295 }
     {
         let FinalConflict { literals, causes } = refusal;

@@ -15,7 +15,8 @@ use std::hash::Hash;
 impl<N: Copy + Exact + Hash + Debug, S: Copy + Exact + Hash + Debug> SolverState<N, S> {
     /// The solvables whose variables the trail makes true, in the order of the trail.
     pub fn chosen(&self, alloc: Global) -> R<Vec<S>>
-        ensures chosen { IfOk result (λ v. AreChosen self.now.atoms.keys (made_true (history self.now.search)) v.items) }
+        ensures chosen { IfOk result
+            (λ v. AreChosen self.now.atoms.keys (made_true (history self.now.search)) v.items) }
         ensures in_order { IfOk result (λ v. v.items ≡ choices self.now.atoms.keys self.now.search.tracker.trail) }
         ensures refusal { IsOkUnless result Memory }
     {

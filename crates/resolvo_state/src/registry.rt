@@ -144,7 +144,8 @@ fn next_digit<N: Copy + Exact + Hash + Debug, S: Copy + Exact + Hash + Debug>(
     variable: VariableId,
 ) -> R<Option<VariableId>>
     requires { IsCoding coding.old }
-    ensures digit { IfOk result (λ digit. GivesDigit name (length tracker.now.helpers) digit coding.old coding.new) }
+    ensures digit { IfOk result
+        (λ digit. GivesDigit name (length tracker.now.helpers) digit coding.old coding.new) }
     ensures needed { IfOk result (λ digit. is_some digit ≡ needs_helper same_variable tracker.now variable) }
 {
     if !tracker.needs_helper(variable) {
@@ -169,7 +170,9 @@ fn state_ties<N: Copy + Exact + Hash + Debug, S: Copy + Exact + Hash + Debug>(
 ) -> R<()>
     requires coding { IsCoding coding.old }
     requires places { first ≤ last }
-    requires ties { (i : ℕ) (tie : VariableId × VariableId × Bool) → slice_get ties.now i ≡ Some tie → IsTie name coding.old.atoms.keys (place_from first last i) tie }
+    requires ties { (i : ℕ) (tie : VariableId × VariableId × Bool)
+        → slice_get ties.now i ≡ Some tie
+        → IsTie name coding.old.atoms.keys (place_from first last i) tie }
     ensures stated { OnOk result (StatesAll name ties.now first last coding.old coding.new) }
 {
     let mut place = first;

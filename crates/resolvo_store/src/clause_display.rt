@@ -32,7 +32,12 @@ pub struct VariableDisplay<'a, I: Interner> {
 }
 
 impl<I: Interner> fmt::Display for ClauseDisplay<'_, I> {
-    ghost output = { λ d. Some (clause_words (record { name_of = I.name_of_version_set d.interner.now; members_of = I.members_of d.interner.now; solvable_text = I.solvable_text d.interner.now; name_text = I.name_text d.interner.now; version_set_text = I.version_set_text d.interner.now; string_text = I.string_text d.interner.now }) d.variable_map.now d.clause) };
+    ghost output = { λ d.
+        Some
+        (clause_words
+        (record
+        { name_of = I.name_of_version_set d.interner.now; members_of = I.members_of d.interner.now; solvable_text = I.solvable_text d.interner.now; name_text = I.name_text d.interner.now; version_set_text = I.version_set_text d.interner.now; string_text = I.string_text d.interner.now })
+        d.variable_map.now d.clause) };
 
     fn fmt<W: fmt::Write>(&self, f: &mut fmt::Formatter<W>) -> fmt::Result {
         match self.clause {
@@ -85,7 +90,12 @@ impl<I: Interner> ClauseDisplay<'_, I> {
         requirement: Requirement,
         f: &mut fmt::Formatter<W>,
     ) -> fmt::Result
-        ensures { WritesOnOk W.write_str_gives f.old result (need_words (record { name_of = I.name_of_version_set self.now.interner.now; members_of = I.members_of self.now.interner.now; solvable_text = I.solvable_text self.now.interner.now; name_text = I.name_text self.now.interner.now; version_set_text = I.version_set_text self.now.interner.now; string_text = I.string_text self.now.interner.now }) self.now.variable_map.now parent condition requirement) f.new }
+        ensures { WritesOnOk W.write_str_gives f.old result
+            (need_words
+            (record
+            { name_of = I.name_of_version_set self.now.interner.now; members_of = I.members_of self.now.interner.now; solvable_text = I.solvable_text self.now.interner.now; name_text = I.name_text self.now.interner.now; version_set_text = I.version_set_text self.now.interner.now; string_text = I.string_text self.now.interner.now })
+            self.now.variable_map.now parent condition requirement)
+            f.new }
     {
         let parent = self.variable(parent);
         let requirement = DisplayRequirement {
@@ -104,7 +114,12 @@ impl<I: Interner> ClauseDisplay<'_, I> {
         name: I::NameId,
         f: &mut fmt::Formatter<W>,
     ) -> fmt::Result
-        ensures { WritesOnOk W.write_str_gives f.old result (forbid_words (record { name_of = I.name_of_version_set self.now.interner.now; members_of = I.members_of self.now.interner.now; solvable_text = I.solvable_text self.now.interner.now; name_text = I.name_text self.now.interner.now; version_set_text = I.version_set_text self.now.interner.now; string_text = I.string_text self.now.interner.now }) self.now.variable_map.now variable other name) f.new }
+        ensures { WritesOnOk W.write_str_gives f.old result
+            (forbid_words
+            (record
+            { name_of = I.name_of_version_set self.now.interner.now; members_of = I.members_of self.now.interner.now; solvable_text = I.solvable_text self.now.interner.now; name_text = I.name_text self.now.interner.now; version_set_text = I.version_set_text self.now.interner.now; string_text = I.string_text self.now.interner.now })
+            self.now.variable_map.now variable other name)
+            f.new }
     {
         let sign = if other.satisfying_value() { "" } else { "not " };
         let variable = self.variable(variable);
@@ -128,7 +143,12 @@ impl<I: Interner> ClauseDisplay<'_, I> {
         via: VersionSetId,
         f: &mut fmt::Formatter<W>,
     ) -> fmt::Result
-        ensures { WritesOnOk W.write_str_gives f.old result (kind.now ++ limit_words (record { name_of = I.name_of_version_set self.now.interner.now; members_of = I.members_of self.now.interner.now; solvable_text = I.solvable_text self.now.interner.now; name_text = I.name_text self.now.interner.now; version_set_text = I.version_set_text self.now.interner.now; string_text = I.string_text self.now.interner.now }) self.now.variable_map.now first second via) f.new }
+        ensures { WritesOnOk W.write_str_gives f.old result
+            (kind.now ++ limit_words
+            (record
+            { name_of = I.name_of_version_set self.now.interner.now; members_of = I.members_of self.now.interner.now; solvable_text = I.solvable_text self.now.interner.now; name_text = I.name_text self.now.interner.now; version_set_text = I.version_set_text self.now.interner.now; string_text = I.string_text self.now.interner.now })
+            self.now.variable_map.now first second via)
+            f.new }
     {
         let first = self.variable(first);
         let second = self.variable(second);
@@ -147,7 +167,12 @@ impl<I: Interner> ClauseDisplay<'_, I> {
         second: VariableId,
         f: &mut fmt::Formatter<W>,
     ) -> fmt::Result
-        ensures { WritesOnOk W.write_str_gives f.old result (kind.now ++ pair_words (record { name_of = I.name_of_version_set self.now.interner.now; members_of = I.members_of self.now.interner.now; solvable_text = I.solvable_text self.now.interner.now; name_text = I.name_text self.now.interner.now; version_set_text = I.version_set_text self.now.interner.now; string_text = I.string_text self.now.interner.now }) self.now.variable_map.now first second) f.new }
+        ensures { WritesOnOk W.write_str_gives f.old result
+            (kind.now ++ pair_words
+            (record
+            { name_of = I.name_of_version_set self.now.interner.now; members_of = I.members_of self.now.interner.now; solvable_text = I.solvable_text self.now.interner.now; name_text = I.name_text self.now.interner.now; version_set_text = I.version_set_text self.now.interner.now; string_text = I.string_text self.now.interner.now })
+            self.now.variable_map.now first second)
+            f.new }
     {
         let first = self.variable(first);
         let second = self.variable(second);
@@ -161,7 +186,12 @@ impl<I: Interner> ClauseDisplay<'_, I> {
         reason: StringId,
         f: &mut fmt::Formatter<W>,
     ) -> fmt::Result
-        ensures { WritesOnOk W.write_str_gives f.old result (excluded_words (record { name_of = I.name_of_version_set self.now.interner.now; members_of = I.members_of self.now.interner.now; solvable_text = I.solvable_text self.now.interner.now; name_text = I.name_text self.now.interner.now; version_set_text = I.version_set_text self.now.interner.now; string_text = I.string_text self.now.interner.now }) self.now.variable_map.now variable reason) f.new }
+        ensures { WritesOnOk W.write_str_gives f.old result
+            (excluded_words
+            (record
+            { name_of = I.name_of_version_set self.now.interner.now; members_of = I.members_of self.now.interner.now; solvable_text = I.solvable_text self.now.interner.now; name_text = I.name_text self.now.interner.now; version_set_text = I.version_set_text self.now.interner.now; string_text = I.string_text self.now.interner.now })
+            self.now.variable_map.now variable reason)
+            f.new }
     {
         let variable = self.variable(variable);
         let reason = StringDisplay {
@@ -173,7 +203,12 @@ impl<I: Interner> ClauseDisplay<'_, I> {
 }
 
 impl<I: Interner> fmt::Display for VariableDisplay<'_, I> {
-    ghost output = { λ d. Some (variable_words (record { name_of = I.name_of_version_set d.interner.now; members_of = I.members_of d.interner.now; solvable_text = I.solvable_text d.interner.now; name_text = I.name_text d.interner.now; version_set_text = I.version_set_text d.interner.now; string_text = I.string_text d.interner.now }) d.variable_map.now d.variable) };
+    ghost output = { λ d.
+        Some
+        (variable_words
+        (record
+        { name_of = I.name_of_version_set d.interner.now; members_of = I.members_of d.interner.now; solvable_text = I.solvable_text d.interner.now; name_text = I.name_text d.interner.now; version_set_text = I.version_set_text d.interner.now; string_text = I.string_text d.interner.now })
+        d.variable_map.now d.variable) };
 
     fn fmt<W: fmt::Write>(&self, f: &mut fmt::Formatter<W>) -> fmt::Result {
         let origin = OriginDisplay {
@@ -193,7 +228,12 @@ struct OriginDisplay<'a, I: Interner> {
 }
 
 impl<I: Interner> fmt::Display for OriginDisplay<'_, I> {
-    ghost output = { λ d. Some (origin_words (record { name_of = I.name_of_version_set d.interner.now; members_of = I.members_of d.interner.now; solvable_text = I.solvable_text d.interner.now; name_text = I.name_text d.interner.now; version_set_text = I.version_set_text d.interner.now; string_text = I.string_text d.interner.now }) d.origin) };
+    ghost output = { λ d.
+        Some
+        (origin_words
+        (record
+        { name_of = I.name_of_version_set d.interner.now; members_of = I.members_of d.interner.now; solvable_text = I.solvable_text d.interner.now; name_text = I.name_text d.interner.now; version_set_text = I.version_set_text d.interner.now; string_text = I.string_text d.interner.now })
+        d.origin) };
 
     fn fmt<W: fmt::Write>(&self, f: &mut fmt::Formatter<W>) -> fmt::Result {
         let interner = self.interner;

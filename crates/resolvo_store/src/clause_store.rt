@@ -70,9 +70,14 @@ impl<N: SolverId> Model for ClauseStore<N> {
 
     ghost Value = { Kept N N.Scores };
 
-    ghost view = { λ s. record { lists = s.lists; clauses = s.clauses.items; watched = s.watched.items; watches = s.watches; trail = s.tracker.trail; needs = s.queue; scores = s.scores } };
+    ghost view = { λ s.
+        record
+        { lists = s.lists; clauses = s.clauses.items; watched = s.watched.items; watches = s.watches; trail = s.tracker.trail; needs = s.queue; scores = s.scores } };
 
-    ghost invariant = { λ s. IsWatched s.watched.items (watchers s.watches) × (length s.watched.items ≡ length s.clauses.items) × (length s.clauses.items ≤ 4294967295) };
+    ghost invariant = { λ s.
+        IsWatched s.watched.items (watchers s.watches)
+        × (length s.watched.items ≡ length s.clauses.items)
+        × (length s.clauses.items ≤ 4294967295) };
 }
 
 impl<N: SolverId + Drop> ClauseStore<N> {
@@ -112,8 +117,12 @@ impl<N: SolverId + Drop> ClauseStore<N> {
         groups: &[(N, Vec<VariableId>)],
     ) -> R<()>
         requires { can_fix (plain N.Scores.score_of self.old) requirement groups.now ≡ true }
-        ensures store { OnOk result (Like (plain N.Scores.score_of self.new) (with_candidates requirement (candidates_from groups.now) (plain N.Scores.score_of self.old))) }
-        ensures err { OnErr result (Like (plain N.Scores.score_of self.new) (plain N.Scores.score_of self.old)) }
+        ensures store { OnOk result
+            (Like (plain N.Scores.score_of self.new)
+            (with_candidates requirement (candidates_from groups.now)
+            (plain N.Scores.score_of self.old))) }
+        ensures err { OnErr result
+            (Like (plain N.Scores.score_of self.new) (plain N.Scores.score_of self.old)) }
         ensures ids { IsErrOf result Ids → index_in requirement ≡ 4294967295 }
     {
         let candidates = candidates_of(self.alloc, groups)?;
@@ -123,8 +132,11 @@ impl<N: SolverId + Drop> ClauseStore<N> {
     /// Adds the literals of a condition's case. The first has number 0.
     pub fn fix_disjunction(&mut self, literals: Vec<Literal>) -> R<DisjunctionId>
         ensures number { IfOk result (λ id. id.raw ≡ length (plain N.Scores.score_of self.old).disjunctions) }
-        ensures store { OnOk result (Like (plain N.Scores.score_of self.new) (with_disjunction literals.items (plain N.Scores.score_of self.old))) }
-        ensures err { OnErr result (Like (plain N.Scores.score_of self.new) (plain N.Scores.score_of self.old)) }
+        ensures store { OnOk result
+            (Like (plain N.Scores.score_of self.new)
+            (with_disjunction literals.items (plain N.Scores.score_of self.old))) }
+        ensures err { OnErr result
+            (Like (plain N.Scores.score_of self.new) (plain N.Scores.score_of self.old)) }
         ensures ids { IsErrOf result Ids → length (plain N.Scores.score_of self.old).disjunctions ≡ 4294967295 }
     {
         self.lists.fix_disjunction(Disjunction { literals })
@@ -133,8 +145,11 @@ impl<N: SolverId + Drop> ClauseStore<N> {
     /// Adds the literals of a learnt clause. The first has number 0.
     pub fn fix_learnt(&mut self, literals: Vec<Literal>) -> R<LearntClauseId>
         ensures number { IfOk result (λ id. id.raw ≡ length (plain N.Scores.score_of self.old).learnt) }
-        ensures store { OnOk result (Like (plain N.Scores.score_of self.new) (with_learnt literals.items (plain N.Scores.score_of self.old))) }
-        ensures err { OnErr result (Like (plain N.Scores.score_of self.new) (plain N.Scores.score_of self.old)) }
+        ensures store { OnOk result
+            (Like (plain N.Scores.score_of self.new)
+            (with_learnt literals.items (plain N.Scores.score_of self.old))) }
+        ensures err { OnErr result
+            (Like (plain N.Scores.score_of self.new) (plain N.Scores.score_of self.old)) }
         ensures ids { IsErrOf result Ids → length (plain N.Scores.score_of self.old).learnt ≡ 4294967295 }
     {
         self.lists.fix_learnt(literals)
@@ -157,8 +172,11 @@ impl<N: SolverId + Drop> ClauseStore<N> {
     pub fn add_clause(&mut self, clause: Clause<N>, watched: Option<WatchedLiterals>) -> R<ClauseId>
         requires { can_add (plain N.Scores.score_of self.old) clause watched ≡ true }
         ensures number { IfOk result (λ id. id.0 ≡ length (plain N.Scores.score_of self.old).clauses) }
-        ensures store { OnOk result (Like (plain N.Scores.score_of self.new) (with_clause clause watched (plain N.Scores.score_of self.old))) }
-        ensures err { OnErr result (Like (plain N.Scores.score_of self.new) (plain N.Scores.score_of self.old)) }
+        ensures store { OnOk result
+            (Like (plain N.Scores.score_of self.new)
+            (with_clause clause watched (plain N.Scores.score_of self.old))) }
+        ensures err { OnErr result
+            (Like (plain N.Scores.score_of self.new) (plain N.Scores.score_of self.old)) }
         ensures ids { IsErrOf result Ids → length (plain N.Scores.score_of self.old).clauses ≡ 4294967295 }
     {
         if self.clauses.len() >= CLAUSES {
@@ -185,8 +203,11 @@ impl<N: SolverId + Drop> ClauseStore<N> {
     /// Registers a need clause behind the others.
     pub fn register(&mut self, need: NeedClause) -> R<()>
         requires { can_register (plain N.Scores.score_of self.old) need ≡ true }
-        ensures store { OnOk result (Like (plain N.Scores.score_of self.new) (with_need need (plain N.Scores.score_of self.old))) }
-        ensures err { OnErr result (Like (plain N.Scores.score_of self.new) (plain N.Scores.score_of self.old)) }
+        ensures store { OnOk result
+            (Like (plain N.Scores.score_of self.new)
+            (with_need need (plain N.Scores.score_of self.old))) }
+        ensures err { OnErr result
+            (Like (plain N.Scores.score_of self.new) (plain N.Scores.score_of self.old)) }
         ensures refusal { IsOkUnless result Memory }
     {
         self.queue.register_clause(need)
@@ -196,8 +217,11 @@ impl<N: SolverId + Drop> ClauseStore<N> {
     /// `moves` from then on, unless there is none or it watches that one already.
     pub fn walk(&mut self, literal: Literal, moves: &[Option<Literal>]) -> R<Vec<ClauseId>>
         ensures met { IfOk result (λ v. v.items ≡ (plain N.Scores.score_of self.old).watchers literal) }
-        ensures store { OnOk result (Like (plain N.Scores.score_of self.new) (walked literal moves.now (plain N.Scores.score_of self.old))) }
-        ensures err { OnErr result (Like (plain N.Scores.score_of self.new) (plain N.Scores.score_of self.old)) }
+        ensures store { OnOk result
+            (Like (plain N.Scores.score_of self.new)
+            (walked literal moves.now (plain N.Scores.score_of self.old))) }
+        ensures err { OnErr result
+            (Like (plain N.Scores.score_of self.new) (plain N.Scores.score_of self.old)) }
         ensures refusal { IsOkUnless result Memory }
     {
         self.watches
@@ -222,9 +246,16 @@ impl<N: SolverId + Drop> ClauseStore<N> {
     /// Adds a decision at the end of the trail, unless its variable has a value.
     pub fn assign(&mut self, decision: Decision, level: u32) -> R<Set>
         requires { can_assign (plain N.Scores.score_of self.old) decision.derived_from level ≡ true }
-        ensures answer { IfOk result (λ s. s ≡ set_for decision.value (value_in (plain N.Scores.score_of self.old).trail decision.variable.0)) }
-        ensures store { OnOk result (Like (plain N.Scores.score_of self.new) (with_decision decision level (plain N.Scores.score_of self.old))) }
-        ensures err { OnErr result (Like (plain N.Scores.score_of self.new) (plain N.Scores.score_of self.old)) }
+        ensures answer { IfOk result
+            (λ s.
+            s
+            ≡ set_for decision.value
+            (value_in (plain N.Scores.score_of self.old).trail decision.variable.0)) }
+        ensures store { OnOk result
+            (Like (plain N.Scores.score_of self.new)
+            (with_decision decision level (plain N.Scores.score_of self.old))) }
+        ensures err { OnErr result
+            (Like (plain N.Scores.score_of self.new) (plain N.Scores.score_of self.old)) }
         ensures refusal { IsOkUnless result Memory }
     {
         self.tracker.try_add_decision(decision, level)
@@ -260,8 +291,11 @@ impl<N: SolverId + Drop> ClauseStore<N> {
 
     /// Raises a package's score, not past the highest.
     pub fn bump_name(&mut self, name: N, add: u64) -> R<()>
-        ensures store { OnOk result (Like (plain N.Scores.score_of self.new) (bumped N.eq name add (plain N.Scores.score_of self.old))) }
-        ensures err { OnErr result (Like (plain N.Scores.score_of self.new) (plain N.Scores.score_of self.old)) }
+        ensures store { OnOk result
+            (Like (plain N.Scores.score_of self.new)
+            (bumped N.eq name add (plain N.Scores.score_of self.old))) }
+        ensures err { OnErr result
+            (Like (plain N.Scores.score_of self.new) (plain N.Scores.score_of self.old)) }
         ensures refusal { IsOkUnless result Memory }
     {
         let score = self.scores.get(name).saturating_add(add);
@@ -275,7 +309,8 @@ impl<N: SolverId + Drop> ClauseStore<N> {
     /// Scales each score by so many millionths, rounding down.
     pub fn decay(&mut self, per_million: u64)
         requires { can_decay per_million ≡ true }
-        ensures { Like (plain N.Scores.score_of self.new) (decayed per_million (plain N.Scores.score_of self.old)) }
+        ensures { Like (plain N.Scores.score_of self.new)
+            (decayed per_million (plain N.Scores.score_of self.old)) }
     {
         self.scores.scale(per_million);
     }
@@ -294,7 +329,8 @@ impl<N: SolverId + Drop> ClauseStore<N> {
 
     /// Takes the decisions above a level away, from the end to the first that is not above it.
     pub fn undo_until(&mut self, level: u32)
-        ensures { Like (plain N.Scores.score_of self.new) (undone_until level (plain N.Scores.score_of self.old)) }
+        ensures { Like (plain N.Scores.score_of self.new)
+            (undone_until level (plain N.Scores.score_of self.old)) }
     {
         self.tracker.undo_until(level);
     }
@@ -371,8 +407,14 @@ fn is_watchable<N: Copy>(
 /// Lets a new clause watch its two literals, if it watches any.
 fn begin(watches: &mut WatchMap, watched: &Option<WatchedLiterals>, clause: ClauseId) -> R<()>
     requires { (p : WatchedLiterals) → watched.now ≡ Some p → same_literal p.first p.second ≡ false }
-    ensures lists { OnOk result ((l : Signed) → watchers watches.new l ≡ watching clause.0 watched.now (watchers watches.old) l) }
-    ensures fits { OnOk result ((pairs : List (Option WatchedLiterals)) → IsWatched pairs (watchers watches.old) → clause.0 ≡ length pairs → IsWatched (pairs ++ watched.now ∷ []) (watchers watches.new)) }
+    ensures lists { OnOk result
+        ((l : Signed)
+        → watchers watches.new l ≡ watching clause.0 watched.now (watchers watches.old) l) }
+    ensures fits { OnOk result
+        ((pairs : List (Option WatchedLiterals))
+        → IsWatched pairs (watchers watches.old)
+        → clause.0 ≡ length pairs
+        → IsWatched (pairs ++ watched.now ∷ []) (watchers watches.new)) }
     ensures err { OnErr result (SameLists (watchers watches.old) (watchers watches.new)) }
     ensures refusal { IsOkUnless result Memory }
 {

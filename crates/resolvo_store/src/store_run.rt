@@ -30,9 +30,14 @@ impl<N: SolverId + Drop> ClauseStore<N> {
     /// are two different literals of the added clause; no assignment is below the last one's level; no
     /// score grows by a decay. After a refusal the store is as after the calls before the refused one.
     pub fn run(&mut self, alloc: Global, calls: &[StoreCall<N>]) -> R<Vec<StoreAnswer>>
-        ensures answers { IfOk result (λ v. map told v.items ≡ answers_of N.eq (plain N.Scores.score_of self.old) calls.now) }
-        ensures store { OnOk result (Like (plain N.Scores.score_of self.new) (after N.eq (plain N.Scores.score_of self.old) calls.now)) }
-        ensures stop { IfErr result (StopsAt N.eq calls.now (plain N.Scores.score_of self.old) (plain N.Scores.score_of self.new)) }
+        ensures answers { IfOk result
+            (λ v. map told v.items ≡ answers_of N.eq (plain N.Scores.score_of self.old) calls.now) }
+        ensures store { OnOk result
+            (Like (plain N.Scores.score_of self.new)
+            (after N.eq (plain N.Scores.score_of self.old) calls.now)) }
+        ensures stop { IfErr result
+            (StopsAt N.eq calls.now (plain N.Scores.score_of self.old)
+            (plain N.Scores.score_of self.new)) }
     {
         let mut answers = Vec::new(alloc);
         for call in calls {
@@ -45,8 +50,11 @@ impl<N: SolverId + Drop> ClauseStore<N> {
     /// Does a call, and answers it.
     fn do_call(&mut self, alloc: Global, call: &StoreCall<N>) -> R<StoreAnswer>
         ensures answer { IfOk result (λ a. told a ≡ answer_of (plain N.Scores.score_of self.old) call.now) }
-        ensures store { OnOk result (Like (plain N.Scores.score_of self.new) (step N.eq (plain N.Scores.score_of self.old) call.now)) }
-        ensures err { OnErr result (Like (plain N.Scores.score_of self.new) (plain N.Scores.score_of self.old)) }
+        ensures store { OnOk result
+            (Like (plain N.Scores.score_of self.new)
+            (step N.eq (plain N.Scores.score_of self.old) call.now)) }
+        ensures err { OnErr result
+            (Like (plain N.Scores.score_of self.new) (plain N.Scores.score_of self.old)) }
         ensures ids { IsErrOf result Ids → LacksNumber (plain N.Scores.score_of self.old) call.now }
     {
         match call {
@@ -102,9 +110,19 @@ impl<N: SolverId + Drop> ClauseStore<N> {
         requirement: Requirement,
         groups: &[(N, Vec<VariableId>)],
     ) -> R<StoreAnswer>
-        ensures answer { IfOk result (λ a. told a ≡ cond (can_fix (plain N.Scores.score_of self.old) requirement groups.now) (Done) Bad) }
-        ensures store { OnOk result (Like (plain N.Scores.score_of self.new) (cond (can_fix (plain N.Scores.score_of self.old) requirement groups.now) (with_candidates requirement (candidates_from groups.now) (plain N.Scores.score_of self.old)) (plain N.Scores.score_of self.old))) }
-        ensures err { OnErr result (Like (plain N.Scores.score_of self.new) (plain N.Scores.score_of self.old)) }
+        ensures answer { IfOk result
+            (λ a.
+            told a
+            ≡ cond (can_fix (plain N.Scores.score_of self.old) requirement groups.now) (Done)
+            Bad) }
+        ensures store { OnOk result
+            (Like (plain N.Scores.score_of self.new)
+            (cond (can_fix (plain N.Scores.score_of self.old) requirement groups.now)
+            (with_candidates requirement (candidates_from groups.now)
+            (plain N.Scores.score_of self.old))
+            (plain N.Scores.score_of self.old))) }
+        ensures err { OnErr result
+            (Like (plain N.Scores.score_of self.new) (plain N.Scores.score_of self.old)) }
         ensures ids { IsErrOf result Ids → index_in requirement ≡ 4294967295 }
     {
         if !self.can_fix(requirement, groups) {
@@ -117,8 +135,11 @@ impl<N: SolverId + Drop> ClauseStore<N> {
     /// Adds a copy of the literals of a condition's case.
     fn copy_disjunction(&mut self, alloc: Global, literals: &[Literal]) -> R<StoreAnswer>
         ensures answer { IfOk result (λ a. told a ≡ Done) }
-        ensures store { OnOk result (Like (plain N.Scores.score_of self.new) (with_disjunction literals.now (plain N.Scores.score_of self.old))) }
-        ensures err { OnErr result (Like (plain N.Scores.score_of self.new) (plain N.Scores.score_of self.old)) }
+        ensures store { OnOk result
+            (Like (plain N.Scores.score_of self.new)
+            (with_disjunction literals.now (plain N.Scores.score_of self.old))) }
+        ensures err { OnErr result
+            (Like (plain N.Scores.score_of self.new) (plain N.Scores.score_of self.old)) }
         ensures ids { IsErrOf result Ids → length (plain N.Scores.score_of self.old).disjunctions ≡ 4294967295 }
     {
         self.fix_disjunction(Vec::from_slice(alloc, literals)?)?;
@@ -128,8 +149,11 @@ impl<N: SolverId + Drop> ClauseStore<N> {
     /// Adds a copy of the literals of a learnt clause.
     fn copy_learnt(&mut self, alloc: Global, literals: &[Literal]) -> R<StoreAnswer>
         ensures answer { IfOk result (λ a. told a ≡ Done) }
-        ensures store { OnOk result (Like (plain N.Scores.score_of self.new) (with_learnt literals.now (plain N.Scores.score_of self.old))) }
-        ensures err { OnErr result (Like (plain N.Scores.score_of self.new) (plain N.Scores.score_of self.old)) }
+        ensures store { OnOk result
+            (Like (plain N.Scores.score_of self.new)
+            (with_learnt literals.now (plain N.Scores.score_of self.old))) }
+        ensures err { OnErr result
+            (Like (plain N.Scores.score_of self.new) (plain N.Scores.score_of self.old)) }
         ensures ids { IsErrOf result Ids → length (plain N.Scores.score_of self.old).learnt ≡ 4294967295 }
     {
         self.fix_learnt(Vec::from_slice(alloc, literals)?)?;
@@ -138,9 +162,18 @@ impl<N: SolverId + Drop> ClauseStore<N> {
 
     /// Adds a clause, if what it names is there and it watches literals of its own.
     fn try_add(&mut self, clause: Clause<N>, watched: Option<WatchedLiterals>) -> R<StoreAnswer>
-        ensures answer { IfOk result (λ a. told a ≡ cond (can_add (plain N.Scores.score_of self.old) clause watched) (Added (record { 0 = length (plain N.Scores.score_of self.old).clauses })) Bad) }
-        ensures store { OnOk result (Like (plain N.Scores.score_of self.new) (cond (can_add (plain N.Scores.score_of self.old) clause watched) (with_clause clause watched (plain N.Scores.score_of self.old)) (plain N.Scores.score_of self.old))) }
-        ensures err { OnErr result (Like (plain N.Scores.score_of self.new) (plain N.Scores.score_of self.old)) }
+        ensures answer { IfOk result
+            (λ a.
+            told a
+            ≡ cond (can_add (plain N.Scores.score_of self.old) clause watched)
+            (Added (record { 0 = length (plain N.Scores.score_of self.old).clauses })) Bad) }
+        ensures store { OnOk result
+            (Like (plain N.Scores.score_of self.new)
+            (cond (can_add (plain N.Scores.score_of self.old) clause watched)
+            (with_clause clause watched (plain N.Scores.score_of self.old))
+            (plain N.Scores.score_of self.old))) }
+        ensures err { OnErr result
+            (Like (plain N.Scores.score_of self.new) (plain N.Scores.score_of self.old)) }
         ensures ids { IsErrOf result Ids → length (plain N.Scores.score_of self.old).clauses ≡ 4294967295 }
     {
         if !self.can_add(&clause, watched) {
@@ -151,9 +184,15 @@ impl<N: SolverId + Drop> ClauseStore<N> {
 
     /// Registers a need clause, if what it names is there.
     fn try_register(&mut self, need: NeedClause) -> R<StoreAnswer>
-        ensures answer { IfOk result (λ a. told a ≡ cond (can_register (plain N.Scores.score_of self.old) need) (Done) Bad) }
-        ensures store { OnOk result (Like (plain N.Scores.score_of self.new) (cond (can_register (plain N.Scores.score_of self.old) need) (with_need need (plain N.Scores.score_of self.old)) (plain N.Scores.score_of self.old))) }
-        ensures err { OnErr result (Like (plain N.Scores.score_of self.new) (plain N.Scores.score_of self.old)) }
+        ensures answer { IfOk result
+            (λ a. told a ≡ cond (can_register (plain N.Scores.score_of self.old) need) (Done) Bad) }
+        ensures store { OnOk result
+            (Like (plain N.Scores.score_of self.new)
+            (cond (can_register (plain N.Scores.score_of self.old) need)
+            (with_need need (plain N.Scores.score_of self.old))
+            (plain N.Scores.score_of self.old))) }
+        ensures err { OnErr result
+            (Like (plain N.Scores.score_of self.new) (plain N.Scores.score_of self.old)) }
         ensures refusal { IsOkUnless result Memory }
     {
         if !self.can_register(&need) {
@@ -165,9 +204,21 @@ impl<N: SolverId + Drop> ClauseStore<N> {
 
     /// Adds a decision, if its clause is there and no decision is at a higher level.
     fn try_assign(&mut self, decision: Decision, level: u32) -> R<StoreAnswer>
-        ensures answer { IfOk result (λ a. told a ≡ cond (can_assign (plain N.Scores.score_of self.old) decision.derived_from level) (Became (set_for decision.value (value_in (plain N.Scores.score_of self.old).trail decision.variable.0))) Bad) }
-        ensures store { OnOk result (Like (plain N.Scores.score_of self.new) (cond (can_assign (plain N.Scores.score_of self.old) decision.derived_from level) (with_decision decision level (plain N.Scores.score_of self.old)) (plain N.Scores.score_of self.old))) }
-        ensures err { OnErr result (Like (plain N.Scores.score_of self.new) (plain N.Scores.score_of self.old)) }
+        ensures answer { IfOk result
+            (λ a.
+            told a
+            ≡ cond (can_assign (plain N.Scores.score_of self.old) decision.derived_from level)
+            (Became
+            (set_for decision.value
+            (value_in (plain N.Scores.score_of self.old).trail decision.variable.0)))
+            Bad) }
+        ensures store { OnOk result
+            (Like (plain N.Scores.score_of self.new)
+            (cond (can_assign (plain N.Scores.score_of self.old) decision.derived_from level)
+            (with_decision decision level (plain N.Scores.score_of self.old))
+            (plain N.Scores.score_of self.old))) }
+        ensures err { OnErr result
+            (Like (plain N.Scores.score_of self.new) (plain N.Scores.score_of self.old)) }
         ensures refusal { IsOkUnless result Memory }
     {
         if !self.can_assign(decision.derived_from, level) {
@@ -179,7 +230,9 @@ impl<N: SolverId + Drop> ClauseStore<N> {
     /// Scales each score, if none grows by it.
     fn try_decay(&mut self, per_million: u64) -> StoreAnswer
         ensures answer { told result ≡ cond (can_decay per_million) Done Bad }
-        ensures store { Like (plain N.Scores.score_of self.new) (cond (can_decay per_million) (decayed per_million (plain N.Scores.score_of self.old)) (plain N.Scores.score_of self.old)) }
+        ensures store { Like (plain N.Scores.score_of self.new)
+            (cond (can_decay per_million) (decayed per_million (plain N.Scores.score_of self.old))
+            (plain N.Scores.score_of self.old)) }
     {
         if per_million > MILLION {
             return StoreAnswer::Bad;
@@ -190,7 +243,11 @@ impl<N: SolverId + Drop> ClauseStore<N> {
 
     /// The next decision, or in its place a clause whose literals are all false.
     fn decide(&mut self) -> R<StoreAnswer>
-        ensures answer { IfOk result (λ a. told a ≡ broken_or_next (broken_in (plain N.Scores.score_of self.old)) (picked_in (plain N.Scores.score_of self.old))) }
+        ensures answer { IfOk result
+            (λ a.
+            told a
+            ≡ broken_or_next (broken_in (plain N.Scores.score_of self.old))
+            (picked_in (plain N.Scores.score_of self.old))) }
         ensures store { Like (plain N.Scores.score_of self.new) (plain N.Scores.score_of self.old) }
         ensures refusal { IsOkUnless result Memory }
     {

@@ -52,7 +52,9 @@ impl<N, S: SolverId> Model for VariableMap<N, S> {
 
     ghost view = { λ m. Root ∷ m.origins.items };
 
-    ghost invariant = { λ m. (length m.origins.items ≤ 2147483646) × AreNumbers S.eq (Root ∷ m.origins.items) (S.OptionalIds.value_of m.numbers) };
+    ghost invariant = { λ m.
+        (length m.origins.items ≤ 2147483646)
+        × AreNumbers S.eq (Root ∷ m.origins.items) (S.OptionalIds.value_of m.numbers) };
 }
 
 impl<N: Copy + Drop, S: SolverId> VariableMap<N, S> {
@@ -141,7 +143,8 @@ impl<N: Copy + Drop, S: SolverId> VariableMap<N, S> {
 
     /// A new variable for a digit of the places of a package's versions.
     pub fn alloc_forbid_multiple_variable(&mut self, name: N) -> R<VariableId>
-        ensures new { IfOk result (λ v. (v.0 ≡ length self.old) × (self.new ≡ self.old ++ ForbidMultiple name ∷ [])) }
+        ensures new { IfOk result
+            (λ v. (v.0 ≡ length self.old) × (self.new ≡ self.old ++ ForbidMultiple name ∷ [])) }
         ensures err { OnErr result (self.new ≡ self.old) }
         ensures ids { IsErrOf result Ids → length self.old ≡ 2147483647 }
     {
@@ -150,7 +153,8 @@ impl<N: Copy + Drop, S: SolverId> VariableMap<N, S> {
 
     /// A new variable that says that some version of a package is chosen.
     pub fn alloc_at_least_one_variable(&mut self, name: N) -> R<VariableId>
-        ensures new { IfOk result (λ v. (v.0 ≡ length self.old) × (self.new ≡ self.old ++ AtLeastOne name ∷ [])) }
+        ensures new { IfOk result
+            (λ v. (v.0 ≡ length self.old) × (self.new ≡ self.old ++ AtLeastOne name ∷ [])) }
         ensures err { OnErr result (self.new ≡ self.old) }
         ensures ids { IsErrOf result Ids → length self.old ≡ 2147483647 }
     {
@@ -159,7 +163,8 @@ impl<N: Copy + Drop, S: SolverId> VariableMap<N, S> {
 
     /// A new variable that says that some version outside a version set is chosen.
     pub fn alloc_constrains_violation_variable(&mut self, via: VersionSetId) -> R<VariableId>
-        ensures new { IfOk result (λ v. (v.0 ≡ length self.old) × (self.new ≡ self.old ++ ConstrainsViolation via ∷ [])) }
+        ensures new { IfOk result
+            (λ v. (v.0 ≡ length self.old) × (self.new ≡ self.old ++ ConstrainsViolation via ∷ [])) }
         ensures err { OnErr result (self.new ≡ self.old) }
         ensures ids { IsErrOf result Ids → length self.old ≡ 2147483647 }
     {
@@ -168,7 +173,9 @@ impl<N: Copy + Drop, S: SolverId> VariableMap<N, S> {
 
     /// A new variable that stands between a requirement and its candidates.
     pub fn alloc_requires_gate_variable(&mut self, requirement: Requirement) -> R<VariableId>
-        ensures new { IfOk result (λ v. (v.0 ≡ length self.old) × (self.new ≡ self.old ++ RequiresGate requirement ∷ [])) }
+        ensures new { IfOk result
+            (λ v.
+            (v.0 ≡ length self.old) × (self.new ≡ self.old ++ RequiresGate requirement ∷ [])) }
         ensures err { OnErr result (self.new ≡ self.old) }
         ensures ids { IsErrOf result Ids → length self.old ≡ 2147483647 }
     {

@@ -30,7 +30,9 @@ impl<V: Eq + Hash> Model for AtMostOnceTracker<V> {
 
     ghost view = { λ t. record { variables = t.variables.keys; helpers = t.helpers.items } };
 
-    ghost invariant = { λ t. (t.room ≡ 2 ^ length t.helpers.items) × IsLeastCount (length t.helpers.items) (length t.variables.keys) };
+    ghost invariant = { λ t.
+        (t.room ≡ 2 ^ length t.helpers.items)
+        × IsLeastCount (length t.helpers.items) (length t.variables.keys) };
 }
 
 impl<V: Copy + Eq + Hash + Drop> AtMostOnceTracker<V> {
@@ -116,7 +118,8 @@ impl<V: Copy + Eq + Hash + Drop> AtMostOnceTracker<V> {
     /// helpers meet them exactly if at most one of the variables is true.
     pub fn say_at_most_one(&self)
         ensures count { length (all_ties self.now) ≡ length self.now.variables * length self.now.helpers }
-        ensures exact { (value : V → Bool) → ((w : ℕ → Bool) × IsMet value w self.now) ↔ IsAtMostOne value self.now.variables }
+        ensures exact { (value : V → Bool)
+            → ((w : ℕ → Bool) × IsMet value w self.now) ↔ IsAtMostOne value self.now.variables }
     {
         let _room = self.room;
     }
@@ -125,7 +128,9 @@ impl<V: Copy + Eq + Hash + Drop> AtMostOnceTracker<V> {
     /// came, each as often.
     pub fn come_to_all(&self, variable: V, helper: Option<V>)
         requires { is_some helper ≡ needs_helper V.eq self.now variable }
-        ensures { (p : V × V × Bool → Bool) → count_by p (all_ties (tracked V.eq self.now variable helper)) ≡ count_by p (all_ties self.now) + count_by p (new_ties V.eq self.now variable helper) }
+        ensures { (p : V × V × Bool → Bool)
+            → count_by p (all_ties (tracked V.eq self.now variable helper))
+            ≡ count_by p (all_ties self.now) + count_by p (new_ties V.eq self.now variable helper) }
     {
         let _room = self.room;
     }
@@ -140,7 +145,8 @@ fn tie<V: Copy + Drop>(
     out: &mut Vec<(V, V, bool)>,
 ) -> R<()>
     ensures front { IsFrontOf out.old.items out.new.items }
-    ensures ties { OnOk result (out.new.items ≡ out.old.items ++ tie_all variables.now helpers.now variable helper) }
+    ensures ties { OnOk result
+        (out.new.items ≡ out.old.items ++ tie_all variables.now helpers.now variable helper) }
     ensures refusal { IsOkUnless result Memory }
 {
     match helper {

@@ -76,7 +76,9 @@ pub fn convert_conditions_to_dnf<I: Interner>(
 /// The law of the cases: whichever version sets are met, a condition holds exactly if all version sets
 /// of some case are met.
 pub fn cases_are_exact<I: Interner>(interner: &I)
-    ensures { (met : VersionSetId → Bool) (c : ConditionId) → some_case_met met (cases (I.condition_of interner.now) c) ≡ says_so met (I.condition_of interner.now) c }
+    ensures { (met : VersionSetId → Bool) (c : ConditionId)
+        → some_case_met met (cases (I.condition_of interner.now) c)
+        ≡ says_so met (I.condition_of interner.now) c }
 {}
 
 /// The one case of a version set.

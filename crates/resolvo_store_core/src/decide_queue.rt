@@ -251,7 +251,8 @@ fn are_false(literals: &[Literal], values: &DecisionMap) -> bool
 }
 
 fn all_false<N: Copy>(candidates: &[Candidate<N>], values: &DecisionMap) -> bool
-    ensures { result ≡ list_all (λ c. is_false (value_under (value_at values.now) c.literal)) candidates.now }
+    ensures { result
+        ≡ list_all (λ c. is_false (value_under (value_at values.now) c.literal)) candidates.now }
 {
     candidates
         .iter()
@@ -259,7 +260,8 @@ fn all_false<N: Copy>(candidates: &[Candidate<N>], values: &DecisionMap) -> bool
 }
 
 fn has_true<N: Copy>(candidates: &[Candidate<N>], values: &DecisionMap) -> bool
-    ensures { result ≡ list_any (λ c. is_true (value_under (value_at values.now) c.literal)) candidates.now }
+    ensures { result
+        ≡ list_any (λ c. is_true (value_under (value_at values.now) c.literal)) candidates.now }
 {
     candidates
         .iter()
@@ -281,7 +283,8 @@ fn first_undecided<N: Copy>(
 }
 
 fn undecided_count<N: Copy>(candidates: &[Candidate<N>], values: &DecisionMap) -> usize
-    ensures { result ≡ count_by (λ c. is_open (value_under (value_at values.now) c.literal)) candidates.now }
+    ensures { result
+        ≡ count_by (λ c. is_open (value_under (value_at values.now) c.literal)) candidates.now }
 {
     candidates
         .iter()

@@ -64,7 +64,9 @@ impl DecisionMap {
 
     /// Gives a variable a value at a level.
     pub fn set(&mut self, variable: VariableId, value: bool, level: u32) -> R<()>
-        ensures put { OnOk result (PutsSlot self.old self.new variable.0 (Some (record { value = value; level = level }))) }
+        ensures put { OnOk result
+            (PutsSlot self.old self.new variable.0
+            (Some (record { value = value; level = level }))) }
         ensures err { OnErr result (self.new ≡ self.old) }
         ensures refusal { IsOkUnless result Memory }
     {

@@ -118,8 +118,11 @@ impl DecisionTracker {
 
     /// Adds a decision at the end, unless its variable is decided.
     pub fn try_add_decision(&mut self, decision: Decision, level: u32) -> R<Set>
-        ensures answer { IfOk result (λ s. s ≡ set_for decision.value (value_in self.old.trail decision.variable.0)) }
-        ensures trail { IfOk result (λ s. self.new ≡ with_entry s (record { decision = decision; level = level }) self.old) }
+        ensures answer { IfOk result
+            (λ s. s ≡ set_for decision.value (value_in self.old.trail decision.variable.0)) }
+        ensures trail { IfOk result
+            (λ s.
+            self.new ≡ with_entry s (record { decision = decision; level = level }) self.old) }
         ensures err { OnErr result (self.new ≡ self.old) }
         ensures refusal { IsOkUnless result Memory }
     {

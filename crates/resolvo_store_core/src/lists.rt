@@ -83,7 +83,10 @@ impl<N: Copy + Drop> FixedLists<N> {
 
     /// The candidates of a requirement, if it has got them.
     pub fn candidates(&self, requirement: Requirement) -> Option<&[Candidate<N>]>
-        ensures { MatchOption result (has_candidates self.now requirement ≡ false) (λ cs. (has_candidates self.now requirement ≡ true) × (cs.now ≡ candidates_in self.now requirement)) }
+        ensures { MatchOption result (has_candidates self.now requirement ≡ false)
+            (λ cs.
+            (has_candidates self.now requirement ≡ true)
+            × (cs.now ≡ candidates_in self.now requirement)) }
     {
         match self.candidates.get(requirement) {
             Some(list) => Some(list.as_slice()),

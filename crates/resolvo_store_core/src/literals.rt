@@ -22,7 +22,9 @@ impl<'a, N: Copy> Literals<'a, N> {
     /// The first of the list, if it is left.
     fn next_listed(&mut self) -> Option<Literal>
         ensures first { TakesFirst (listed self.old.listed) (listed self.new.listed) result }
-        ensures others { (self.new.first ≡ self.old.first) × (self.new.second ≡ self.old.second) × (self.new.candidates ≡ self.old.candidates) }
+        ensures others { (self.new.first ≡ self.old.first)
+            × (self.new.second ≡ self.old.second)
+            × (self.new.candidates ≡ self.old.candidates) }
     {
         let (literal, rest) = self.listed?.split_first()?;
         self.listed = Some(rest);
@@ -32,7 +34,9 @@ impl<'a, N: Copy> Literals<'a, N> {
     /// The first candidate's, if one is left.
     fn next_candidate(&mut self) -> Option<Literal>
         ensures first { TakesFirst (named self.old.candidates) (named self.new.candidates) result }
-        ensures others { (self.new.first ≡ self.old.first) × (self.new.second ≡ self.old.second) × (self.new.listed ≡ self.old.listed) }
+        ensures others { (self.new.first ≡ self.old.first)
+            × (self.new.second ≡ self.old.second)
+            × (self.new.listed ≡ self.old.listed) }
     {
         let (candidate, rest) = self.candidates?.split_first()?;
         self.candidates = Some(rest);

@@ -56,7 +56,11 @@ impl WatchMap {
     pub fn start_watching(&mut self, watched: WatchedLiterals, clause: ClauseId) -> R<()>
         requires { same_literal watched.first watched.second ≡ false }
         ensures started { OnOk result (StartsIn clause watched (watchers self.old) (watchers self.new)) }
-        ensures fits { OnOk result ((pairs : List (Option WatchedLiterals)) → IsWatched pairs (watchers self.old) → clause.0 ≡ length pairs → IsWatched (pairs ++ Some watched ∷ []) (watchers self.new)) }
+        ensures fits { OnOk result
+            ((pairs : List (Option WatchedLiterals))
+            → IsWatched pairs (watchers self.old)
+            → clause.0 ≡ length pairs
+            → IsWatched (pairs ++ Some watched ∷ []) (watchers self.new)) }
         ensures err { OnErr result (SameLists (watchers self.old) (watchers self.new)) }
         ensures refusal { IsOkUnless result Memory }
     {
@@ -90,7 +94,11 @@ impl WatchMap {
         requires { IsWatched clauses.old (watchers self.old) }
         ensures met { IfOk result (λ v. v.items ≡ watchers self.old literal) }
         ensures moved { IfOk result (λ v. clauses.new ≡ pairs_after literal clauses.old v.items moves.now) }
-        ensures lists { IfOk result (λ v. (l : Signed) → watchers self.new l ≡ lists_after literal clauses.old v.items moves.now (watchers self.old) l) }
+        ensures lists { IfOk result
+            (λ v.
+            (l : Signed)
+            → watchers self.new l
+            ≡ lists_after literal clauses.old v.items moves.now (watchers self.old) l) }
         ensures fit { IsWatched clauses.new (watchers self.new) }
         ensures err { OnErr result (SameLists (watchers self.old) (watchers self.new)) }
         ensures err_clauses { OnErr result (clauses.new ≡ clauses.old) }
@@ -117,7 +125,9 @@ impl WatchMap {
         requires room { HasRoom (length moves.now) self.old moves.now }
         ensures met { met.new.items ≡ watchers self.old literal }
         ensures moved { clauses.new ≡ pairs_after literal clauses.old met.new.items moves.now }
-        ensures lists { (l : Signed) → watchers self.new l ≡ lists_after literal clauses.old met.new.items moves.now (watchers self.old) l }
+        ensures lists { (l : Signed)
+            → watchers self.new l
+            ≡ lists_after literal clauses.old met.new.items moves.now (watchers self.old) l }
         ensures fit { IsWatched clauses.new (watchers self.new) }
     {
         let mut cursor = self.cursor(literal);
@@ -237,7 +247,9 @@ impl WatchMapCursor {
     ) -> WatchedLiterals
         requires fit { IsWatched clauses.now (watchers map.now) }
         requires stands { self.now.place < length (watchers map.now self.now.literal) }
-        ensures { (c : ClauseId) → slice_get (watchers map.now self.now.literal) self.now.place ≡ Some c → pair_at clauses.now c.0 ≡ Some result }
+        ensures { (c : ClauseId)
+            → slice_get (watchers map.now self.now.literal) self.now.place ≡ Some c
+            → pair_at clauses.now c.0 ≡ Some result }
     {
         match self.clause_id(map) {
             Some(clause) => pair_of(clauses, clause).unwrap(),
@@ -254,7 +266,9 @@ impl WatchMapCursor {
     ) -> Option<Literal>
         requires fit { IsWatched clauses.now (watchers map.now) }
         requires stands { self.now.place < length (watchers map.now self.now.literal) }
-        ensures { (c : ClauseId) → slice_get (watchers map.now self.now.literal) self.now.place ≡ Some c → result ≡ new_watch (pair_at clauses.now c.0) to }
+        ensures { (c : ClauseId)
+            → slice_get (watchers map.now self.now.literal) self.now.place ≡ Some c
+            → result ≡ new_watch (pair_at clauses.now c.0) to }
     {
         let watched = self.watched_literals(map, clauses);
         match to {
@@ -280,8 +294,12 @@ impl WatchMapCursor {
     ) -> R<()>
         requires fit { IsWatched clauses.old (watchers map.old) }
         requires stands { self.now.place < length (watchers map.old self.now.literal) }
-        requires free { (c : ClauseId) → slice_get (watchers map.old self.now.literal) self.now.place ≡ Some c → watches (pair_at clauses.old c.0) to ≡ false }
-        ensures moved { OnOk result (Moves self.now.literal self.now.place to clauses.old clauses.new (watchers map.old) (watchers map.new)) }
+        requires free { (c : ClauseId)
+            → slice_get (watchers map.old self.now.literal) self.now.place ≡ Some c
+            → watches (pair_at clauses.old c.0) to ≡ false }
+        ensures moved { OnOk result
+            (Moves self.now.literal self.now.place to clauses.old clauses.new (watchers map.old)
+            (watchers map.new)) }
         ensures err { OnErr result (SameLists (watchers map.old) (watchers map.new)) }
         ensures room { OnOk result ((l : Signed) → room map.old l ≤ room map.new l + 1) }
         ensures err_clauses { OnErr result (clauses.new ≡ clauses.old) }

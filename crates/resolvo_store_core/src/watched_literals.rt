@@ -224,7 +224,8 @@ impl WatchedLiterals {
         requires { Fits lists.now (Kinds.Requires parent condition requirement) }
         ensures clause { result.0 ≡ Kinds.Requires parent condition requirement }
         ensures watch { CanWatch (literals_of lists.now result.0) result.1 }
-        ensures free { IfSome result.1 (HasFreeSecond (value_under (value_at values.now)) (literals_of lists.now result.0)) }
+        ensures free { IfSome result.1
+            (HasFreeSecond (value_under (value_at values.now)) (literals_of lists.now result.0)) }
     {
         let clause = Clause::Requires(parent, condition, requirement);
         let first = Literal::new(parent, true);
@@ -255,7 +256,8 @@ impl WatchedLiterals {
         values: &DecisionMap,
     ) -> Option<Literal>
         requires { Fits lists.now clause.now }
-        ensures { IsNext (value_under (value_at values.now)) self.now (literals_of lists.now clause.now) result }
+        ensures { IsNext (value_under (value_at values.now)) self.now (literals_of lists.now clause.now)
+            result }
     {
         for literal in clause.iter(lists) {
             let is_watched = self.watches(literal);

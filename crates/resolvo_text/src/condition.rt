@@ -115,7 +115,8 @@ fn joined_at(
     words: &[u8],
 ) -> Result<(Cond, u32, &[u8]), LineFault>
     ensures fewer { IfOk result (λ x. x.1 < room) }
-    ensures words { Gives (λ x. (cond_of x.0, x.1, words_in x.2.now)) result (joined_at joint depth room (words_in words.now)) }
+    ensures words { Gives (λ x. (cond_of x.0, x.1, words_in x.2.now)) result
+        (joined_at joint depth room (words_in words.now)) }
 {
     let mut before = None;
     let mut room = room;
@@ -144,7 +145,8 @@ fn part_at(
     words: &[u8],
 ) -> Result<(Cond, u32, &[u8]), LineFault>
     ensures fewer { IfOk result (λ x. x.1 < room) }
-    ensures words { Gives (λ x. (cond_of x.0, x.1, words_in x.2.now)) result (part_at joint depth room (words_in words.now)) }
+    ensures words { Gives (λ x. (cond_of x.0, x.1, words_in x.2.now)) result
+        (part_at joint depth room (words_in words.now)) }
 {
     match joint {
         Joint::And => atom_at(alloc, depth, room, words),
@@ -161,7 +163,8 @@ fn atom_at(
     words: &[u8],
 ) -> Result<(Cond, u32, &[u8]), LineFault>
     ensures fewer { IfOk result (λ x. x.1 < room) }
-    ensures words { Gives (λ x. (cond_of x.0, x.1, words_in x.2.now)) result (atom_at depth room (words_in words.now)) }
+    ensures words { Gives (λ x. (cond_of x.0, x.1, words_in x.2.now)) result
+        (atom_at depth room (words_in words.now)) }
 {
     let (opens, inside) = skip(words, b"(");
     if !opens {

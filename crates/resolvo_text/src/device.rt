@@ -142,7 +142,9 @@ pub struct Counted<T> {
 
 impl<T> Counted<T> {
     pub fn new(inner: T) -> Counted<T>
-        ensures { result ≡ record { inner = inner; tally = record { failures = 0; interruptions = 0 }; empty_writes = 0 } }
+        ensures { result
+            ≡ record
+            { inner = inner; tally = record { failures = 0; interruptions = 0 }; empty_writes = 0 } }
     {
         Counted {
             inner,

@@ -196,7 +196,8 @@ impl LineReader {
 
     /// Sees to it that a byte of the piece is left, unless the text has ended.
     fn refill<S: Source>(&mut self, source: &mut S) -> Result<(), ReadFault>
-        ensures kept { OnOk result (Keeps (left self.old (S.left source.old)) (left self.new (S.left source.new))) }
+        ensures kept { OnOk result
+            (Keeps (left self.old (S.left source.old)) (left self.new (S.left source.new))) }
         ensures end { OnOk result (self.new.at ≡ self.new.end → IsAtEnd (left self.old (S.left source.old))) }
         ensures line { self.new.line ≡ self.old.line }
         ensures room { self.new.room ≡ self.old.room }

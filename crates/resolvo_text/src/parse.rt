@@ -137,7 +137,8 @@ const FEW: usize = 4;
 
 /// One alternative or more. There is room for no more of them than the bars part.
 pub fn alternatives_at(alloc: Global, words: &[u8]) -> Result<(Vec<Spec>, &[u8]), LineFault>
-    ensures { Gives (λ x. (specs_of x.0.items, words_in x.1.now)) result (alternatives_at (length (words_in words.now)) (words_in words.now)) }
+    ensures { Gives (λ x. (specs_of x.0.items, words_in x.1.now)) result
+        (alternatives_at (length (words_in words.now)) (words_in words.now)) }
 {
     let mut specs = Vec::with_capacity(alloc, bars_in(words).saturating_add(1).min(FEW))?;
     let mut rest = words;

@@ -80,7 +80,12 @@ pub fn decide<A: PackageSource, C: ScoreMap<A::NameId>>(
     activity: Activity,
 ) -> Result<Option<FinalConflict>, CacheFault<A::Cancel>>
     requires built { IsBuilt encoding.old }
-    ensures stays { OnOk result ((root : Rules) → IsInOrder A.SolvableId.eq (A.packages answers.now) (A.orders answers.now) root encoding.old → IsInOrder A.SolvableId.eq (A.packages answers.now) (A.orders answers.now) root encoding.new) }
+    ensures stays { OnOk result
+        ((root : Rules)
+        → IsInOrder A.SolvableId.eq (A.packages answers.now) (A.orders answers.now) root
+        encoding.old
+        → IsInOrder A.SolvableId.eq (A.packages answers.now) (A.orders answers.now) root
+        encoding.new) }
     ensures goes_on { OnOk result (GoesOn encoding.old encoding.new) }
     ensures first { OnOk result (KeepsFirst encoding.old encoding.new) }
     ensures decided { IfOk result (IsDecision encoding.new) }

@@ -38,7 +38,11 @@ fn conjunct_of<A: PackageSource>(
     version_set: VersionSetId,
 ) -> Result<DeferredConjunct<A::SolvableId>, CacheFault<A::Cancel>>
     ensures same { answers.new ≡ answers.old }
-    ensures matches { IfOk result (λ c. (s : A.SolvableId) → is_in A.SolvableId.eq (A.packages answers.old) (candidates_of c) s ≡ is_match A.SolvableId.eq (A.packages answers.old) (version_set_of c) s) }
+    ensures matches { IfOk result
+        (λ c.
+        (s : A.SolvableId)
+        → is_in A.SolvableId.eq (A.packages answers.old) (candidates_of c) s
+        ≡ is_match A.SolvableId.eq (A.packages answers.old) (version_set_of c) s) }
     ensures version_set { IfOk result (λ c. version_set_of c ≡ version_set) }
     ensures cancelled { IfErr result (IsCancelledBy (A.may_cancel answers.old)) }
 {
@@ -77,7 +81,16 @@ fn defer_case<A: PackageSource>(
 ) -> Result<(), CacheFault<A::Cancel>>
     requires { IsBuilt encoding.old }
     ensures same { answers.new ≡ answers.old }
-    ensures encoded { OnOk result ((root : Rules) → IsInOrder A.SolvableId.eq (A.packages answers.old) (A.orders answers.old) root encoding.old → Contains (rules_for A.SolvableId.eq (A.packages answers.old) root parent).requirements need → Contains (cases_for A.SolvableId.eq (A.packages answers.old) need) case.now → IsInOrder A.SolvableId.eq (A.packages answers.old) (A.orders answers.old) root encoding.new × IsDeferred encoding.new parent need case.now) }
+    ensures encoded { OnOk result
+        ((root : Rules)
+        → IsInOrder A.SolvableId.eq (A.packages answers.old) (A.orders answers.old) root
+        encoding.old
+        → Contains (rules_for A.SolvableId.eq (A.packages answers.old) root parent).requirements
+        need
+        → Contains (cases_for A.SolvableId.eq (A.packages answers.old) need) case.now
+        → IsInOrder A.SolvableId.eq (A.packages answers.old) (A.orders answers.old) root
+        encoding.new
+        × IsDeferred encoding.new parent need case.now) }
     ensures kept { OnOk result (AddsNeeds encoding.old encoding.new) }
     ensures built { OnOk result (IsBuilt encoding.new) }
     ensures cancelled { IfErr result (IsCancelledBy (A.may_cancel answers.old)) }
@@ -99,7 +112,16 @@ pub fn defer_need<A: PackageSource>(
     requires built { IsBuilt encoding.old }
     requires condition { need.condition ≡ Some condition }
     ensures same { answers.new ≡ answers.old }
-    ensures encoded { OnOk result ((root : Rules) → IsInOrder A.SolvableId.eq (A.packages answers.old) (A.orders answers.old) root encoding.old → Contains (rules_for A.SolvableId.eq (A.packages answers.old) root parent).requirements need → IsInOrder A.SolvableId.eq (A.packages answers.old) (A.orders answers.old) root encoding.new × AreDeferred encoding.new parent need (cases_for A.SolvableId.eq (A.packages answers.old) need)) }
+    ensures encoded { OnOk result
+        ((root : Rules)
+        → IsInOrder A.SolvableId.eq (A.packages answers.old) (A.orders answers.old) root
+        encoding.old
+        → Contains (rules_for A.SolvableId.eq (A.packages answers.old) root parent).requirements
+        need
+        → IsInOrder A.SolvableId.eq (A.packages answers.old) (A.orders answers.old) root
+        encoding.new
+        × AreDeferred encoding.new parent need
+        (cases_for A.SolvableId.eq (A.packages answers.old) need)) }
     ensures kept { OnOk result (AddsNeeds encoding.old encoding.new) }
     ensures built { OnOk result (IsBuilt encoding.new) }
     ensures cancelled { IfErr result (IsCancelledBy (A.may_cancel answers.old)) }
@@ -120,7 +142,18 @@ fn defer_cases<A: PackageSource>(
 ) -> Result<(), CacheFault<A::Cancel>>
     requires { IsBuilt encoding.old }
     ensures same { answers.new ≡ answers.old }
-    ensures encoded { OnOk result ((root : Rules) → IsInOrder A.SolvableId.eq (A.packages answers.old) (A.orders answers.old) root encoding.old → Contains (rules_for A.SolvableId.eq (A.packages answers.old) root parent).requirements need → ((case : List VersionSetId) → Contains (cases_of cases.now) case → Contains (cases_for A.SolvableId.eq (A.packages answers.old) need) case) → IsInOrder A.SolvableId.eq (A.packages answers.old) (A.orders answers.old) root encoding.new × AreDeferred encoding.new parent need (cases_of cases.now)) }
+    ensures encoded { OnOk result
+        ((root : Rules)
+        → IsInOrder A.SolvableId.eq (A.packages answers.old) (A.orders answers.old) root
+        encoding.old
+        → Contains (rules_for A.SolvableId.eq (A.packages answers.old) root parent).requirements
+        need
+        → ((case : List VersionSetId)
+        → Contains (cases_of cases.now) case
+        → Contains (cases_for A.SolvableId.eq (A.packages answers.old) need) case)
+        → IsInOrder A.SolvableId.eq (A.packages answers.old) (A.orders answers.old) root
+        encoding.new
+        × AreDeferred encoding.new parent need (cases_of cases.now)) }
     ensures kept { OnOk result (AddsNeeds encoding.old encoding.new) }
     ensures built { OnOk result (IsBuilt encoding.new) }
     ensures cancelled { IfErr result (IsCancelledBy (A.may_cancel answers.old)) }

@@ -49,7 +49,15 @@ fn bar_package<A: PackageSource>(
 ) -> Result<(), CacheFault<A::Cancel>>
     requires { IsBuilt encoding.old }
     ensures same { answers.new ≡ answers.old }
-    ensures encoded { OnOk result ((root : Rules) → IsInOrder A.SolvableId.eq (A.packages answers.old) (A.orders answers.old) root encoding.old → IsInOrder A.SolvableId.eq (A.packages answers.old) (A.orders answers.old) root encoding.new × ((s : A.SolvableId) → IsBarredIn A.SolvableId.eq (A.packages answers.old) name s → HasBar (rules_of encoding.new) s)) }
+    ensures encoded { OnOk result
+        ((root : Rules)
+        → IsInOrder A.SolvableId.eq (A.packages answers.old) (A.orders answers.old) root
+        encoding.old
+        → IsInOrder A.SolvableId.eq (A.packages answers.old) (A.orders answers.old) root
+        encoding.new
+        × ((s : A.SolvableId)
+        → IsBarredIn A.SolvableId.eq (A.packages answers.old) name s
+        → HasBar (rules_of encoding.new) s)) }
     ensures kept { OnOk result (AddsNeeds encoding.old encoding.new) }
     ensures fired { OnOk result (encoding.new.fired ≡ encoding.old.fired) }
     ensures built { OnOk result (IsBuilt encoding.new) }
@@ -72,7 +80,16 @@ fn bar_packages<A: PackageSource>(
 ) -> Result<(), CacheFault<A::Cancel>>
     requires { IsBuilt encoding.old }
     ensures same { answers.new ≡ answers.old }
-    ensures encoded { OnOk result ((root : Rules) → IsInOrder A.SolvableId.eq (A.packages answers.old) (A.orders answers.old) root encoding.old → IsInOrder A.SolvableId.eq (A.packages answers.old) (A.orders answers.old) root encoding.new × ((name : A.NameId) (s : A.SolvableId) → Contains names.now name → IsBarredIn A.SolvableId.eq (A.packages answers.old) name s → HasBar (rules_of encoding.new) s)) }
+    ensures encoded { OnOk result
+        ((root : Rules)
+        → IsInOrder A.SolvableId.eq (A.packages answers.old) (A.orders answers.old) root
+        encoding.old
+        → IsInOrder A.SolvableId.eq (A.packages answers.old) (A.orders answers.old) root
+        encoding.new
+        × ((name : A.NameId) (s : A.SolvableId)
+        → Contains names.now name
+        → IsBarredIn A.SolvableId.eq (A.packages answers.old) name s
+        → HasBar (rules_of encoding.new) s)) }
     ensures kept { OnOk result (AddsNeeds encoding.old encoding.new) }
     ensures fired { OnOk result (encoding.new.fired ≡ encoding.old.fired) }
     ensures built { OnOk result (IsBuilt encoding.new) }
@@ -93,7 +110,14 @@ pub fn guard<A: PackageSource>(
 ) -> Result<(), CacheFault<A::Cancel>>
     requires { IsBuilt encoding.old }
     ensures same { answers.new ≡ answers.old }
-    ensures encoded { OnOk result ((root : Rules) → IsInOrder A.SolvableId.eq (A.packages answers.old) (A.orders answers.old) root encoding.old → IsInOrder A.SolvableId.eq (A.packages answers.old) (A.orders answers.old) root encoding.new × IsGuarded A.SolvableId.eq (A.packages answers.old) (rules_of encoding.new) requirement) }
+    ensures encoded { OnOk result
+        ((root : Rules)
+        → IsInOrder A.SolvableId.eq (A.packages answers.old) (A.orders answers.old) root
+        encoding.old
+        → IsInOrder A.SolvableId.eq (A.packages answers.old) (A.orders answers.old) root
+        encoding.new
+        × IsGuarded A.SolvableId.eq (A.packages answers.old) (rules_of encoding.new)
+        requirement) }
     ensures kept { OnOk result (AddsNeeds encoding.old encoding.new) }
     ensures fired { OnOk result (encoding.new.fired ≡ encoding.old.fired) }
     ensures built { OnOk result (IsBuilt encoding.new) }
@@ -114,7 +138,17 @@ fn require<A: PackageSource>(
 ) -> Result<(), CacheFault<A::Cancel>>
     requires { IsBuilt encoding.old }
     ensures same { answers.new ≡ answers.old }
-    ensures encoded { OnOk result ((root : Rules) → IsInOrder A.SolvableId.eq (A.packages answers.old) (A.orders answers.old) root encoding.old → IsGuarded A.SolvableId.eq (A.packages answers.old) (rules_of encoding.old) need.requirement → Needs A.SolvableId.eq (A.packages answers.old) root parent need → IsInOrder A.SolvableId.eq (A.packages answers.old) (A.orders answers.old) root encoding.new × IsNeedEncoded A.SolvableId.eq (A.packages answers.old) (rules_of encoding.new) parent need []) }
+    ensures encoded { OnOk result
+        ((root : Rules)
+        → IsInOrder A.SolvableId.eq (A.packages answers.old) (A.orders answers.old) root
+        encoding.old
+        → IsGuarded A.SolvableId.eq (A.packages answers.old) (rules_of encoding.old)
+        need.requirement
+        → Needs A.SolvableId.eq (A.packages answers.old) root parent need
+        → IsInOrder A.SolvableId.eq (A.packages answers.old) (A.orders answers.old) root
+        encoding.new
+        × IsNeedEncoded A.SolvableId.eq (A.packages answers.old) (rules_of encoding.new) parent
+        need []) }
     ensures kept { OnOk result (AddsNeeds encoding.old encoding.new) }
     ensures built { OnOk result (IsBuilt encoding.new) }
     ensures cancelled { IfErr result (IsCancelledBy (A.may_cancel answers.old)) }
@@ -135,7 +169,15 @@ fn encode_plain_need<A: PackageSource>(
 ) -> Result<(), CacheFault<A::Cancel>>
     requires { IsBuilt encoding.old }
     ensures same { answers.new ≡ answers.old }
-    ensures encoded { OnOk result ((root : Rules) → IsInOrder A.SolvableId.eq (A.packages answers.old) (A.orders answers.old) root encoding.old → Needs A.SolvableId.eq (A.packages answers.old) root parent need → IsInOrder A.SolvableId.eq (A.packages answers.old) (A.orders answers.old) root encoding.new × IsNeedEncoded A.SolvableId.eq (A.packages answers.old) (rules_of encoding.new) parent need []) }
+    ensures encoded { OnOk result
+        ((root : Rules)
+        → IsInOrder A.SolvableId.eq (A.packages answers.old) (A.orders answers.old) root
+        encoding.old
+        → Needs A.SolvableId.eq (A.packages answers.old) root parent need
+        → IsInOrder A.SolvableId.eq (A.packages answers.old) (A.orders answers.old) root
+        encoding.new
+        × IsNeedEncoded A.SolvableId.eq (A.packages answers.old) (rules_of encoding.new) parent
+        need []) }
     ensures kept { OnOk result (AddsNeeds encoding.old encoding.new) }
     ensures built { OnOk result (IsBuilt encoding.new) }
     ensures cancelled { IfErr result (IsCancelledBy (A.may_cancel answers.old)) }
@@ -155,7 +197,16 @@ fn encode_need<A: PackageSource>(
 ) -> Result<(), CacheFault<A::Cancel>>
     requires { IsBuilt encoding.old }
     ensures same { answers.new ≡ answers.old }
-    ensures encoded { OnOk result ((root : Rules) → IsInOrder A.SolvableId.eq (A.packages answers.old) (A.orders answers.old) root encoding.old → Contains (rules_for A.SolvableId.eq (A.packages answers.old) root parent).requirements need → IsInOrder A.SolvableId.eq (A.packages answers.old) (A.orders answers.old) root encoding.new × IsConditionalEncoded A.SolvableId.eq (A.packages answers.old) encoding.new parent need) }
+    ensures encoded { OnOk result
+        ((root : Rules)
+        → IsInOrder A.SolvableId.eq (A.packages answers.old) (A.orders answers.old) root
+        encoding.old
+        → Contains (rules_for A.SolvableId.eq (A.packages answers.old) root parent).requirements
+        need
+        → IsInOrder A.SolvableId.eq (A.packages answers.old) (A.orders answers.old) root
+        encoding.new
+        × IsConditionalEncoded A.SolvableId.eq (A.packages answers.old) encoding.new parent
+        need) }
     ensures kept { OnOk result (AddsNeeds encoding.old encoding.new) }
     ensures built { OnOk result (IsBuilt encoding.new) }
     ensures cancelled { IfErr result (IsCancelledBy (A.may_cancel answers.old)) }
@@ -182,7 +233,21 @@ fn encode_needs<A: PackageSource>(
 ) -> Result<(), CacheFault<A::Cancel>>
     requires { IsBuilt encoding.old }
     ensures same { answers.new ≡ answers.old }
-    ensures encoded { OnOk result ((root : Rules) → IsInOrder A.SolvableId.eq (A.packages answers.old) (A.orders answers.old) root encoding.old → ((need : ConditionalRequirement) → Contains needs.now need → Contains (rules_for A.SolvableId.eq (A.packages answers.old) root parent).requirements need) → IsInOrder A.SolvableId.eq (A.packages answers.old) (A.orders answers.old) root encoding.new × ((need : ConditionalRequirement) → Contains needs.now need → IsConditionalEncoded A.SolvableId.eq (A.packages answers.old) encoding.new parent need)) }
+    ensures encoded { OnOk result
+        ((root : Rules)
+        → IsInOrder A.SolvableId.eq (A.packages answers.old) (A.orders answers.old) root
+        encoding.old
+        → ((need : ConditionalRequirement)
+        → Contains needs.now need
+        → Contains
+        (rules_for A.SolvableId.eq (A.packages answers.old) root parent).requirements
+        need)
+        → IsInOrder A.SolvableId.eq (A.packages answers.old) (A.orders answers.old) root
+        encoding.new
+        × ((need : ConditionalRequirement)
+        → Contains needs.now need
+        → IsConditionalEncoded A.SolvableId.eq (A.packages answers.old) encoding.new parent
+        need)) }
     ensures kept { OnOk result (AddsNeeds encoding.old encoding.new) }
     ensures built { OnOk result (IsBuilt encoding.new) }
     ensures cancelled { IfErr result (IsCancelledBy (A.may_cancel answers.old)) }
@@ -203,7 +268,16 @@ fn limit<A: PackageSource>(
 ) -> Result<(), CacheFault<A::Cancel>>
     requires { IsBuilt encoding.old }
     ensures same { answers.new ≡ answers.old }
-    ensures encoded { OnOk result ((root : Rules) → IsInOrder A.SolvableId.eq (A.packages answers.old) (A.orders answers.old) root encoding.old → Contains (rules_for A.SolvableId.eq (A.packages answers.old) root parent).constraints version_set → IsInOrder A.SolvableId.eq (A.packages answers.old) (A.orders answers.old) root encoding.new × IsLimitEncoded A.SolvableId.eq (A.packages answers.old) (rules_of encoding.new) parent version_set) }
+    ensures encoded { OnOk result
+        ((root : Rules)
+        → IsInOrder A.SolvableId.eq (A.packages answers.old) (A.orders answers.old) root
+        encoding.old
+        → Contains (rules_for A.SolvableId.eq (A.packages answers.old) root parent).constraints
+        version_set
+        → IsInOrder A.SolvableId.eq (A.packages answers.old) (A.orders answers.old) root
+        encoding.new
+        × IsLimitEncoded A.SolvableId.eq (A.packages answers.old) (rules_of encoding.new)
+        parent version_set) }
     ensures kept { OnOk result (AddsNeeds encoding.old encoding.new) }
     ensures built { OnOk result (IsBuilt encoding.new) }
     ensures cancelled { IfErr result (IsCancelledBy (A.may_cancel answers.old)) }
@@ -223,7 +297,18 @@ fn encode_limit<A: PackageSource>(
 ) -> Result<(), CacheFault<A::Cancel>>
     requires { IsBuilt encoding.old }
     ensures same { answers.new ≡ answers.old }
-    ensures encoded { OnOk result ((root : Rules) → IsInOrder A.SolvableId.eq (A.packages answers.old) (A.orders answers.old) root encoding.old → Contains (rules_for A.SolvableId.eq (A.packages answers.old) root parent).constraints version_set → IsInOrder A.SolvableId.eq (A.packages answers.old) (A.orders answers.old) root encoding.new × IsLimitEncoded A.SolvableId.eq (A.packages answers.old) (rules_of encoding.new) parent version_set × IsGuarded A.SolvableId.eq (A.packages answers.old) (rules_of encoding.new) (Single version_set)) }
+    ensures encoded { OnOk result
+        ((root : Rules)
+        → IsInOrder A.SolvableId.eq (A.packages answers.old) (A.orders answers.old) root
+        encoding.old
+        → Contains (rules_for A.SolvableId.eq (A.packages answers.old) root parent).constraints
+        version_set
+        → IsInOrder A.SolvableId.eq (A.packages answers.old) (A.orders answers.old) root
+        encoding.new
+        × IsLimitEncoded A.SolvableId.eq (A.packages answers.old) (rules_of encoding.new)
+        parent version_set
+        × IsGuarded A.SolvableId.eq (A.packages answers.old) (rules_of encoding.new)
+        (Single version_set)) }
     ensures kept { OnOk result (AddsNeeds encoding.old encoding.new) }
     ensures built { OnOk result (IsBuilt encoding.new) }
     ensures cancelled { IfErr result (IsCancelledBy (A.may_cancel answers.old)) }
@@ -243,7 +328,23 @@ fn encode_limits<A: PackageSource>(
 ) -> Result<(), CacheFault<A::Cancel>>
     requires { IsBuilt encoding.old }
     ensures same { answers.new ≡ answers.old }
-    ensures encoded { OnOk result ((root : Rules) → IsInOrder A.SolvableId.eq (A.packages answers.old) (A.orders answers.old) root encoding.old → ((version_set : VersionSetId) → Contains constraints.now version_set → Contains (rules_for A.SolvableId.eq (A.packages answers.old) root parent).constraints version_set) → IsInOrder A.SolvableId.eq (A.packages answers.old) (A.orders answers.old) root encoding.new × ((version_set : VersionSetId) → Contains constraints.now version_set → IsLimitEncoded A.SolvableId.eq (A.packages answers.old) (rules_of encoding.new) parent version_set × IsGuarded A.SolvableId.eq (A.packages answers.old) (rules_of encoding.new) (Single version_set))) }
+    ensures encoded { OnOk result
+        ((root : Rules)
+        → IsInOrder A.SolvableId.eq (A.packages answers.old) (A.orders answers.old) root
+        encoding.old
+        → ((version_set : VersionSetId)
+        → Contains constraints.now version_set
+        → Contains
+        (rules_for A.SolvableId.eq (A.packages answers.old) root parent).constraints
+        version_set)
+        → IsInOrder A.SolvableId.eq (A.packages answers.old) (A.orders answers.old) root
+        encoding.new
+        × ((version_set : VersionSetId)
+        → Contains constraints.now version_set
+        → IsLimitEncoded A.SolvableId.eq (A.packages answers.old) (rules_of encoding.new)
+        parent version_set
+        × IsGuarded A.SolvableId.eq (A.packages answers.old) (rules_of encoding.new)
+        (Single version_set))) }
     ensures kept { OnOk result (AddsNeeds encoding.old encoding.new) }
     ensures built { OnOk result (IsBuilt encoding.new) }
     ensures cancelled { IfErr result (IsCancelledBy (A.may_cancel answers.old)) }
@@ -265,7 +366,15 @@ fn encode_rules<A: PackageSource>(
 ) -> Result<(), CacheFault<A::Cancel>>
     requires { IsBuilt encoding.old }
     ensures same { answers.new ≡ answers.old }
-    ensures encoded { OnOk result ((root : Rules) → AreRulesOf A.SolvableId.eq (A.packages answers.old) root parent requirements.now constraints.now → IsInOrder A.SolvableId.eq (A.packages answers.old) (A.orders answers.old) root encoding.old → IsInOrder A.SolvableId.eq (A.packages answers.old) (A.orders answers.old) root encoding.new × IsParentEncoded A.SolvableId.eq (A.packages answers.old) encoding.new root parent) }
+    ensures encoded { OnOk result
+        ((root : Rules)
+        → AreRulesOf A.SolvableId.eq (A.packages answers.old) root parent requirements.now
+        constraints.now
+        → IsInOrder A.SolvableId.eq (A.packages answers.old) (A.orders answers.old) root
+        encoding.old
+        → IsInOrder A.SolvableId.eq (A.packages answers.old) (A.orders answers.old) root
+        encoding.new
+        × IsParentEncoded A.SolvableId.eq (A.packages answers.old) encoding.new root parent) }
     ensures kept { OnOk result (AddsNeeds encoding.old encoding.new) }
     ensures built { OnOk result (IsBuilt encoding.new) }
     ensures cancelled { IfErr result (IsCancelledBy (A.may_cancel answers.old)) }
@@ -286,7 +395,15 @@ fn encode_parent<A: PackageSource>(
 ) -> Result<(), CacheFault<A::Cancel>>
     requires { IsBuilt encoding.old }
     ensures same { answers.new ≡ answers.old }
-    ensures encoded { OnOk result ((root : Rules) → IsRoot requirements.now constraints.now root → IsInOrder A.SolvableId.eq (A.packages answers.old) (A.orders answers.old) root encoding.old → IsInOrder A.SolvableId.eq (A.packages answers.old) (A.orders answers.old) root encoding.new × IsParentEncoded A.SolvableId.eq (A.packages answers.old) encoding.new root (solvable_of parent)) }
+    ensures encoded { OnOk result
+        ((root : Rules)
+        → IsRoot requirements.now constraints.now root
+        → IsInOrder A.SolvableId.eq (A.packages answers.old) (A.orders answers.old) root
+        encoding.old
+        → IsInOrder A.SolvableId.eq (A.packages answers.old) (A.orders answers.old) root
+        encoding.new
+        × IsParentEncoded A.SolvableId.eq (A.packages answers.old) encoding.new root
+        (solvable_of parent)) }
     ensures kept { OnOk result (AddsNeeds encoding.old encoding.new) }
     ensures built { OnOk result (IsBuilt encoding.new) }
     ensures cancelled { IfErr result (IsCancelledBy (A.may_cancel answers.old)) }
@@ -326,7 +443,13 @@ pub fn encode_parents<A: PackageSource>(
 ) -> Result<(), CacheFault<A::Cancel>>
     requires { IsBuilt encoding.old }
     ensures same { answers.new ≡ answers.old }
-    ensures encoded { OnOk result ((root : Rules) → IsRoot requirements.now constraints.now root → IsInOrder A.SolvableId.eq (A.packages answers.old) (A.orders answers.old) root encoding.old → IsInOrder A.SolvableId.eq (A.packages answers.old) (A.orders answers.old) root encoding.new) }
+    ensures encoded { OnOk result
+        ((root : Rules)
+        → IsRoot requirements.now constraints.now root
+        → IsInOrder A.SolvableId.eq (A.packages answers.old) (A.orders answers.old) root
+        encoding.old
+        → IsInOrder A.SolvableId.eq (A.packages answers.old) (A.orders answers.old) root
+        encoding.new) }
     ensures all { OnOk result (AddsAll encoding.old encoding.new) }
     ensures turn { OnOk result (KeepsTurns encoding.old encoding.new) }
     ensures built { OnOk result (IsBuilt encoding.new) }

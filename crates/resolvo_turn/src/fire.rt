@@ -68,7 +68,20 @@ fn state_case<A: PackageSource>(
 ) -> Result<(), CacheFault<A::Cancel>>
     requires { IsBuilt encoding.old }
     ensures same { answers.new ≡ answers.old }
-    ensures encoded { OnOk result ((root : Rules) → IsInOrder A.SolvableId.eq (A.packages answers.old) (A.orders answers.old) root encoding.old → IsGuarded A.SolvableId.eq (A.packages answers.old) (rules_of encoding.old) need.requirement → AreSets A.SolvableId.eq (A.packages answers.old) sets.now → Contains (rules_for A.SolvableId.eq (A.packages answers.old) root parent).requirements need → Contains (cases_for A.SolvableId.eq (A.packages answers.old) need) (sets_case sets.now) → IsInOrder A.SolvableId.eq (A.packages answers.old) (A.orders answers.old) root encoding.new × IsNeedEncoded A.SolvableId.eq (A.packages answers.old) (rules_of encoding.new) parent need (sets_case sets.now)) }
+    ensures encoded { OnOk result
+        ((root : Rules)
+        → IsInOrder A.SolvableId.eq (A.packages answers.old) (A.orders answers.old) root
+        encoding.old
+        → IsGuarded A.SolvableId.eq (A.packages answers.old) (rules_of encoding.old)
+        need.requirement
+        → AreSets A.SolvableId.eq (A.packages answers.old) sets.now
+        → Contains (rules_for A.SolvableId.eq (A.packages answers.old) root parent).requirements
+        need
+        → Contains (cases_for A.SolvableId.eq (A.packages answers.old) need) (sets_case sets.now)
+        → IsInOrder A.SolvableId.eq (A.packages answers.old) (A.orders answers.old) root
+        encoding.new
+        × IsNeedEncoded A.SolvableId.eq (A.packages answers.old) (rules_of encoding.new) parent
+        need (sets_case sets.now)) }
     ensures kept { OnOk result (AddsNeeds encoding.old encoding.new) }
     ensures fired { OnOk result (encoding.new.fired ≡ encoding.old.fired) }
     ensures built { OnOk result (IsBuilt encoding.new) }
@@ -91,7 +104,17 @@ fn encode_case<A: PackageSource>(
 ) -> Result<(), CacheFault<A::Cancel>>
     requires { IsBuilt encoding.old }
     ensures same { answers.new ≡ answers.old }
-    ensures encoded { OnOk result ((root : Rules) → IsInOrder A.SolvableId.eq (A.packages answers.old) (A.orders answers.old) root encoding.old → Contains (rules_for A.SolvableId.eq (A.packages answers.old) root parent).requirements need → Contains (cases_for A.SolvableId.eq (A.packages answers.old) need) case.now → IsInOrder A.SolvableId.eq (A.packages answers.old) (A.orders answers.old) root encoding.new × IsNeedEncoded A.SolvableId.eq (A.packages answers.old) (rules_of encoding.new) parent need case.now) }
+    ensures encoded { OnOk result
+        ((root : Rules)
+        → IsInOrder A.SolvableId.eq (A.packages answers.old) (A.orders answers.old) root
+        encoding.old
+        → Contains (rules_for A.SolvableId.eq (A.packages answers.old) root parent).requirements
+        need
+        → Contains (cases_for A.SolvableId.eq (A.packages answers.old) need) case.now
+        → IsInOrder A.SolvableId.eq (A.packages answers.old) (A.orders answers.old) root
+        encoding.new
+        × IsNeedEncoded A.SolvableId.eq (A.packages answers.old) (rules_of encoding.new) parent
+        need case.now) }
     ensures kept { OnOk result (AddsNeeds encoding.old encoding.new) }
     ensures fired { OnOk result (encoding.new.fired ≡ encoding.old.fired) }
     ensures built { OnOk result (IsBuilt encoding.new) }
@@ -114,7 +137,12 @@ fn fire<A: PackageSource>(
     requires within { index < length encoding.old.deferred.items }
     requires waits { Contains encoding.old.fired.keys index → ⊥ }
     ensures same { answers.new ≡ answers.old }
-    ensures stays { OnOk result ((root : Rules) → IsInOrder A.SolvableId.eq (A.packages answers.old) (A.orders answers.old) root encoding.old → IsInOrder A.SolvableId.eq (A.packages answers.old) (A.orders answers.old) root encoding.new) }
+    ensures stays { OnOk result
+        ((root : Rules)
+        → IsInOrder A.SolvableId.eq (A.packages answers.old) (A.orders answers.old) root
+        encoding.old
+        → IsInOrder A.SolvableId.eq (A.packages answers.old) (A.orders answers.old) root
+        encoding.new) }
     ensures kept { OnOk result (AddsNeeds encoding.old encoding.new) }
     ensures fires { OnOk result (FiresMore encoding.old encoding.new) }
     ensures built { OnOk result (IsBuilt encoding.new) }
@@ -135,10 +163,17 @@ fn fire_if_due<A: PackageSource>(
 ) -> Result<bool, CacheFault<A::Cancel>>
     requires built { IsBuilt encoding.old }
     ensures same { answers.new ≡ answers.old }
-    ensures stays { OnOk result ((root : Rules) → IsInOrder A.SolvableId.eq (A.packages answers.old) (A.orders answers.old) root encoding.old → IsInOrder A.SolvableId.eq (A.packages answers.old) (A.orders answers.old) root encoding.new) }
+    ensures stays { OnOk result
+        ((root : Rules)
+        → IsInOrder A.SolvableId.eq (A.packages answers.old) (A.orders answers.old) root
+        encoding.old
+        → IsInOrder A.SolvableId.eq (A.packages answers.old) (A.orders answers.old) root
+        encoding.new) }
     ensures kept { OnOk result (AddsNeeds encoding.old encoding.new) }
     ensures fires { IfOk result (λ b. b ≡ true → FiresMore encoding.old encoding.new) }
-    ensures spent { IfOk result (λ b. b ≡ false → (encoding.new ≡ encoding.old) × IsSpent A.SolvableId.eq encoding.new index) }
+    ensures spent { IfOk result
+        (λ b.
+        b ≡ false → (encoding.new ≡ encoding.old) × IsSpent A.SolvableId.eq encoding.new index) }
     ensures built { OnOk result (IsBuilt encoding.new) }
     ensures cancelled { IfErr result (IsCancelledBy (A.may_cancel answers.old)) }
 {
@@ -158,10 +193,16 @@ pub fn fire_cases<A: PackageSource>(
 ) -> Result<bool, CacheFault<A::Cancel>>
     requires { IsBuilt encoding.old }
     ensures same { answers.new ≡ answers.old }
-    ensures stays { OnOk result ((root : Rules) → IsInOrder A.SolvableId.eq (A.packages answers.old) (A.orders answers.old) root encoding.old → IsInOrder A.SolvableId.eq (A.packages answers.old) (A.orders answers.old) root encoding.new) }
+    ensures stays { OnOk result
+        ((root : Rules)
+        → IsInOrder A.SolvableId.eq (A.packages answers.old) (A.orders answers.old) root
+        encoding.old
+        → IsInOrder A.SolvableId.eq (A.packages answers.old) (A.orders answers.old) root
+        encoding.new) }
     ensures kept { OnOk result (AddsNeeds encoding.old encoding.new) }
     ensures fires { IfOk result (λ b. b ≡ true → FiresMore encoding.old encoding.new) }
-    ensures spent { IfOk result (λ b. b ≡ false → (encoding.new ≡ encoding.old) × AreSpent A.SolvableId.eq encoding.new) }
+    ensures spent { IfOk result
+        (λ b. b ≡ false → (encoding.new ≡ encoding.old) × AreSpent A.SolvableId.eq encoding.new) }
     ensures built { OnOk result (IsBuilt encoding.new) }
     ensures cancelled { IfErr result (IsCancelledBy (A.may_cancel answers.old)) }
 {

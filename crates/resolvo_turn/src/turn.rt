@@ -59,7 +59,10 @@ fn undo_broken<N: Copy + Exact + Hash + Debug, S: Copy + Exact + Hash + Debug>(
     from: usize,
 )
     requires { IsBuilt encoding.old }
-    ensures stays { (p : Packages N S) (root : Rules) → IsLawful p → IsEncoding S.eq p root encoding.old → IsEncoding S.eq p root encoding.new }
+    ensures stays { (p : Packages N S) (root : Rules)
+        → IsLawful p
+        → IsEncoding S.eq p root encoding.old
+        → IsEncoding S.eq p root encoding.new }
     ensures goes_on { GoesOn encoding.old encoding.new }
     ensures turn { KeepsTurns encoding.old encoding.new }
     ensures built { IsBuilt encoding.new }
@@ -79,7 +82,13 @@ fn encode<A: PackageSource>(
 ) -> Result<(), CacheFault<A::Cancel>>
     requires { IsBuilt encoding.old }
     ensures same { answers.new ≡ answers.old }
-    ensures encoded { OnOk result ((root : Rules) → IsRoot requirements.now constraints.now root → IsInOrder A.SolvableId.eq (A.packages answers.old) (A.orders answers.old) root encoding.old → IsInOrder A.SolvableId.eq (A.packages answers.old) (A.orders answers.old) root encoding.new) }
+    ensures encoded { OnOk result
+        ((root : Rules)
+        → IsRoot requirements.now constraints.now root
+        → IsInOrder A.SolvableId.eq (A.packages answers.old) (A.orders answers.old) root
+        encoding.old
+        → IsInOrder A.SolvableId.eq (A.packages answers.old) (A.orders answers.old) root
+        encoding.new) }
     ensures all { OnOk result (AddsAll encoding.old encoding.new) }
     ensures turn { OnOk result (KeepsTurns encoding.old encoding.new) }
     ensures built { OnOk result (IsBuilt encoding.new) }
@@ -100,10 +109,16 @@ fn fire<A: PackageSource>(
 ) -> Result<bool, CacheFault<A::Cancel>>
     requires { IsBuilt encoding.old }
     ensures same { answers.new ≡ answers.old }
-    ensures stays { OnOk result ((root : Rules) → IsInOrder A.SolvableId.eq (A.packages answers.old) (A.orders answers.old) root encoding.old → IsInOrder A.SolvableId.eq (A.packages answers.old) (A.orders answers.old) root encoding.new) }
+    ensures stays { OnOk result
+        ((root : Rules)
+        → IsInOrder A.SolvableId.eq (A.packages answers.old) (A.orders answers.old) root
+        encoding.old
+        → IsInOrder A.SolvableId.eq (A.packages answers.old) (A.orders answers.old) root
+        encoding.new) }
     ensures adds { OnOk result (AddsNeeds encoding.old encoding.new) }
     ensures fires { IfOk result (λ b. b ≡ true → FiresMore encoding.old encoding.new) }
-    ensures spent { IfOk result (λ b. b ≡ false → (encoding.new ≡ encoding.old) × AreSpent A.SolvableId.eq encoding.new) }
+    ensures spent { IfOk result
+        (λ b. b ≡ false → (encoding.new ≡ encoding.old) × AreSpent A.SolvableId.eq encoding.new) }
     ensures built { OnOk result (IsBuilt encoding.new) }
     ensures cancelled { IfErr result (IsCancelledBy (A.may_cancel answers.old)) }
 {
@@ -123,7 +138,11 @@ fn choose_first<N: Copy + Exact + Hash + Debug, S: Copy + Exact + Hash + Debug>(
 ) -> R<Option<FinalConflict>>
     requires built { IsBuilt encoding.old }
     requires turn { HasTurn wish encoding.old }
-    ensures stays { OnOk result ((p : Packages N S) (root : Rules) → IsLawful p → IsEncoding S.eq p root encoding.old → IsEncoding S.eq p root encoding.new) }
+    ensures stays { OnOk result
+        ((p : Packages N S) (root : Rules)
+        → IsLawful p
+        → IsEncoding S.eq p root encoding.old
+        → IsEncoding S.eq p root encoding.new) }
     ensures goes_on { OnOk result (GoesOn encoding.old encoding.new) }
     ensures turn { OnOk result (KeepsTurn wish encoding.old encoding.new) }
     ensures begun { IfOk result (IsBegunBy wish encoding.new) }
@@ -146,7 +165,12 @@ fn choose_and_decide<A: PackageSource, C: ScoreMap<A::NameId>>(
 ) -> Result<Option<FinalConflict>, CacheFault<A::Cancel>>
     requires built { IsBuilt encoding.old }
     requires turn { HasTurn wish encoding.old }
-    ensures stays { OnOk result ((root : Rules) → IsInOrder A.SolvableId.eq (A.packages answers.now) (A.orders answers.now) root encoding.old → IsInOrder A.SolvableId.eq (A.packages answers.now) (A.orders answers.now) root encoding.new) }
+    ensures stays { OnOk result
+        ((root : Rules)
+        → IsInOrder A.SolvableId.eq (A.packages answers.now) (A.orders answers.now) root
+        encoding.old
+        → IsInOrder A.SolvableId.eq (A.packages answers.now) (A.orders answers.now) root
+        encoding.new) }
     ensures goes_on { OnOk result (GoesOn encoding.old encoding.new) }
     ensures turn { OnOk result (KeepsTurn wish encoding.old encoding.new) }
     ensures decided { IfOk result (IsDecisionOf wish encoding.new) }
@@ -174,7 +198,13 @@ fn encode_and_decide<A: PackageSource, C: ScoreMap<A::NameId>>(
     requires built { IsBuilt encoding.old }
     requires turn { HasTurn wish encoding.old }
     ensures same { answers.new ≡ answers.old }
-    ensures stays { OnOk result ((root : Rules) → IsRoot requirements.now constraints.now root → IsInOrder A.SolvableId.eq (A.packages answers.old) (A.orders answers.old) root encoding.old → IsInOrder A.SolvableId.eq (A.packages answers.old) (A.orders answers.old) root encoding.new) }
+    ensures stays { OnOk result
+        ((root : Rules)
+        → IsRoot requirements.now constraints.now root
+        → IsInOrder A.SolvableId.eq (A.packages answers.old) (A.orders answers.old) root
+        encoding.old
+        → IsInOrder A.SolvableId.eq (A.packages answers.old) (A.orders answers.old) root
+        encoding.new) }
     ensures all { OnOk result (AddsAll encoding.old encoding.new) }
     ensures turn { OnOk result (KeepsTurn wish encoding.old encoding.new) }
     ensures decided { IfOk result (IsDecisionOf wish encoding.new) }
@@ -213,7 +243,13 @@ fn run_round<A: PackageSource, C: ScoreMap<A::NameId>>(
     requires rooted { IsRooted encoding.old }
     requires turn { HasTurn wish encoding.old }
     ensures same { answers.new ≡ answers.old }
-    ensures stays { OnOk result ((root : Rules) → IsRoot requirements.now constraints.now root → IsInOrder A.SolvableId.eq (A.packages answers.old) (A.orders answers.old) root encoding.old → IsInOrder A.SolvableId.eq (A.packages answers.old) (A.orders answers.old) root encoding.new) }
+    ensures stays { OnOk result
+        ((root : Rules)
+        → IsRoot requirements.now constraints.now root
+        → IsInOrder A.SolvableId.eq (A.packages answers.old) (A.orders answers.old) root
+        encoding.old
+        → IsInOrder A.SolvableId.eq (A.packages answers.old) (A.orders answers.old) root
+        encoding.new) }
     ensures adds { OnOk result (AddsParents encoding.old encoding.new) }
     ensures turn { OnOk result (KeepsTurn wish encoding.old encoding.new) }
     ensures round { IfOk result (IsRound A.SolvableId.eq wish encoding.old encoding.new) }
@@ -259,7 +295,13 @@ pub fn run_turn<A: PackageSource, C: ScoreMap<A::NameId>>(
     requires rooted { IsRooted encoding.old }
     requires turn { HasTurn wish encoding.old }
     ensures same { answers.new ≡ answers.old }
-    ensures stays { OnOk result ((root : Rules) → IsRoot requirements.now constraints.now root → IsInOrder A.SolvableId.eq (A.packages answers.old) (A.orders answers.old) root encoding.old → IsInOrder A.SolvableId.eq (A.packages answers.old) (A.orders answers.old) root encoding.new) }
+    ensures stays { OnOk result
+        ((root : Rules)
+        → IsRoot requirements.now constraints.now root
+        → IsInOrder A.SolvableId.eq (A.packages answers.old) (A.orders answers.old) root
+        encoding.old
+        → IsInOrder A.SolvableId.eq (A.packages answers.old) (A.orders answers.old) root
+        encoding.new) }
     ensures adds { OnOk result (AddsParents encoding.old encoding.new) }
     ensures turn { OnOk result (KeepsTurn wish encoding.old encoding.new) }
     ensures ended { IfOk result (IsTurn A.SolvableId.eq wish encoding.new) }

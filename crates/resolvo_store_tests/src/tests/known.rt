@@ -68,7 +68,8 @@ fn nothing_known(alloc: Global, needs: (FixedLists<NameId>, DecideQueue)) -> R<K
 
 /// Each of these clauses noted.
 fn noted(alloc: Global, queue: &[NeedClause]) -> R<UndecidedClauses>
-    ensures { IfOk result (λ needs. (literals : Requirement → List Signed) → Fits literals needs queue.now) }
+    ensures { IfOk result
+        (λ needs. (literals : Requirement → List Signed) → Fits literals needs queue.now) }
 {
     let mut needs = UndecidedClauses::new(alloc);
     for need in queue {

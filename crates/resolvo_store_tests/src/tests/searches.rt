@@ -70,7 +70,8 @@ fn add_rule(
 /// A variable that has no value yet, below the count.
 fn undecided(state: &SatState) -> Option<VariableId>
     requires { IsState state.now }
-    ensures { IfSome result (λ v. (v.0 < count_of state.now) × IsUndecided (made_true (history state.now)) (yes v)) }
+    ensures { IfSome result
+        (λ v. (v.0 < count_of state.now) × IsUndecided (made_true (history state.now)) (yes v)) }
 {
     for number in 0..state.variables.len() {
         let variable = VariableId(number as u32);
