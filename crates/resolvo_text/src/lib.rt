@@ -13,7 +13,7 @@ mod memory;
 mod parse;
 mod spec;
 mod words;
-mod write_all;
+mod write;
 
 pub use condition::{Cond, cases_are_exact, cases_in, holds};
 pub use device::{Counted, IoFault, Sink, Source};
@@ -27,4 +27,4 @@ pub use parse::{
 };
 pub use spec::{Span, Spec, Version, is_in_span, is_member, is_met, is_met_by_one, matches};
 pub use words::{is_name, name_in, number_in, span_in};
-pub use write_all::{WriteFault, write_all};
+pub use write::{WriteFault, write_all};

@@ -1,6 +1,6 @@
 use Rattle.std.proofs.Common.{◌≡◌, ◌≤◌}
 use Rattle.std.specs.Io.KnownBytes.{Keeps}
-use Rattle.resolvo_text.proofs.write_all.write_some.Given as goal
+use Rattle.resolvo_text.proofs.write.write_some.Given as goal
 
 abbrev pub invariant-loop-try : goal.invariant-loop-try
 invariant-loop-try g l = Keeps (g.S.Sink.contents l.initial.sink) (g.S.Sink.contents l.sink)

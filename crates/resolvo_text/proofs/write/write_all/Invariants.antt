@@ -1,6 +1,6 @@
 use Rattle.std.proofs.Common.{◌≡◌, ◌++◌, List, ℕ, length}
 use Rattle.std.specs.Io.KnownBytes.{Appends}
-use Rattle.resolvo_text.proofs.write_all.write_all.Given as goal
+use Rattle.resolvo_text.proofs.write.write_all.Given as goal
 
 abbrev pub invariant-loop-rest : goal.invariant-loop-rest
 invariant-loop-rest g l = (front : List ℕ) × (l.fn.bytes ≡ front ++ l.rest)
