@@ -20,7 +20,7 @@ use Rattle.resolvo_judge.specs.Refusal.{step_bars}
 use Rattle.resolvo_checker.specs.Keys.{IsKey, Names}
 use Rattle.resolvo_checker.specs.CheckStep.{clause_or_none, StandFor}
 use Rattle.resolvo_judge.specs.KeptAnswers.{BarredWish}
-use Rattle.resolvo_judge.specs.LeftOut.{number_told, TellsVersions, version_told, is_barring, are_barring, clause_bars, is_barred}
+use Rattle.resolvo_judge.specs.Bars.{number_told, TellsVersions, version_told, is_barring, are_barring, clause_bars, is_barred}
 
 -- the version that the atom says to be in the set
 abbrev version_in : Atom → Option Version

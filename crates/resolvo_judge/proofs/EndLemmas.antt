@@ -14,7 +14,7 @@ use Rattle.resolvo_judge.specs.Entries.{entries_of}
 use Rattle.resolvo_judge.specs.Refusal.{answers_in, steps_in, is_refusal, step_bars, ArePassed}
 use Rattle.resolvo_judge.specs.EndRules.{KeepsAll}
 use Rattle.resolvo_judge.specs.KeptAnswers.{barred_of, BarredWish, barred_from, AreWishesTold, KeepsAnswers, KeepsLines}
-use Rattle.resolvo_judge.specs.LeftOut.{is_barred}
+use Rattle.resolvo_judge.specs.Bars.{is_barred}
 use Rattle.resolvo_judge.specs.JudgeState.{Stands, EndsSo}
 use Rattle.resolvo_judge.proofs.Accepted.{install_proof}
 use Rattle.resolvo_judge.proofs.BarredLemmas.{barred_each, barred_all}

@@ -5,6 +5,6 @@ pub mod Log
 pub mod Versions
 pub mod EndRules
 pub mod KeptAnswers
-pub mod LeftOut
+pub mod Bars
 pub mod JudgeState
 pub mod Judgement

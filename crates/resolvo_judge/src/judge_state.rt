@@ -11,9 +11,9 @@ ghost use Rattle.resolvo_judge.specs.Log.{LogStands, is_head, causes_of_line as 
 ghost use Rattle.resolvo_judge.specs.KeptAnswers.{KeepsAnswers, KeepsLines};
 ghost use Rattle.resolvo_judge.specs.JudgeState.{Stands, EndsSo};
 
+use crate::bar::are_barred;
 use crate::end_rules::keeps_all;
 use crate::entries::Entries;
-use crate::left_out::are_barred;
 use crate::log::{
     ProofState, install_log, refusal_log, take_catalogue_line, take_request_line, take_step,
 };

@@ -1,13 +1,13 @@
 //! The judge of a report: whether its steps are a proof, and its claim is true.
 #![tactic(auto)]
 
+mod bar;
 mod chosen;
 mod end_rules;
 mod entries;
 mod judge_state;
 mod judgement;
 mod laws;
-mod left_out;
 mod log;
 mod named;
 mod versions;

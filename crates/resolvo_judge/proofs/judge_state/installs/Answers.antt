@@ -8,7 +8,7 @@ use Rattle.resolvo_judge.specs.Refusal.{answers_in, steps_in}
 use Rattle.resolvo_judge.specs.EndRules.{KeepsAll}
 use Rattle.resolvo_judge.specs.KeptAnswers.{AreWishesTold, barred_of}
 use Rattle.resolvo_judge.specs.declared.entries.Barred.{Barred}
-use Rattle.resolvo_judge.specs.LeftOut.{is_barred}
+use Rattle.resolvo_judge.specs.Bars.{is_barred}
 use Rattle.resolvo_judge.proofs.EndLemmas.{install_ends}
 use Rattle.resolvo_judge.proofs.judge_state.installs.Goals as goal
 

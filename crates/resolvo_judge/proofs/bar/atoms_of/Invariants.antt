@@ -1,7 +1,7 @@
 use Rattle.std.proofs.Common.{◌≡◌, ◌<◌, ℕ, List, [], ◌∷◌, Some, length}
 use Rattle.resolvo_checker.specs.Numbers.{number_in}
-use Rattle.resolvo_judge.specs.LeftOut.{TellsVersions}
-use Rattle.resolvo_judge.proofs.left_out.atoms_of.Given as goal
+use Rattle.resolvo_judge.specs.Bars.{TellsVersions}
+use Rattle.resolvo_judge.proofs.bar.atoms_of.Given as goal
 
 abbrev pub invariant-loop-number : goal.invariant-loop-number
 invariant-loop-number l = record {

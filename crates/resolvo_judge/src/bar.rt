@@ -11,7 +11,7 @@ ghost use Rattle.resolvo_checker.specs.Proof.{IsProof};
 ghost use Rattle.resolvo_judge.specs.Chosen.{Holds};
 ghost use Rattle.resolvo_checker.specs.CheckStep.{StandFor};
 ghost use Rattle.resolvo_judge.specs.KeptAnswers.{barred_of};
-ghost use Rattle.resolvo_judge.specs.LeftOut.{TellsVersions, version_told as version_told_lem, is_barring as is_barring_lem, clause_bars as clause_bars_lem, is_barred};
+ghost use Rattle.resolvo_judge.specs.Bars.{TellsVersions, version_told as version_told_lem, is_barring as is_barring_lem, clause_bars as clause_bars_lem, is_barred};
 
 use crate::chosen::Chosen;
 use crate::entries::Barred;

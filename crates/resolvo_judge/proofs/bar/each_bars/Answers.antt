@@ -1,9 +1,9 @@
 use Rattle.std.proofs.Common.{sym, ◌∙◌}
 use Rattle.resolvo_catalogue_core.specs.Listed.{pair_versions}
 use Rattle.resolvo_judge.specs.KeptAnswers.{barred_of}
-use Rattle.resolvo_judge.specs.LeftOut.{clause_bars}
+use Rattle.resolvo_judge.specs.Bars.{clause_bars}
 use Rattle.resolvo_judge.proofs.BarLemmas.{not_all_at}
-use Rattle.resolvo_judge.proofs.left_out.each_bars.Goals as goal
+use Rattle.resolvo_judge.proofs.bar.each_bars.Goals as goal
 
 pub returns-then-not-clause_bars : goal.returns-then-not-clause_bars
 returns-then-not-clause_bars c = λ set h.

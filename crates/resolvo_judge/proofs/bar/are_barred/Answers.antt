@@ -4,9 +4,9 @@ use Rattle.std.proofs.lemmas.List.{length-map}
 use Rattle.resolvo_text.specs.Line.{Version}
 use Rattle.resolvo_catalogue_core.specs.Listed.{pair_version}
 use Rattle.resolvo_judge.specs.KeptAnswers.{barred_of}
-use Rattle.resolvo_judge.specs.LeftOut.{TellsVersions, clause_bars}
+use Rattle.resolvo_judge.specs.Bars.{TellsVersions, clause_bars}
 use Rattle.resolvo_judge.proofs.BarLemmas.{each_barred}
-use Rattle.resolvo_judge.proofs.left_out.are_barred.Goals as goal
+use Rattle.resolvo_judge.proofs.bar.are_barred.Goals as goal
 
 pub returns : goal.returns
 returns c = λ request ct rt steps set proof stands h.
