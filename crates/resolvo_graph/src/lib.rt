@@ -11,3 +11,9 @@ mod outlook;
 mod runs;
 mod tree;
 mod walk;
+
+pub use display_unsat::DisplayUnsat;
+pub use graph::{
+    ConflictCause, ConflictEdge, ConflictGraph, ConflictNode, Edge, EdgeIndex, NodeIndex,
+};
+pub use merge::MergedConflictNode;
