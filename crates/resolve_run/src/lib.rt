@@ -4,3 +4,10 @@
 pub mod laws;
 mod report;
 pub mod run;
+
+pub use laws::installs_exactly_if_some_set_keeps_the_rules;
+pub use resolve_check::check::check;
+pub use resolve_check::endings::{check_ending, run_ending};
+pub use resolve_check::input::{INPUT_LIMIT, read_input, split_input};
+pub use resolve_check::outcome::{Checked, Outcome, RunFault};
+pub use run::run;

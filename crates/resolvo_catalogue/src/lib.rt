@@ -7,3 +7,9 @@ pub mod id_table;
 pub mod impls;
 pub mod provider;
 pub mod versions;
+
+pub use provider::{CatalogueProvider, Hint, RequestIds};
+pub use resolvo_catalogue_core::{
+    Catalogue, Cond, Counted, IoFault, LineReader, MemorySink, MemorySource, ReadFault, Request,
+    Rule, Sink, Source, Span, Spec, Version, VersionNo, WriteFault,
+};
