@@ -3,11 +3,15 @@
 
 Usage: checks/refusals.py [PATH OF THE PROGRAM]   (default: crates/resolve/out/resolve, which `rt run` leaves)
 Needs a C compiler, for refuse.c, which is preloaded. Status 1 where an answer isn't as promised.
+A refused allocation gives `no memory` or changes nothing, a failed read `cannot read`, a failed write a front of the answer. So does
+a write that takes no byte. A thousand interruptions in a row before any read or write change nothing, one more is a failure.
 """
 import os
 import subprocess
 import sys
 import tempfile
+
+import rows
 
 HERE = os.path.dirname(os.path.abspath(__file__))
 TOP = os.path.dirname(HERE)
@@ -53,7 +57,7 @@ def reports():
     named = b"refused\ncatalogue line 2\ncatalogue line 3\nrequest line 1\n"
     proof = named + JUDGED_STEPS + b"step 10 derive [] by 1 2 4 5 6 3\n| nothing fits\n"
     barred = b"install\np=1 for request line 1\nleft out c=1 line 2 by 1\nstep 1 limit p=1 line 2 bars c=1\n"
-    return [
+    return texts_of(JUDGED_ROWS, ["catalogue", "request", "report"]) + [
         ("a proof with helpers", JUDGED, b"needs p\n", proof),
         ("a proof without its end", JUDGED, b"needs p\n", named + JUDGED_STEPS),
         ("a wish that is left out", b"version p 1\nlimits c 9\nversion c 1\n", b"needs p\nwish c 1\n", barred),
@@ -65,10 +69,21 @@ def example(name):
         return text.read()
 
 
+SOLVED_ROWS = ["install_a_need_of_a_version", "install_a_wish_leaves_the_newest_versions_chosen",
+               "install_a_wish_of_another_version_of_a_wished_package", "refuse_a_limit_that_no_candidate_keeps"]
+JUDGED_ROWS = ["judge_a_gate_a_limit_and_their_helpers"]
+
+
+def texts_of(names, parts):
+    """The name of each of these rows, and its texts."""
+    first = [rows.read(os.path.join(rows.DATA, name + ".row"))[0] for name in names]
+    return [(row.name, *(row.text(part) for part in parts)) for row in first]
+
+
 def cases():
     """Name, catalogue and request."""
     app = example("app.catalogue")
-    return [
+    return texts_of(SOLVED_ROWS, ["catalogue", "request"]) + [
         ("installed", app, example("app.request")),
         ("refused", app, example("conflict.request")),
         ("every kind of line", EVERY_KIND, EVERY_ASK),
@@ -93,7 +108,7 @@ def run(library, arguments, given, **settings):
 
 
 def is_as_promised(kind, plain, status, output):
-    """Nothing of a report where memory or a read was refused, a front of it where a write was."""
+    """Nothing of a report where memory or a read was refused, a front of it where a write was, or took no byte."""
     if kind == "alloc":
         # a refused growth that the program can do without changes nothing
         return (status, output) in [(2, b"no memory\n"), plain]
@@ -102,12 +117,17 @@ def is_as_promised(kind, plain, status, output):
     return status == 2 and len(output) < len(plain[1]) and plain[1].startswith(output)
 
 
+# how calls are refused: which ones, and how
+KINDS = {"alloc": {"kind": "alloc"}, "read": {"kind": "read"}, "write": {"kind": "write"},
+         "empty write": {"kind": "write", "how": "empty", "times": "1000000"}}
+
+
 def refuse_each(library, name, arguments, given, plain, kind, piece):
     """The number of calls that were refused, and what went wrong."""
     faults, number = [], 0
     while True:
         number += 1
-        status, output, refused = run(library, arguments, given, kind=kind, number=str(number), piece=piece)
+        status, output, refused = run(library, arguments, given, number=str(number), piece=piece, **KINDS[kind])
         if not refused:
             if (status, output) != plain:
                 faults.append(f"{name}: no call refused, yet status {status}, {output!r}")
@@ -116,18 +136,38 @@ def refuse_each(library, name, arguments, given, plain, kind, piece):
             faults.append(f"{name}: {kind} {number} refused, pieces {piece}: status {status}, {output!r}")
 
 
+def interrupt_each(library, name, arguments, given, plain):
+    """What goes wrong where calls are interrupted, before each of them in turn."""
+    faults = []
+    for kind in ["read", "write"]:
+        number = 0
+        while True:
+            number += 1
+            settings = {"kind": kind, "how": "interrupt", "number": str(number)}
+            status, output, refused = run(library, arguments, given, times="1000", **settings)
+            if (status, output) != plain:
+                faults.append(f"{name}: 1000 interruptions of {kind} {number}: status {status}, {output!r}")
+            if not refused:
+                break
+            status, output, _ = run(library, arguments, given, times="1001", **settings)
+            if not is_as_promised(kind, plain, status, output):
+                faults.append(f"{name}: 1001 interruptions of {kind} {number}: status {status}, {output!r}")
+    return faults
+
+
 def check(library, name, arguments, given):
     plain = run(library, arguments, given)[:2]
     faults, counts = [], {}
     for piece in PIECES:
         if run(library, arguments, given, piece=piece)[:2] != plain:
             faults.append(f"{name}: other output with pieces of {piece}")
-        for kind in ["alloc", "read", "write"]:
+        for kind in KINDS:
             if kind == "alloc" and piece != "4096":
                 continue
             count, wrong = refuse_each(library, name, arguments, given, plain, kind, piece)
             counts[kind] = counts.get(kind, 0) + count
             faults += wrong
+    faults += interrupt_each(library, name, arguments, given, plain)
     print(f"{name}: status {plain[0]}, refused in turn: " + ", ".join(f"{n} {k}" for k, n in counts.items()))
     return faults
 

@@ -1,5 +1,7 @@
 /* Preloaded under the program: refuses the allocation, read or write whose number REFUSE_NUMBER gives, counted from 1,
-   and moves at most REFUSE_PIECE bytes a read or write. It writes one byte to descriptor 9 where it refused a call. */
+   and moves at most REFUSE_PIECE bytes a read or write. REFUSE_TIMES calls in a row are refused, else one. A refused read or
+   write fails, or is interrupted under REFUSE_HOW=interrupt, or takes no byte under REFUSE_HOW=empty.
+   It writes one byte to descriptor 9 where it refused a call. */
 #define _GNU_SOURCE
 #include <dlfcn.h>
 #include <errno.h>
@@ -13,13 +15,24 @@ static int refused(const char *kind)
 	static long calls;
 	const char *want = getenv("REFUSE_KIND");
 	const char *number = getenv("REFUSE_NUMBER");
+	const char *times = getenv("REFUSE_TIMES");
 	if (want == NULL || number == NULL || strcmp(want, kind) != 0)
 		return 0;
 	calls += 1;
-	if (calls != atol(number))
+	if (calls < atol(number) || calls >= atol(number) + (times == NULL ? 1 : atol(times)))
 		return 0;
 	syscall(SYS_write, 9, "x", 1);
 	return 1;
+}
+
+/* What a refused read or write answers. */
+static ssize_t refusal(void)
+{
+	const char *how = getenv("REFUSE_HOW");
+	if (how != NULL && strcmp(how, "empty") == 0)
+		return 0;
+	errno = how != NULL && strcmp(how, "interrupt") == 0 ? EINTR : EIO;
+	return -1;
 }
 
 static size_t piece(size_t count)
@@ -47,18 +60,14 @@ void *realloc(void *at, size_t size)
 
 ssize_t read(int file, void *at, size_t count)
 {
-	if (refused("read")) {
-		errno = EIO;
-		return -1;
-	}
+	if (refused("read"))
+		return refusal();
 	return syscall(SYS_read, file, at, piece(count));
 }
 
 ssize_t write(int file, const void *at, size_t count)
 {
-	if (refused("write")) {
-		errno = EIO;
-		return -1;
-	}
+	if (refused("write"))
+		return refusal();
 	return syscall(SYS_write, file, at, piece(count));
 }

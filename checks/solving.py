@@ -5,7 +5,7 @@ Usage: checks/solving.py [PAIRS] [PATH OF THE PROGRAM]
 Defaults: 1000 pairs, crates/resolve/out/resolve (which `rt run` leaves).
 It installs exactly where some set keeps all rules; the plain judge says yes to each report; where the first choices keep all
 rules and no line has alternatives, they are the entries above the first wish; of flat texts these are the newest versions that fit;
-a wish is left out only where no rule-keeping set holds it with all entries above its line.
+a wish is left out only where no rule-keeping set holds it with all entries above its line. Of 1,000 pairs each form of line comes.
 """
 import os
 import random
@@ -13,11 +13,61 @@ import subprocess
 import sys
 import tempfile
 
-from judging import Prover, some_texts
+from judging import Prover, some_spec, some_texts
 from plain_judge import holds, judge, obeys
 from tools.texts import FavourLine, NeedsLine, Version, VersionLine, WishLine, cases
 
 HERE = os.path.dirname(os.path.abspath(__file__))
+
+
+def blocks_of(catalogue):
+    """The lines of each version with those that belong to it, and the lines below all versions."""
+    blocks, below = [], []
+    for line in catalogue.splitlines():
+        if line.startswith("version "):
+            blocks.append([line])
+        elif line.startswith(("needs ", "limits ", "unknown ")):
+            blocks[-1].append(line)
+        else:
+            below.append(line)
+    return blocks, below
+
+
+def disturbed(rng, catalogue):
+    """The same versions in another order, with more alternatives and exclusions, comments and empty lines."""
+    blocks, below = blocks_of(catalogue)
+    rng.shuffle(blocks)
+    for block in blocks:
+        if rng.random() < 0.2:
+            block.insert(rng.randint(1, len(block)), "needs " + " | ".join(some_spec(rng) for _ in range(3)))
+    barred = [line.split()[1:3] for line in below if line.startswith("exclude ")]
+    for block in blocks:
+        version = block[0].split()[1:]
+        if version not in barred and rng.random() < 0.1:
+            below.append(f"exclude {version[0]} {version[1]} insecure")
+    lines = [line for block in blocks for line in block] + below
+    for line in ["", "# anything", "#needs  a"]:
+        lines.insert(rng.randint(0, len(lines)), line)
+    return "".join(line + "\n" for line in lines)
+
+
+def forms_of(catalogue, request):
+    """The forms of the lines of two texts: their first words, and what a need can have."""
+    forms = set()
+    for name, text in (("catalogue", catalogue), ("request", request)):
+        for line in text.splitlines():
+            word = line.split(" ")[0]
+            forms.add(f"{name} {'comment' if word.startswith('#') else word or 'empty line'}")
+            if " | " in line:
+                forms.add("alternatives")
+            if " if " in line:
+                forms.update(form for form in (" and ", " or ", " ( ") if form in line)
+                forms.add("condition")
+    return forms
+
+
+FORMS = {*(f"catalogue {word}" for word in "version needs limits unknown lock favour exclude comment".split()), "catalogue empty line",
+         "request needs", "request limits", "request wish", "alternatives", "condition", " and ", " or ", " ( "}
 
 
 def generated_texts(rng):
@@ -33,6 +83,8 @@ def generated_texts(rng):
         catalogue, request = ("".join(line.split(" if ")[0] + "\n" for line in text.splitlines()) for text in (catalogue, request))
     if rng.random() < 0.2:
         catalogue = "".join(line + "\n" for line in catalogue.splitlines() if line.startswith("version"))
+    if rng.random() < 0.4:
+        catalogue = disturbed(rng, catalogue)
     return catalogue, request
 
 
@@ -130,11 +182,12 @@ def check(catalogue_text, request_text, status, report):
 def main():
     pairs = int(sys.argv[1]) if len(sys.argv) > 1 else 1000
     program = sys.argv[2] if len(sys.argv) > 2 else os.path.join(HERE, "../crates/resolve/out/resolve")
-    rng, counts = random.Random(9), {0: 0, 1: 0}
+    rng, counts, forms = random.Random(9), {0: 0, 1: 0}, set()
     with tempfile.TemporaryDirectory() as folder:
         paths = [os.path.join(folder, part) for part in ("catalogue", "request")]
         for k in range(pairs):
             texts = generated_texts(rng)
+            forms |= forms_of(*texts)
             for path, text in zip(paths, texts):
                 open(path, "w").write(text)
             run = subprocess.run([program, "solve", *paths], capture_output=True, text=True)
@@ -143,6 +196,8 @@ def main():
             except AssertionError as fault:
                 sys.exit(f"pair {k}: {fault}\n--- catalogue\n{texts[0]}--- request\n{texts[1]}--- printed\n{run.stdout}")
             counts[run.returncode] += 1
+    if pairs >= 1000 and forms != FORMS:
+        sys.exit(f"of these forms no pair has one, or no list has them: {forms ^ FORMS}")
     print(f"{pairs} pairs: {counts[0]} installed, {counts[1]} refused, each as the plain solver says, and judged yes")
 
 

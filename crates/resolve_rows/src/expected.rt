@@ -7,7 +7,7 @@ use std::alloc::{AllocError, Global};
 /// How many bytes the devices move a call, for one run of a row each.
 const SIZES: [usize; 4] = [1, 2, 3, 4096];
 
-/// A longer catalogue is read by the last of these sizes alone.
+/// A longer catalogue or request is read by the last of these sizes alone.
 const SHORT: usize = 1_000_000;
 
 /// Whether a row has the answer that its file expects; else a line about the first difference.
@@ -209,8 +209,9 @@ pub fn compare(alloc: Global, row: &Row<'_>) -> Result<Compared, AllocError> {
     if row.sections.iter().all(|section| is_input(section.name)) {
         return Ok(Compared::Differs(String::from_str(alloc, "nothing is expected")?));
     }
+    let is_long = inputs.catalogue.len() > SHORT || inputs.request.len() > SHORT;
     for per_call in &SIZES {
-        if inputs.catalogue.len() > SHORT && *per_call < 4096 {
+        if is_long && *per_call < 4096 {
             continue;
         }
         if let Some(line) = differs_in(alloc, row, &inputs, *per_call)? {

@@ -2,4 +2,5 @@
 
 mod check;
 mod commands;
+mod full;
 mod input;

@@ -1,51 +1,143 @@
-//! Checks of a report whose reader or writer fails.
+//! Checks of a report where a reader or the writer fails, stops or is interrupted.
 
+use super::full::Full;
 use resolve_check::check::check;
 use resolve_check::outcome::{Checked, RunFault};
 use resolvo_catalogue_core::{MemorySink, MemorySource};
+use resolvo_text::{Counted, Sink};
 use std::alloc::{AllocError, Global};
 use std::test::Fail;
 
-/// How a check of a report that installs nothing ends, where its device fails after so many calls.
-fn checked(alloc: Global, calls: u64, writer: &mut MemorySink) -> Result<Checked, RunFault> {
-    let mut catalogue = MemorySource::new(b"", 1);
-    let mut request = MemorySource::new(b"", 1);
-    let mut report = MemorySource::new(b"install\n", 1).failing_after(calls);
-    check(alloc, &mut catalogue, &mut request, &mut report, writer)
-}
+const CATALOGUE: &str = "version a 1\n";
 
-/// How it ends, and how many bytes it writes.
-fn after_reads(
-    alloc: Global,
+const REQUEST: &str = "needs a\n";
+
+const REPORT: &str = "install\na=1 for request line 1\n";
+
+/// A device, and what it does: interruptions, then so many calls that move a byte, then failures.
+#[derive(Clone, Copy)]
+struct IoFault {
+    device: Device,
+    interruptions: u32,
     calls: u64,
-) -> Result<(Result<Checked, RunFault>, usize), AllocError> {
-    let mut writer = MemorySink::new(alloc, 100, 1)?;
-    let ended = checked(alloc, calls, &mut writer);
-    Ok((ended, writer.bytes().len()))
 }
 
-/// Whether a front of so many bytes is written, where the writer fails after so many calls.
-fn writes_front(alloc: Global, calls: usize) -> Result<bool, AllocError> {
-    let mut writer = MemorySink::new(alloc, 100, 1)?.failing_after(calls as u64);
-    let ended = checked(alloc, 1000, &mut writer);
-    Ok(ended == Err(RunFault::Writer) && Some(writer.bytes()) == b"yes\n".get(..calls))
+#[derive(Clone, Copy, Debug, PartialEq, Eq)]
+enum Device {
+    Catalogue,
+    Request,
+    Report,
+    Writer,
+}
+
+impl IoFault {
+    fn failing(device: Device, calls: u64) -> IoFault {
+        IoFault {
+            device,
+            interruptions: 0,
+            calls,
+        }
+    }
+
+    fn interrupted(device: Device, interruptions: u32) -> IoFault {
+        IoFault {
+            device,
+            interruptions,
+            calls: u64::MAX,
+        }
+    }
+
+    fn source(self, device: Device, text: &str) -> MemorySource<'_> {
+        let source = MemorySource::new(text.as_bytes(), 1);
+        if self.device != device {
+            return source;
+        }
+        source
+            .interrupted(self.interruptions)
+            .failing_after(self.calls)
+    }
+
+    fn sink(self, alloc: Global) -> Result<MemorySink, AllocError> {
+        let sink = MemorySink::new(alloc, 100, 1)?;
+        if self.device != Device::Writer {
+            return Ok(sink);
+        }
+        Ok(
+            sink.interrupted(self.interruptions)
+                .failing_after(self.calls),
+        )
+    }
+}
+
+/// How a check over these devices ends.
+fn checked<W: Sink>(alloc: Global, trouble: IoFault, writer: &mut W) -> Result<Checked, RunFault> {
+    check(
+        alloc,
+        &mut trouble.source(Device::Catalogue, CATALOGUE),
+        &mut trouble.source(Device::Request, REQUEST),
+        &mut trouble.source(Device::Report, REPORT),
+        writer,
+    )
+}
+
+/// Whether a check ends so, and writes this.
+fn ends(
+    alloc: Global,
+    trouble: IoFault,
+    (wanted, written): (Result<Checked, RunFault>, &str),
+) -> Result<bool, AllocError> {
+    let mut writer = trouble.sink(alloc)?;
+    let ended = checked(alloc, trouble, &mut writer);
+    Ok(ended == wanted && writer.bytes() == written.as_bytes())
+}
+
+/// How a check ends whose writer takes no byte any more after so many.
+fn ends_full(alloc: Global, room: usize) -> Result<Checked, RunFault> {
+    let well = IoFault::failing(Device::Writer, u64::MAX);
+    checked(alloc, well, &mut Counted::new(Full::after(room)))
 }
 
 #[test]
-fn each_read_of_the_report_failing(rt: HostRuntime) -> Result<(), Fail> {
-    for calls in 0..9u64 {
-        let ended = after_reads(rt.alloc(), calls)?;
-        assert_eq!(rt; ended, (Err(RunFault::Reader), 0), "{calls}");
+fn each_read_failing(rt: HostRuntime) -> Result<(), Fail> {
+    for (device, text) in &[
+        (Device::Catalogue, CATALOGUE),
+        (Device::Request, REQUEST),
+        (Device::Report, REPORT),
+    ] {
+        for calls in 0..=text.len() as u64 {
+            let trouble = IoFault::failing(*device, calls);
+            let failed = (Err(RunFault::Reader), "");
+            assert!(rt; ends(rt.alloc(), trouble, failed)?, "{text} {calls}");
+        }
     }
     Ok(())
 }
 
+/// A writer that fails, and one that takes no byte any more.
 #[test]
 fn each_write_failing(rt: HostRuntime) -> Result<(), Fail> {
-    for calls in 0..4usize {
-        assert!(rt; writes_front(rt.alloc(), calls)?, "{calls}");
+    for (calls, written) in &[(0u64, ""), (1, "y"), (2, "ye"), (3, "yes")] {
+        let failing = IoFault::failing(Device::Writer, *calls);
+        let failed = (Err(RunFault::Writer), *written);
+        assert!(rt; ends(rt.alloc(), failing, failed)?, "{calls}");
+        assert_eq!(rt; ends_full(rt.alloc(), written.len()), Err(RunFault::Writer));
     }
-    let ended = after_reads(rt.alloc(), 1000)?;
-    assert_eq!(rt; ended, (Ok(Checked::Yes), 4));
+    assert_eq!(rt; ends_full(rt.alloc(), 4), Ok(Checked::Yes));
+    Ok(())
+}
+
+#[test]
+fn interruptions_in_a_row(rt: HostRuntime) -> Result<(), Fail> {
+    for (device, fault) in &[
+        (Device::Catalogue, RunFault::Reader),
+        (Device::Request, RunFault::Reader),
+        (Device::Report, RunFault::Reader),
+        (Device::Writer, RunFault::Writer),
+    ] {
+        let most = IoFault::interrupted(*device, 1000);
+        assert!(rt; ends(rt.alloc(), most, (Ok(Checked::Yes), "yes\n"))?);
+        let more = IoFault::interrupted(*device, 1001);
+        assert!(rt; ends(rt.alloc(), more, (Err(*fault), ""))?);
+    }
     Ok(())
 }

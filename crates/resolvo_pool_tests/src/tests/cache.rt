@@ -42,6 +42,13 @@ fn sorted(cache: &mut SolverCache<Tens>, requirement: Requirement, want: &[u32])
     }
 }
 
+fn sorted_alone(cache: &mut SolverCache<Tens>, set: u32, want: &[u32]) -> bool {
+    match cache.get_or_cache_sorted_candidates_for_version_set(VersionSetId(set)) {
+        Ok(list) => are(list, want),
+        Err(_) => false,
+    }
+}
+
 fn candidates(cache: &mut SolverCache<Tens>, name: u32, want: &[u32]) -> bool {
     match cache.get_or_cache_candidates(NameId::from_raw(name)) {
         Ok(list) => are(list.candidates.as_slice(), want),
@@ -67,9 +74,12 @@ fn gives_lists(rt: &impl Abort, cache: &mut SolverCache<Tens>) {
     assert!(rt; matching(cache, 1, &[1, 2]));
     assert!(rt; others(cache, 1, &[0]));
     assert!(rt; sorted(cache, Requirement::from(VersionSetId(1)), &[1, 2]));
+    assert!(rt; sorted_alone(cache, 11, &[12, 11]));
     let asked = cache.provider().asked.get();
     assert!(rt; others(cache, 1, &[0]));
     assert!(rt; sorted(cache, Requirement::from(VersionSetId(1)), &[1, 2]));
+    assert!(rt; sorted_alone(cache, 1, &[1, 2]));
+    assert!(rt; sorted_alone(cache, 11, &[12, 11]));
     assert_eq!(rt; cache.provider().asked.get(), asked);
 }
 

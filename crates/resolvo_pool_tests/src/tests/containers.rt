@@ -80,6 +80,9 @@ fn first_ids(rt: HostRuntime) {
         Requirement::default(),
         Requirement::Single(VersionSetId(0))
     );
+    let conditional = Requirement::default().with_condition(ConditionId::new(9));
+    assert_eq!(rt; conditional.condition, Some(ConditionId::new(9)));
+    assert_eq!(rt; conditional.requirement, Requirement::default());
 }
 
 #[test]

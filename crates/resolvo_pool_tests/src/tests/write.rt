@@ -62,6 +62,7 @@ fn listing(alloc: Global) -> R<Candidates> {
     listing
         .excluded
         .push((SolvableId::from_raw(5), StringId(1)))?;
+    listing.favored = Some(SolvableId::from_raw(4));
     listing.locked = Some(SolvableId::from_raw(6));
     let mut hinted = Vec::new(alloc);
     hinted.push(SolvableId::from_raw(4))?;
@@ -72,7 +73,21 @@ fn listing(alloc: Global) -> R<Candidates> {
 fn are_equal(rt: &impl Abort, copy: &Candidates, listing: &Candidates) {
     assert_eq!(rt; copy.candidates.as_slice(), listing.candidates.as_slice());
     assert_eq!(rt; copy.excluded.as_slice(), listing.excluded.as_slice());
-    assert_eq!(rt; (copy.favored, copy.locked), (None, listing.locked));
+    assert_eq!(rt;
+        (copy.favored, copy.locked),
+        (Some(SolvableId::from_raw(4)), Some(SolvableId::from_raw(6)))
+    );
+    assert!(rt; hints_alone(&copy.hint_dependencies_available, 4));
+}
+
+/// Whether the dependencies of this solvable alone are hinted.
+fn hints_alone(hint: &HintDependenciesAvailable<SolvableId>, solvable: u32) -> bool {
+    match hint {
+        HintDependenciesAvailable::Some(list) => {
+            list.as_slice() == [SolvableId::from_raw(solvable)].as_slice()
+        }
+        _ => false,
+    }
 }
 
 #[test]

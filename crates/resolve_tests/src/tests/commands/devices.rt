@@ -1,23 +1,25 @@
 //! Readers and writers that fail, stop or are interrupted.
 
+use crate::tests::full::Full;
 use resolve_check::outcome::{Outcome, RunFault};
 use resolve_run::run::run;
 use resolvo_catalogue_core::{MemorySink, MemorySource};
+use resolvo_text::{Counted, Sink};
 use std::alloc::{AllocError, Global};
 use std::test::Fail;
 
-const CATALOGUE: &str = "version a 1\nversion a 2\n";
+const CATALOGUE: &str = "version a 2\nneeds b 0..10\nversion b 5\nneeds a 2..4\n";
 
-const REQUEST: &str = "needs a\n";
+const REQUEST: &str = "needs a 0..100\n";
 
-const REPORT: &str = "install\na=2 for request line 1\n";
+const REPORT: &str = "install\na=2 for request line 1\nb=5 for a=2 line 2\n";
 
 /// How a run over these devices ends; what the writer took stays in it.
-fn ended(
+fn ended<W: Sink>(
     alloc: Global,
     catalogue: MemorySource,
     request: MemorySource,
-    writer: &mut MemorySink,
+    writer: &mut W,
 ) -> Result<Outcome, RunFault> {
     let mut catalogue = catalogue;
     let mut request = request;
@@ -25,7 +27,7 @@ fn ended(
 }
 
 /// How a run ends over good texts.
-fn ended_well_read(alloc: Global, writer: &mut MemorySink) -> Result<Outcome, RunFault> {
+fn ended_well_read<W: Sink>(alloc: Global, writer: &mut W) -> Result<Outcome, RunFault> {
     let catalogue = MemorySource::new(CATALOGUE.as_bytes(), 4096);
     ended(
         alloc,
@@ -33,6 +35,11 @@ fn ended_well_read(alloc: Global, writer: &mut MemorySink) -> Result<Outcome, Ru
         MemorySource::new(REQUEST.as_bytes(), 4096),
         writer,
     )
+}
+
+/// How a run ends whose writer takes no byte any more after so many.
+fn ended_full(alloc: Global, room: usize) -> Result<Outcome, RunFault> {
+    ended_well_read(alloc, &mut Counted::new(Full::after(room)))
 }
 
 /// How a run ends, and what it writes, where the writer takes so many bytes a call and fails after so many calls.
@@ -65,12 +72,17 @@ fn a_writer_that_takes_five_bytes_and_then_fails(rt: HostRuntime) -> Result<(), 
 
 #[test]
 fn each_write_failing(rt: HostRuntime) -> Result<(), Fail> {
-    for calls in 0..31usize {
+    for calls in 0..REPORT.len() {
         assert!(rt;
             writes_front(rt.alloc(), 1, calls as u64, calls)?,
             "{calls}"
         );
+        assert_eq!(rt; ended_full(rt.alloc(), calls), Err(RunFault::Writer));
     }
+    assert_eq!(rt;
+        ended_full(rt.alloc(), REPORT.len()),
+        Ok(Outcome::Installed)
+    );
     Ok(())
 }
 
@@ -87,13 +99,13 @@ fn read(
 
 #[test]
 fn each_read_failing(rt: HostRuntime) -> Result<(), Fail> {
-    for calls in 0..24u64 {
+    for calls in 0..=CATALOGUE.len() as u64 {
         let catalogue = MemorySource::new(CATALOGUE.as_bytes(), 1).failing_after(calls);
         let request = MemorySource::new(REQUEST.as_bytes(), 1);
         let found = read(rt.alloc(), catalogue, request)?;
         assert_eq!(rt; found, (Err(RunFault::Reader), 0), "{calls}");
     }
-    for calls in 0..8u64 {
+    for calls in 0..=REQUEST.len() as u64 {
         let catalogue = MemorySource::new(CATALOGUE.as_bytes(), 1);
         let request = MemorySource::new(REQUEST.as_bytes(), 1).failing_after(calls);
         let found = read(rt.alloc(), catalogue, request)?;
@@ -135,14 +147,14 @@ fn faults_before_failures(rt: HostRuntime) -> Result<(), Fail> {
     Ok(())
 }
 
-/// How a run ends whose catalogue and whose writer are interrupted so often in a row.
+/// How a run ends whose catalogue, request and writer are interrupted so often in a row.
 fn interrupted(
     alloc: Global,
-    reader_calls: u32,
+    (catalogue_calls, request_calls): (u32, u32),
     writer_calls: u32,
 ) -> Result<Result<Outcome, RunFault>, AllocError> {
-    let catalogue = MemorySource::new(CATALOGUE.as_bytes(), 7).interrupted(reader_calls);
-    let request = MemorySource::new(REQUEST.as_bytes(), 7);
+    let catalogue = MemorySource::new(CATALOGUE.as_bytes(), 7).interrupted(catalogue_calls);
+    let request = MemorySource::new(REQUEST.as_bytes(), 7).interrupted(request_calls);
     let mut writer = MemorySink::new(alloc, 100, 7)?.interrupted(writer_calls);
     Ok(ended(alloc, catalogue, request, &mut writer))
 }
@@ -150,13 +162,13 @@ fn interrupted(
 #[test]
 fn interruptions_in_a_row(rt: HostRuntime) -> Result<(), Fail> {
     for (reader_calls, writer_calls, wanted) in &[
-        (1000u32, 0u32, Ok(Outcome::Installed)),
-        (1001, 0, Err(RunFault::Reader)),
-        (0, 1000, Ok(Outcome::Installed)),
-        (0, 1001, Err(RunFault::Writer)),
+        ((1000u32, 1000u32), 1000u32, Ok(Outcome::Installed)),
+        ((1001, 0), 0, Err(RunFault::Reader)),
+        ((0, 1001), 0, Err(RunFault::Reader)),
+        ((0, 0), 1001, Err(RunFault::Writer)),
     ] {
         let ended = interrupted(rt.alloc(), *reader_calls, *writer_calls)?;
-        assert_eq!(rt; ended, *wanted, "{reader_calls} {writer_calls}");
+        assert_eq!(rt; ended, *wanted, "{writer_calls}");
     }
     Ok(())
 }

@@ -1,0 +1,106 @@
+#!/usr/bin/env python3
+"""Runs the program on texts at their bounds: 2^24 bytes of a catalogue or request, 2^25 of standard input, 2^30 of a report.
+
+Usage: checks/bounds.py [PATH OF THE PROGRAM] [small]   (default: crates/resolve/out/resolve, which `rt run` leaves)
+With `small` no report of 2^30 bytes is judged, for which a file of that size is written. Status 1 where an answer isn't as promised.
+A text at its bound is read, and one byte more is `too long`, unless a whole line before it is faulty. A `#` line may hold each byte but 10.
+"""
+import os
+import subprocess
+import sys
+import tempfile
+import time
+
+HERE = os.path.dirname(os.path.abspath(__file__))
+TEXT, INPUT, REPORT = 1 << 24, 1 << 25, 1 << 30
+NAMED = b"refused\nrequest line 1\nstep 1 need request line 1 case 1\nstep 2 derive [] by 1\n"
+
+
+def comment(count, newline=False):
+    """A `#` line of so many bytes."""
+    return b"#" + b"x" * (count - 1 - newline) + b"\n" * newline
+
+
+def texts():
+    """What is shown, catalogue, request, output and status."""
+    long, nothing = (b"too long\n", 2), (b"install\n", 0)
+    for newline in (False, True):
+        yield "a catalogue at its bound", comment(TEXT, newline), b"", *nothing
+        yield "a longer catalogue", comment(TEXT + 1, newline), b"", *long
+        yield "a request at its bound", b"", comment(TEXT, newline), *nothing
+        yield "a longer request", b"", comment(TEXT + 1, newline), *long
+    yield "a faulty line of a longer catalogue", b"bad\n" + comment(TEXT), b"", b"fault at catalogue line 1\n", 2
+    yield "a faulty line of a longer request", b"", b"bad\n" + comment(TEXT), b"fault at request line 1\n", 2
+    yield "a longer catalogue and a faulty request", comment(TEXT + 1), b"bad\n", *long
+    yield "all bytes in one comment", b"#" + bytes(b for b in range(256) if b != 10), b"", *nothing
+    for byte in range(256):
+        # a digit makes another version of it
+        is_good = byte == 10 or 48 <= byte <= 57
+        wanted = nothing if is_good else (b"fault at catalogue line 1\n", 2)
+        yield f"byte {byte} behind a version", b"version a 1" + bytes([byte]), b"", *wanted
+        yield f"byte {byte} in a comment", b"#" + bytes([byte]) + b"\n", b"", *nothing
+
+
+def inputs():
+    """What is shown, standard input, output and status."""
+    half = comment(TEXT - 4, True) + b"---\n" + comment(TEXT)
+    yield "standard input at its bound", half, b"install\n", 0
+    yield "longer standard input", half + b"x", b"too long\n", 2
+
+
+def reports():
+    """What is shown, the front of a report, its bytes in all, output and status."""
+    yield "a report at its bound", NAMED, REPORT, b"yes\n", 0
+    yield "a longer report", NAMED, REPORT + 1, b"too long\n", 2
+    yield "a wrong line of a longer report", b"refused\nrequest line 2\n", REPORT + 1, b"no line 2\n", 1
+
+
+def write_report(path, front, count):
+    """The front, and lines of a message of a million bytes up to so many bytes; the last one is whole."""
+    line = b"| " + b"x" * 999_997 + b"\n"
+    with open(path, "wb") as file:
+        left = count - file.write(front)
+        while left >= len(line) + 3:
+            left -= file.write(line)
+        file.write(b"| " + b"x" * (left - 3) + b"\n")
+
+
+def ask(program, arguments, given=b""):
+    begin = time.time()
+    ended = subprocess.run([program, *arguments], input=given, capture_output=True)
+    return ended.stdout, ended.returncode, time.time() - begin
+
+
+def main():
+    program = sys.argv[1] if len(sys.argv) > 1 else os.path.join(HERE, "../crates/resolve/out/resolve")
+    count, faults = 0, []
+
+    def compare(name, found, wanted):
+        nonlocal count
+        count += 1
+        if found[:2] != wanted:
+            faults.append(f"{name}: {found[0][:60]!r}, status {found[1]}")
+
+    with tempfile.TemporaryDirectory() as folder:
+        paths = [os.path.join(folder, part) for part in ("catalogue", "request", "report")]
+        for name, catalogue, request, *wanted in texts():
+            for path, text in zip(paths, (catalogue, request)):
+                with open(path, "wb") as file:
+                    file.write(text)
+            compare(name, ask(program, ["solve", *paths[:2]]), tuple(wanted))
+        for name, given, *wanted in inputs():
+            compare(name, ask(program, [], given), tuple(wanted))
+        for name, front, size, *wanted in reports() if "small" not in sys.argv[2:] else []:
+            for path, text in zip(paths, (b"", b"needs a\n")):
+                with open(path, "wb") as file:
+                    file.write(text)
+            write_report(paths[2], front, size)
+            found = ask(program, ["judge", *paths])
+            print(f"{name}: {found[2]:.1f} s")
+            compare(name, found, tuple(wanted))
+    print("\n".join(faults) if faults else f"{count} texts, all as promised")
+    sys.exit(1 if faults else 0)
+
+
+if __name__ == "__main__":
+    main()

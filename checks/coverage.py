@@ -1,0 +1,108 @@
+#!/usr/bin/env python3
+"""Checks that docs/COVERAGE.md and docs/EDITS.md name what is there, and lists the rows, tests and edits in docs/COVERAGE.md.
+
+Usage: checks/coverage.py [--write]
+Without `--write` it fails where a named file isn't there, where a row, a test or an edit of the gate isn't listed, or where what a row
+shows was changed. With it, everything from the heading `## Rows` on is written anew. What stands above that is written by hand.
+"""
+import glob
+import os
+import re
+import sys
+
+import rows
+
+TOP = os.path.dirname(os.path.dirname(os.path.abspath(__file__)))
+PAGE = os.path.join(TOP, "docs/COVERAGE.md")
+EDITS = os.path.join(TOP, "docs/EDITS.md")
+FROM = "## Rows\n"
+TEST = re.compile(r"#\[test\]\n(?:\s*#\[.*\]\n)*\s*fn (\w+)")
+
+
+def content(path):
+    with open(path, encoding="utf-8") as file:
+        return file.read()
+
+
+def rows_listed():
+    """A line for each file of rows: how many, and what they show."""
+    lines = ["| File in `crates/resolve_rows/data` | Rows | Shows |", "|---|---|---|"]
+    for path in sorted(glob.glob(os.path.join(rows.DATA, "*.row"))):
+        found = rows.read(path)
+        about = found[0].about.replace("|", "\\|")
+        lines.append(f"| `{found[0].name}` | {len(found)} | {about} |")
+    return lines
+
+
+def tests_listed():
+    """A line for each file of tests."""
+    lines = ["| File in `crates` | Tests |", "|---|---|"]
+    for path in sorted(glob.glob(os.path.join(TOP, "crates/*/src/**/*.rt"), recursive=True)):
+        names = TEST.findall(content(path))
+        if names:
+            lines.append(f"| `{os.path.relpath(path, os.path.join(TOP, 'crates'))}` | {', '.join(f'`{name}`' for name in names)} |")
+    return lines
+
+
+def gate_edits():
+    """Crate and name of each edit that the gate tries."""
+    paths = glob.glob(os.path.join(TOP, "crates/*/must-fail/*.edit"))
+    return sorted(f"{path.split(os.sep)[-3]}/{os.path.basename(path).removesuffix('.edit')}" for path in paths)
+
+
+def edits_told():
+    """The wrong body that docs/EDITS.md tells of each edit in its table."""
+    bodies = {}
+    for line in content(EDITS).splitlines():
+        cells = [cell.strip() for cell in line.strip("|").split("|")] if line.startswith("| ") else []
+        if len(cells) == 3:
+            for edit in re.findall(r"`(\w+/\w+)`", cells[1]):
+                bodies[edit] = cells[0]
+    return bodies
+
+
+def edits_listed():
+    """A line for each edit of the gate: the wrong body that docs/EDITS.md tells of it."""
+    bodies = edits_told()
+    lines = ["| Edit | Wrong body |", "|---|---|"]
+    return lines + [f"| `{edit}` | {bodies.get(edit, 'not told in docs/EDITS.md')} |" for edit in gate_edits()]
+
+
+def generated():
+    parts = [FROM, *rows_listed(), "", "## Tests", "", *tests_listed(), "", "## Edits of the gate", "", *edits_listed()]
+    return "\n".join(parts) + "\n"
+
+
+def faults():
+    """What is named and isn't there, or is there and isn't named."""
+    page = content(PAGE)
+    above, _, below = page.partition(FROM)
+    found = []
+    if FROM + below != generated():
+        found.append("docs/COVERAGE.md: its lists aren't those of what is there; run checks/coverage.py --write")
+    for path in re.findall(r"`((?:crates|checks|docs|tools|bench|examples)/[\w./*-]+)`", above):
+        if not glob.glob(os.path.join(TOP, path)):
+            found.append(f"docs/COVERAGE.md: {path} isn't there")
+    told = edits_told()
+    for edit in gate_edits():
+        if edit not in told:
+            found.append(f"docs/EDITS.md: {edit} isn't told")
+    for edit in told:
+        crate, name = edit.split("/")
+        if not any(os.path.exists(os.path.join(TOP, folder, name + ".edit")) for folder in (f"crates/{crate}/must-fail", f"checks/edits/{crate}")):
+            found.append(f"docs/EDITS.md: {edit} isn't there")
+    return found
+
+
+def main():
+    if sys.argv[1:] == ["--write"]:
+        above = content(PAGE).partition(FROM)[0]
+        with open(PAGE, "w", encoding="utf-8") as file:
+            file.write(above + generated())
+    found = faults()
+    print("\n".join(found) if found else "each named file is there, and each row, test and edit is listed")
+    sys.exit(1 if found else 0)
+
+
+if __name__ == "__main__":
+    main()
