@@ -1,5 +1,6 @@
-//! The solver: it encodes what a problem needs as it goes, sets what follows, learns from what clashes, and chooses
-//! until every need is met or none can be.
+//! The solver: CDCL for the root, then for each soft requirement with the earlier decisions as
+//! assumptions; clauses are encoded as packages are chosen. In resolvo: `Problem`, `Solver` and
+//! `Solver::solve` in `src/solver/mod.rs`, `Conflict` in `src/conflict.rs`.
 #![tactic(auto)]
 
 pub mod conflict;

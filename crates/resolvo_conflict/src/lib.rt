@@ -1,4 +1,6 @@
-//! The conflict of a refusal: its rules, in their order, and the graph that is drawn of them.
+//! From the refutation of a CDCL search to its conflict: the rules on which the empty clause rests,
+//! and the graph of them. In resolvo: `analyze_unsolvable` in `src/solver/mod.rs`, and
+//! `Conflict::graph` in `src/conflict.rs`.
 #![tactic(auto)]
 
 pub mod graph;

@@ -1,6 +1,6 @@
-//! Which of the registered need clauses may have something to decide, kept up with the trail. The next
-//! decision is the pick over all clauses; those of which it is known that they have nothing to decide are
-//! passed over.
+//! The decision heuristic of CDCL: which requires clauses are undecided under the trail, so that a
+//! decision looks at those alone. In resolvo: `decide` in `src/solver/mod.rs`, and
+//! `src/solver/decide_queue.rs`.
 #![tactic(auto)]
 
 pub mod clause_states;

@@ -1,5 +1,5 @@
-//! The encoder's clauses: what a parent's need, a case of its condition, or the gate of its requirement, states, over the
-//! candidates that a provider offers. The encoding of a provider's packages stays one, step by step.
+//! The encoder: requirements, constraints, locks and conditions become clauses of the CDCL core,
+//! and one step propagates and decides over them. In resolvo: `src/solver/encoding.rs`.
 #![tactic(auto)]
 
 pub mod at_least_one;

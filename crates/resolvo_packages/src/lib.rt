@@ -1,5 +1,6 @@
-//! The answers of a source of packages as the encoder takes them: plain values, each asked for once.
-//! The model is the provider with what it says of its packages, and no call changes it.
+//! What the encoder asks of packages, each asked for once: candidates, dependencies, forbidden
+//! versions; no part of CDCL itself. In resolvo: `src/solver/cache.rs`, as `src/solver/encoding.rs`
+//! calls it.
 #![tactic(auto)]
 
 pub mod cached_packages;

@@ -1,5 +1,6 @@
-//! The ground of the resolver: ids and the containers that they index, the pool of interned names,
-//! and the provider that a solver asks.
+//! Ids, the containers that they index, interned names and version sets, and the traits of a
+//! provider: the ground on which the CDCL solver and its clauses stand. In resolvo these are
+//! `src/internal/` and the public `Pool`, `Interner` and `DependencyProvider`.
 #![tactic(auto)]
 
 pub mod arena;

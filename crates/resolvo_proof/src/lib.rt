@@ -1,6 +1,6 @@
-//! The proof that is kept of a search: the rules that were stated, and what was derived from them.
-//! Anybody can check it, step by step: a derived step is denied, its causes are read once each in their
-//! order, and one of them breaks. The model of a step is its clause over atoms.
+//! The proof of a CDCL search: each learnt clause with its antecedents in the order of a RUP check,
+//! like the hints of LRAT, and proof trimming. resolvo keeps the antecedents alone, as `learnt_why`
+//! in `src/solver/mod.rs`.
 #![tactic(auto)]
 
 pub mod proof;

@@ -1,5 +1,6 @@
-//! The search over clauses: what follows from a trail of decisions, what is learnt from a broken
-//! clause, and how the trail goes on. It knows variables and literals alone, no packages.
+//! The CDCL core over variables: unit propagation, first-UIP conflict analysis, the backjump with
+//! its learnt clause, and final analysis over assumptions. In resolvo: `propagate`, `analyze` and
+//! `learn_from_conflict` in `src/solver/mod.rs`.
 #![tactic(auto)]
 
 pub mod add_clause;

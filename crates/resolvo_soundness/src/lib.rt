@@ -1,4 +1,4 @@
-//! The clauses of a problem's rules, and what the end of a turn shows: definitions and lemmas alone, in
-//! specs/ and proofs/. The search runs over clauses of numbered variables; here stands what those
-//! variables and clauses mean, and why the versions that an accepted turn chose keep all rules.
+//! Why CDCL over the encoded clauses is right for packages: definitions and lemmas alone, of what
+//! clauses mean and of what the end of a search shows. resolvo has no like of it; the clauses that
+//! it speaks of are those of `src/solver/clause.rs`.
 #![tactic(auto)]

@@ -1,5 +1,6 @@
-//! The search over numbered variables, with what each variable stands for and what each clause states.
-//! The encoder builds on it; it knows names, solvables and requirements, and asks no provider.
+//! The CDCL core with its variable map and the kind of each clause: a rule, at most one version of
+//! a package, or learnt. In resolvo: `SolverState` in `src/solver/mod.rs`,
+//! `src/solver/variable_map.rs` and `src/solver/clause.rs`.
 #![tactic(auto)]
 
 pub mod add_clause;

@@ -1,5 +1,7 @@
-//! The ground of the solver: literals and clauses, the trail of decisions, the clauses that watch a
-//! literal, the next decision, and the clauses that keep all but one instance of a package out.
+//! The data structures of a CDCL solver: literals, clauses, the trail by decision levels, watch
+//! lists, at-most-one clauses, the decision queue. In resolvo: `clause.rs`, `decision_tracker.rs`,
+//! `decision_map.rs`, `watch_map.rs`, `binary_encoding.rs`, `conditions.rs` and `decide_queue.rs`
+//! of `src/solver/`.
 #![tactic(auto)]
 
 pub mod binary_encoding;

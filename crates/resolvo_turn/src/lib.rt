@@ -1,5 +1,6 @@
-//! One turn of the search: it encodes what is chosen, propagates, learns from conflicts and decides, until every need
-//! is met or the turn is refused.
+//! The CDCL loop of one turn: encode, assume the soft requirement, propagate, learn, decide, encode
+//! what was chosen, until nothing is new. In resolvo: `run_sat` and `resolve_dependencies` in
+//! `src/solver/mod.rs`.
 #![tactic(auto)]
 
 pub mod cdcl;
