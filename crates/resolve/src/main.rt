@@ -2,6 +2,9 @@
 //! `resolve judge CATALOGUE REQUEST REPORT`: writes whether the report holds, or where it doesn't.
 #![tactic(auto)]
 
+mod arguments;
+
+use crate::arguments::read_arguments;
 use resolve_check::check::check;
 use resolve_check::endings::{check_ending, run_ending};
 use resolve_check::input::{INPUT_LIMIT, read_input, split_input};
@@ -9,18 +12,30 @@ use resolve_check::outcome::{Checked, Outcome, RunFault};
 use resolve_run::run::run;
 use resolvo_catalogue_core::Counted;
 use std::fs::File;
+use std::io;
 use std::process::ExitCode;
-use std::{env, io};
 
 const USAGE: &str =
     "usage: resolve solve CATALOGUE REQUEST, or resolve judge CATALOGUE REQUEST REPORT";
 
+/// Opens a file. A name that isn't UTF-8 is that of no file that can be opened here.
+fn open(rt: &HostRuntime, name: &Option<String>) -> Option<File> {
+    match name {
+        Some(name) => File::open(rt, name.as_str()).ok(),
+        None => None,
+    }
+}
+
 /// Solves the texts of two files, which are opened before either is read.
-fn solve_files(rt: &HostRuntime, catalogue: &str, request: &str) -> Result<Outcome, RunFault> {
-    let Ok(catalogue) = File::open(rt, catalogue) else {
+fn solve_files(
+    rt: &HostRuntime,
+    catalogue: &Option<String>,
+    request: &Option<String>,
+) -> Result<Outcome, RunFault> {
+    let Some(catalogue) = open(rt, catalogue) else {
         return Err(RunFault::Reader);
     };
-    let Ok(request) = File::open(rt, request) else {
+    let Some(request) = open(rt, request) else {
         return Err(RunFault::Reader);
     };
     let mut catalogue = Counted::new(catalogue);
@@ -32,17 +47,17 @@ fn solve_files(rt: &HostRuntime, catalogue: &str, request: &str) -> Result<Outco
 /// Judges the report of a file over the texts of two others, which are all opened before any is read.
 fn judge_files(
     rt: &HostRuntime,
-    catalogue: &str,
-    request: &str,
-    report: &str,
+    catalogue: &Option<String>,
+    request: &Option<String>,
+    report: &Option<String>,
 ) -> Result<Checked, RunFault> {
-    let Ok(catalogue) = File::open(rt, catalogue) else {
+    let Some(catalogue) = open(rt, catalogue) else {
         return Err(RunFault::Reader);
     };
-    let Ok(request) = File::open(rt, request) else {
+    let Some(request) = open(rt, request) else {
         return Err(RunFault::Reader);
     };
-    let Ok(report) = File::open(rt, report) else {
+    let Some(report) = open(rt, report) else {
         return Err(RunFault::Reader);
     };
     check(
@@ -76,20 +91,30 @@ fn finish(rt: &HostRuntime, status: u8, line: &str) -> ExitCode {
     ExitCode::from(status)
 }
 
-fn main(rt: HostRuntime) -> ExitCode {
-    let Ok(args) = env::args(&rt) else {
-        return finish(&rt, 2, "no memory");
-    };
-    let Ok(words) = args.skip(1).collect::<Vec<String>>(rt.alloc()) else {
-        return finish(&rt, 2, "no memory");
-    };
-    let (status, line) = match words.len() {
-        0 => run_ending(&solve_input(&rt)),
-        3 if words[0].as_str() == "solve" => run_ending(&solve_files(&rt, &words[1], &words[2])),
-        4 if words[0].as_str() == "judge" => {
-            check_ending(&judge_files(&rt, &words[1], &words[2], &words[3]))
+/// Whether an argument is this word.
+fn is_word(argument: &Option<String>, word: &str) -> bool {
+    match argument {
+        Some(argument) => argument.as_str() == word,
+        None => false,
+    }
+}
+
+/// Does what the arguments ask for: the status, and the line that is printed last.
+fn answer(rt: &HostRuntime, words: &[Option<String>]) -> (u8, &'static str) {
+    match words.len() {
+        0 => run_ending(&solve_input(rt)),
+        3 if is_word(&words[0], "solve") => run_ending(&solve_files(rt, &words[1], &words[2])),
+        4 if is_word(&words[0], "judge") => {
+            check_ending(&judge_files(rt, &words[1], &words[2], &words[3]))
         }
         _ => (2, USAGE),
+    }
+}
+
+fn main(rt: HostRuntime) -> ExitCode {
+    let (status, line) = match read_arguments(&rt) {
+        Ok(words) => answer(&rt, words.as_slice()),
+        Err(fault) => run_ending(&Err(fault)),
     };
     finish(&rt, status, line)
 }

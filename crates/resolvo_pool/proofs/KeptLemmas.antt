@@ -11,7 +11,7 @@ use Rattle.std.proofs.lemmas.Bool.{eqb-true, false≢true}
 use Rattle.std.proofs.lemmas.Map.Made.{is_some-lookup, lookup-map_values}
 use Rattle.resolvo_pool_core.specs.declared.id.VersionSetId.{VersionSetId}
 use Rattle.resolvo_pool_core.specs.declared.id.VersionSetUnionId.{VersionSetUnionId}
-use Rattle.resolvo_pool.specs.Cached.{IsKept, same_set, same_union, among, Cached, Extends, lists_of, is_sorted, sorted_of, IsUnionList}
+use Rattle.resolvo_pool.specs.Cached.{IsKept, same_set, same_union, among, Cached, Extends, AddsSorted, lists_of, is_sorted, sorted_of, IsUnionList}
 
 Match-cond : {V : Type 0} (b : Bool) (P : V → Type 0) (w : V) (o : Option V) → (b ≡ true → P w) → MatchOption o ⊤ P → MatchOption (cond b (Some w) o) ⊤ P
 Match-cond true P w o p h = p refl
@@ -66,6 +66,14 @@ Extends-trans same_name same a b c f g = record {
   sorted = λ v xs h. g.sorted v xs (f.sorted v xs h);
   unions = λ u h. g.unions u (f.unions u h);
   solvables = λ s h. g.solvables s (f.solvables s h);
+}
+
+pub AddsSorted-trans : {P N S : Type 0} (a b c : Cached P N S) → AddsSorted a b → AddsSorted b c → AddsSorted a c
+AddsSorted-trans a b c f g = record {
+  provider = g.provider ∙ f.provider;
+  non_matching = g.non_matching ∙ f.non_matching;
+  unions = g.unions ∙ f.unions;
+  solvables = g.solvables ∙ f.solvables;
 }
 
 -- what is kept is true in a weaker sense too

@@ -83,6 +83,30 @@ pub record Extends {P N S : Type 0} (same_name : N → N → Bool) (same : S →
   pub unions : (u : VersionSetUnionId) → among same_union old.unions u ≡ true → among same_union new.unions u ≡ true
   pub solvables : (s : S) → among same old.solvables s ≡ true → among same new.solvables s ≡ true
 
+-- the candidates of packages alone may have come to what was kept
+pub record AddsNames {P N S : Type 0} (old new : Cached P N S) : Type 0 where
+  pub provider : new.provider ≡ old.provider
+  pub matching : new.matching ≡ old.matching
+  pub non_matching : new.non_matching ≡ old.non_matching
+  pub sorted : new.sorted ≡ old.sorted
+  pub unions : new.unions ≡ old.unions
+  pub solvables : new.solvables ≡ old.solvables
+
+-- those, and the matching candidates of version sets
+pub record AddsMatching {P N S : Type 0} (old new : Cached P N S) : Type 0 where
+  pub provider : new.provider ≡ old.provider
+  pub non_matching : new.non_matching ≡ old.non_matching
+  pub sorted : new.sorted ≡ old.sorted
+  pub unions : new.unions ≡ old.unions
+  pub solvables : new.solvables ≡ old.solvables
+
+-- those, and the sorted candidates of version sets
+pub record AddsSorted {P N S : Type 0} (old new : Cached P N S) : Type 0 where
+  pub provider : new.provider ≡ old.provider
+  pub non_matching : new.non_matching ≡ old.non_matching
+  pub unions : new.unions ≡ old.unions
+  pub solvables : new.solvables ≡ old.solvables
+
 -- a value with which the provider cancels is one that it may
 abbrev pub IsCancelledBy : {C : Type 0} → (C → Type 0) → CacheFault C → Type 0
 IsCancelledBy may Memory = ⊤

@@ -10,7 +10,7 @@ ghost use Rattle.std.specs.Map.{lookup};
 ghost use Rattle.resolvo_pool_core.specs.declared.id.VersionSetId.{VersionSetId};
 ghost use Rattle.resolvo_pool_core.specs.Text.{alternatives_of};
 ghost use Rattle.resolvo_pool_core.specs.Provider.{kept, listed, listing, listing_or_empty, hints, needs_of, matching_in, favoured_first, IsTried, tried_first, IsTriedFor};
-ghost use Rattle.resolvo_pool.specs.Cached.{among, same_set, same_union, sorted_of, has_sorted, is_sorted, Extends, IsCancelledBy};
+ghost use Rattle.resolvo_pool.specs.Cached.{among, same_set, same_union, sorted_of, has_sorted, is_sorted, Extends, AddsNames, AddsMatching, AddsSorted, IsCancelledBy};
 
 use crate::hinted::put_hinted;
 use resolvo_pool_core::id::{Exact, VersionSetId, VersionSetUnionId};
@@ -162,6 +162,7 @@ impl<D: DependencyProvider> SolverCache<D> {
         ensures there { OnOk result (among D.NameId.eq self.new.names name ≡ true) }
         ensures cached { among D.NameId.eq self.old.names name ≡ true → IsOk result × (self.new ≡ self.old) }
         ensures extends { Extends D.NameId.eq D.SolvableId.eq self.old self.new }
+        ensures only { AddsNames self.old self.new }
         ensures err { OnErr result (self.new ≡ self.old) }
         ensures cancelled { IfErr result (IsCancelledBy (D.may_cancel self.old.provider)) }
     {
@@ -175,6 +176,7 @@ impl<D: DependencyProvider> SolverCache<D> {
     fn ask_candidates(&mut self, name: D::NameId) -> Result<(), CacheFault<D::Cancel>>
         ensures there { OnOk result (among D.NameId.eq self.new.names name ≡ true) }
         ensures extends { Extends D.NameId.eq D.SolvableId.eq self.old self.new }
+        ensures only { AddsNames self.old self.new }
         ensures err { OnErr result (self.new ≡ self.old) }
         ensures cancelled { IfErr result (IsCancelledBy (D.may_cancel self.old.provider)) }
     {
@@ -230,6 +232,8 @@ impl<D: DependencyProvider> SolverCache<D> {
         ensures cached { among same_set self.old.matching version_set ≡ true
             → IsOk result × (self.new ≡ self.old) }
         ensures extends { Extends D.NameId.eq D.SolvableId.eq self.old self.new }
+        ensures only { AddsMatching self.old self.new }
+        ensures err { OnErr result (AddsNames self.old self.new) }
         ensures cancelled { IfErr result (IsCancelledBy (D.may_cancel self.old.provider)) }
     {
         if self.has_matching_candidates(version_set) {
@@ -247,6 +251,7 @@ impl<D: DependencyProvider> SolverCache<D> {
             ≡ true }
         ensures there { OnOk result (among same_set self.new.matching version_set ≡ true) }
         ensures extends { Extends D.NameId.eq D.SolvableId.eq self.old self.new }
+        ensures only { AddsMatching self.old self.new }
         ensures err { OnErr result (self.new ≡ self.old) }
     {
         let found = self.filtered(version_set, false)?;
@@ -301,6 +306,7 @@ impl<D: DependencyProvider> SolverCache<D> {
         ensures cached { among same_set self.old.non_matching version_set ≡ true
             → IsOk result × (self.new ≡ self.old) }
         ensures extends { Extends D.NameId.eq D.SolvableId.eq self.old self.new }
+        ensures err { OnErr result (AddsNames self.old self.new) }
         ensures cancelled { IfErr result (IsCancelledBy (D.may_cancel self.old.provider)) }
     {
         if self.has_non_matching_candidates(version_set) {
@@ -436,6 +442,8 @@ impl<D: DependencyProvider> SolverCache<D> {
         ensures there { OnOk result (is_sorted self.new.sorted version_set ≡ true) }
         ensures cached { is_sorted self.old.sorted version_set ≡ true → IsOk result × (self.new ≡ self.old) }
         ensures extends { Extends D.NameId.eq D.SolvableId.eq self.old self.new }
+        ensures only { AddsSorted self.old self.new }
+        ensures err { OnErr result (AddsMatching self.old self.new) }
         ensures cancelled { IfErr result (IsCancelledBy (D.may_cancel self.old.provider)) }
     {
         if self.has_sorted_candidates(Requirement::Single(version_set)) {
@@ -455,6 +463,7 @@ impl<D: DependencyProvider> SolverCache<D> {
             ≡ true }
         ensures there { OnOk result (is_sorted self.new.sorted version_set ≡ true) }
         ensures extends { Extends D.NameId.eq D.SolvableId.eq self.old self.new }
+        ensures only { AddsSorted self.old self.new }
         ensures err { OnErr result (self.new ≡ self.old) }
     {
         if self.sorted.contains_key(&version_set) {
@@ -525,6 +534,7 @@ impl<D: DependencyProvider> SolverCache<D> {
         ensures there { OnOk result (has_sorted self.new requirement ≡ true) }
         ensures cached { has_sorted self.old requirement ≡ true → IsOk result × (self.new ≡ self.old) }
         ensures extends { Extends D.NameId.eq D.SolvableId.eq self.old self.new }
+        ensures err { OnErr result (AddsSorted self.old self.new) }
         ensures cancelled { IfErr result (IsCancelledBy (D.may_cancel self.old.provider)) }
     {
         if self.has_sorted_candidates(requirement) {
@@ -542,6 +552,7 @@ impl<D: DependencyProvider> SolverCache<D> {
     fn cache_sorted_union(&mut self, union: VersionSetUnionId) -> Result<(), CacheFault<D::Cancel>>
         ensures there { OnOk result (among same_union self.new.unions union ≡ true) }
         ensures extends { Extends D.NameId.eq D.SolvableId.eq self.old self.new }
+        ensures err { OnErr result (AddsSorted self.old self.new) }
         ensures cancelled { IfErr result (IsCancelledBy (D.may_cancel self.old.provider)) }
     {
         let members = Vec::from_slice(self.alloc, self.provider.version_sets_in_union(union))?;
@@ -557,6 +568,7 @@ impl<D: DependencyProvider> SolverCache<D> {
     ) -> Result<(), CacheFault<D::Cancel>>
         ensures there { OnOk result (All (λ v. is_sorted self.new.sorted v ≡ true) members.now) }
         ensures extends { Extends D.NameId.eq D.SolvableId.eq self.old self.new }
+        ensures only { AddsSorted self.old self.new }
         ensures cancelled { IfErr result (IsCancelledBy (D.may_cancel self.old.provider)) }
     {
         for version_set in members {

@@ -22,3 +22,7 @@ returns-clause-there g c = among_found g.D.NameId.PartialEq.eq c.insert.new.self
 pub returns-clause-extends : goal.returns-clause-extends
 returns-clause-extends g c =
     rw (← c.self.view_is) (record { provider = refl; names = among_more g.D.NameId.PartialEq.eq c.self.inside.lists.entries c.insert.new.self.entries c.args.name _ c.in_ok-insert.ensures.updates.0; matching = λ v h. h; non_matching = λ v h. h; sorted = λ v xs h. h; unions = λ u h. h; solvables = λ s h. h })
+
+pub returns-clause-only : goal.returns-clause-only
+returns-clause-only g c =
+    rw (← c.self.view_is) (record { provider = refl; matching = refl; non_matching = refl; sorted = refl; unions = refl; solvables = refl })

@@ -14,3 +14,7 @@ returns-clause-there g c = among_found same_set c.insert.new.self.entries c.args
 pub returns-clause-extends : goal.returns-clause-extends
 returns-clause-extends g c =
     rw (← c.self.view_is) (record { provider = refl; names = λ n h. h; matching = among_more same_set c.self.inside.matching.entries c.insert.new.self.entries c.args.version_set _ c.in_ok-insert.ensures.updates.0; non_matching = λ v h. h; sorted = λ v xs h. h; unions = λ u h. h; solvables = λ s h. h })
+
+pub returns-clause-only : goal.returns-clause-only
+returns-clause-only g c =
+    rw (← c.self.view_is) (record { provider = refl; non_matching = refl; sorted = refl; unions = refl; solvables = refl })

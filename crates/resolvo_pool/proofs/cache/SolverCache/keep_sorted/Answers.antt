@@ -21,3 +21,7 @@ pub returns-clause-extends : goal.returns-clause-extends
 returns-clause-extends g c =
     let absent = sym c.contains_key.ensures ∙ c.if-contains_key.false in
     rw (← c.self.view_is) (record { provider = refl; names = λ n h. h; matching = λ v h. h; non_matching = λ v h. h; sorted = sorted_stays c.self.inside.sorted.entries c.insert.new.self.entries c.args.version_set c.in_ok-list.list absent c.in_ok-insert.ensures.updates.0; unions = λ u h. h; solvables = λ s h. h })
+
+pub returns-clause-only : goal.returns-clause-only
+returns-clause-only g c =
+    rw (← c.self.view_is) (record { provider = refl; non_matching = refl; unions = refl; solvables = refl })
