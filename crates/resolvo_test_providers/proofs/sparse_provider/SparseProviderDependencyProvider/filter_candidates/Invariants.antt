@@ -1,7 +1,7 @@
 use Rattle.std.proofs.Common.{◌≡◌, ◌++◌, drop}
 use Rattle.resolvo_pool_core.specs.Provider.{kept}
 use Rattle.resolvo_test_providers.specs.Shelf.{is_in, span_at}
-use Rattle.resolvo_test_providers.proofs.sparse_provider.ShelfDependencyProvider.filter_candidates.Given as goal
+use Rattle.resolvo_test_providers.proofs.sparse_provider.SparseProviderDependencyProvider.filter_candidates.Given as goal
 
 -- what was found, with what is kept of the candidates that are left, is what is kept of them all
 abbrev pub invariant-loop-candidate : goal.invariant-loop-candidate

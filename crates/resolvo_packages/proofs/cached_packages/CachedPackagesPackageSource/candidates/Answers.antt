@@ -2,7 +2,7 @@ use Rattle.std.proofs.Common.{rules, ◌≡◌, ◌∙◌, ap, subst, sym, List,
 use Rattle.resolvo_packages.specs.declared.package_source.Offered.{Offered}
 use Rattle.resolvo_packages.specs.PackageSource.{packages_by, orders_by, offer_by, offered_solvables, AreOffered}
 use Rattle.resolvo_packages.proofs.OfferLemmas.{are_offered, offered_back}
-use Rattle.resolvo_packages.proofs.cached_packages.AnswersAnswering.candidates.Goals as goal
+use Rattle.resolvo_packages.proofs.cached_packages.CachedPackagesPackageSource.candidates.Goals as goal
 
 pub returns-clause-offered : goal.returns-clause-offered
 returns-clause-offered g c =

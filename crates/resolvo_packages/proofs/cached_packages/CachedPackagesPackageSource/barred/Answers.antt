@@ -4,7 +4,7 @@ use Rattle.resolvo_packages.specs.declared.package_source.Barred.{Barred}
 use Rattle.resolvo_packages.specs.PackageSource.{packages_by}
 use Rattle.resolvo_packages.specs.Forbidden.{AreBarred, kept_out}
 use Rattle.resolvo_packages.proofs.BarLemmas.{are_barred}
-use Rattle.resolvo_packages.proofs.cached_packages.AnswersAnswering.barred.Goals as goal
+use Rattle.resolvo_packages.proofs.cached_packages.CachedPackagesPackageSource.barred.Goals as goal
 
 pub returns-clause-barred : goal.returns-clause-barred
 returns-clause-barred g c =

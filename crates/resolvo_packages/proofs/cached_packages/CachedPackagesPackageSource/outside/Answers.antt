@@ -3,7 +3,7 @@ use Rattle.resolvo_pool_core.specs.Provider.{matching_in}
 use Rattle.resolvo_packages.specs.declared.package_source.Offered.{Offered}
 use Rattle.resolvo_packages.specs.Answering.{packages_by, offer_by, AreOutside}
 use Rattle.resolvo_packages.proofs.Barring.{are_outside}
-use Rattle.resolvo_packages.proofs.cached_packages.AnswersAnswering.outside.Goals as goal
+use Rattle.resolvo_packages.proofs.cached_packages.CachedPackagesPackageSource.outside.Goals as goal
 
 pub returns-clause-outside : goal.returns-clause-outside
 returns-clause-outside g c =
