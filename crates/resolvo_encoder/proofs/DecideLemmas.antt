@@ -45,7 +45,7 @@ use Rattle.resolvo_state.proofs.Origins.{means_atom, solvable_means, solvable_st
 use Rattle.resolvo_encoder.specs.Encoded.{IsParentVariable, IsCondition, AreCandidates, HasOrder, IsQueuedFor, IsEncoding}
 use Rattle.resolvo_encoder.specs.Encoded as E
 use Rattle.resolvo_encoder.specs.TurnLevels.{AreValues}
-use Rattle.resolvo_encoder.proofs.Conditions.{all_has}
+use Rattle.resolvo_encoder.proofs.ConditionLemmas.{all_has}
 use Rattle.resolvo_encoder.proofs.PickLemmas.{candidate_of, found_first, listed_at, some_same}
 use Rattle.resolvo_encoder.specs.declared.encoder.Encoder.{Encoder}
 

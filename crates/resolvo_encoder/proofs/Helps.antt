@@ -41,7 +41,7 @@ use Rattle.resolvo_encoder.specs.ClauseRules.{Tells}
 use Rattle.resolvo_encoder.specs.declared.conditions.ConditionSet.{ConditionSet}
 use Rattle.resolvo_encoder.specs.declared.encoder.Encoder.{Encoder}
 use Rattle.resolvo_encoder.specs.declared.encoder.EncodedOnce.{EncodedOnce}
-use Rattle.resolvo_encoder.proofs.Conditions.{spells_join}
+use Rattle.resolvo_encoder.proofs.ConditionLemmas.{spells_join}
 use Rattle.resolvo_encoder.proofs.NeedLemmas.{literal_in, in_literals}
 use Rattle.resolvo_encoder.proofs.RequireLemmas.{each_of, some_one, extends_then, extends_same, registered_before, registered_stays}
 use Rattle.resolvo_encoder.proofs.TellLemmas.{built_noted, helped_noted, there_noted}

@@ -1,6 +1,6 @@
 pub mod PickLemmas
 pub mod CarryLemmas
-pub mod Conditions
+pub mod ConditionLemmas
 pub mod RequireLemmas
 pub mod EnrollLemmas
 pub mod Denials

@@ -55,7 +55,7 @@ use Rattle.resolvo_state.proofs.Origins.{means_solvable, solvable_means, means_a
 use Rattle.resolvo_state.proofs.Rules.{rule_stated}
 use Rattle.resolvo_state.proofs.Growth.{grows_same, rule_split, rules_split}
 use Rattle.resolvo_state.proofs.RegisterLemmas.{digits_same, digits_more, ties_grow, nothing_tied}
-use Rattle.resolvo_encoder.proofs.Conditions.{queued_grows, spells_join}
+use Rattle.resolvo_encoder.proofs.ConditionLemmas.{queued_grows, spells_join}
 use Rattle.resolvo_encoder.proofs.RequireLemmas.{Came, Carries, carried, candidate_grows, registered_stays, cases_keep, cased_stays, helped_keeps, registered_before, front_lists, queued_keeps, within_keeps, encoded_keeps, gates_keep, put_at, put_other, NoneAsks, kept_carries, guard_grows, noted_grows, some_one}
 
 -- the requirement that a rule's clause asks for a match of

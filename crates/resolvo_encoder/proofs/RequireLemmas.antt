@@ -47,7 +47,7 @@ use Rattle.resolvo_encoder.specs.Steps.{RegistersAll, KeepsLists, SameButCoding,
 use Rattle.resolvo_encoder.specs.declared.encoder.Deferred.{Deferred}
 use Rattle.resolvo_encoder.specs.declared.encoder.Encoder.{Encoder}
 use Rattle.resolvo_encoder.specs.declared.encoder.EncodedOnce.{EncodedOnce}
-use Rattle.resolvo_encoder.proofs.Conditions.{queued_grows}
+use Rattle.resolvo_encoder.proofs.ConditionLemmas.{queued_grows}
 use Rattle.resolvo_encoder.proofs.PickLemmas.{chosen_grows}
 use Rattle.resolvo_state.proofs.Origins.{solvable_stands}
 use Rattle.resolvo_state.proofs.Positions.{front_get, front_equal}

@@ -56,7 +56,7 @@ use Rattle.resolvo_encoder.specs.Encoded as E
 use Rattle.resolvo_encoder.specs.TurnLevels.{AreValues, IsDecided, AreAmongEncoded}
 use Rattle.resolvo_encoder.proofs.Digits.{digit_told, digits_agree}
 use Rattle.resolvo_encoder.proofs.PickLemmas.{taken_ordered}
-use Rattle.resolvo_encoder.proofs.Conditions.{has_all}
+use Rattle.resolvo_encoder.proofs.ConditionLemmas.{has_all}
 use Rattle.resolvo_encoder.proofs.DecideLemmas.{nothing_offered, known_false, known_parent, value_known, open_or_known, has_clause, choices_called}
 use Rattle.resolvo_encoder.specs.declared.encoder.Encoder.{Encoder}
 
