@@ -7,7 +7,7 @@ use Rattle.std.proofs.lemmas.Option.{get_or_from_slice_get}
 use Rattle.resolvo_text.specs.Line.{Version, Spec, Line, Listed, Needs}
 use Rattle.resolvo_text.specs.Matches.{Set, matches}
 use Rattle.resolvo_catalogue_core.specs.Listed.{listed}
-use Rattle.resolvo_catalogue_core.specs.Questions.{Said}
+use Rattle.resolvo_catalogue_core.specs.Questions.{ReadRequest}
 use Rattle.resolvo_catalogue_core.specs.Sets as sets
 use Rattle.resolvo_catalogue_core.proofs.TableLemmas.{listed_from}
 use Rattle.resolvo_pool_core.specs.declared.id.VersionSetId.{VersionSetId}
@@ -67,7 +67,7 @@ order_for p same r w list one ordered =
     let (order, each, is) = subst (λ (vs : List VersionSetId). IsTriedFor (IsSorted p) same (tried_first (λ v. (set_at p.ids v).0) (candidates_of p)) (matching p) vs list) one ordered in
     subst (λ (xs : List SolvableId). IsOrder p same w xs) (sym (is ∙ append-nil (order w))) (each 0 w (omega arith))
 
-module _ (catalogue : List Line) (said : Said) (p : Provider) (asked : RequestIds) (over : IsOver catalogue p) (asks : AreAsked p.ids said asked) (same : SolvableId → SolvableId → Bool) (apart : TellsApart same) (chosen : List SolvableId)
+module _ (catalogue : List Line) (said : ReadRequest) (p : Provider) (asked : RequestIds) (over : IsOver catalogue p) (asks : AreAsked p.ids said asked) (same : SolvableId → SolvableId → Bool) (apart : TellsApart same) (chosen : List SolvableId)
     (keeps : IsRuleKeeping same (packages_of p) (root_of asked) chosen) (preferred : ArePreferred same (packages_of p) (orders_of same p) (root_of asked) chosen) (entries : Set) (stands : StandsFor (listed catalogue) chosen entries) where
   entry_listed : (v : Version) → Contains entries v → Contains catalogue (Listed v)
   entry_listed v c = let s = stands.all v c in listed_from catalogue v s.0.raw s.2

@@ -7,7 +7,7 @@ use Rattle.resolvo_text.specs.Matches as texts
 use Rattle.resolvo_text.specs.Matches.{Set}
 use Rattle.resolvo_catalogue_core.specs.Grammar.{line_at, AreRequestLines}
 use Rattle.resolvo_catalogue_core.specs.Listed.{listed}
-use Rattle.resolvo_catalogue_core.specs.Questions.{Said}
+use Rattle.resolvo_catalogue_core.specs.Questions.{ReadRequest}
 use Rattle.resolvo_catalogue_core.specs.Rules.{keeps_in_request, obeys, binds as binds_of}
 use Rattle.resolvo_catalogue_core.specs.Sets as sets
 use Rattle.resolvo_catalogue_core.proofs.PlaceLemmas.{at_from_contains}
@@ -51,7 +51,7 @@ solvables_for catalogue (v ∷ vs) there =
       },
     )
 
-module _ (p : Provider) (catalogue : List Line) (over : IsOver catalogue p) (same : SolvableId → SolvableId → Bool) (apart : TellsApart same) (said : Said) (asked : RequestIds) (asks : AreAsked p.ids said asked)
+module _ (p : Provider) (catalogue : List Line) (over : IsOver catalogue p) (same : SolvableId → SolvableId → Bool) (apart : TellsApart same) (said : ReadRequest) (asked : RequestIds) (asks : AreAsked p.ids said asked)
     (chosen : List SolvableId) (set : Set) (stands : StandsFor (listed catalogue) chosen set) where
   abbrev KeepsRules : Type 0
   KeepsRules = IsRuleKeeping same (packages_of p) (root_of asked) chosen

@@ -8,7 +8,7 @@ use Rattle.resolvo_text.specs.Line.{Line, Listed}
 use Rattle.resolvo_text.specs.Spelling.{HasForm, Spells, SaysLine}
 use Rattle.resolvo_catalogue_core.specs.Grammar.{AreRequestLines, line_at}
 use Rattle.resolvo_catalogue_core.specs.Listed.{listed}
-use Rattle.resolvo_catalogue_core.specs.Questions.{Said}
+use Rattle.resolvo_catalogue_core.specs.Questions.{ReadRequest}
 use Rattle.resolvo_catalogue_core.proofs.PlaceLemmas.{at_from_contains, contains_from_line}
 use Rattle.resolvo_catalogue_core.proofs.TableLemmas.{listed_from}
 use Rattle.resolvo_pool_core.specs.declared.id.VersionSetId.{VersionSetId}
@@ -71,7 +71,7 @@ no_clause same p [] n e = refl
 no_clause same p (x ∷ steps) zero e = absurd cc
 no_clause same p (x ∷ steps) (suc n) e = no_clause same p steps n e
 
-module _ (catalogue : List Line) (said : Said) (provider : Provider) (over : IsOver catalogue provider) (asks_rightly : AreRequestLines catalogue said.lines) (ids : RequestIds) (asked : AreAsked provider.ids said ids) (same : SolvableId → SolvableId → Bool) (exact : IsExact same) where
+module _ (catalogue : List Line) (said : ReadRequest) (provider : Provider) (over : IsOver catalogue provider) (asks_rightly : AreRequestLines catalogue said.lines) (ids : RequestIds) (asked : AreAsked provider.ids said ids) (same : SolvableId → SolvableId → Bool) (exact : IsExact same) where
   abbrev p : Packages NameId SolvableId
   p = packages_of provider
 

@@ -9,7 +9,7 @@ use Rattle.resolvo_text.specs.Line.{Version, Line}
 use Rattle.resolvo_text.specs.Matches.{Set}
 use Rattle.resolvo_catalogue_core.specs.Grammar.{AreRequestLines}
 use Rattle.resolvo_catalogue_core.specs.Listed.{listed, members}
-use Rattle.resolvo_catalogue_core.specs.Questions.{Said}
+use Rattle.resolvo_catalogue_core.specs.Questions.{ReadRequest}
 use Rattle.resolvo_catalogue_core.specs.Sets as texts
 use Rattle.resolvo_catalogue_core.specs.Table.{nth}
 use Rattle.resolvo_catalogue_core.specs.declared.rule.VersionNo.{VersionNo}
@@ -130,7 +130,7 @@ taken_contained n xs x h = subst (λ (ys : List _). Contains ys x) (take-append-
 
 -- ---- all of it
 
-module _ (catalogue : List Line) (said : Said) (provider : Provider) (over : IsOver catalogue provider) (ids : RequestIds) (asked : AreAsked provider.ids said ids) (asks_rightly : AreRequestLines catalogue said.lines)
+module _ (catalogue : List Line) (said : ReadRequest) (provider : Provider) (over : IsOver catalogue provider) (ids : RequestIds) (asked : AreAsked provider.ids said ids) (asks_rightly : AreRequestLines catalogue said.lines)
     (same : SolvableId → SolvableId → Bool) (exact : IsExact same) (are_wishes : AreWishes catalogue said.lines said.wishes) (items : List Wish) (told_wishes : AreWishesOf catalogue said.wishes items) where
   apart : TellsApart same
   apart s t = (exact.one s t, λ e. subst (λ x. same s x ≡ true) e (exact.own s))

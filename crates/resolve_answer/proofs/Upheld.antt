@@ -5,7 +5,7 @@ use Rattle.std.specs.List.{AllByRecursion, AllZip}
 use Rattle.resolvo_text.specs.Line.{Line}
 use Rattle.resolvo_catalogue_core.specs.Grammar.{AreRequestLines}
 use Rattle.resolvo_catalogue_core.specs.Listed.{listed, members}
-use Rattle.resolvo_catalogue_core.specs.Questions.{Said, AreAll, IsWish, LineIs}
+use Rattle.resolvo_catalogue_core.specs.Questions.{ReadRequest, AreAll, IsWish, LineIs}
 use Rattle.resolvo_catalogue_core.specs.declared.rule.VersionNo.{VersionNo}
 use Rattle.resolvo_catalogue_core.specs.Answers.{Answer}
 use Rattle.resolve_order.specs.Order.{AreTurns}
@@ -108,7 +108,7 @@ refusal_reported catalogue request ids steps r message i named plain tells =
 
 -- ---- what was found
 
-module _ (catalogue : List Line) (said : Said) (provider : Provider) (wishes : List Wish) (asks_rightly : AreRequestLines catalogue said.lines) where
+module _ (catalogue : List Line) (said : ReadRequest) (provider : Provider) (wishes : List Wish) (asks_rightly : AreRequestLines catalogue said.lines) where
   module _ (chosen : List SolvableId) (turns : List (Solver.Turn SolvableId)) (proof : List (ProofStep NameId SolvableId)) (is : IsInstalledOver catalogue said provider wishes chosen turns proof) where
     -- the steps that are kept of the proof are one
     kept_proof : (Wanted : ℕ → Type 0) (kept : List (ProofStep NameId SolvableId)) → IsTrimmedTo Wanted proof kept → StaysProof proof kept → (HaveOnePlace proof → HaveOnePlace kept) → (HaveOneSigns proof → HaveOneSigns kept) → IsProofOver catalogue said provider kept
@@ -229,7 +229,7 @@ module _ (catalogue : List Line) (said : Said) (provider : Provider) (wishes : L
         })
 
 -- a search over a provider of the catalogue, which interned the request
-pub solved_over : (catalogue : List Line) (said : Said) (wishes : List Wish) (kept provider : Provider) (ids : RequestIds) (requirements : List ConditionalRequirement) (constraints : List VersionSetId) (free : List SolvableId) (same : SolvableId → SolvableId → Bool) (solved : Solved NameId SolvableId)
+pub solved_over : (catalogue : List Line) (said : ReadRequest) (wishes : List Wish) (kept provider : Provider) (ids : RequestIds) (requirements : List ConditionalRequirement) (constraints : List VersionSetId) (free : List SolvableId) (same : SolvableId → SolvableId → Bool) (solved : Solved NameId SolvableId)
     → AreRequestLines catalogue said.lines → AreAll (map (λ f. f.0) said.wishes) (λ n. LineIs said.lines n IsWish) → AreWishesAt catalogue said → AreWishesOf catalogue said.wishes wishes → free ≡ free_of wishes → provider ≡ kept → IsOver catalogue kept → AreAsked kept.ids said ids → requirements ≡ ids.requirements.items → constraints ≡ ids.constraints.items → IsExact same
     → ((root : Rules) → IsRoot requirements constraints root → AreCandidates same (packages_of kept) free → IsSolved same (packages_of kept) (orders_of same kept) root free solved) → EndsSo solved.found solved.proof.items → IsSolvedOver catalogue said provider wishes solved
 solved_over catalogue said wishes kept provider ids requirements constraints free same solved asks_rightly lines versions told free_is stays over asked needs limits exact solves ends =

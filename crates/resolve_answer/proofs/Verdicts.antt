@@ -2,7 +2,7 @@
 use Rattle.std.proofs.Common.{◌≡◌, true, List, [], Ok, Err, subst}
 use Rattle.resolvo_text.specs.Line.{Line}
 use Rattle.resolvo_text.specs.Matches.{Set}
-use Rattle.resolvo_catalogue_core.specs.Questions.{Said}
+use Rattle.resolvo_catalogue_core.specs.Questions.{ReadRequest}
 use Rattle.resolvo_catalogue_core.specs.Sets as texts
 use Rattle.resolvo_soundness.proofs.Lists.{contains_none}
 use Rattle.resolvo_catalogue.specs.KeptSets.{TellsApart, root_of}
@@ -16,7 +16,7 @@ use Rattle.resolve_answer.specs.Verdict.{IsChosen, IsGivenOver, IsRefused, Verdi
 use Rattle.resolve_answer.proofs.FirstNeeds.{solvables_for}
 use Rattle.resolve_answer.proofs.WalkLemmas.{keeps_lines}
 
-module _ (catalogue : List Line) (said : Said) (provider : Provider) (verdict : Verdict) (given : IsGivenOver catalogue said provider verdict) where
+module _ (catalogue : List Line) (said : ReadRequest) (provider : Provider) (verdict : Verdict) (given : IsGivenOver catalogue said provider verdict) where
   apart : TellsApart given.same
   apart s t = (given.exact.one s t, λ e. subst (λ x. given.same s x ≡ true) e (given.exact.own s))
 

@@ -11,7 +11,7 @@ use Rattle.resolvo_text.specs.Line.{Version, Line}
 use Rattle.resolvo_text.specs.Matches.{Set}
 use Rattle.resolvo_catalogue_core.specs.Grammar.{AreRequestLines}
 use Rattle.resolvo_catalogue_core.specs.Listed.{listed, members}
-use Rattle.resolvo_catalogue_core.specs.Questions.{Said}
+use Rattle.resolvo_catalogue_core.specs.Questions.{ReadRequest}
 use Rattle.resolvo_catalogue_core.specs.Sets as texts
 use Rattle.resolvo_catalogue_core.specs.Table.{nth, nowhere}
 use Rattle.resolvo_catalogue_core.specs.declared.rule.VersionNo.{VersionNo}
@@ -113,7 +113,7 @@ pub record IsKnownWish (catalogue : List Line) (provider : Provider) (same : Sol
   pub bar : IsBarringStepOf catalogue w.version.0 (option_map step_of w.bar)
   pub free : w.bar ≡ None → is_barred same (packages_of provider) (solvable_id w.version.0) ≡ false
 
-module _ (catalogue : List Line) (said : Said) (provider : Provider) (over : IsOver catalogue provider) (ids : RequestIds) (asked : AreAsked provider.ids said ids) (asks_rightly : AreRequestLines catalogue said.lines)
+module _ (catalogue : List Line) (said : ReadRequest) (provider : Provider) (over : IsOver catalogue provider) (ids : RequestIds) (asked : AreAsked provider.ids said ids) (asks_rightly : AreRequestLines catalogue said.lines)
     (same : SolvableId → SolvableId → Bool) (apart : TellsApart same) (exact : IsExact same) (v : List SolvableId) where
   -- The first so many chosen keep the rules, and are what the root and these wishes reach. The wishes are listed, and nothing bars them.
   pub record StandAt (n : ℕ) (wishes : List SolvableId) : Type 0 where

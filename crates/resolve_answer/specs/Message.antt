@@ -3,7 +3,7 @@ use Rattle.std.specs.Prelude.{◌≡◌, ℕ, Bool, not, IsTrue, List, ◌++◌,
 use Rattle.std.specs.List.{AllByRecursion, AllZip, list_all, flat_map}
 use Rattle.resolvo_text.specs.Line.{Line}
 use Rattle.resolvo_text.specs.Lines.{is_newline}
-use Rattle.resolvo_catalogue_core.specs.Questions.{Said}
+use Rattle.resolvo_catalogue_core.specs.Questions.{ReadRequest}
 use Rattle.resolvo_graph.specs.Message.{IsMessage, text_of}
 use Rattle.resolvo_graph.specs.Words.{Meaning}
 use Rattle.resolvo_graph.specs.declared.line.MessageLine.{MessageLine}
@@ -65,7 +65,7 @@ module _ (same_name : NameId → NameId → Bool) (same : SolvableId → Solvabl
 -- The message is that of the steps' conflict: over a provider of the catalogue with what the request asks, the steps tell a proof,
 -- the candidates of the requirements that its rules name are those that are offered, and the message is the text of its graph.
 pub record IsMessageOf (catalogue request : List Line) (steps : List Step) (message : List (List ℕ)) : Type 0 where
-  pub said : Said
+  pub said : ReadRequest
   pub asks : said.lines ≡ request
   pub provider : Provider
   pub proof : List (ProofStep NameId SolvableId)

@@ -1,7 +1,7 @@
 -- What a search over the provider of a catalogue came to, for what a request asks.
 use Rattle.std.specs.Prelude.{Bool, List, take, Contains}
 use Rattle.resolvo_text.specs.Line.{Line}
-use Rattle.resolvo_catalogue_core.specs.Questions.{Said}
+use Rattle.resolvo_catalogue_core.specs.Questions.{ReadRequest}
 use Rattle.resolvo_soundness.specs.Encoding.{IsExact}
 use Rattle.resolvo_catalogue.specs.Ids.{NameId, SolvableId}
 use Rattle.resolvo_catalogue.specs.Provider.{Provider, packages_of}
@@ -23,7 +23,7 @@ use Rattle.resolve_answer.specs.Wishes.{AreWishesOf, free_of}
 use Rattle.resolve_answer.specs.declared.wishes.Wish.{Wish}
 
 -- What was found and its proof are a solver's, for the wishes that no step bars.
-pub record IsSolvedOver (catalogue : List Line) (said : Said) (provider : Provider) (wishes : List Wish) (solved : Solved NameId SolvableId) : Type 0 where
+pub record IsSolvedOver (catalogue : List Line) (said : ReadRequest) (provider : Provider) (wishes : List Wish) (solved : Solved NameId SolvableId) : Type 0 where
   pub over : IsOver catalogue provider
   pub ids : RequestIds
   pub asked : AreAsked provider.ids said ids
@@ -37,7 +37,7 @@ pub record IsSolvedOver (catalogue : List Line) (said : Said) (provider : Provid
   pub told : AreWishesOf catalogue said.wishes wishes
 
 -- The proof is one that there is no solution, for what a request asks.
-pub record IsRefutedOver (catalogue : List Line) (said : Said) (provider : Provider) (proof : List (ProofStep NameId SolvableId)) : Type 0 where
+pub record IsRefutedOver (catalogue : List Line) (said : ReadRequest) (provider : Provider) (proof : List (ProofStep NameId SolvableId)) : Type 0 where
   pub over : IsOver catalogue provider
   pub ids : RequestIds
   pub asked : AreAsked provider.ids said ids
@@ -52,7 +52,7 @@ pub record IsRefutedOver (catalogue : List Line) (said : Said) (provider : Provi
 
 -- What a search over the provider chose in its turns, for the wishes that no step bars, is right and was preferred; and its proof is
 -- one, in which each refused wish has a step.
-pub record IsInstalledOver (catalogue : List Line) (said : Said) (provider : Provider) (wishes : List Wish) (chosen : List SolvableId) (turns : List (Turn SolvableId)) (proof : List (ProofStep NameId SolvableId)) : Type 0 where
+pub record IsInstalledOver (catalogue : List Line) (said : ReadRequest) (provider : Provider) (wishes : List Wish) (chosen : List SolvableId) (turns : List (Turn SolvableId)) (proof : List (ProofStep NameId SolvableId)) : Type 0 where
   pub over : IsOver catalogue provider
   pub ids : RequestIds
   pub asked : AreAsked provider.ids said ids

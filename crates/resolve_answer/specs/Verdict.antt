@@ -3,7 +3,7 @@ use Rattle.std.specs.Prelude.{◌≡◌, Bool, List, Result, Ok, Err}
 use Rattle.std.specs.Global.{Vec}
 use Rattle.resolvo_text.specs.Line.{Line}
 use Rattle.resolvo_catalogue_core.specs.Grammar.{AreRequestLines}
-use Rattle.resolvo_catalogue_core.specs.Questions.{Said}
+use Rattle.resolvo_catalogue_core.specs.Questions.{ReadRequest}
 use Rattle.resolvo_soundness.specs.Encoding.{IsExact}
 use Rattle.resolvo_catalogue.specs.Ids.{NameId, SolvableId}
 use Rattle.resolvo_catalogue.specs.Provider.{Provider, packages_of}
@@ -23,7 +23,7 @@ Verdict = Result (Vec SolvableId) (UnsolvableOrCancelled Never)
 
 -- A solver over the provider, which was made of the catalogue, gives this for what a request over the catalogue asks. Which
 -- dependencies the provider says are at hand isn't asked.
-pub record IsGivenOver (catalogue : List Line) (said : Said) (provider : Provider) (verdict : Verdict) : Type 0 where
+pub record IsGivenOver (catalogue : List Line) (said : ReadRequest) (provider : Provider) (verdict : Verdict) : Type 0 where
   pub over : IsOver catalogue provider
   pub asks : AreRequestLines catalogue said.lines
   pub ids : RequestIds

@@ -4,7 +4,7 @@ use Rattle.std.specs.List.{flat_map}
 use Rattle.std.specs.Option.{option_map}
 use Rattle.resolvo_text.specs.Line.{Line}
 use Rattle.resolvo_catalogue_core.specs.Listed.{listed}
-use Rattle.resolvo_catalogue_core.specs.Questions.{Said, WishesAt}
+use Rattle.resolvo_catalogue_core.specs.Questions.{ReadRequest, WishesAt}
 use Rattle.resolvo_catalogue_core.specs.declared.rule.VersionNo.{VersionNo}
 use Rattle.resolvo_catalogue.specs.Ids.{SolvableId, solvable_id}
 use Rattle.resolvo_report.specs.View.{step_of}
@@ -17,7 +17,7 @@ abbrev pub asked_by : Wish → ℕ × VersionNo
 asked_by w = (w.line, w.version)
 
 -- the wishes of a request have the versions of their lines
-abbrev pub AreWishesAt : List Line → Said → Type 0
+abbrev pub AreWishesAt : List Line → ReadRequest → Type 0
 AreWishesAt catalogue said = (i : ℕ) (f : ℕ × VersionNo) → slice_get said.wishes i ≡ Some f → WishesAt (listed catalogue) said.lines f
 
 -- The wishes are these, and each is barred by its step, or no lock and no exclusion bars it.

@@ -2,7 +2,7 @@
 ghost use Rattle.std.specs.Prelude.{List};
 ghost use Rattle.resolvo_text.specs.Line.{Line};
 ghost use Rattle.resolvo_text.specs.Matches.{Set};
-ghost use Rattle.resolvo_catalogue_core.specs.Questions.{Said};
+ghost use Rattle.resolvo_catalogue_core.specs.Questions.{ReadRequest};
 ghost use Rattle.resolvo_catalogue_core.specs.Sets.{IsRuleKeeping};
 ghost use Rattle.resolvo_catalogue.specs.Provider.{Provider};
 ghost use Rattle.resolve_answer.specs.Verdict.{IsChosen, IsGivenOver, IsRefused, Verdict};
@@ -10,11 +10,11 @@ ghost use Rattle.resolve_answer.specs.Verdict.{IsChosen, IsGivenOver, IsRefused,
 /// A solver over the provider of a catalogue chooses only where some set of versions keeps the rules of both texts, and refuses
 /// only where none does.
 pub fn a_verdict_is_that_of_the_texts()
-    ensures chosen { (catalogue : List Line) (said : Said) (provider : Provider) (verdict : Verdict)
+    ensures chosen { (catalogue : List Line) (said : ReadRequest) (provider : Provider) (verdict : Verdict)
         → IsGivenOver catalogue said provider verdict
         → IsChosen verdict
         → (set : Set) × IsRuleKeeping catalogue said.lines set }
-    ensures refused { (catalogue : List Line) (said : Said) (provider : Provider) (verdict : Verdict)
+    ensures refused { (catalogue : List Line) (said : ReadRequest) (provider : Provider) (verdict : Verdict)
         → IsGivenOver catalogue said provider verdict
         → IsRefused verdict
         → (set : Set)
@@ -25,7 +25,7 @@ pub fn a_verdict_is_that_of_the_texts()
 /// Two providers of one catalogue, whatever each says of dependencies that are at hand, come to one verdict for what one request
 /// asks: where solvables are chosen over one, the other isn't refused.
 pub fn either_hint_gives_one_verdict()
-    ensures { (catalogue : List Line) (said : Said) (one other : Provider) (verdict another : Verdict)
+    ensures { (catalogue : List Line) (said : ReadRequest) (one other : Provider) (verdict another : Verdict)
         → IsGivenOver catalogue said one verdict
         → IsGivenOver catalogue said other another
         → IsChosen verdict

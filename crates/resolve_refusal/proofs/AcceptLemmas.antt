@@ -8,7 +8,7 @@ use Rattle.std.proofs.lemmas.List.{append_assoc, append-nil}
 use Rattle.std.proofs.lemmas.List.Concat.{flat_map-append}
 use Rattle.resolvo_text.specs.Line.{Line}
 use Rattle.resolvo_catalogue_core.specs.Grammar.{line_at}
-use Rattle.resolvo_catalogue_core.specs.Questions.{Said, AreAll}
+use Rattle.resolvo_catalogue_core.specs.Questions.{ReadRequest, AreAll}
 use Rattle.resolvo_catalogue_core.proofs.PlaceLemmas.{at_from_contains, contains_from_at}
 use Rattle.resolvo_soundness.proofs.Lists.{contains_later, map_contains, contained_any}
 use Rattle.resolvo_proof.specs.declared.step.ProofStep.{ProofStep}
@@ -107,7 +107,7 @@ number_within : (lines : List Line) (n : ℕ) (l : Line) → line_at lines n ≡
 number_within lines zero l e = absurd cc
 number_within lines (suc k) l e = (k, refl, slice_get_within lines k l e)
 
-module _ (catalogue : List Line) (said : Said) (provider : Provider) (steps : List (ProofStep NameId SolvableId)) (refuted : Refutes catalogue said provider steps)
+module _ (catalogue : List Line) (said : ReadRequest) (provider : Provider) (steps : List (ProofStep NameId SolvableId)) (refuted : Refutes catalogue said provider steps)
     (in_catalogue in_request : List ℕ) (written : List Step) (each : AllZip (IsToldBy catalogue provider.ids said.lines) steps written)
     (named : AreAll in_catalogue (IsNamedBy text.Catalogue (length catalogue) written)) (asked : AreAll in_request (IsNamedBy text.Request (length said.lines) written)) where
   -- a named line states a rule
@@ -160,7 +160,7 @@ module _ (catalogue : List Line) (said : Said) (provider : Provider) (steps : Li
   claimed = claim_true catalogue said.lines (Refused in_catalogue in_request written []) accepted
 
 -- A refused report of the proof, whose steps tell the proof's, is a refusal that the judge accepts.
-pub refusal_of : (catalogue : List Line) (said : Said) (provider : Provider) (steps : List (ProofStep NameId SolvableId)) → Refutes catalogue said provider steps → (r : Report) (refused : IsRefusedBy catalogue said.lines provider.ids steps r)
+pub refusal_of : (catalogue : List Line) (said : ReadRequest) (provider : Provider) (steps : List (ProofStep NameId SolvableId)) → Refutes catalogue said provider steps → (r : Report) (refused : IsRefusedBy catalogue said.lines provider.ids steps r)
     → AllZip (IsToldBy catalogue provider.ids said.lines) steps refused.written → IsReport r → IsRefusalOf catalogue said.lines provider.ids steps r
 refusal_of catalogue said provider steps refuted r refused each report = record {
   in_catalogue = refused.in_catalogue;

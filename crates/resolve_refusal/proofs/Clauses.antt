@@ -9,7 +9,7 @@ use Rattle.std.proofs.lemmas.Nat.Bits.{bit_at_lowest, bit_at-suc}
 use Rattle.resolvo_text.specs.Line.{Version, Spec, Cond, Line, Needs, Limits}
 use Rattle.resolvo_text.specs.Matches as lines
 use Rattle.resolvo_catalogue_core.specs.Listed.{listed}
-use Rattle.resolvo_catalogue_core.specs.Questions.{Said}
+use Rattle.resolvo_catalogue_core.specs.Questions.{ReadRequest}
 use Rattle.resolvo_catalogue_core.proofs.PlaceLemmas.{at_from_contains, contains_from_at}
 use Rattle.resolvo_pool_core.specs.declared.id.VersionSetId.{VersionSetId}
 use Rattle.resolvo_pool_core.specs.declared.id.StringId.{StringId}
@@ -234,7 +234,7 @@ module _ (catalogue : List Line) (provider : Provider) (over : IsOver catalogue 
             ((_, slice_get-get_or (listed catalogue) s.raw none (omega (arith, below, long))), (said, is))
 
     -- so is what the root needs
-    pub asked_for : (said : Said) (ids : RequestIds) → AreAsked provider.ids said ids → (parent : Option SolvableId) (need : ConditionalRequirement) → Contains (rules_for same (packages_of provider) (root_of ids) parent).requirements need
+    pub asked_for : (said : ReadRequest) (ids : RequestIds) → AreAsked provider.ids said ids → (parent : Option SolvableId) (need : ConditionalRequirement) → Contains (rules_for same (packages_of provider) (root_of ids) parent).requirements need
         → ((s : SolvableId) → parent ≡ Some s → IsVersion catalogue provider.ids s) × ((x : List Spec × Option Cond) × IsNeed provider.ids need x)
     asked_for said ids asked None need h = (λ s e. absurd cc, each_contained (IsNeed provider.ids) ids.requirements.items _ asked.requirements need h)
     asked_for said ids asked (Some s) need h =
@@ -294,7 +294,7 @@ module _ (catalogue : List Line) (provider : Provider) (over : IsOver catalogue 
         )
 
     -- what limits a parent is known, and so is the parent
-    pub limited : (said : Said) (ids : RequestIds) → AreAsked provider.ids said ids → (parent : Option SolvableId) (v : VersionSetId) → Contains (rules_for same (packages_of provider) (root_of ids) parent).constraints v
+    pub limited : (said : ReadRequest) (ids : RequestIds) → AreAsked provider.ids said ids → (parent : Option SolvableId) (v : VersionSetId) → Contains (rules_for same (packages_of provider) (root_of ids) parent).constraints v
         → ((s : SolvableId) → parent ≡ Some s → IsVersion catalogue provider.ids s) × ((spec : Spec) × IsSpec provider.ids v spec)
     limited said ids asked None v h = (let (spec, is) = each_contained (IsSpec provider.ids) ids.constraints.items _ asked.constraints v h in ((λ s e. absurd cc), (spec, is)))
     limited said ids asked (Some s) v h =

@@ -7,7 +7,7 @@ use Rattle.resolvo_text.specs.Line.{Version, Spec, Line, Needs}
 use Rattle.resolvo_text.specs.Spelling.{IsNumber}
 use Rattle.resolvo_text.specs.Spelling as form
 use Rattle.resolvo_catalogue_core.specs.Grammar.{line_at}
-use Rattle.resolvo_catalogue_core.specs.Questions.{Said, AreAll}
+use Rattle.resolvo_catalogue_core.specs.Questions.{ReadRequest, AreAll}
 use Rattle.resolvo_pool_core.specs.declared.requirement.Requirement.{Requirement}
 use Rattle.resolvo_pool_core.specs.declared.requirement.ConditionalRequirement.{ConditionalRequirement}
 use Rattle.resolvo_pool_core.specs.RuleKeeping.{rules_of}
@@ -84,7 +84,7 @@ bar_text catalogue long v t fits = λ by. (let (line, l, at, is) = by_line by in
           | inr other ↦ elim other [ inl e ↦ subst (λ (x : Step). IsStep x) (sym e) numbered | inr e ↦ subst (λ (x : Step). IsStep x) (sym e) numbered ]
         ]
 
-module _ (catalogue : List Line) (said : Said) (provider : Provider) (steps : List (ProofStep NameId SolvableId)) (proves : IsProofOver catalogue said provider steps)
+module _ (catalogue : List Line) (said : ReadRequest) (provider : Provider) (steps : List (ProofStep NameId SolvableId)) (proves : IsProofOver catalogue said provider steps)
     (few : length steps < 4294967296) (long : length catalogue < 4294967296) (asked : length said.lines < 4294967296) where
   -- a line of a place has a number of a line
   line_fits : (place : Place) (n : ℕ) (l : Line) → judge.line_of catalogue said.lines place n ≡ Some l → IsLineNumber n
@@ -182,7 +182,7 @@ module _ (catalogue : List Line) (said : Said) (provider : Provider) (steps : Li
 named_fit : (of : Text) (count : ℕ) (numbers : List ℕ) (written : List Step) → count < 4294967296 → AreAll numbers (IsNamedBy of count written) → (n : ℕ) → Contains numbers n → IsLineNumber n
 named_fit of count numbers written fits all n h = (let (k, is, below, rests) = (all.all n).0 h in (omega (arith, is), omega (arith, is, below, fits)))
 
-module _ (catalogue : List Line) (said : Said) (provider : Provider) (steps : List (ProofStep NameId SolvableId)) (refutes : Refutes catalogue said provider steps)
+module _ (catalogue : List Line) (said : ReadRequest) (provider : Provider) (steps : List (ProofStep NameId SolvableId)) (refutes : Refutes catalogue said provider steps)
     (few : length steps < 4294967296) (long : length catalogue < 4294967296) (asked : length said.lines < 4294967296) where
   -- the steps that tell the proof's are those of a report
   is_report : (in_catalogue in_request : List ℕ) (written : List Step) → AllZip (Tells catalogue said.lines provider.ids) steps written → AllZip (IsToldBy catalogue provider.ids said.lines) steps written

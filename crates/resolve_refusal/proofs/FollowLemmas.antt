@@ -9,7 +9,7 @@ use Rattle.std.proofs.lemmas.List.{length-take-le}
 use Rattle.resolvo_text.specs.Line.{Version, Line}
 use Rattle.resolvo_text.specs.Matches.{same_version}
 use Rattle.resolvo_catalogue_core.specs.Grammar.{line_at}
-use Rattle.resolvo_catalogue_core.specs.Questions.{Said, is_rule}
+use Rattle.resolvo_catalogue_core.specs.Questions.{ReadRequest, is_rule}
 use Rattle.resolvo_catalogue_core.proofs.PlaceLemmas.{at_from_contains}
 use Rattle.resolvo_soundness.specs.Encoding.{Bar}
 use Rattle.resolvo_soundness.proofs.Lists.{contains_none, contains_first, contains_later, map_contains, contained_all}
@@ -103,7 +103,7 @@ place_stated catalogue request text.Request (told.OfVersion v) line n l at e = a
 gate_stated : (catalogue request : List Line) (of : Text) (v : Version) (line n : ℕ) (l : Line) → judge.line_of catalogue request (told.OfVersion v) line ≡ Some l → in_catalogue of line ≡ Some n → line_at (lines_in catalogue request of) n ≡ Some l
 gate_stated catalogue request of v line n l at e = catalogue_stated catalogue request of line n l (owned _ (line_at catalogue line) l at) e
 
-module _ (catalogue : List Line) (said : Said) (provider : Provider) (steps : List (ProofStep NameId SolvableId)) (proves : IsProofOver catalogue said provider steps) where
+module _ (catalogue : List Line) (said : ReadRequest) (provider : Provider) (steps : List (ProofStep NameId SolvableId)) (proves : IsProofOver catalogue said provider steps) where
   -- the line that a written step rests on states a rule
   pub line_stated : (of : Text) (s : ProofStep NameId SolvableId) (t : told.Step) (n : ℕ) → IsToldBy catalogue provider.ids said.lines s t → line_in of t ≡ Some n → (l : Line) × (line_at (lines_in catalogue said.lines of) n ≡ Some l) × (is_rule l ≡ true)
   line_stated of (Rule (NeedsRule parent r case)) t n (line, k, is, first) e =
@@ -271,7 +271,7 @@ module _ (catalogue : List Line) (said : Said) (provider : Provider) (steps : Li
 
 -- ---- the end
 
-module _ (catalogue : List Line) (said : Said) (provider : Provider) (steps : List (ProofStep NameId SolvableId)) (refutes : Refutes catalogue said provider steps) where
+module _ (catalogue : List Line) (said : ReadRequest) (provider : Provider) (steps : List (ProofStep NameId SolvableId)) (refutes : Refutes catalogue said provider steps) where
   -- a written step derives the empty clause where the step that it tells does
   empty_told : (literals : Vec (ProofLiteral NameId SolvableId) Global) (causes : Vec ℕ Global) (t : told.Step) → literals.items ≡ [] → IsToldBy catalogue provider.ids said.lines (Derived literals causes) t → derives_empty t ≡ true
   empty_told literals causes t empty (w, is, are) = ap derives_empty is ∙ go w (subst (λ ls. AreLiterals catalogue provider.ids ls w) empty are)

@@ -9,7 +9,7 @@ use Rattle.resolvo_text.specs.Line.{Version, Line}
 use Rattle.resolvo_text.specs.Matches.{Set}
 use Rattle.resolvo_catalogue_core.specs.Grammar.{AreCatalogueLines}
 use Rattle.resolvo_catalogue_core.specs.Listed.{listed}
-use Rattle.resolvo_catalogue_core.specs.Questions.{Said}
+use Rattle.resolvo_catalogue_core.specs.Questions.{ReadRequest}
 use Rattle.resolvo_catalogue_core.proofs.PlaceLemmas.{contains_from_at}
 use Rattle.resolvo_catalogue_core.proofs.TableSteps.{same_version_is}
 use Rattle.resolvo_state.proofs.Positions.{get_front}
@@ -83,7 +83,7 @@ literals_bar catalogue provider literals written entries wish are each = contain
 
 -- ---- the steps of a proof
 
-module _ (catalogue : List Line) (said : Said) (provider : Provider) (steps : List (ProofStep NameId SolvableId)) (proves : IsProofOver catalogue said provider steps) where
+module _ (catalogue : List Line) (said : ReadRequest) (provider : Provider) (steps : List (ProofStep NameId SolvableId)) (proves : IsProofOver catalogue said provider steps) where
   -- a step that denies the wish and entries bars it
   pub told_bars : (written others : List told.Step) → AllZip (IsToldBy catalogue provider.ids said.lines) steps written → (entries : Set) (wish : Version) (k : ℕ) → IsBarAt catalogue steps entries wish k → step_bars catalogue said.lines (written ++ others) entries wish (suc k) ≡ true
   told_bars written others each entries wish k bar =

@@ -23,7 +23,7 @@ use Rattle.resolvo_soundness.proofs.Lists.{contains_first, contains_later, any_c
 use Rattle.resolvo_proof.specs.declared.step.ProofStep.{ProofStep}
 use Rattle.resolvo_proof.specs.declared.step.ProofStep.TheVariants.{Rule, Derived}
 use Rattle.resolvo_proof.specs.declared.step.ProofRule.TheVariants.{Needs as NeedsRule, GateOf, Shared, Limit, Outside, Locked, Excluded, Digit, AtLeastOne}
-use Rattle.resolvo_catalogue_core.specs.Questions.{Said}
+use Rattle.resolvo_catalogue_core.specs.Questions.{ReadRequest}
 use Rattle.resolvo_pool_core.specs.declared.requirement.Requirement.TheVariants.{Single, Union}
 use Rattle.resolvo_catalogue.specs.Ids.{Ids, NameId, SolvableId, AreEach, IsNeed, IsSpec, IsConditionOf}
 use Rattle.resolvo_catalogue.specs.Known.{spec_at, alternatives_at, condition_at}
@@ -239,7 +239,7 @@ same_need need r e = (let (none, same) = and_parts (not (has_condition need.cond
     by_parts (Some c) q none same = absurd (false≢true none)
     by_parts None q none same = ap plain (sym (requirements_same r q same))
 
-module _ (catalogue : List Line) (said : Said) (p : Provider) (steps : List (ProofStep NameId SolvableId)) (proves : IsProofOver catalogue said p steps) (fits : length steps < 4294967296) where
+module _ (catalogue : List Line) (said : ReadRequest) (p : Provider) (steps : List (ProofStep NameId SolvableId)) (proves : IsProofOver catalogue said p steps) (fits : length steps < 4294967296) where
   -- a limit is told by the first line that states it
   limit_told : (parent : Option SolvableId) (v : VersionSetId) (line : ℕ) → IsFirstLine catalogue said.lines (option_map version_no parent) (Limits (spec_at p.ids v)) line → Contains (rules_for proves.same (packages_of p) (root_of proves.ids) parent).constraints v
       → IsFirst catalogue p.ids said.lines (place_at catalogue parent) (Limits (spec_at p.ids v)) line

@@ -6,7 +6,7 @@ use Rattle.resolvo_text.specs.Line.{Version, Spec, Line, Needs, Limits}
 use Rattle.resolvo_text.specs.Spelling.{is_name}
 use Rattle.resolvo_text.specs.Spelling as form
 use Rattle.resolvo_catalogue_core.specs.Listed.{listed}
-use Rattle.resolvo_catalogue_core.specs.Questions.{Said, LineIs, LocksAnother, Excludes, MarksUnknownOf, Bars}
+use Rattle.resolvo_catalogue_core.specs.Questions.{ReadRequest, LineIs, LocksAnother, Excludes, MarksUnknownOf, Bars}
 use Rattle.resolvo_pool_core.specs.declared.id.VersionSetId.{VersionSetId}
 use Rattle.resolvo_pool_core.specs.declared.requirement.Requirement.{Requirement}
 use Rattle.resolvo_soundness.specs.Encoding.{Atom, IsExact}
@@ -152,7 +152,7 @@ module _ (catalogue : List Line) (ids : Ids) where
 -- ---- reports
 
 -- Over a provider of the catalogue, with what a request asks, the steps are a proof whose ids have texts.
-pub record IsProofOver (catalogue : List Line) (said : Said) (provider : Provider) (steps : List (ProofStep NameId SolvableId)) : Type 0 where
+pub record IsProofOver (catalogue : List Line) (said : ReadRequest) (provider : Provider) (steps : List (ProofStep NameId SolvableId)) : Type 0 where
   pub over : IsOver catalogue provider
   pub ids : RequestIds
   pub asked : AreAsked provider.ids said ids
@@ -167,7 +167,7 @@ pub record IsProofOver (catalogue : List Line) (said : Said) (provider : Provide
   pub one_place : HaveOnePlace steps
 
 -- They are a proof, and end with the empty clause.
-pub record Refutes (catalogue : List Line) (said : Said) (provider : Provider) (steps : List (ProofStep NameId SolvableId)) : Type 0 where
+pub record Refutes (catalogue : List Line) (said : ReadRequest) (provider : Provider) (steps : List (ProofStep NameId SolvableId)) : Type 0 where
   pub proves : IsProofOver catalogue said provider steps
   pub empty : EndsEmpty steps
 

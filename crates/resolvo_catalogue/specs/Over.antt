@@ -4,7 +4,7 @@ use Rattle.std.specs.List.{flat_map}
 use Rattle.resolvo_text.specs.Line.{Line}
 use Rattle.resolvo_catalogue_core.specs.Grammar.{AreCatalogueLines}
 use Rattle.resolvo_catalogue_core.specs.Listed.{listed, AreDistinct}
-use Rattle.resolvo_catalogue_core.specs.Questions.{Said, AreAll, SaysOf, BelongsTo}
+use Rattle.resolvo_catalogue_core.specs.Questions.{ReadRequest, AreAll, SaysOf, BelongsTo}
 use Rattle.resolvo_catalogue.specs.Ids.{Ids, Interns, AreSound, AreVersions, AreEach, IsNeed, IsSpec, solvable_id}
 use Rattle.resolvo_catalogue.specs.Told.{VersionDependencies, Tells, lines_at, need_in, limit_in}
 use Rattle.resolvo_catalogue.specs.Marked.{AreMarked}
@@ -32,7 +32,7 @@ pub record IsOver (lines : List Line) (p : Provider) : Type 0 where
   pub grammatical : AreCatalogueLines lines
 
 -- The requirements, constraints and wishes are those of the request's lines, in order.
-pub record AreAsked (ids : Ids) (said : Said) (asked : RequestIds) : Type 0 where
+pub record AreAsked (ids : Ids) (said : ReadRequest) (asked : RequestIds) : Type 0 where
   pub requirements : AreEach (IsNeed ids) asked.requirements.items (flat_map need_in said.lines)
   pub constraints : AreEach (IsSpec ids) asked.constraints.items (flat_map limit_in said.lines)
   pub wishes : asked.wishes.items ≡ map (λ f. solvable_id f.1.0) said.wishes

@@ -4,7 +4,7 @@ use Rattle.std.proofs.Common.{inl, inr, sym, ap, ◌∙◌, append_assoc}
 use Rattle.std.proofs.lemmas.List.{append-nil}
 use Rattle.std.specs.Coded.{Coded, code_by, coded_ℕ, coded_bool, coded_list, coded_option, coded×, coded⊎}
 use Rattle.resolvo_catalogue_core.specs.declared.rule.VersionNo.{VersionNo}
-use Rattle.resolvo_catalogue_core.specs.Questions.{LineKind}
+use Rattle.resolvo_catalogue_core.specs.Questions.{ReadRequest}
 use Rattle.resolvo_text.specs.declared.spec.Span.{Span}
 use Rattle.resolvo_text.specs.declared.spec.Span.TheVariants.{Any, One, Range}
 use Rattle.resolvo_text.specs.Line.{Version, Spec, Cond, Is, And, Or, Line, Skipped, Listed, Needs, Limits, Unknown, Lock, Favour, Exclude, Wish}
@@ -135,5 +135,5 @@ lines_code = coded_list line_code
 abbrev pub number_code : Coded VersionNo
 number_code = code_by ℕ coded_ℕ (λ v. v.0) (λ n. record { 0 = n }) (λ _. refl)
 
-abbrev pub said_code : Coded LineKind
+abbrev pub said_code : Coded ReadRequest
 said_code = code_by (List Line × List (ℕ × VersionNo)) (coded× lines_code (coded_list (coded× coded_ℕ number_code))) (λ r. (r.lines, r.wishes)) (λ p. record { lines = p.0; wishes = p.1 }) (λ _. refl)

@@ -96,7 +96,7 @@ Bars lines v n = LineIs lines n (LocksAnother v) ⊎ (((m : ℕ) → LineIs line
 -- ---- requests
 
 -- What a request says: its lines, and its wishes as lines and numbers of versions of its catalogue.
-pub record LineKind : Type 0 where
+pub record ReadRequest : Type 0 where
   pub lines : List Line
   pub wishes : List (ℕ × VersionNo)
 

@@ -23,9 +23,9 @@ impl Drop for Request {
 
 impl Model for Request {
     ghost use Rattle.std.specs.Prelude.{◌≡◌, ℕ, ◌≤◌, List, map, length, slice_get, Some};
-    ghost use Rattle.resolvo_catalogue_core.specs.Questions.{LineKind, AreAll, LineIs, IsWish};
+    ghost use Rattle.resolvo_catalogue_core.specs.Questions.{ReadRequest, AreAll, LineIs, IsWish};
 
-    ghost Value = { LineKind };
+    ghost Value = { ReadRequest };
 
     ghost use Rattle.resolvo_catalogue_core.specs.Codes.{said_code};
 

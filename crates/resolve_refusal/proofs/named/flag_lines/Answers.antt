@@ -1,6 +1,6 @@
 use Rattle.std.proofs.Common.{◌≡◌, ◌+◌, ◌∷◌, ◌++◌, [], sym, ◌∙◌, subst, ap, take, map, Bool, Vec, Global, List}
 use Rattle.std.proofs.lemmas.List.{take_more, map-append}
-use Rattle.resolvo_report.specs.Value.{Step as Said}
+use Rattle.resolvo_report.specs.Value.{Step as ReadRequest}
 use Rattle.resolvo_report.specs.declared.step.Step.{Step}
 use Rattle.resolvo_report.specs.View.{step_of, steps_of}
 use Rattle.resolve_refusal.specs.Named.{AreFlagged}
@@ -19,10 +19,10 @@ loop-step-preserved c =
     elim c.match-line_in.branch [
       | in-Some w ↦
           subst (λ (v : Vec Bool Global). AreFlagged of c.args.count (steps_of (take (i + 1) xs)) v.items) (sym w.flags-is)
-          (subst (λ (ys : List Said). AreFlagged of c.args.count ys w.flag.new.flags.items) more
+          (subst (λ (ys : List ReadRequest). AreFlagged of c.args.count ys w.flag.new.flags.items) more
           (flagged_more of c.args.count (steps_of (take i xs)) (step_of s) w.in-Some.line old w.flag.new.flags.items (sym c.line_in.ensures ∙ w.in-Some.is) w.flag.ensures.long w.flag.ensures.kept w.flag.ensures.set w.flag.ensures.only c.loop-step.invariant))
       | in_default w ↦
           subst (λ (v : Vec Bool Global). AreFlagged of c.args.count (steps_of (take (i + 1) xs)) v.items) (sym w.flags-is)
-          (subst (λ (ys : List Said). AreFlagged of c.args.count ys old) more
+          (subst (λ (ys : List ReadRequest). AreFlagged of c.args.count ys old) more
           (flagged_skip of c.args.count (steps_of (take i xs)) (step_of s) old (sym c.line_in.ensures ∙ w.in_default.is) c.loop-step.invariant))
     ]
