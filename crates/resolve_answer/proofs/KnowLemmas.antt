@@ -35,7 +35,7 @@ use Rattle.resolvo_proof.specs.Drawn.{AreDrawn}
 use Rattle.resolvo_proof.specs.Trimmed.{IsTrimmedTo, IsRenumbered}
 use Rattle.resolvo_catalogue.specs.Ids.{NameId, SolvableId, AreEach, IsNeed, IsSpec, IsPackage}
 use Rattle.resolvo_catalogue.specs.Known.{name_of, set_at, members_of, condition_at}
-use Rattle.resolvo_catalogue.specs.Told.{Told, need_in, limit_in, lines_at}
+use Rattle.resolvo_catalogue.specs.Told.{VersionDependencies, need_in, limit_in, lines_at}
 use Rattle.resolvo_catalogue.specs.Provider.{Provider, packages_of, candidates_of, dependencies_of, matches, told_at, no_lines}
 use Rattle.resolvo_catalogue.specs.Over.{IsOver, AreAsked}
 use Rattle.resolvo_catalogue.specs.KeptSets.{TellsApart, root_of}
@@ -131,12 +131,12 @@ module _ (catalogue : List Line) (said : ReadRequest) (provider : Provider) (ove
   -- ---- what is told of a solvable
 
   needs_told : (s : SolvableId) (need : ConditionalRequirement) → Contains (told_at provider s).requirements need → IsSpelledNeed need
-  needs_told s need = or_all (λ (t : Told). Contains t.requirements need → IsSpelledNeed need) provider.told no_lines
+  needs_told s need = or_all (λ (t : VersionDependencies). Contains t.requirements need → IsSpelledNeed need) provider.told no_lines
       (λ k t e. let tells = over.told.each k t e in need_spelled (lines_at catalogue tells.0) (lines_fit tells.0) t.requirements tells.2.requirements need)
       (λ c. absurd (contains_none need c)) s.raw
 
   limits_told : (s : SolvableId) (v : VersionSetId) → Contains (told_at provider s).constrains v → IsSpelledSet catalogue provider.ids v
-  limits_told s v = or_all (λ (t : Told). Contains t.constrains v → IsSpelledSet catalogue provider.ids v) provider.told no_lines
+  limits_told s v = or_all (λ (t : VersionDependencies). Contains t.constrains v → IsSpelledSet catalogue provider.ids v) provider.told no_lines
       (λ k t e. let tells = over.told.each k t e in limit_spelled (lines_at catalogue tells.0) (lines_fit tells.0) t.constrains tells.2.constrains v)
       (λ c. absurd (contains_none v c)) s.raw
 
@@ -149,14 +149,14 @@ module _ (catalogue : List Line) (said : ReadRequest) (provider : Provider) (ove
   need_known None need h = (λ s e. absurd cc, need_spelled said.lines request_fits ids.requirements.items asked.requirements need h)
   need_known (Some s) need h =
       let c = req_from (told_at provider s) (told_at provider s).unknown need h in
-      let v = told_version catalogue provider over same exact s (λ e. contains_none need (subst (λ (t : Told). Contains t.requirements need) e c)) in
+      let v = told_version catalogue provider over same exact s (λ e. contains_none need (subst (λ (t : VersionDependencies). Contains t.requirements need) e c)) in
       (λ t e. subst (λ (x : SolvableId). IsVersion catalogue provider.ids x) (one_some e) v, needs_told s need c)
 
   limit_known : (parent : Option SolvableId) (v : VersionSetId) → Contains (rules_for same p (root_of ids) parent).constraints v → IsParentKnown parent × IsSpelledSet catalogue provider.ids v
   limit_known None v h = (λ s e. absurd cc, limit_spelled said.lines request_fits ids.constraints.items asked.constraints v h)
   limit_known (Some s) v h =
       let c = con_from (told_at provider s) (told_at provider s).unknown v h in
-      let w = told_version catalogue provider over same exact s (λ e. contains_none v (subst (λ (t : Told). Contains t.constrains v) e c)) in
+      let w = told_version catalogue provider over same exact s (λ e. contains_none v (subst (λ (t : VersionDependencies). Contains t.constrains v) e c)) in
       (λ t e. subst (λ (x : SolvableId). IsVersion catalogue provider.ids x) (one_some e) w, limits_told s v c)
 
   gate_known : (s : SolvableId) (r : Requirement) → asks (rules_of (dependencies_of provider s)).requirements r ≡ true → IsVersion catalogue provider.ids s × IsSpelledRequirement catalogue provider.ids r

@@ -17,7 +17,7 @@ use Rattle.resolvo_soundness.specs.Encoding.{IsExact, Bar, KeepsOut}
 use Rattle.resolvo_soundness.proofs.Lists.{contains_none}
 use Rattle.resolvo_catalogue.specs.Ids.{SolvableId, IsPackage, solvable_id, solvables_of}
 use Rattle.resolvo_catalogue.specs.Known.{name_of}
-use Rattle.resolvo_catalogue.specs.Told.{Told, reason_in, lines_at}
+use Rattle.resolvo_catalogue.specs.Told.{VersionDependencies, reason_in, lines_at}
 use Rattle.resolvo_catalogue.specs.Marked.{IsMarked}
 use Rattle.resolvo_catalogue.specs.Provider.{Provider, packages_of, listing_if_any, exclusion_of, marks_at, told_at, no_marks, no_lines, needs_of, dependencies_of}
 use Rattle.resolvo_catalogue.specs.Over.{IsOver}
@@ -182,8 +182,8 @@ module _ (catalogue : List Line) (p : Provider) (over : IsOver catalogue p) (sam
   pub told_version : (s : SolvableId) → (told_at p s ≡ no_lines → ⊥) → (v : Version) × (slice_get (listed catalogue) s.raw ≡ Some v)
   told_version s there = go (slice_get p.told s.raw) refl
     where
-      go : (o : Option Told) → slice_get p.told s.raw ≡ o → (v : Version) × (slice_get (listed catalogue) s.raw ≡ Some v)
-      go None e = absurd (there (sym (unwrap_or-slice_get p.told s.raw no_lines) ∙ ap (λ (x : Option Told). unwrap_or x no_lines) e))
+      go : (o : Option VersionDependencies) → slice_get p.told s.raw ≡ o → (v : Version) × (slice_get (listed catalogue) s.raw ≡ Some v)
+      go None e = absurd (there (sym (unwrap_or-slice_get p.told s.raw no_lines) ∙ ap (λ (x : Option VersionDependencies). unwrap_or x no_lines) e))
       go (Some t) e =
           let below : s.raw < length p.told = slice_get_within p.told s.raw t e in
           let long : length p.told ≡ length (listed catalogue) = over.told.as_many in
@@ -213,7 +213,7 @@ module _ (catalogue : List Line) (p : Provider) (over : IsOver catalogue p) (sam
       by_bar : (u : Bar SolvableId) → KeepsOut same (packages_of p) u s → (v : Version) × (slice_get (listed catalogue) s.raw ≡ Some v)
       by_bar (Bar.lock l) (is, other, c) = among (subst (λ xs. Contains xs s) (candidates_are ss) (in_from p (listed catalogue) over.versions over.once same apart _ s c))
       by_bar (Bar.word why) (inl c) = among (excluded_in ss (s, why) c)
-      by_bar (Bar.word why) (inr lost) = told_version s (λ e. false≢true (sym (ap (λ (t : Told). is_unknown (needs_of t t.unknown)) e) ∙ ap is_unknown lost))
+      by_bar (Bar.word why) (inr lost) = told_version s (λ e. false≢true (sym (ap (λ (t : VersionDependencies). is_unknown (needs_of t t.unknown)) e) ∙ ap is_unknown lost))
 
 -- ---- the line that is found
 

@@ -33,7 +33,7 @@ use Rattle.resolvo_proof.specs.Steps.{literal_in}
 use Rattle.resolvo_proof.specs.declared.step.ProofLiteral.{ProofLiteral}
 use Rattle.resolvo_catalogue.specs.Ids.{NameId, SolvableId, solvable_id, solvables_of, IsPackage, IsSpec, AreEach, IsNeed, IsSolvable}
 use Rattle.resolvo_catalogue.specs.Known.{name_text, name_of, set_at, spec_at, members_of, alternatives_at}
-use Rattle.resolvo_catalogue.specs.Told.{Told}
+use Rattle.resolvo_catalogue.specs.Told.{VersionDependencies}
 use Rattle.resolvo_catalogue.specs.Provider.{Provider, packages_of, candidates_of, matches, told_at, no_lines, needs_of, dependencies_of}
 use Rattle.resolvo_catalogue.specs.Over.{IsOver, AreAsked}
 use Rattle.resolvo_catalogue.specs.KeptSets.{TellsApart, root_of}
@@ -68,7 +68,7 @@ each_contained R (z ∷ xs) (y ∷ ys) each x h = elim (contains_cases x z xs h)
 ]
 
 -- what limits a version is told of it
-pub told_limits : (told : List Told) (k : ℕ) (v : VersionSetId) → Contains (slice_index_or told k no_lines).constrains v → slice_get told k ≡ Some (slice_index_or told k no_lines)
+pub told_limits : (told : List VersionDependencies) (k : ℕ) (v : VersionSetId) → Contains (slice_index_or told k no_lines).constrains v → slice_get told k ≡ Some (slice_index_or told k no_lines)
 told_limits [] k v h = absurd (contains_none v h)
 told_limits (t ∷ told) zero v h = refl
 told_limits (t ∷ told) (suc k) v h = told_limits told k v h
@@ -216,18 +216,18 @@ module _ (catalogue : List Line) (provider : Provider) (over : IsOver catalogue 
     pub needed : (s : SolvableId) (need : ConditionalRequirement) → Contains (rules_of (dependencies_of provider s)).requirements need → IsVersion catalogue provider.ids s × ((said : List Spec × Option Cond) × IsNeed provider.ids need said)
     needed s need h = go (slice_get provider.told s.raw) refl
       where
-        told_is : (o : Option Told) → slice_get provider.told s.raw ≡ o → told_at provider s ≡ unwrap_or o no_lines
-        told_is o e = sym (unwrap_or-slice_get provider.told s.raw no_lines) ∙ ap (λ (x : Option Told). unwrap_or x no_lines) e
+        told_is : (o : Option VersionDependencies) → slice_get provider.told s.raw ≡ o → told_at provider s ≡ unwrap_or o no_lines
+        told_is o e = sym (unwrap_or-slice_get provider.told s.raw no_lines) ∙ ap (λ (x : Option VersionDependencies). unwrap_or x no_lines) e
 
-        stated : (t : Told) (why : Option StringId) → Contains (rules_of (needs_of t why)).requirements need → Contains t.requirements need
+        stated : (t : VersionDependencies) (why : Option StringId) → Contains (rules_of (needs_of t why)).requirements need → Contains t.requirements need
         stated t None a = a
         stated t (Some w) a = absurd (contains_none need a)
 
-        go : (o : Option Told) → slice_get provider.told s.raw ≡ o → IsVersion catalogue provider.ids s × ((said : List Spec × Option Cond) × IsNeed provider.ids need said)
-        go None e = absurd (contains_none need (stated no_lines None (subst (λ (t : Told). Contains (rules_of (needs_of t t.unknown)).requirements need) (told_is None e) h)))
+        go : (o : Option VersionDependencies) → slice_get provider.told s.raw ≡ o → IsVersion catalogue provider.ids s × ((said : List Spec × Option Cond) × IsNeed provider.ids need said)
+        go None e = absurd (contains_none need (stated no_lines None (subst (λ (t : VersionDependencies). Contains (rules_of (needs_of t t.unknown)).requirements need) (told_is None e) h)))
         go (Some t) e =
             let (numbers, all, tells) = over.told.each s.raw t e in
-            let (said, is) = each_contained (IsNeed provider.ids) t.requirements _ tells.requirements need (stated t t.unknown (subst (λ (x : Told). Contains (rules_of (needs_of x x.unknown)).requirements need) (told_is (Some t) e) h)) in
+            let (said, is) = each_contained (IsNeed provider.ids) t.requirements _ tells.requirements need (stated t t.unknown (subst (λ (x : VersionDependencies). Contains (rules_of (needs_of x x.unknown)).requirements need) (told_is (Some t) e) h)) in
             let below : s.raw < length provider.told = slice_get_within provider.told s.raw t e in
             let long : length provider.told ≡ length (listed catalogue) = over.told.as_many in
             let none : Version = record { name = []; number = 0 } in

@@ -27,7 +27,7 @@ use Rattle.resolvo_catalogue_core.specs.Questions.{ReadRequest}
 use Rattle.resolvo_pool_core.specs.declared.requirement.Requirement.TheVariants.{Single, Union}
 use Rattle.resolvo_catalogue.specs.Ids.{Ids, NameId, SolvableId, AreEach, IsNeed, IsSpec, IsConditionOf}
 use Rattle.resolvo_catalogue.specs.Known.{spec_at, alternatives_at, condition_at}
-use Rattle.resolvo_catalogue.specs.Told.{Told, need_in, limit_in, lines_at}
+use Rattle.resolvo_catalogue.specs.Told.{VersionDependencies, need_in, limit_in, lines_at}
 use Rattle.resolvo_catalogue.specs.Provider.{Provider, packages_of, told_at, no_lines, dependencies_of}
 use Rattle.resolvo_catalogue.specs.Over.{IsOver}
 use Rattle.resolvo_catalogue.specs.KeptSets.{root_of}
@@ -85,7 +85,7 @@ limit_in_lines ids vs ls each v has =
 pub request_line : (lines : List Line) (l : Line) → Contains lines l → (m : ℕ) × ((1 ≤ m) × (m ≤ length lines)) × (line_at lines m ≡ Some l)
 request_line lines l has = (let (k, there) = at_from_contains lines l has in let b : k < length lines = slice_get_within lines k l there in (suc k, (omega arith, omega (arith, b)), there))
 
-told_there : (told : List Told) (k : ℕ) (need : ConditionalRequirement) → Contains (slice_index_or told k no_lines).requirements need → slice_get told k ≡ Some (slice_index_or told k no_lines)
+told_there : (told : List VersionDependencies) (k : ℕ) (need : ConditionalRequirement) → Contains (slice_index_or told k no_lines).requirements need → slice_get told k ≡ Some (slice_index_or told k no_lines)
 told_there [] k need h = absurd (no_element need h)
 told_there (t ∷ told) zero need h = refl
 told_there (t ∷ told) (suc k) need h = told_there told k need h
