@@ -5,7 +5,7 @@ use Rattle.std.specs.List.{list_all}
 use Rattle.std.proofs.lemmas.List.{take_more, append-nil, drop_more, map-append}
 use Rattle.std.proofs.lemmas.Option.{get_or_from_slice_get}
 use Rattle.std.proofs.lemmas.List.Folds.{list_all-append}
-use Rattle.resolvo_pool_core.specs.OnePass.RupResult.{last, more}
+use Rattle.resolvo_pool_core.specs.OnePass.Rest.{last, more}
 use Rattle.resolvo_pool_core.specs.OnePass as pass
 use Rattle.resolvo_pool_core.specs.OnePass.{is_denied, is_broken, same_literal, rest_of, without_false, reading, refutes, learn}
 use Rattle.resolvo_checker.specs.declared.literal.Literal.{Literal}
@@ -43,12 +43,12 @@ reading-more known ls i d h =
       one l true = ap (rest_of nat_eq) (append-nil (without_false known (literals_of (take i ls))))
       one l false = rest_of-push nat_eq (without_false known (literals_of (take i ls))) l
 
-pub read_kept : (known : ℕ → Option Bool) (ls : List Literal) (i : ℕ) (d : Literal) (rest : pass.RupResult ℕ) → i < length ls → true ≡ is_denied (known (get_or ls i d).atom) (get_or ls i d).positive
+pub read_kept : (known : ℕ → Option Bool) (ls : List Literal) (i : ℕ) (d : Literal) (rest : pass.Rest ℕ) → i < length ls → true ≡ is_denied (known (get_or ls i d).atom) (get_or ls i d).positive
     → rest ≡ reading nat_eq known (literals_of (take i ls)) → rest ≡ reading nat_eq known (literals_of (take (i + 1) ls))
 read_kept known ls i d rest h denied e =
     e ∙ sym (reading-more known ls i d h ∙ ap (λ b. cond b (reading nat_eq known (literals_of (take i ls))) (meet nat_eq (reading nat_eq known (literals_of (take i ls))) (literal_of (get_or ls i d)))) (sym denied))
 
-pub read_met : (known : ℕ → Option Bool) (ls : List Literal) (i : ℕ) (d : Literal) (rest met : pass.RupResult ℕ) → i < length ls → false ≡ is_denied (known (get_or ls i d).atom) (get_or ls i d).positive
+pub read_met : (known : ℕ → Option Bool) (ls : List Literal) (i : ℕ) (d : Literal) (rest met : pass.Rest ℕ) → i < length ls → false ≡ is_denied (known (get_or ls i d).atom) (get_or ls i d).positive
     → rest ≡ reading nat_eq known (literals_of (take i ls)) → met ≡ meet nat_eq rest (literal_of (get_or ls i d)) → met ≡ reading nat_eq known (literals_of (take (i + 1) ls))
 read_met known ls i d rest met h denied e m =
     m ∙ (ap (λ r. meet nat_eq r (literal_of (get_or ls i d))) e

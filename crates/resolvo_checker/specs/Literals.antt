@@ -1,10 +1,10 @@
 -- What numbered literals and clauses are, without how they are kept.
 use Rattle.std.specs.Prelude.{ℕ, ◌-◌, List, [], map, slice_index_or}
-use Rattle.resolvo_pool_core.specs.OnePass.RupResult.{broken, last, more}
+use Rattle.resolvo_pool_core.specs.OnePass.Rest.{broken, last, more}
 use Rattle.resolvo_pool_core.specs.OnePass as pass
 use Rattle.resolvo_checker.specs.declared.literal.Literal.{Literal}
-use Rattle.resolvo_checker.specs.declared.literal.RupResult.{RupResult}
-use Rattle.resolvo_checker.specs.declared.literal.RupResult.TheVariants.{Broken, Last, Open}
+use Rattle.resolvo_checker.specs.declared.literal.Rest.{Rest}
+use Rattle.resolvo_checker.specs.declared.literal.Rest.TheVariants.{Broken, Last, Open}
 
 abbrev pub literal_of : Literal → pass.Literal ℕ
 literal_of l = record { atom = l.atom; positive = l.positive }
@@ -12,7 +12,7 @@ literal_of l = record { atom = l.atom; positive = l.positive }
 abbrev pub literals_of : List Literal → List (pass.Literal ℕ)
 literals_of ls = map literal_of ls
 
-abbrev pub rest_of : RupResult → pass.RupResult ℕ
+abbrev pub rest_of : Rest → pass.Rest ℕ
 rest_of Broken = broken
 rest_of (Last l) = last (literal_of l)
 rest_of Open = more

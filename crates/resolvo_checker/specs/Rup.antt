@@ -1,10 +1,10 @@
 -- How a pass goes on by one literal, and which steps it may read.
 use Rattle.std.specs.Prelude.{ℕ, Bool, ◌&&◌, nat_lt, nat_le, if◌then◌else◌}
-use Rattle.resolvo_pool_core.specs.OnePass.RupResult.{broken, last, more}
-use Rattle.resolvo_pool_core.specs.OnePass.{Literal, RupResult, same_literal}
+use Rattle.resolvo_pool_core.specs.OnePass.Rest.{broken, last, more}
+use Rattle.resolvo_pool_core.specs.OnePass.{Literal, Rest, same_literal}
 
 -- one more literal that isn't false
-abbrev pub meet : {A : Type 0} → (A → A → Bool) → RupResult A → Literal A → RupResult A
+abbrev pub meet : {A : Type 0} → (A → A → Bool) → Rest A → Literal A → Rest A
 meet same broken l = last l
 meet same (last m) l = if same_literal same m l then last m else more
 meet same more l = more

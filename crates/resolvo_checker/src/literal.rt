@@ -9,7 +9,7 @@ pub struct Literal {
 
 /// What a clause says once its false literals are left out.
 #[derive(Clone, Copy, Debug, PartialEq, Eq, Drop)]
-pub enum RupResult {
+pub enum Rest {
     /// No literal is left.
     Broken,
     /// One literal is, perhaps named twice.

@@ -10,7 +10,7 @@ ghost use Rattle.resolvo_checker.specs.Rup.{is_earlier, meet as meet_lem};
 
 use crate::assignment::Assignment;
 use crate::clauses::{Clauses, Readings};
-use crate::literal::{Literal, RupResult};
+use crate::literal::{Literal, Rest};
 use std::alloc::AllocError;
 
 fn is_false(truth: &Assignment, literal: Literal) -> bool
@@ -24,28 +24,28 @@ fn is_false(truth: &Assignment, literal: Literal) -> bool
 }
 
 /// What is left with one more literal that isn't false.
-fn met(rest: RupResult, literal: Literal) -> RupResult
+fn met(rest: Rest, literal: Literal) -> Rest
     ensures { rest_of_lem result ≡ meet_lem nat_eq (rest_of_lem rest) (literal_of literal) }
 {
     match rest {
-        RupResult::Broken => RupResult::Last(literal),
-        RupResult::Last(other) => {
+        Rest::Broken => Rest::Last(literal),
+        Rest::Last(other) => {
             if other.atom == literal.atom && other.positive == literal.positive {
-                RupResult::Last(other)
+                Rest::Last(other)
             } else {
-                RupResult::Open
+                Rest::Open
             }
         }
-        RupResult::Open => RupResult::Open,
+        Rest::Open => Rest::Open,
     }
 }
 
 /// What is left of the clause without its false literals.
-fn rest_of(truth: &Assignment, clause: &[Literal]) -> RupResult
+fn rest_of(truth: &Assignment, clause: &[Literal]) -> Rest
     ensures { rest_of_lem result
         ≡ reading nat_eq (known_in truth.now.marks.items truth.now.pass) (literals_of clause.now) }
 {
-    let mut rest = RupResult::Broken;
+    let mut rest = Rest::Broken;
     for literal in clause {
         if !is_false(truth, *literal) {
             rest = met(rest, *literal);
@@ -70,14 +70,14 @@ fn read(truth: &mut Assignment, clause: &[Literal]) -> Result<bool, AllocError>
     ensures pass { truth.new.pass ≡ truth.old.pass }
 {
     match rest_of(truth, clause) {
-        RupResult::Broken => Ok(true),
-        RupResult::Last(literal) => {
+        Rest::Broken => Ok(true),
+        Rest::Last(literal) => {
             if truth.known(literal.atom).is_none() {
                 truth.set(literal.atom, literal.positive)?;
             }
             Ok(false)
         }
-        RupResult::Open => Ok(false),
+        Rest::Open => Ok(false),
     }
 }
 
