@@ -163,7 +163,7 @@ def name_faults(page: str, words: Set[str]) -> Iterator[str]:
     text = read(page)
     crates = {c for room in rooms().values() for c in room}
     for path in sorted(set(re.findall(SOURCES, text)) | set(re.findall(FILES, text))):
-        if not is_there(path, page, ""):
+        if "NAME" not in path and not is_there(path, page, ""):
             yield f"{page}: no file {path}"
     for path in re.findall(r"(?<![\w/-])[A-Z]{4,}\.md\b", text):
         if not os.path.exists(os.path.join(ROOT, "docs", path)) and not is_there(path, page, ""):
@@ -202,7 +202,7 @@ def faults() -> Iterator[str]:
     words = known_words()
     for page in pages():
         yield from name_faults(page, words)
-        if page.startswith("crates/") or os.path.basename(page) in ("ARCHITECTURE.md", "CHANGING.md", "CLAIMS.md", "GLOSSARY.md", "AUDIT.md"):
+        if page.startswith("crates/") or os.path.basename(page) in ("ARCHITECTURE.md", "CHANGING.md", "CLAIMS.md", "GLOSSARY.md", "AUDIT.md", "PROOFS.md"):
             yield from word_faults(page, words)
 
 
