@@ -56,7 +56,7 @@ def modules(crate: str) -> List[str]:
 def code(text: str) -> Iterator[str]:
     """Its lines without comments."""
     for line in text.split("\n"):
-        yield line.split("//")[0]
+        yield re.split(r"//|(?:^|\s)--(?:\s|$)", line)[0]
 
 
 def self_type(header: str) -> str:
@@ -127,8 +127,9 @@ def room_faults() -> Iterator[str]:
                 yield f"{page}: no heading for {crate}"
                 continue
             names = {w for q in quoted(parts[crate]) for w in WORD.findall(q)}
+            rows = set(re.findall(r"^\| `(\w+)` \|", parts[crate], re.M))
             for module in modules(crate):
-                if module not in names:
+                if module not in rows:
                     yield f"{page}: {crate} has a module {module}"
             for module, owner, name in sorted(public(crate)):
                 if name not in names:
