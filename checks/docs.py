@@ -193,7 +193,8 @@ def word_faults(page: str, words: Set[str]) -> Iterator[str]:
     for item in quoted(text):
         if re.fullmatch(r"[A-Za-z_]\w*(?:::\w+)*", item) and ("_" in item or item[0].isupper()):
             for word in WORD.findall(item):
-                if word not in words and not re.fullmatch(r"[A-Z]+|NAME_tests", word):
+                begins = word.endswith("_") and any(w.startswith(word) for w in words)
+                if word not in words and not begins and not re.fullmatch(r"[A-Z]+|NAME_tests", word):
                     yield f"{page}: no source has {item}"
 
 
