@@ -2,7 +2,7 @@
 """Compares the documents with the sources.
 
 docs.py                      says what is wrong: a module or a public call that the README of its room lacks, a name, file or
-                             crate that isn't there, a dead link. Status 1 where anything is.
+                             crate that isn't there, a dead link, a count of AUDIT.md. Status 1 where anything is.
 docs.py --closure CRATE/SPEC ..  lists the files of specs/ that these import, all the way down, with their lines.
 """
 import glob
@@ -198,9 +198,24 @@ def word_faults(page: str, words: Set[str]) -> Iterator[str]:
                     yield f"{page}: no source has {item}"
 
 
+def count_faults() -> Iterator[str]:
+    """Counts of AUDIT.md that its commands don't give."""
+    text = read("docs/AUDIT.md").replace("\\\n", " ")
+    for words, lines, files in re.findall(r"^\$ python3 checks/docs.py --closure (.*)\n +(\d+) lines in (\d+) files$", text, re.M):
+        paths = closure(words.split())
+        count = sum(read(path).count("\n") for path in paths)
+        if (count, len(paths)) != (int(lines), int(files)):
+            yield f"docs/AUDIT.md: {words.split()[0]} imports {count} lines in {len(paths)} files"
+    for words, lines in re.findall(r"^\$ wc -l (.*)\n +(\d+) total$", text, re.M):
+        count = sum(read(path).count("\n") for path in words.split())
+        if count != int(lines):
+            yield f"docs/AUDIT.md: {words} have {count} lines"
+
+
 def faults() -> Iterator[str]:
     """All that is wrong."""
     yield from room_faults()
+    yield from count_faults()
     words = known_words()
     for page in pages():
         yield from name_faults(page, words)
