@@ -1,0 +1,259 @@
+#!/usr/bin/env python3
+"""Compares the documents with the sources.
+
+docs.py                      says what is wrong: a module or a public call that the README of its room lacks, a name, file or
+                             crate that isn't there, a dead link, a count of AUDIT.md. Status 1 where anything is.
+docs.py --closure CRATE/SPEC ..  lists the files of specs/ that these import, all the way down, with their lines.
+"""
+import glob
+import os
+import re
+import sys
+from typing import Dict, Iterator, List, Set, Tuple
+
+ROOT = os.path.dirname(os.path.dirname(os.path.abspath(__file__)))
+PAGES = ("README.md", "CONTRIBUTING.md", "docs/*.md", "crates/*/README.md")
+TESTS = "Tests"
+ITEM = re.compile(r"(?P<indent> *)pub (?:const )?(?:fn|struct|enum|trait|type|const|static) (?P<name>\w+)")
+BLOCK = re.compile(r"(?:pub )?(?P<kind>impl|trait)\b(?P<rest>.*)")
+MEMBER = re.compile(r" {4}(?:pub )?fn (?P<name>\w+)")
+SOURCES = r"\b(?:crates/)?resolv[eo][a-z_]*/(?:src|specs|proofs|must-fail|data)/[\w/.-]+\.\w+"
+FILES = r"(?<![\w/.-])(?:docs|crates|tools|checks|bench|examples)/[\w/.*-]+\.(?:md|py|rt|antt|row|edit)\b"
+WORD = re.compile(r"[A-Za-z_]\w*")
+
+
+def read(path: str) -> str:
+    """The text of a file below the root."""
+    with open(os.path.join(ROOT, path), encoding="utf-8") as file:
+        return file.read()
+
+
+def pages() -> List[str]:
+    """All documents."""
+    return sorted(os.path.relpath(p, ROOT) for form in PAGES for p in glob.glob(os.path.join(ROOT, form)))
+
+
+def rooms() -> Dict[str, List[str]]:
+    """The crates of each room, as `crates.txt` groups them."""
+    found: Dict[str, List[str]] = {}
+    room = ""
+    for line in read("crates.txt").split("\n"):
+        if line.startswith("#"):
+            room = line[1:].strip()
+        elif ":" in line:
+            found.setdefault(room, []).append(line.split(":")[0])
+    return found
+
+
+# ---- what a crate has
+
+def modules(crate: str) -> List[str]:
+    """Its modules in src/."""
+    names = [f[:-3] for f in sorted(os.listdir(os.path.join(ROOT, "crates", crate, "src"))) if f.endswith(".rt")]
+    return [n for n in names if n not in ("lib", "main")]
+
+
+def code(text: str) -> Iterator[str]:
+    """Its lines without comments."""
+    for line in text.split("\n"):
+        yield re.split(r"//|(?:^|\s)--(?:\s|$)", line)[0]
+
+
+def self_type(header: str) -> str:
+    """The type of an `impl`."""
+    header = re.sub(r"<[^<>]*>", "", re.sub(r"<[^<>]*>", "", re.sub(r"<[^<>]*>", "", header)))
+    header = header.split(" where ")[0].split("{")[0]
+    found = WORD.findall(header.split(" for ")[-1])
+    return found[0] if found else ""
+
+
+def items(crate: str) -> Iterator[Tuple[str, str, str]]:
+    """Module, owner (a type, a trait, or nothing) and name of each item that is marked public."""
+    for module in modules(crate):
+        owner, kind = "", ""
+        for line in code(read(f"crates/{crate}/src/{module}.rt")):
+            block = BLOCK.match(line)
+            if block:
+                kind = block["kind"]
+                owner = self_type(block["rest"])
+            item = ITEM.match(line)
+            if item and not item["indent"]:
+                yield module, "", item["name"]
+            elif item or (kind == "trait" and MEMBER.match(line)):
+                found = item or MEMBER.match(line)
+                assert found
+                yield module, owner, found["name"]
+
+
+def public(crate: str) -> Set[Tuple[str, str, str]]:
+    """The items that another crate can name."""
+    lib = f"crates/{crate}/src/lib.rt"
+    if not os.path.exists(os.path.join(ROOT, lib)):
+        return set()
+    text = "\n".join(code(read(lib)))
+    opened = set(re.findall(r"^pub mod (\w+);", text, re.M))
+    named = {w for m in re.finditer(r"^pub use (\w+)::([^;]*);", text, re.M) for w in WORD.findall(m[2]) if m[1] in modules(crate)}
+    found = set(items(crate))
+    types = {n for m, o, n in found if not o and (m in opened or n in named)}
+    return {(m, o, n) for m, o, n in found if (n in types if not o else o in types)}
+
+
+# ---- a page
+
+def sections(text: str) -> Dict[str, str]:
+    """The parts of a page below a heading that names a crate."""
+    parts = re.split(r"^## `(\w+)`$", text, flags=re.M)
+    return dict(zip(parts[1::2], parts[2::2]))
+
+
+def quoted(text: str) -> List[str]:
+    """What stands in backticks, outside of blocks."""
+    return re.findall(r"`([^`\n]+)`", re.sub(r"^```.*?^```", "", text, flags=re.M | re.S))
+
+
+def room_faults() -> Iterator[str]:
+    """What the READMEs of the rooms lack."""
+    for room, crates in rooms().items():
+        if room.startswith(TESTS):
+            continue
+        doors = [c for c in crates if os.path.exists(os.path.join(ROOT, "crates", c, "README.md"))]
+        if len(doors) != 1:
+            yield f"crates.txt: the room '{room}' has {len(doors)} READMEs"
+            continue
+        page = f"crates/{doors[0]}/README.md"
+        parts = sections(read(page))
+        for crate in crates:
+            if crate not in parts:
+                yield f"{page}: no heading for {crate}"
+                continue
+            names = {w for q in quoted(parts[crate]) for w in WORD.findall(q)}
+            rows = set(re.findall(r"^\| `(\w+)` \|", parts[crate], re.M))
+            for module in modules(crate):
+                if module not in rows:
+                    yield f"{page}: {crate} has a module {module}"
+            for module, owner, name in sorted(public(crate)):
+                if name not in names:
+                    yield f"{page}: {crate}::{module} has {owner + '::' if owner else ''}{name}"
+
+
+def is_there(path: str, page: str, crate: str) -> bool:
+    """Whether a file is there: below the root, crates/, the page's folder, or the crate of its section."""
+    places = ("", "crates", os.path.dirname(page), os.path.join("crates", crate))
+    return any(glob.glob(os.path.join(ROOT, place, path)) for place in places)
+
+
+def is_edit(text: str) -> bool:
+    """Whether CRATE/NAME is a wrong body."""
+    crate, name = text.split("/")
+    return any(os.path.exists(os.path.join(ROOT, p)) for p in (f"crates/{crate}/must-fail/{name}.edit", f"checks/edits/{crate}/{name}.edit"))
+
+
+def known_words() -> Set[str]:
+    """Each word of the sources, comments apart, and each name of a file."""
+    found: Set[str] = set()
+    for form in ("crates/*/src/**/*.rt", "crates/*/specs/*.antt", "crates/*/proofs/**/*.antt", "tools/*.py", "checks/*.py"):
+        for path in glob.glob(os.path.join(ROOT, form), recursive=True):
+            text = read(path)
+            found |= {w for line in code(text) for w in WORD.findall(line)}
+            found |= set(WORD.findall(os.path.relpath(path, ROOT)))
+    return found
+
+
+def name_faults(page: str, words: Set[str]) -> Iterator[str]:
+    """Names, files and crates of a page that aren't there."""
+    text = read(page)
+    crates = {c for room in rooms().values() for c in room}
+    for path in sorted(set(re.findall(SOURCES, text)) | set(re.findall(FILES, text))):
+        if "NAME" not in path and not is_there(path, page, ""):
+            yield f"{page}: no file {path}"
+    for path in re.findall(r"(?<![\w/-])[A-Z]{4,}\.md\b", text):
+        if not os.path.exists(os.path.join(ROOT, "docs", path)) and not is_there(path, page, ""):
+            yield f"{page}: no document {path}"
+    for target in re.findall(r"\]\(([^)#\s]+)[^)]*\)", text):
+        if "://" not in target and not os.path.exists(os.path.join(ROOT, os.path.dirname(page), target)):
+            yield f"{page}: a dead link {target}"
+    for crate, part in [("", text)] if not page.startswith("crates/") else sections(text).items():
+        for item in quoted(part):
+            if re.fullmatch(r"resolv[eo]_\w+", item) and item not in crates and item not in words:
+                yield f"{page}: no crate {item}"
+            if re.fullmatch(r"resolv[eo]\w*/\w+", item) and not is_edit(item) and not is_there(item, page, crate):
+                yield f"{page}: no file or wrong body {item}"
+            if re.fullmatch(r"(?:src|specs|proofs)/[\w/]+\.\w+", item) and page.startswith("crates/") and not is_there(item, page, crate):
+                yield f"{page}: {crate} has no file {item}"
+            path = re.fullmatch(r"(resolv[eo]\w*)::(\w+)(?:::.*)?", item)
+            if path and (path[1] not in crates or path[2] not in words):
+                yield f"{page}: no path {item}"
+
+
+def word_faults(page: str, words: Set[str]) -> Iterator[str]:
+    """Types and calls of a page that no source has."""
+    text = read(page)
+    if page.endswith("GLOSSARY.md"):
+        text = "\n".join(line.split("|")[1] for line in text.split("\n") if line.startswith("|"))
+    for item in quoted(text):
+        if re.fullmatch(r"[A-Za-z_]\w*(?:::\w+)*", item) and ("_" in item or item[0].isupper()):
+            for word in WORD.findall(item):
+                begins = word.endswith("_") and any(w.startswith(word) for w in words)
+                if word not in words and not begins and not re.fullmatch(r"[A-Z]+|NAME_tests", word):
+                    yield f"{page}: no source has {item}"
+
+
+def count_faults() -> Iterator[str]:
+    """Counts of AUDIT.md that its commands don't give."""
+    text = read("docs/AUDIT.md").replace("\\\n", " ")
+    for words, lines, files in re.findall(r"^\$ python3 checks/docs.py --closure (.*)\n +(\d+) lines in (\d+) files$", text, re.M):
+        paths = closure(words.split())
+        count = sum(read(path).count("\n") for path in paths)
+        if (count, len(paths)) != (int(lines), int(files)):
+            yield f"docs/AUDIT.md: {words.split()[0]} imports {count} lines in {len(paths)} files"
+    for words, lines in re.findall(r"^\$ wc -l (.*)\n +(\d+) total$", text, re.M):
+        count = sum(read(path).count("\n") for path in words.split())
+        if count != int(lines):
+            yield f"docs/AUDIT.md: {words} have {count} lines"
+
+
+def faults() -> Iterator[str]:
+    """All that is wrong."""
+    yield from room_faults()
+    yield from count_faults()
+    words = known_words()
+    for page in pages():
+        yield from name_faults(page, words)
+        if page.startswith("crates/") or os.path.basename(page) in ("ARCHITECTURE.md", "CHANGING.md", "CLAIMS.md", "GLOSSARY.md", "AUDIT.md", "PROOFS.md"):
+            yield from word_faults(page, words)
+
+
+# ---- what a definition imports
+
+def closure(starts: List[str]) -> List[str]:
+    """The files of specs/ that these CRATE/SPEC import, all the way down."""
+    found: Set[str] = set()
+    left = [f"crates/{s.split('/')[0]}/specs/{s.split('/')[1]}.antt" for s in starts]
+    while left:
+        path = left.pop()
+        if path not in found:
+            found.add(path)
+            named = re.findall(r"Rattle\.(resolv[eo]\w*)\.specs\.(\w+)", read(path))
+            left += [p for c, m in named for p in [f"crates/{c}/specs/{m}.antt"] if os.path.exists(os.path.join(ROOT, p))]
+    return sorted(found)
+
+
+def main() -> int:
+    """The command line."""
+    if sys.argv[1:2] == ["--closure"]:
+        total = 0
+        for path in closure(sys.argv[2:]):
+            count = read(path).count("\n")
+            total += count
+            print(f"{count:5} {path}")
+        print(f"{total:5} lines in {len(closure(sys.argv[2:]))} files")
+        return 0
+    found = sorted(set(faults()))
+    for fault in found:
+        print(fault)
+    print(f"{len(pages())} pages, {len(found)} faults")
+    return 1 if found else 0
+
+
+if __name__ == "__main__":
+    sys.exit(main())
