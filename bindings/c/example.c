@@ -1,0 +1,70 @@
+/* Prints what to install for a catalogue and a request, and asks the judge about it. Status 0 is install, 1 refused.
+
+   cc example.c -I. -L../../out/embedding -l:libresolve.a -o example
+   ./example ../../examples/app.catalogue ../../examples/app.request */
+#include <stdio.h>
+#include <stdlib.h>
+
+#include "resolve.h"
+
+struct text {
+	uint8_t *bytes;
+	size_t length;
+};
+
+static struct text read_file(const char *path)
+{
+	struct text text = {NULL, 0};
+	size_t room = 0, came;
+	FILE *file = fopen(path, "rb");
+	if (file == NULL) {
+		perror(path);
+		exit(2);
+	}
+	do {
+		if (text.length == room) {
+			room = room == 0 ? 4096 : 2 * room;
+			text.bytes = realloc(text.bytes, room);
+			if (text.bytes == NULL)
+				abort();
+		}
+		came = fread(text.bytes + text.length, 1, room - text.length, file);
+		text.length += came;
+	} while (came > 0);
+	fclose(file);
+	return text;
+}
+
+int main(int count, char **words)
+{
+	if (count != 3) {
+		fprintf(stderr, "usage: example CATALOGUE REQUEST\n");
+		return 2;
+	}
+	struct text catalogue = read_file(words[1]), request = read_file(words[2]), report = {NULL, 0};
+	size_t room = 0;
+	resolve_told told = resolve_solve(catalogue.bytes, catalogue.length, request.bytes, request.length, NULL, 0);
+	while (told.length > room) {
+		room = told.length;
+		report.bytes = realloc(report.bytes, room);
+		if (report.bytes == NULL)
+			abort();
+		told = resolve_solve(catalogue.bytes, catalogue.length, request.bytes, request.length, report.bytes, room);
+	}
+	report.length = told.length;
+	if (told.ending > RESOLVE_FAULTY) {
+		fprintf(stderr, "resolve ended with %u\n", told.ending);
+		return 2;
+	}
+	fwrite(report.bytes, 1, report.length, stdout);
+	if (told.ending == RESOLVE_FAULTY)
+		return 2;
+	uint8_t verdict[64];
+	resolve_told judged = resolve_judge(catalogue.bytes, catalogue.length, request.bytes, request.length,
+					    report.bytes, report.length, verdict, sizeof verdict);
+	fprintf(stderr, "the judge says %.*s", (int)judged.length, (const char *)verdict);
+	free(catalogue.bytes);
+	free(request.bytes);
+	free(report.bytes);
+	return (int)told.ending;
+}

@@ -1,0 +1,148 @@
+"""Where the calls go: a shared object made of the proved archive, or the program `resolve`."""
+from __future__ import annotations
+
+import ctypes
+import os
+import shutil
+import subprocess
+import tempfile
+from typing import Optional, Protocol, Sequence, Union
+
+HERE = os.path.dirname(os.path.abspath(__file__))
+Bytes = Union[bytes, bytearray, memoryview]
+
+# how a call ends: as bindings/c/resolve.h says; the first three have a text
+TOO_LONG, NO_MEMORY, NO_IDS = 4, 5, 6
+
+
+class ResolveError(Exception):
+    """No text was written."""
+
+
+class Unavailable(ResolveError):
+    """There is neither a shared object nor a program, or the program failed."""
+
+
+class TooLong(ResolveError):
+    """A text has more bytes than it may have."""
+
+
+class NoIds(ResolveError):
+    """More numbers of a kind would be needed than there are."""
+
+
+class Backend(Protocol):
+    """What answers: the ending 0, 1 or 2, and the text."""
+
+    def solve(self, catalogue: Bytes, request: Bytes) -> tuple[int, bytes]: ...
+
+    def judge(self, catalogue: Bytes, request: Bytes, report: Bytes) -> tuple[int, bytes]: ...
+
+
+def lack(ending: int) -> Exception:
+    """What to raise where there is no text."""
+    if ending == TOO_LONG:
+        return TooLong("too long")
+    if ending == NO_MEMORY:
+        return MemoryError("no memory")
+    if ending == NO_IDS:
+        return NoIds("no ids")
+    return Unavailable(f"resolve ended with {ending}")
+
+
+# ---- the shared object
+
+
+class Told(ctypes.Structure):
+    _fields_ = [("ending", ctypes.c_uint32), ("length", ctypes.c_uint64)]
+
+
+class Library:
+    """The calls of a shared object. Other threads go on while a call runs."""
+
+    def __init__(self, path: Union[str, "os.PathLike[str]"], room: int = 65_536) -> None:
+        """`room` bytes are taken for a text at first; a longer text takes a second call."""
+        self.path = os.fspath(path)
+        self.room = room
+        loaded = ctypes.CDLL(self.path)
+        text = [ctypes.c_char_p, ctypes.c_size_t]
+        out = [ctypes.c_char_p, ctypes.c_size_t]
+        self._judge = loaded.resolve_judge
+        self._judge.argtypes = text * 3 + out
+        self._judge.restype = Told
+        # an archive of the judge alone has no solver
+        self._solve = getattr(loaded, "resolve_solve", None)
+        if self._solve is not None:
+            self._solve.argtypes = text * 2 + out
+            self._solve.restype = Told
+
+    def _call(self, function, texts: Sequence[Bytes]) -> tuple[int, bytes]:
+        arguments = [part for text in map(bytes, texts) for part in (text, len(text))]
+        room = self.room
+        while True:
+            out = ctypes.create_string_buffer(room) if room else None
+            told = function(*arguments, out, room)
+            if told.ending > 2:
+                raise lack(told.ending)
+            if told.length <= room:
+                return told.ending, b"" if out is None else ctypes.string_at(out, told.length)
+            room = told.length
+
+    def solve(self, catalogue: Bytes, request: Bytes) -> tuple[int, bytes]:
+        if self._solve is None:
+            raise Unavailable(f"{self.path} has the judge alone")
+        return self._call(self._solve, (catalogue, request))
+
+    def judge(self, catalogue: Bytes, request: Bytes, report: Bytes) -> tuple[int, bytes]:
+        return self._call(self._judge, (catalogue, request, report))
+
+
+# ---- the program
+
+
+class Program:
+    """The calls as runs of the program, over files in a folder that is removed again."""
+
+    LAST_LINES = {b"too long\n": TOO_LONG, b"no memory\n": NO_MEMORY, b"no ids\n": NO_IDS}
+
+    def __init__(self, path: Union[str, "os.PathLike[str]"]) -> None:
+        self.path = os.fspath(path)
+
+    def _call(self, word: str, texts: Sequence[Bytes]) -> tuple[int, bytes]:
+        with tempfile.TemporaryDirectory() as folder:
+            paths = [os.path.join(folder, name) for name in ("catalogue", "request", "report")[:len(texts)]]
+            for path, text in zip(paths, texts):
+                with open(path, "wb") as file:
+                    file.write(text)
+            try:
+                ended = subprocess.run([self.path, word, *paths], stdin=subprocess.DEVNULL, stdout=subprocess.PIPE, check=False)
+            except OSError as error:
+                raise Unavailable(str(error)) from error
+        if ended.returncode not in (0, 1, 2) or (ended.returncode == 2 and not ended.stdout.startswith(b"fault at ")):
+            raise lack(self.LAST_LINES.get(ended.stdout, ended.returncode))
+        return ended.returncode, ended.stdout
+
+    def solve(self, catalogue: Bytes, request: Bytes) -> tuple[int, bytes]:
+        return self._call("solve", (catalogue, request))
+
+    def judge(self, catalogue: Bytes, request: Bytes, report: Bytes) -> tuple[int, bytes]:
+        return self._call("judge", (catalogue, request, report))
+
+
+_default: Optional[Backend] = None
+
+
+def default_backend() -> Backend:
+    """The shared object that RESOLVE_LIBRARY names or that lies in this package; else the program that RESOLVE names, that
+    lies in this package, or that is found on PATH."""
+    global _default
+    if _default is None:
+        library = os.environ.get("RESOLVE_LIBRARY") or os.path.join(HERE, "libresolve.so")
+        program = os.environ.get("RESOLVE") or shutil.which("resolve", path=HERE) or shutil.which("resolve")
+        if os.path.exists(library):
+            _default = Library(library)
+        elif program is not None:
+            _default = Program(program)
+        else:
+            raise Unavailable("no shared object and no program: set RESOLVE_LIBRARY or RESOLVE")
+    return _default

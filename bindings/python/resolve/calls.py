@@ -1,0 +1,19 @@
+"""The two calls."""
+from __future__ import annotations
+
+from typing import Optional
+
+from resolve.answers import Answer, Verdict, Yes, faulty_in, installed_in, no_in, refused_in
+from resolve.backends import Backend, Bytes, default_backend
+
+
+def solve(catalogue: Bytes, request: Bytes, backend: Optional[Backend] = None) -> Answer:
+    """What to install for the request, or why nothing can be: `resolve solve`."""
+    ending, text = (backend or default_backend()).solve(catalogue, request)
+    return (installed_in, refused_in, faulty_in)[ending](text)
+
+
+def judge(catalogue: Bytes, request: Bytes, report: Bytes, backend: Optional[Backend] = None) -> Verdict:
+    """Whether a report holds, whoever wrote it: `resolve judge`. After `Yes` what it claims is true."""
+    ending, text = (backend or default_backend()).judge(catalogue, request, report)
+    return (Yes, no_in, faulty_in)[ending](text)

@@ -1,0 +1,72 @@
+"""The repository's examples through whatever backend is there. Run in this folder: python3 -m unittest discover tests"""
+import os
+import sys
+import unittest
+
+HERE = os.path.dirname(os.path.abspath(__file__))
+sys.path.insert(0, os.path.dirname(HERE))
+EXAMPLES = os.path.join(HERE, "../../../examples")
+
+import resolve  # noqa: E402
+from resolve import Entry, Faulty, Installed, LeftOut, No, Refused, Yes, judge, solve  # noqa: E402
+
+
+def example(name: str) -> bytes:
+    with open(os.path.join(EXAMPLES, name), "rb") as file:
+        return file.read()
+
+
+class Examples(unittest.TestCase):
+    def test_install(self):
+        catalogue, request = example("app.catalogue"), example("app.request")
+        answer = solve(catalogue, request)
+        self.assertIsInstance(answer, Installed)
+        self.assertEqual(answer.text, example("app.report"))
+        self.assertEqual(answer.versions, {"app": 2, "http": 3, "json": 7})
+        self.assertEqual(answer.entries[1], Entry("http", 3, 2))
+        self.assertEqual(judge(catalogue, request, answer.text), Yes(b"yes\n"))
+
+    def test_refused(self):
+        catalogue, request = example("app.catalogue"), example("conflict.request")
+        answer = solve(catalogue, request)
+        self.assertIsInstance(answer, Refused)
+        self.assertEqual(answer.text, example("conflict.report"))
+        self.assertEqual((answer.catalogue_lines, answer.request_lines), ((), (3, 4)))
+        self.assertEqual(len(answer.steps), 5)
+        self.assertTrue(answer.message.startswith("The following packages are incompatible\n├─ http 4"))
+        self.assertEqual(judge(catalogue, request, answer.text), Yes(b"yes\n"))
+        self.assertEqual(judge(catalogue, b"needs app\n", answer.text), No(b"no line 2\n", 2))
+
+    def test_wishes(self):
+        answer = solve(example("wishes.catalogue"), example("wishes.request"))
+        self.assertIsInstance(answer, Installed)
+        self.assertEqual(answer.entries[1:], (Entry("spell", 1, 2, wished=True), Entry("dict", 9, 5, "spell=1")))
+        self.assertEqual(answer.left_out, (LeftOut("vim-keys", 3, 3, 2), LeftOut("old-theme", 1, 4, 4)))
+        self.assertEqual(len(answer.steps), 4)
+
+    def test_faulty(self):
+        self.assertEqual(solve(b"version a 1\nversion a 1\n", b""), Faulty(b"fault at catalogue line 2\n", "catalogue", 2))
+        self.assertEqual(judge(b"", b"needs  a\n", b""), Faulty(b"fault at request line 1\n", "request", 1))
+
+    def test_empty(self):
+        self.assertEqual(solve(b"", b"").text, b"install\n")
+
+    def test_too_long(self):
+        with self.assertRaises(resolve.TooLong):
+            solve(b"#" * (2**24 + 1), b"")
+
+    def test_bytes_of_any_kind(self):
+        catalogue = bytearray(example("app.catalogue"))
+        self.assertEqual(solve(catalogue, memoryview(example("app.request"))).text, example("app.report"))
+
+    def test_short_rooms(self):
+        backend = resolve.default_backend()
+        if not isinstance(backend, resolve.Library):
+            self.skipTest("no shared object")
+        for room in range(70):
+            small = resolve.Library(backend.path, room)
+            self.assertEqual(solve(example("app.catalogue"), example("app.request"), small).text, example("app.report"))
+
+
+if __name__ == "__main__":
+    unittest.main()

@@ -1,0 +1,33 @@
+-- The numbers that say how a call ended.
+use Rattle.std.specs.Prelude.{ℕ}
+use Rattle.resolve_check.specs.declared.outcome.Outcome.{Outcome}
+use Rattle.resolve_check.specs.declared.outcome.Outcome.TheVariants.{Installed, Refused, Faulty}
+use Rattle.resolve_check.specs.declared.outcome.Checked.{Checked}
+use Rattle.resolve_check.specs.declared.outcome.Checked.TheVariants as checked
+use Rattle.resolve_check.specs.declared.outcome.RunFault.{RunFault}
+use Rattle.resolve_check.specs.declared.outcome.RunFault.TheVariants.{Reader, TooLong, Memory, Ids, Writer}
+
+-- of a text that was written: the status of `resolve solve`
+abbrev pub ending_of : Outcome → ℕ
+ending_of Installed = 0
+ending_of Refused = 1
+ending_of Faulty = 2
+
+-- of a text that was written: the status of `resolve judge`
+abbrev pub check_ending_of : Checked → ℕ
+check_ending_of checked.Yes = 0
+check_ending_of checked.No = 1
+check_ending_of checked.Faulty = 2
+
+-- why a run or a check into a sink that grows has no text: where the sink refused, memory was lacking
+abbrev pub growing : RunFault → RunFault
+growing Writer = Memory
+growing e = e
+
+-- where there is no text
+abbrev pub fault_ending_of : RunFault → ℕ
+fault_ending_of Reader = 3
+fault_ending_of TooLong = 4
+fault_ending_of Memory = 5
+fault_ending_of Ids = 6
+fault_ending_of Writer = 7

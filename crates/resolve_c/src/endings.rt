@@ -1,0 +1,51 @@
+//! The numbers that say how a call ended.
+
+ghost use Rattle.std.specs.Prelude.{◌≡◌};
+ghost use Rattle.resolve_c.specs.Endings.{ending_of, check_ending_of, fault_ending_of, growing};
+
+use resolve_check::outcome::{Checked, Outcome, RunFault};
+
+/// How a call ended that wrote a report or a faulty line.
+pub(crate) fn ending_of(outcome: Outcome) -> u32
+    ensures { result ≡ ending_of outcome }
+{
+    match outcome {
+        Outcome::Installed => 0,
+        Outcome::Refused => 1,
+        Outcome::Faulty => 2,
+    }
+}
+
+/// How a call ended that wrote a verdict or a faulty line.
+pub(crate) fn check_ending_of(checked: Checked) -> u32
+    ensures { result ≡ check_ending_of checked }
+{
+    match checked {
+        Checked::Yes => 0,
+        Checked::No => 1,
+        Checked::Faulty => 2,
+    }
+}
+
+/// The same fault, but no memory where the sink refused: one that grows refuses for nothing else.
+pub(crate) fn growing(fault: RunFault) -> RunFault
+    ensures { result ≡ growing fault }
+{
+    match fault {
+        RunFault::Writer => RunFault::Memory,
+        fault => fault,
+    }
+}
+
+/// How a call ended that has no text.
+pub(crate) fn fault_ending_of(fault: RunFault) -> u32
+    ensures { result ≡ fault_ending_of fault }
+{
+    match fault {
+        RunFault::Reader => 3,
+        RunFault::TooLong => 4,
+        RunFault::Memory => 5,
+        RunFault::Ids => 6,
+        RunFault::Writer => 7,
+    }
+}

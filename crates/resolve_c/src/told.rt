@@ -1,0 +1,23 @@
+//! What a call returns beside the bytes in the caller's room.
+
+ghost use Rattle.resolve_c.specs.Told.{Leaves};
+
+/// How a call ended, and how long its text is. C knows it as `resolve_told`.
+#[repr(C)]
+#[derive(Clone, Copy)]
+pub struct Told {
+    pub ending: u32,
+    pub length: u64,
+}
+
+/// Writes the front of the text that fits into the caller's room, and nothing else there.
+pub(crate) fn tell(ending: u32, text: &[u8], room: &mut [u8]) -> Told
+    ensures { Leaves ending text.now room.old room.new result }
+{
+    let count = text.len().min(room.len());
+    room[..count].copy_from_slice(&text[..count]);
+    Told {
+        ending,
+        length: text.len() as u64,
+    }
+}
