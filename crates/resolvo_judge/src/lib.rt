@@ -14,9 +14,13 @@ mod versions;
 
 pub use judgement::{JudgeFault, Judged, Verdict, judge, judge_counted};
 pub use laws::{
-    accepted_install_is_true, accepted_refusal_is_true, places_are_one, proof_bars, proof_refutes,
-    steps_are_true, upheld_texts_are_refused_nowhere,
+    accepted_install_is_true, accepted_refusal_is_true, messages_change_nothing, places_are_one,
+    proof_bars, proof_refutes, steps_are_true, upheld_texts_are_refused_nowhere,
 };
 pub use resolvo_checker::check_step::Premises;
 pub use resolvo_checker::clauses::Readings;
 pub use resolvo_checker::proof::{Checked, check_steps, count_causes};
+pub use resolvo_report::{
+    AnswerLine, Atom, Literal, Part, Place, Report, ReportFault, ReportLine, ReportReader,
+    ReportWriteFault, Step, reports_are_read, texts_say_one_report,
+};
