@@ -3,7 +3,8 @@
 
 Usage: checks/apt.py [COUNT] [SEED] [PATH OF THE PROGRAM]
 Defaults: 20 packages, seed 1, crates/resolve/out/resolve (which `rt run` leaves).
-Versions drawn from the index are compared by pairs, which `dpkg --compare-versions` decides too.
+Versions drawn from the index are compared by pairs, as many as PAIRS says (10,000), which `dpkg --compare-versions` decides too;
+with 0 for COUNT these alone.
 Packages are drawn by seed from the machine's own index. Over each, `apt-get -s install` runs twice. Where apt's own
 solver installs, ours does, and apt, which checks each answer itself, takes it. `Inst` lines are compared, and where they
 differ the first package that differs is printed. Seconds are of wall clock and of processor, of `apt-get` with all that
@@ -22,7 +23,7 @@ from dataclasses import dataclass
 
 HERE = os.path.dirname(os.path.abspath(__file__))
 TOP = os.path.dirname(HERE)
-PAIRS = 200
+PAIRS = int(os.environ.get("PAIRS", "10000"))
 sys.path.insert(0, TOP)
 
 from tools.deb822 import version_key
@@ -133,6 +134,8 @@ def main() -> None:
             kind = verdict(name, owns[-1], ours[-1])
             counts[kind] += 1
             print(f"{name}: {kind}, {len(ours[-1].installs)} come", file=sys.stderr, flush=True)
+    if not owns:
+        return
     told = ", ".join(f"{number} {what}" for what, number in sorted(counts.items()))
     print(f"{count} packages of seed {seed}: {told}")
     print(median_text("apt's own solver", owns))

@@ -5,7 +5,8 @@ Usage: checks/cargo.py [COUNT] [SEED] [PATH OF THE PROGRAM]      defaults: 300, 
 Each registry has crates of several lines with pre-releases, features of all forms, optional and renamed dependencies, `links`,
 yanked versions. The verdict is that of `cargo generate-lockfile --offline`; where we install,
 cargo locks too over a registry of our set alone.
-With the word `match` for COUNT, 400 pairs of a requirement and a version are matched by cargo and by tools/semver.py.
+With the word `match` for COUNT, pairs of a requirement and a version are matched by cargo and by tools/semver.py: 400 one by one, then as many
+as PAIRS says (10,000) by the version that cargo locks of each crate, which is the newest that matches: those above it don't.
 """
 import json
 import os
@@ -28,6 +29,7 @@ CRATES = ["aa", "b-b", "ccc", "d_dd", "eeeee", "ffffff"]
 POOL = ["0.0.3", "0.1.0", "0.1.4", "0.2.0", "1.0.0-a.1", "1.0.0", "1.0.5", "1.2.0", "1.10.0", "2.0.0-rc.1", "2.0.0", "2.1.0"]
 REQS = ["*", "*", "1", "1", "1", "^1.2", "~1.0", "0.1", "0.1", "0.2", "2", "2", ">=0.1, <2", ">=0.2", ">=1, <=2.0", "<1", "=1.0.5", "1.*", "1.0.0-a", ">=2.0.0-rc", ">1"]
 FEATURES = ["default", "x", "y"]
+PAIRS = int(os.environ.get("PAIRS", "10000"))
 
 
 def fail(what, *details):
@@ -167,19 +169,56 @@ def check_registry(rng, program, counts):
             counts["the same set as cargo's"] += mine == theirs
 
 
+def some_number(rng):
+    return str(rng.choice([0, 0, 1, 1, 2, 10]))
+
+
+def some_version(rng):
+    """A version, now and then a pre-release."""
+    return ".".join(some_number(rng) for _ in range(3)) + rng.choice(["", "", "", "-a", "-a.1", "-a.b", "-1", "-rc.10", "-rc.9"])
+
+
+def some_req(rng, version):
+    """A requirement near a version."""
+    part = lambda: rng.choice(["", "=", ">", ">=", "<", "<=", "~", "^"]) + rng.choice([
+        some_number(rng), f"{some_number(rng)}.{some_number(rng)}", some_version(rng), version, version.partition("-")[0], f"{some_number(rng)}.*"])
+    return ", ".join(part() for _ in range(rng.choice([1, 1, 1, 2])))
+
+
+def plain_entry(name, version):
+    """A line of the index that needs nothing."""
+    return {"name": name, "vers": version, "deps": [], "cksum": "0" * 64, "features": {}, "yanked": False}
+
+
+def check_picks(rng, program, counts):
+    """Forty crates with one requirement each: cargo locks the newest version that ours matches."""
+    registry, lines, wanted = {}, [], {}
+    for at in range(40):
+        name, versions = f"c{at}", {some_version(rng) for _ in range(8)}
+        registry[name] = [plain_entry(name, version) for version in sorted(versions)]
+        req = some_req(rng, rng.choice(sorted(versions)))
+        matched = [v for v in versions if read_req(req).matches(read_semver(v))]
+        if matched:
+            wanted[name] = req, max(matched, key=read_semver), versions
+            lines.append(f'{name} = "{req}"')
+    with tempfile.TemporaryDirectory() as folder:
+        trial = Trial(folder, registry, program)
+        locked = trial.cargo(lines)
+    for name, (req, version, versions) in wanted.items():
+        if locked is None or (name, version) not in locked:
+            fail("the matchers differ", name, req, sorted(versions), f"ours: {version}", f"cargo: {locked}", trial.said)
+        counts["pairs matched"] += 1
+        counts["pairs not matched"] += sum(read_semver(each) > read_semver(version) for each in versions)
+
+
 def check_matcher(rng, program, counts):
     """Requirements over one crate: cargo finds a version just where ours matches."""
-    number = lambda: str(rng.choice([0, 0, 1, 1, 2, 10]))
-    pre = lambda: rng.choice(["", "", "", "-a", "-a.1", "-a.b", "-1", "-rc.10", "-rc.9"])
     for _ in range(20):
-        version = f"{number()}.{number()}.{number()}{pre()}"
+        version = some_version(rng)
         with tempfile.TemporaryDirectory() as folder:
-            entry = {"name": "aa", "vers": version, "deps": [], "cksum": "0" * 64, "features": {}, "yanked": False}
-            trial = Trial(folder, {"aa": [entry]}, program)
+            trial = Trial(folder, {"aa": [plain_entry("aa", version)]}, program)
             for _ in range(20):
-                part = lambda: rng.choice(["", "=", ">", ">=", "<", "<=", "~", "^"]) + rng.choice([
-                    number(), f"{number()}.{number()}", f"{number()}.{number()}.{number()}{pre()}", version, version.partition("-")[0], f"{number()}.*"])
-                req = ", ".join(part() for _ in range(rng.choice([1, 1, 1, 2])))
+                req = some_req(rng, version)
                 theirs = trial.cargo([f'aa = "{req}"']) is not None
                 if theirs != read_req(req).matches(read_semver(version)):
                     fail("the matchers differ", req, version, f"cargo: {theirs}")
@@ -193,6 +232,8 @@ def main():
     counts = Counter()
     for _ in range(1 if word == "match" else int(word)):
         (check_matcher if word == "match" else check_registry)(rng, os.path.abspath(program), counts)
+    while word == "match" and sum(counts.values()) < PAIRS:
+        check_picks(rng, os.path.abspath(program), counts)
     print(f"{word}: " + ", ".join(f"{n} {what}" for what, n in sorted(counts.items())))
 
 

@@ -5,7 +5,8 @@ Usage: TESTSOLV=PATH CONDA2SOLV=PATH checks/conda.py [COUNT] [SEED] [PATH OF THE
 Defaults: testsolv, conda2solv, 300, 1, crates/resolve/out/resolve
 Both programs belong to a libsolv that was built with ENABLE_CONDA (Debian's isn't): `cmake -DENABLE_CONDA=ON`, `make testsolv conda2solv`.
 libsolv reads the same repodata.json. What is asked for are the dependencies of a record of its own. The verdicts agree, and where we
-install, libsolv takes our set as exact specs. With the word `match` for COUNT, single pairs of a spec and a record are compared.
+install, libsolv takes our set as exact specs. With the word `match` for COUNT, pairs of a spec and a record are compared: 400 one by one, then as many as PAIRS says
+(10,000) by the record that libsolv takes of each package, which is of the newest version that matches: those above don't.
 """
 import json
 import os
@@ -19,11 +20,12 @@ HERE = os.path.dirname(os.path.abspath(__file__))
 sys.path[:0] = [os.path.join(HERE, "..")]
 
 from tools import texts
-from tools.matchspec import read_matchspec
+from tools.matchspec import read_matchspec, read_version
 from tools.tests.base import run
 
 NAMES = ["aa", "b-b", "c_c", "dd", "ee.e", "ff"]
 POOL = ["0.9", "1.0", "1.0.1", "1.0a1", "1.0rc2", "1.0.post1", "1.0.dev3", "1.1", "1.1.0", "1.2", "1.10", "1.2_3", "2.0", "2.0b1", "2.1", "1!0.5"]
+PAIRS = int(os.environ.get("PAIRS", "10000"))
 BUILDS = ["0", "py27_0", "py38_0", "py38_1", "h1234_1"]
 SPECS = [*[""] * 6, *[" >={}"] * 5, " <{}", " <={}", " >{}", " !={}", " =={}", " {}", " {}.*", " {}*", " >={},<{}", " {}|{}", " *", " <{}|>{}", " >={} py38*", " * py38_0", " {} py27_0", " {}.* *_1"]
 
@@ -137,6 +139,26 @@ def check_matcher(rng, _, counts):
             counts["pairs matched" if theirs else "pairs not matched"] += 1
 
 
+def check_picks(rng, counts):
+    """Forty packages with one spec each: libsolv takes the newest version that ours matches."""
+    records, wanted = {}, {}
+    for at in range(40):
+        name, equal = f"p{at}", rng.choice(["1.1", "1.1.0"])
+        versions = {version: rng.choice(BUILDS) for version in rng.sample([each for each in POOL if each != equal], 8)}
+        records |= dict(record(name, *each) for each in versions.items())
+        spec = some_spec(rng, name)
+        matched = [each for each in versions.items() if read_matchspec(spec).matches(*each, {})]
+        if matched:
+            wanted[name] = spec, max(matched, key=lambda each: read_version(each[0])), versions
+    with tempfile.TemporaryDirectory() as folder:
+        found = libsolv(folder, records, [spec for spec, _, _ in wanted.values()])
+    for name, (spec, (version, build), versions) in wanted.items():
+        if found is None or f"{name}-{version}-{build}" not in found:
+            fail("the matchers differ", spec, versions, f"ours: {version} {build}", f"libsolv: {found}")
+        counts["pairs matched"] += 1
+        counts["pairs not matched"] += sum(read_version(version) < read_version(each) for each in versions)
+
+
 def main():
     word = sys.argv[1] if len(sys.argv) > 1 else "300"
     rng = random.Random(int(sys.argv[2]) if len(sys.argv) > 2 else 1)
@@ -144,6 +166,8 @@ def main():
     counts = Counter()
     for _ in range(4 if word == "match" else int(word)):
         (check_matcher if word == "match" else check_repodata)(rng, os.path.abspath(program), counts)
+    while word == "match" and sum(counts.values()) < PAIRS:
+        check_picks(rng, counts)
     print(f"{word}: " + ", ".join(f"{n} {what}" for what, n in sorted(counts.items())))
 
 

@@ -1,9 +1,9 @@
-"""The commands of the importers: `pypi`, `cargo` and `conda`, each with `catalogue` and `request`."""
+"""The commands of the importers: `pypi`, `cargo` and `conda`, each with `catalogue` and `request`; `cudf`."""
 from __future__ import annotations
 
 import argparse
-from tools import cargo, conda, pypi
-from tools.files import progress
+from tools import cargo, conda, cudf, pypi
+from tools.files import Failure, progress, write_bytes
 from tools.index import index_catalogue, index_request
 
 Parsers = list[argparse.ArgumentParser]
@@ -106,8 +106,53 @@ def add_conda(commands: argparse._SubParsersAction) -> None:
         each.add_argument("--virtual", action="append", metavar="NAME=VERSION", help="what the machine has")
 
 
+def cudf_criteria(args: argparse.Namespace) -> str:
+    """What is to be preferred; an option isn't that."""
+    late = [word for word in args.criteria if word.startswith("--") and word != "--"]
+    if late:
+        raise Failure(f"cudf {args.action}", None, f"{late[0]} stands behind IN; options come first")
+    return " ".join(args.criteria)
+
+
+def cudf_solve(args: argparse.Namespace) -> bytes:
+    """`cudf solve`."""
+    return cudf.solve(args.document, cudf_criteria(args), args.keep, args.resolve)
+
+
+def cudf_convert(args: argparse.Namespace) -> bytes:
+    """`cudf convert`."""
+    catalogue, request = cudf.convert(args.document, cudf_criteria(args), args.source)
+    if args.request:
+        write_bytes(args.request, request)
+    return catalogue
+
+
+def add_cudf(commands: argparse._SubParsersAction) -> None:
+    """The commands of CUDF documents."""
+    about = "CUDF documents, as opam's and apt-cudf's solvers take them (docs/MAPPING.md)"
+    parser = commands.add_parser("cudf", help=about, description=about)
+    actions = parser.add_subparsers(dest="action", metavar="ACTION", required=True)
+    about = "a document's solution, or FAIL with the reason; options come first"
+    solve = actions.add_parser("solve", help=about, description=about)
+    solve.set_defaults(handle=cudf_solve)
+    solve.add_argument("document", metavar="IN", help="the document; `-` is standard input")
+    solve.add_argument("out", metavar="OUT", nargs="?", help="the file for the solution; standard output if there is none")
+    solve.add_argument("--keep", metavar="FOLDER", help="writes the catalogue, the request and the report into it")
+    solve.add_argument("--resolve", metavar="PATH", help="the program `resolve`")
+    convert = actions.add_parser("convert", help="a document as a catalogue and a request")
+    convert.set_defaults(handle=cudf_convert)
+    convert.add_argument("document", metavar="IN")
+    convert.add_argument("--out", metavar="FILE", help="write the catalogue there, not to standard output")
+    convert.add_argument("--request", metavar="FILE", help="writes the request too")
+    convert.add_argument("--source", action="store_true", help="above each line the property of which it came")
+    wanted = "whether versions that are there stay (changed), or the newest come first (notuptodate, version-lag)"
+    for each in (solve, convert):
+        each.add_argument("criteria", metavar="CRITERIA", nargs=argparse.REMAINDER, help=wanted)
+
+
 def add_imports(commands: argparse._SubParsersAction) -> None:
     """The commands of all importers."""
     add_pypi(commands)
     add_cargo(commands)
     add_conda(commands)
+    add_cudf(commands)

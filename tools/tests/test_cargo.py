@@ -90,6 +90,9 @@ class Cargo(FolderCase):
         found = self.catalogue(entry("a", "1.0.0", [("b", {"req": "1"})]), entry("b", "1.0.0", [("a", {"req": "1"})]))
         self.assertEqual(found, "version a.1 1\nneeds b.1\nversion b.1 1\nneeds a.1\n")
 
+    def test_unknown_fields_are_passed_over(self):
+        self.assertEqual(self.catalogue(entry("a", "1.0.0", new={"x": ["y"]}, rust_version="1.0")), "version a.1 1\n")
+
     def test_a_folder_and_a_manifest(self):
         folder = self.path("registry")
         os.makedirs(os.path.join(folder, "3", "a"))

@@ -88,6 +88,10 @@ class Conda(FolderCase):
         out = run("conda", "catalogue", path)[1].decode().split("\n", 1)[1]
         self.assertEqual(out, "version a 1\n#v 1-0\nneeds b\nversion b 1\n#v 1-0\nneeds a\n")
 
+    def test_unknown_fields_are_passed_over(self):
+        path = self.write("repodata.json", repodata(record("a", "1", new={"x": ["y"]}, size=3)))
+        self.assertEqual(run("conda", "catalogue", path)[1].decode().split("\n", 1)[1], "version a 1\n#v 1-0\n")
+
     def test_a_long_file_is_read_piece_by_piece(self):
         path = self.write("repodata.json", repodata(*(record("p", f"{n}", depends=["p"] * 20) for n in range(5000))))
         stream, most = JsonStream(path), 0

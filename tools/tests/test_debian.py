@@ -135,6 +135,10 @@ class Catalogues(FolderCase):
         with open(request) as source:
             self.assertEqual(source.read(), "needs app 2\nwish d 1\nwish lib 3\n")
 
+    def test_a_cycle_and_unknown_fields(self):
+        text = stanza("a", "1", "Depends: b", "X-New: é (>= ,", " more") + stanza("b", "1", "Depends: a")
+        self.assertEqual(self.lines(text), ["version a 1", "needs b", "version b 1", "needs a"])
+
     def test_packed_files(self):
         plain = run("debian", self.write("p", BASE), "--arch", "amd64")
         for name, data in (("p.gz", gzip.compress(BASE.encode())), ("p.xz", lzma.compress(BASE.encode()))):

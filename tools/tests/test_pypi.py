@@ -67,6 +67,10 @@ class Pypi(FolderCase):
         url = [{"name": "a", "version": "1", "requires_dist": ["b @ https://example.org/b.whl"]}]
         self.assertEqual(self.catalogue(url), "version a 1\n#v 1\nunknown url\n")
 
+    def test_unknown_fields_are_passed_over(self):
+        entries = [{"name": "a", "version": "1", "new": {"x": ["y"]}, "size": 3}]
+        self.assertEqual(self.catalogue(entries), "version a 1\n#v 1\n")
+
     def test_a_folder_of_metadata(self):
         self.write("a.metadata", "Name: a\nVersion: 1\nProvides-Extra: x\nRequires-Dist: b; extra == 'x'\nOther: kept\n more\n\nText\n")
         data = io.BytesIO()
