@@ -25,6 +25,7 @@ use Rattle.resolvo_proof.specs.Proof.{DenyRoot}
 use Rattle.resolvo_encoder.specs.declared.encoder.Encoder.{Encoder}
 use Rattle.resolvo_encoder.specs.Encoded.{IsEncoding}
 use Rattle.resolvo_encoder.specs.Steps.{IsBegunEncoding}
+use Rattle.resolvo_encoder.specs.TurnLevels.{AreAmongEncoded}
 use Rattle.resolvo_encoder.proofs.TurnLemmas.{turn_keeps, turn_preferred, refused, root_denied}
 use Rattle.resolvo.specs.declared.search.SearchResult.{SearchResult}
 use Rattle.resolvo.specs.declared.search.SearchResult.TheVariants.{Chosen, Clash}
@@ -113,7 +114,7 @@ module _ {N S : Type 0} (same : S → S → Bool) (p : Packages N S) (orders : R
 
 -- what all turns list is what the trail chooses
 pub later_listed : {N S : Type 0} (e : Encoder N S) (t : Turns S) (o : Option FinalConflict) → IsCoding e.coding → StandSo e t o → (f : SearchResult S) → IsFoundIn t o f → IsListedIn e f
-later_listed e t None coding at (Chosen v turns) (solvables, told) = let is = solvables ∙ at.chosen in record { in_order = is; once = subst AreOnce (sym is) (trail_once e coding) }
+later_listed e t None coding at (Chosen v turns) (solvables, told) = let is = solvables ∙ at.chosen in record { in_order = is; once = subst AreOnce (sym is) (trail_once e coding); encoded = subst (AreAmongEncoded e) (sym solvables) at.encoded }
 later_listed e t None coding at (Clash q) h = absurd h
 later_listed e t (Some r) coding stands (Chosen v turns) h = absurd h
 later_listed e t (Some r) coding stands (Clash q) h = tt

@@ -9,3 +9,4 @@ pub mod Outcomes
 pub mod Reasons
 pub mod Forward
 pub mod OfferLemmas
+pub mod Nothing

@@ -1,5 +1,5 @@
 -- One wish more: what its turn came to is told, and what is chosen is listed.
-use Rattle.std.proofs.Common.{◌≡◌, ℕ, zero, suc, ◌-◌, ◌<◌, ◌⊎◌, cond, inl, inr, Bool, true, false, take, reverse, List, [], ◌∷◌, ◌++◌, length, Option, Some, None, Vec, Global, HashSet, BuildHasherDefault, FoldHasher, refl, sym, ◌∙◌, ap, subst, arith}
+use Rattle.std.proofs.Common.{◌≡◌, ℕ, zero, suc, ◌-◌, ◌<◌, ◌≤◌, ◌⊎◌, cond, inl, inr, Bool, true, false, take, reverse, List, [], ◌∷◌, ◌++◌, length, Option, Some, None, Vec, Global, HashSet, BuildHasherDefault, FoldHasher, refl, sym, ◌∙◌, ap, subst, arith}
 use Rattle.std.specs.Prelude.{Contains}
 use Rattle.std.proofs.lemmas.Bool.{both_ways, cases_Bool}
 use Rattle.std.proofs.lemmas.List.{take_all}
@@ -7,6 +7,7 @@ use Rattle.indexmap.specs.IndexSet.{insert_all}
 use Rattle.resolvo_pool_core.specs.declared.id.ClauseId.{ClauseId}
 use Rattle.resolvo_pool_core.specs.declared.id.VariableId.{VariableId}
 use Rattle.resolvo_pool_core.specs.declared.requirement.Requirement.{Requirement}
+use Rattle.resolvo_pool_core.specs.declared.solver_id.SolvableIdOrRoot.TheVariants as Place
 use Rattle.resolvo_pool_core.specs.RuleKeeping.{Packages, Rules, IsLawful, is_in}
 use Rattle.resolvo_store_core.specs.AtMostOne.{IsFrontOf}
 use Rattle.resolvo_store_core.specs.Clauses.{yes}
@@ -26,6 +27,7 @@ use Rattle.resolvo_state.specs.declared.clause_kind.Stated.TheVariants.{Learnt}
 use Rattle.resolvo_state.proofs.Origins.{means_solvable, solvable_means, stands_front}
 use Rattle.resolvo_encoder.specs.declared.encoder.Encoder.{Encoder}
 use Rattle.resolvo_encoder.proofs.TurnLemmas.{turn_accepts}
+use Rattle.resolvo_encoder.specs.TurnLevels.{AreAmongEncoded}
 use Rattle.resolvo_turn.specs.Encoder.{IsInOrder}
 use Rattle.resolvo_turn.specs.Turn.{IsTurn}
 use Rattle.resolvo.specs.Turns.{AreAt, AreRight, HasReason, HaveReasons, IsDeniable, Records, accepted_of, on_trail, step_of, was_accepted}
@@ -96,14 +98,24 @@ module _ {N S : Type 0} where
   pub true_chosen : (e : Encoder N S) (members : List S) → AreChosen e.coding.atoms.keys (made_true (history e.coding.search)) members → (s : S) → IsTrue e s → Contains members s
   true_chosen e members are s (u, stands, known) = are.all (yes u) s known (solvable_means e.coding.atoms.keys (yes u) s refl stands)
 
+  -- what is encoded stays so
+  among_stays : (a b : Encoder N S) (members : List S) → KeepsTrail a b → AreAmongEncoded a members → AreAmongEncoded b members
+  among_stays a b members keeps among =
+      let further : a.encoded ≤ b.encoded = keeps.encoded in
+      record {
+        root = (let (i, low, at) = among.root in (i, omega arith, front_get a.parents.keys b.parents.keys i Place.Root keeps.parents at));
+        each = λ s h. (let (i, low, at) = among.each s h in (i, omega arith, front_get a.parents.keys b.parents.keys i (Place.Solvable s) keeps.parents at));
+      }
+
   -- ---- the turn is told
 
   pub next_at : (a b : Encoder N S) (t m u : Turns S) (s : S) (begin : ℕ) (w : SoftOutcome) → AreAt a t → m.chosen.keys ≡ on_trail b → m.turns ≡ t.turns → Records s begin w m u
-      → b.noted.wishes.items ≡ cond (was_accepted w) (a.noted.wishes.items ++ s ∷ []) a.noted.wishes.items → AreAt b u
-  next_at a b t m u s begin w at are turns told wishes =
+      → b.noted.wishes.items ≡ cond (was_accepted w) (a.noted.wishes.items ++ s ∷ []) a.noted.wishes.items → AreAmongEncoded b m.chosen.keys → AreAt b u
+  next_at a b t m u s begin w at are turns told wishes encoded =
       let all : reverse u.turns.items ≡ told.turn ∷ reverse t.turns.items = ap reverse (told.turns ∙ ap (λ (ts : Vec (Turn S) Global). ts.items ++ told.turn ∷ []) turns) ∙ reverse_push t.turns.items told.turn in
       record {
         chosen = ap (λ (c : HashSet S (BuildHasherDefault FoldHasher)). c.keys) told.chosen ∙ are;
+        encoded = subst (λ (c : HashSet S (BuildHasherDefault FoldHasher)). AreAmongEncoded b c.keys) (sym told.chosen) encoded;
         wishes = wishes ∙ wishes_told a.noted.wishes.items s told.turn (reverse t.turns.items) (was_accepted w) told.tells.accepted told.tells.solvable at.wishes ∙ ap accepted_of (sym all);
       }
 
@@ -181,17 +193,22 @@ module _ {N S : Type 0} where
     stays_chosen : history b.coding.search ≡ history a.coding.search → t.chosen.keys ≡ on_trail b
     stays_chosen trail = at.chosen ∙ sym (trail_stays a b coding keeps trail)
 
+    stay_encoded : AreAmongEncoded b t.chosen.keys
+    stay_encoded = among_stays a b t.chosen.keys keeps at.encoded
+
     pub stood_at : IsOutcome same s a b Wishes.Stood → (begin : ℕ) → Records s begin Wishes.Stood t u → AreAt b u
-    stood_at (wishes, trail, known) begin told = next_at a b t t u s begin Wishes.Stood at (stays_chosen trail) refl told wishes
+    stood_at (wishes, trail, known) begin told = next_at a b t t u s begin Wishes.Stood at (stays_chosen trail) refl told wishes stay_encoded
 
     pub refused_at : (clause : ClauseId) → IsOutcome same s a b (Wishes.Refused clause) → (begin : ℕ) → Records s begin (Wishes.Refused clause) t u → AreAt b u
-    refused_at clause (wishes, trail, untrue) begin told = next_at a b t t u s begin (Wishes.Refused clause) at (stays_chosen trail) refl told wishes
+    refused_at clause (wishes, trail, untrue) begin told = next_at a b t t u s begin (Wishes.Refused clause) at (stays_chosen trail) refl told wishes stay_encoded
 
     goes_on : IsExact same → IsCoding b.coding → (m : Turns S) → m.chosen.keys ≡ insert_all same t.chosen.keys (on_trail b) → m.chosen.keys ≡ on_trail b
     goes_on exact after m in_order = listed_on_trail same exact a b t.chosen.keys m.chosen.keys coding after keeps at.chosen in_order
 
     pub chosen_at : IsExact same → IsCoding b.coding → (m : Turns S) → IsOutcome same s a b Wishes.Chosen → m.chosen.keys ≡ insert_all same t.chosen.keys (on_trail b) → m.turns ≡ t.turns → (begin : ℕ) → Records s begin Wishes.Chosen m u → AreAt b u
-    chosen_at exact after m (wishes, turn) in_order turns begin told = next_at a b t m u s begin Wishes.Chosen at (goes_on exact after m in_order) turns told wishes
+    chosen_at exact after m (wishes, (v, stands, (settled, whole, spent, has_it))) in_order turns begin told =
+        let are : m.chosen.keys ≡ on_trail b = goes_on exact after m in_order in
+        next_at a b t m u s begin Wishes.Chosen at are turns told wishes (whole m.chosen.keys (listed_are_chosen b m.chosen.keys are))
 
     module _ (exact : IsExact same) (p : Packages N S) (root : Rules) (first : ℕ) (done : List S) (right : AreRight same p root first done t) where
       still_accepted : IsAccepted same p root a.noted.wishes.items t.chosen.keys

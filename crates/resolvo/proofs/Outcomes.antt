@@ -32,7 +32,7 @@ use Rattle.resolvo_state.specs.declared.clause_kind.Stated.{Stated}
 use Rattle.resolvo_state.specs.declared.clause_kind.Stated.TheVariants.{Learnt, Root}
 use Rattle.resolvo_state.proofs.Growth.{grows_then, stands_grow, stands_once}
 use Rattle.resolvo_state.proofs.Origins.{stands_front}
-use Rattle.resolvo_state.proofs.Positions.{front_then, get_last}
+use Rattle.resolvo_state.proofs.Positions.{front_equal, front_then, get_last}
 use Rattle.resolvo_encoder.specs.declared.encoder.Encoder.{Encoder}
 use Rattle.resolvo_encoder.specs.declared.encoder.EncodedOnce.{EncodedOnce}
 use Rattle.resolvo_encoder.specs.Base.{base_of, IsOpen, KeepsTurns}
@@ -114,6 +114,7 @@ module _ {N S : Type 0} (a b : Encoder N S) (undone : Undoes (max (a.coding.sear
             grows = subst (λ (x : SolverState N S). Grows a.coding x) (sym coding) (grows_then a.coding b.coding c.coding goes.grows learnt.grows);
             lists = ap (λ (x : Encoder N S). x.lists) taken.rest ∙ learnt.rest.lists ∙ goes.rest.lists;
             parents = ap (λ (x : Encoder N S). x.parents) taken.rest ∙ learnt.rest.parents ∙ goes.rest.parents;
+            encoded = ap (λ (x : Encoder N S). x.encoded) taken.rest ∙ learnt.rest.encoded ∙ goes.rest.encoded;
           }
 
       -- the refusal's clause was learnt
@@ -139,8 +140,13 @@ module _ {N S : Type 0} (same : S → S → Bool) (a b : Encoder N S) (one : Off
   pub noted_wish : IsWish b v
   noted_wish = record { solvable = one.solvable; stands = notes.stands; wished = subst (λ (ws : List S). Contains ws one.solvable) (sym notes.wishes) (contains_right one.solvable a.noted.wishes.items (one.solvable ∷ []) (contains_only one.solvable)) }
 
+  noted_parents : IsFrontOf a.parents.keys b.parents.keys
+  noted_parents = front_equal a.parents.keys b.parents.keys (ap (λ ks. ks.keys) notes.parents)
+
   pub noted_keeps : KeepsTrail a b
-  noted_keeps = record { atoms = notes.grows.atoms; clauses = notes.grows.clauses; stated = notes.grows.stated; ends = ([], noted_same); rooted = noted_rooted }
+  noted_keeps =
+      let encoded : b.encoded ≡ a.encoded = notes.encoded in
+      record { atoms = notes.grows.atoms; clauses = notes.grows.clauses; stated = notes.grows.stated; ends = ([], noted_same); parents = noted_parents; encoded = omega arith; rooted = noted_rooted }
 
   pub noted_in_order : (p : Packages N S) (orders : Requirement → List S → Type 0) (root : Rules) → IsLawful p → IsListed same p one → IsInOrder same p orders root a → IsInOrder same p orders root b
   noted_in_order p orders root lawful listed e = record { encoding = notes.encoding p root lawful e.encoding listed; ordered = ordered_stays orders a b notes.grows notes.lists e.ordered }
@@ -170,8 +176,14 @@ module _ {N S : Type 0} (same : S → S → Bool) (a b : Encoder N S) (one : Off
     turn_rooted : IsRooted a → IsRooted c
     turn_rooted rooted = still_rooted (turn_of b) c (noted_rooted rooted) adds
 
+    turn_parents : IsFrontOf a.parents.keys c.parents.keys
+    turn_parents = front_then a.parents.keys b.parents.keys c.parents.keys noted_parents adds.parents
+
+    turn_encoded : a.encoded ≤ c.encoded
+    turn_encoded = let one : b.encoded ≡ a.encoded = notes.encoded in let two : b.encoded ≤ c.encoded = adds.encoded in omega arith
+
     pub turn_keeps : KeepsTrail a c
-    turn_keeps = record { atoms = turn_atoms; clauses = turn_clauses; stated = turn_stated; ends = turn_ends; rooted = turn_rooted }
+    turn_keeps = record { atoms = turn_atoms; clauses = turn_clauses; stated = turn_stated; ends = turn_ends; parents = turn_parents; encoded = turn_encoded; rooted = turn_rooted }
 
     pub turn_chosen : IsTurn same (Some v) c None → IsOutcome same one.solvable a c SoftOutcome.Chosen
     turn_chosen ended = (adds.wishes ∙ notes.wishes, (v, turn_stands, ended))
@@ -188,6 +200,12 @@ module _ {N S : Type 0} (same : S → S → Bool) (a b : Encoder N S) (one : Off
       down_rooted : IsRooted a → IsRooted d
       down_rooted rooted = subst (λ ks. slice_get ks.keys 0 ≡ Some Place.Root) (sym rest.parents) (turn_rooted rooted)
 
+      down_parents : IsFrontOf a.parents.keys d.parents.keys
+      down_parents = front_then a.parents.keys c.parents.keys d.parents.keys turn_parents (front_equal c.parents.keys d.parents.keys (ap (λ ks. ks.keys) rest.parents))
+
+      down_encoded : a.encoded ≤ d.encoded
+      down_encoded = let one : a.encoded ≤ c.encoded = turn_encoded in let two : d.encoded ≡ c.encoded = rest.encoded in omega arith
+
       down_clauses : IsFrontOf a.coding.search.clauses d.coding.search.clauses
       down_clauses = front_then a.coding.search.clauses c.coding.search.clauses d.coding.search.clauses turn_clauses rest.grows.clauses
 
@@ -197,12 +215,14 @@ module _ {N S : Type 0} (same : S → S → Bool) (a b : Encoder N S) (one : Off
       pub down_keeps : (w : SoftOutcome) → IsTurnedDown r c d w → KeepsTrail a d
       down_keeps SoftOutcome.Stood h = absurd h
       down_keeps SoftOutcome.Chosen h = absurd h
-      down_keeps (SoftOutcome.Refused clause) (trail, wishes, learnt) = record { atoms = front_then a.coding.atoms.keys c.coding.atoms.keys d.coding.atoms.keys turn_atoms rest.grows.atoms; clauses = down_clauses; stated = down_stated; ends = ([], trail ∙ base ∙ noted_same); rooted = down_rooted }
+      down_keeps (SoftOutcome.Refused clause) (trail, wishes, learnt) = record { atoms = front_then a.coding.atoms.keys c.coding.atoms.keys d.coding.atoms.keys turn_atoms rest.grows.atoms; clauses = down_clauses; stated = down_stated; ends = ([], trail ∙ base ∙ noted_same); parents = down_parents; encoded = down_encoded; rooted = down_rooted }
       down_keeps (SoftOutcome.Clash q) (is, none, unchanged) = record {
         atoms = front_then a.coding.atoms.keys c.coding.atoms.keys d.coding.atoms.keys turn_atoms rest.grows.atoms;
         clauses = down_clauses;
         stated = down_stated;
         ends = subst (λ (x : Encoder N S). EndsWith (history a.coding.search) (history x.coding.search)) (sym unchanged) turn_ends;
+        parents = down_parents;
+        encoded = down_encoded;
         rooted = down_rooted;
       }
 

@@ -1,6 +1,8 @@
 -- What a search for a problem's solvables comes to.
-use Rattle.std.specs.Prelude.{◌≡◌, ℕ, ◌+◌, ⊤, Bool, true, false, take, List, Option, Some, None, Contains, slice_get}
+use Rattle.std.specs.Prelude.{◌≡◌, ℕ, suc, ◌+◌, ◌<◌, ⊤, Bool, true, false, take, List, [], length, Option, Some, None, Contains, slice_get}
 use Rattle.std.specs.Global.{Vec}
+use Rattle.resolvo_pool_core.specs.declared.id.VersionSetId.{VersionSetId}
+use Rattle.resolvo_pool_core.specs.declared.requirement.ConditionalRequirement.{ConditionalRequirement}
 use Rattle.resolvo_pool_core.specs.declared.requirement.Requirement.{Requirement}
 use Rattle.resolvo_pool_core.specs.RuleKeeping.{Packages, Rules}
 use Rattle.resolvo_sat.specs.declared.analyze.FinalConflict.{FinalConflict}
@@ -9,8 +11,10 @@ use Rattle.resolvo_soundness.specs.First.{ArePreferred}
 use Rattle.resolvo_state.specs.declared.solver_state.SolverState.{SolverState}
 use Rattle.resolvo_state.specs.declared.atom.ProofAtom.TheVariants.{Solvable}
 use Rattle.resolvo_state.specs.Keys.{AreOnce}
+use Rattle.resolvo_encoder.specs.Conditions.{waiting_count}
 use Rattle.resolvo_encoder.specs.Encoded.{IsEncoding}
 use Rattle.resolvo_encoder.specs.Steps.{IsBuilt}
+use Rattle.resolvo_encoder.specs.TurnLevels.{AreAmongEncoded}
 use Rattle.resolvo_proof.specs.Drawn.{AreDrawn, HaveOneSigns}
 use Rattle.resolvo_proof.specs.Places.{HaveOnePlace}
 use Rattle.resolvo_proof.specs.Proof.{IsProof, EndsEmpty, DenyRoot}
@@ -18,7 +22,7 @@ use Rattle.resolvo_soundness.specs.Encoding.{Atom, IsExact}
 use Rattle.resolvo_proof.specs.declared.step.ProofLiteral.{ProofLiteral}
 use Rattle.resolvo_proof.specs.declared.step.ProofStep.{ProofStep}
 use Rattle.resolvo_proof.specs.declared.step.ProofStep.TheVariants.{Derived}
-use Rattle.resolvo_proof.specs.Written.{AreSteps}
+use Rattle.resolvo_proof.specs.Written.{AreSteps, AreStepsThen, IsStepAt}
 use Rattle.resolvo_encoder.specs.declared.encoder.Encoder.{Encoder}
 use Rattle.resolvo.specs.Solution.{IsUnsolvable}
 use Rattle.resolvo.specs.Turns.{AreWished, HasReason, IsDeniable, first_of, on_trail}
@@ -28,6 +32,10 @@ use Rattle.resolvo.specs.declared.search.SearchResult.{SearchResult}
 use Rattle.resolvo.specs.declared.search.SearchResult.TheVariants.{Chosen, Clash}
 use Rattle.resolvo.specs.declared.prove.Solved.{Solved}
 
+-- the root asks nothing, and nothing is wished
+abbrev pub AskNothing : {S : Type 0} → List ConditionalRequirement → List VersionSetId → List S → Type 0
+AskNothing requirements constraints wishes = (requirements ≡ []) × (constraints ≡ []) × (wishes ≡ [])
+
 -- what is told of turns: what was chosen in them, or why nothing can be
 abbrev pub IsFoundIn : {S : Type 0} → Turns S → Option FinalConflict → SearchResult S → Type 0
 IsFoundIn t None (Chosen v turns) = (v.items ≡ t.chosen.keys) × (turns ≡ t.turns)
@@ -35,15 +43,21 @@ IsFoundIn t None (Clash q) = ⊥
 IsFoundIn t (Some r) (Chosen v turns) = ⊥
 IsFoundIn t (Some r) (Clash q) = q ≡ r
 
--- These are the solvables that the trail chooses, in its order, and none stands twice.
+-- These are the solvables that the trail chooses, in its order, and none stands twice. Their needs and the root's are encoded.
 pub record AreOnTrail {N S : Type 0} (e : Encoder N S) (solvables : List S) : Type 0 where
   pub in_order : solvables ≡ on_trail e
   pub once : AreOnce solvables
+  pub encoded : AreAmongEncoded e solvables
 
 -- what was chosen is what the trail chooses; of a clash nothing is said
 abbrev pub IsListedIn : {N S : Type 0} → Encoder N S → SearchResult S → Type 0
 IsListedIn e (Chosen v turns) = AreOnTrail e v.items
 IsListedIn e (Clash r) = ⊤
+
+-- nothing was chosen twice
+abbrev pub AreChosenOnce : {S : Type 0} → SearchResult S → Type 0
+AreChosenOnce (Chosen v turns) = AreOnce v.items
+AreChosenOnce (Clash r) = ⊤
 
 -- what clashes was derived from the clauses, and denies the root alone
 abbrev pub IsDenial : {N S : Type 0} → SolverState N S → SearchResult S → Type 0
@@ -94,6 +108,21 @@ module _ {N S : Type 0} (same : S → S → Bool) (p : Packages N S) (root : Rul
   abbrev pub AreProved : List (ProofStep N S) → Type 0
   AreProved steps = (same_atom : Atom N S → Atom N S → Bool) → IsExact same_atom → IsProof same_atom same p root steps
 
+  -- Each of these steps may stand at its place, each literal of a derived one stands in an earlier one, an atom has one sign in
+  -- it, and each solvable has one place.
+  pub record AreRightSteps (steps : List (ProofStep N S)) : Type 0 where
+    pub proof : AreProved steps
+    pub drawn : AreDrawn same p steps
+    pub signs : HaveOneSigns steps
+    pub one_place : HaveOnePlace steps
+
+  -- An encoding of the problem has so many clauses, of which these are the steps, and so many cases that wait.
+  pub record IsCounted (e : Encoder N S) (clauses deferred : ℕ) (steps : List (ProofStep N S)) : Type 0 where
+    pub encoding : IsEncoding same p root e
+    pub count : clauses ≡ length e.coding.search.clauses
+    pub waiting : deferred ≡ waiting_count e
+    pub each : (place : ℕ) (step : ProofStep N S) → suc place < clauses → slice_get steps place ≡ Some step → IsStepAt e.coding (suc place) step
+
 module _ {N S : Type 0} (same : S → S → Bool) (p : Packages N S) (orders : Requirement → List S → Type 0) (root : Rules) where
   -- in the root's turn candidates were chosen in the order in which they are tried
   abbrev pub IsPreferred : SearchResult S → Type 0
@@ -109,7 +138,7 @@ module _ {N S : Type 0} (same : S → S → Bool) (p : Packages N S) (orders : R
 
   -- What was found holds, each step of the proof may stand, each literal of a derived one stands in an earlier one, an atom has
   -- one sign in it, each solvable has one place, candidates were chosen in the order in which they are tried, and each refused
-  -- wish has a step.
+  -- wish has a step. The counts are those of an encoding, whose trail chooses what was chosen.
   pub record IsSolved (wishes : List S) (s : Solved N S) : Type 0 where
     pub found : Holds same p root wishes s.found
     pub proof : AreProved same p root s.proof.items
@@ -118,6 +147,7 @@ module _ {N S : Type 0} (same : S → S → Bool) (p : Packages N S) (orders : R
     pub one_place : HaveOnePlace s.proof.items
     pub preferred : IsPreferred s.found
     pub proofs : HaveProofs s.proof.items s.found
+    pub counted : (e : Encoder N S) × IsCounted same p root e s.clause_count s.deferred_count s.proof.items × IsListedIn e s.found
 
 -- after a clash the last step has no literals
 abbrev pub EndsSo : {N S : Type 0} → SearchResult S → List (ProofStep N S) → Type 0
@@ -129,7 +159,7 @@ abbrev pub Counts : {S : Type 0} → SearchResult S → ℕ → ℕ → Type 0
 Counts (Chosen v turns) clauses steps = clauses ≡ steps + 1
 Counts (Clash r) clauses steps = clauses ≡ steps
 
--- what was chosen leaves a step for each clause behind the root's
+-- a search leaves a step for each clause behind the root's, and a clash one more for itself
 abbrev pub HasSteps : {N S : Type 0} → SolverState N S → SearchResult S → List (ProofStep N S) → Type 0
 HasSteps c (Chosen v turns) steps = AreSteps c steps
-HasSteps c (Clash r) steps = ⊤
+HasSteps c (Clash r) steps = AreStepsThen c r.literals.items r.causes.items steps

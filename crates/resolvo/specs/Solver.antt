@@ -8,6 +8,7 @@ use Rattle.resolvo_soundness.specs.First.{ArePreferred}
 use Rattle.resolvo_proof.specs.Proof.{EndsEmpty}
 use Rattle.resolvo_proof.specs.declared.step.ProofStep.{ProofStep}
 use Rattle.resolvo_sat.specs.declared.analyze.FinalConflict.{FinalConflict}
+use Rattle.resolvo_encoder.specs.declared.encoder.Encoder.{Encoder}
 use Rattle.resolvo.specs.Solution.{IsUnsolvable}
 use Rattle.resolvo_graph.specs.Graph.{Graph}
 use Rattle.resolvo_graph.specs.Message.{IsMessage}
@@ -16,9 +17,9 @@ use Rattle.resolvo_conflict.specs.Draw.{conflict_drawing}
 use Rattle.resolvo_conflict.specs.Offered.{offered_by}
 use Rattle.resolvo_conflict.specs.Order.{conflict_rules}
 use Rattle.resolvo_conflict.specs.Truth.{TellsTruth}
-use Rattle.resolvo.specs.Conflicts.{Left, AreOffers}
+use Rattle.resolvo.specs.Conflicts.{Left, AreOffers, conflict_clauses}
 use Rattle.resolvo.specs.Turns.{AreWished, first_of}
-use Rattle.resolvo.specs.Solve.{AreProved, HasProof}
+use Rattle.resolvo.specs.Solve.{AreOnTrail, AreRightSteps, HasProof, IsCounted}
 use Rattle.resolvo.specs.declared.prove.Solved.{Solved}
 use Rattle.resolvo.specs.declared.turns.Turn.{Turn}
 use Rattle.resolvo_pool.specs.declared.cache.CacheFault.{CacheFault}
@@ -85,32 +86,35 @@ IsStopped may (Err Ids) = ⊤
 
 module _ {N S : Type 0} (same : S → S → Bool) (p : Packages N S) (root : Rules) (orders : Requirement → List S → Type 0) (wishes : List S) where
   -- What is said for these wishes: these solvables were chosen in their turns, those of the root's turn by an order in which each
-  -- requirement's candidates may be tried, and each refused wish has a step that tells why; or there is no solution. Each step
-  -- of the proof may stand at its place. Of the conflict that is kept the offers are right.
+  -- requirement's candidates may be tried, and each refused wish has a step that tells why; or there is no solution. The steps of
+  -- the proof are right. The counts are those of an encoding of the problem, of whose clauses these are the steps, and whose trail
+  -- chooses what was chosen. Of the conflict that is kept the offers are right.
   abbrev pub IsAnswer : {C P : Type 0} → Result (Vec S) (UnsolvableOrCancelled C) → Kept P N S → Type 0
   IsAnswer (Ok v) k = AreWished same p root v.items (first_of v.items k.turns) wishes k.turns × ArePreferred same p orders root (take (first_of v.items k.turns) v.items)
-      × ((t : Turn S) → Contains k.turns t → HasProof k.proof v.items t) × AreProved same p root k.proof
-  IsAnswer (Err (Unsolvable conflict)) k = IsUnsolvable same p root × AreProved same p root k.proof × ((l : Left S) × (k.conflict ≡ Some l) × AreOffers same p orders k.proof l.offers)
+      × ((t : Turn S) → Contains k.turns t → HasProof k.proof v.items t) × AreRightSteps same p root k.proof
+      × ((e : Encoder N S) × IsCounted same p root e k.clause_count k.deferred_count k.proof × AreOnTrail e v.items)
+  IsAnswer (Err (Unsolvable conflict)) k = IsUnsolvable same p root × AreRightSteps same p root k.proof × ((e : Encoder N S) × IsCounted same p root e k.clause_count k.deferred_count k.proof)
+      × ((l : Left S) × (k.conflict ≡ Some l) × AreOffers same p orders k.proof l.offers)
   IsAnswer (Err (Cancelled value)) k = ⊤
   IsAnswer (Err Memory) k = ⊤
   IsAnswer (Err Ids) k = ⊤
 
 -- What is left: a step for each clause but the root's; where there is no solution one more, which has no literals, no turn, and the
--- conflict; and nothing where the search stopped.
+-- conflict, whose clauses are those on which this step rests; and nothing where the search stopped.
 abbrev pub Leaves : {N S C P : Type 0} → Result (Vec S) (UnsolvableOrCancelled C) → Kept P N S → Type 0
 Leaves (Ok v) k = (k.clause_count ≡ length k.proof + 1) × (k.conflict ≡ None)
-Leaves (Err (Unsolvable conflict)) k = (k.clause_count ≡ length k.proof) × EndsEmpty k.proof × (k.turns ≡ []) × HoldsConflict k conflict.clauses.items
+Leaves (Err (Unsolvable conflict)) k = (k.clause_count ≡ length k.proof) × EndsEmpty k.proof × (k.turns ≡ []) × HoldsConflict k conflict.clauses.items × (conflict.clauses.items ≡ conflict_clauses k.proof)
 Leaves (Err (Cancelled value)) k = HasNothing k
 Leaves (Err Memory) k = HasNothing k
 Leaves (Err Ids) k = HasNothing k
 
 -- what a search found and left is kept, and said
-abbrev pub Keeps : {P N S C : Type 0} → Solved N S → Option (Left S) → Kept P N S → Result (Vec S) (UnsolvableOrCancelled C) → Kept P N S → Type 0
-Keeps {P} {N} {S} {C} s left old (Ok v) new = (turns : Vec (Turn S)) × (s.found ≡ Chosen v turns) × (new ≡ record old { clause_count = s.clause_count; deferred_count = s.deferred_count; turns = turns.items; proof = s.proof.items; conflict = left })
-Keeps {P} {N} {S} {C} s left old (Err (Unsolvable conflict)) new = (r : FinalConflict) × (s.found ≡ Clash r) × (conflict.clauses ≡ r.causes) × (new ≡ record old { clause_count = s.clause_count; deferred_count = s.deferred_count; proof = s.proof.items; conflict = left })
-Keeps {P} {N} {S} {C} s left old (Err (Cancelled value)) new = ⊥
-Keeps {P} {N} {S} {C} s left old (Err Memory) new = ⊥
-Keeps {P} {N} {S} {C} s left old (Err Ids) new = ⊥
+abbrev pub Keeps : {P N S C : Type 0} → Solved N S → Vec ClauseId → Option (Left S) → Kept P N S → Result (Vec S) (UnsolvableOrCancelled C) → Kept P N S → Type 0
+Keeps {P} {N} {S} {C} s told left old (Ok v) new = (turns : Vec (Turn S)) × (s.found ≡ Chosen v turns) × (new ≡ record old { clause_count = s.clause_count; deferred_count = s.deferred_count; turns = turns.items; proof = s.proof.items; conflict = left })
+Keeps {P} {N} {S} {C} s told left old (Err (Unsolvable conflict)) new = (r : FinalConflict) × (s.found ≡ Clash r) × (conflict.clauses ≡ told) × (new ≡ record old { clause_count = s.clause_count; deferred_count = s.deferred_count; proof = s.proof.items; conflict = left })
+Keeps {P} {N} {S} {C} s told left old (Err (Cancelled value)) new = ⊥
+Keeps {P} {N} {S} {C} s told left old (Err Memory) new = ⊥
+Keeps {P} {N} {S} {C} s told left old (Err Ids) new = ⊥
 
 -- the same reason
 abbrev pub stopped_by : {C : Type 0} → CacheFault C → UnsolvableOrCancelled C

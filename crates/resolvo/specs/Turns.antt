@@ -6,6 +6,7 @@ use Rattle.resolvo_sat.specs.Analysis.{IsRefusal}
 use Rattle.resolvo_soundness.specs.SearchEnd.{IsAccepted}
 use Rattle.resolvo_state.specs.Chosen.{choices}
 use Rattle.resolvo_state.specs.declared.solver_state.SolverState.{SolverState}
+use Rattle.resolvo_encoder.specs.TurnLevels.{AreAmongEncoded}
 use Rattle.resolvo_encoder.specs.declared.encoder.Encoder.{Encoder}
 use Rattle.resolvo.specs.Solution.{IsSolution, IsUnsolvable}
 use Rattle.resolvo.specs.Wished.{IsReasonOf}
@@ -76,9 +77,11 @@ module _ {N S : Type 0} (same : S → S → Bool) (p : Packages N S) (root : Rul
 abbrev pub on_trail : {N S : Type 0} → Encoder N S → List S
 on_trail e = choices e.coding.atoms.keys e.coding.search.tracker.trail
 
--- these are what the trail chooses, in its order, and the noted wishes are the accepted ones
+-- These are what the trail chooses, in its order; their needs and the root's are encoded, and the noted wishes are the accepted
+-- ones.
 pub record AreAt {N S : Type 0} (e : Encoder N S) (t : Turns S) : Type 0 where
   pub chosen : t.chosen.keys ≡ on_trail e
+  pub encoded : AreAmongEncoded e t.chosen.keys
   pub wishes : e.noted.wishes.items ≡ accepted_of (reverse t.turns.items)
 
 -- what was chosen is right, turn by turn

@@ -1,5 +1,5 @@
 -- What the turn of a wish comes to.
-use Rattle.std.specs.Prelude.{◌≡◌, ◌⊎◌, ◌<◌, ℕ, Bool, true, ⊤, List, [], ◌∷◌, ◌++◌, Some, None, Contains, slice_get}
+use Rattle.std.specs.Prelude.{◌≡◌, ◌≤◌, ◌⊎◌, ◌<◌, ℕ, Bool, true, ⊤, List, [], ◌∷◌, ◌++◌, Some, None, Contains, slice_get}
 use Rattle.resolvo_pool_core.specs.declared.id.ClauseId.{ClauseId}
 use Rattle.resolvo_pool_core.specs.declared.id.VariableId.{VariableId}
 use Rattle.resolvo_pool_core.specs.Provider.{listed}
@@ -49,13 +49,15 @@ pub record IsReasonOf {N S : Type 0} (c : SolverState N S) (among : S → Type 0
   pub learnt : stated_at c.stated.items number ≡ Some Learnt
   pub denies : (l : Signed) → has held.literals.items l ≡ true → DeniesOne c among l
 
--- What the trail made true stands, the newest entries apart, clauses came behind the others, and the root still is the first
--- parent.
+-- What the trail made true stands, the newest entries apart. Clauses and parents came behind the others, none less is encoded, and
+-- the root still is the first parent.
 pub record KeepsTrail {N S : Type 0} (old new : Encoder N S) : Type 0 where
   pub atoms : IsFrontOf old.coding.atoms.keys new.coding.atoms.keys
   pub clauses : IsFrontOf old.coding.search.clauses new.coding.search.clauses
   pub stated : IsFrontOf old.coding.stated.items new.coding.stated.items
   pub ends : EndsWith (history old.coding.search) (history new.coding.search)
+  pub parents : IsFrontOf old.parents.keys new.parents.keys
+  pub encoded : old.encoded ≤ new.encoded
   pub rooted : IsRooted old → IsRooted new
 
 -- Where the wish was chosen, it is noted behind the accepted ones, and its turn has ended. Where it was refused, the trail and the
@@ -90,11 +92,12 @@ IsTurnedDown refusal old new Chosen = ⊥
 IsTurnedDown {N} {S} refusal old new (Refused clause) = (history new.coding.search ≡ base_of old) × ((front : List S) (s : S) → old.noted.wishes.items ≡ front ++ s ∷ [] → new.noted.wishes.items ≡ front) × IsLearntAs new.coding refusal.literals.items clause
 IsTurnedDown refusal old new (Clash r) = (r ≡ refusal) × (r.literals.items ≡ []) × (new ≡ old)
 
--- clauses may have come, and what variables stand for, candidates and parents are what they were
+-- clauses may have come, and what variables stand for, candidates, parents and how many of these are encoded are what they were
 pub record KeepsRest {N S : Type 0} (old new : Encoder N S) : Type 0 where
   pub grows : Grows old.coding new.coding
   pub lists : new.lists ≡ old.lists
   pub parents : new.parents ≡ old.parents
+  pub encoded : new.encoded ≡ old.encoded
 
 module _ {N S : Type 0} (same : S → S → Bool) (p : Packages N S) (root : Rules) where
   -- no rule-keeping set holds the solvable with all that the trail chooses

@@ -1,12 +1,12 @@
 //! The conflict of a search that found no solution: its clauses, and the graph that tells people of them.
-ghost use Rattle.std.specs.Prelude.{◌≡◌, length, IfOk, IfErr};
+ghost use Rattle.std.specs.Prelude.{◌≡◌, length, map, IfOk, IfErr};
 ghost use Rattle.resolvo_pool_core.specs.RuleKeeping.{Rules};
 ghost use Rattle.resolvo_packages.specs.PackageSource.{offered_solvables};
 ghost use Rattle.resolvo_pool.specs.Cached.{IsCancelledBy};
-ghost use Rattle.resolvo.specs.Conflicts.{AreOffers, IsLeft};
+ghost use Rattle.resolvo.specs.Conflicts.{AreOffers, IsLeft, clause_of_step, conflict_clauses};
 ghost use Rattle.resolvo.specs.Solver.{HoldsConflict, IsGraphOf, IsTrueOf, TellsConflict};
 ghost use Rattle.resolvo_turn.specs.Encoder.{IsRoot};
-ghost use Rattle.resolvo.specs.Solve.{IsSolved, EndsSo, Counts};
+ghost use Rattle.resolvo.specs.Solve.{AreChosenOnce, AskNothing, IsSolved, EndsSo, Counts};
 ghost use Rattle.resolvo.specs.Wished.{AreCandidates};
 
 use crate::prove::{Solved, solve};
@@ -14,12 +14,12 @@ use crate::search::SearchResult;
 use crate::solver::Solver;
 use resolvo_conflict::graph::conflict_graph;
 use resolvo_conflict::offers::Offers;
-use resolvo_conflict::rules::requirements_of;
+use resolvo_conflict::rules::{conflict_rules, requirements_of};
 use resolvo_graph::display_unsat::DisplayUnsat;
 use resolvo_graph::graph::ConflictGraph;
 use resolvo_packages::package_source::{Offered, PackageSource};
 use resolvo_pool::cache::CacheFault;
-use resolvo_pool_core::id::{ClauseId, VersionSetId};
+use resolvo_pool_core::id::{ClauseId, Exact, VersionSetId, next_index};
 use resolvo_pool_core::id_map::ScoreMap;
 use resolvo_pool_core::provider::DependencyProvider;
 use resolvo_pool_core::requirement::ConditionalRequirement;
@@ -27,8 +27,11 @@ use resolvo_pool_core::want::R;
 use resolvo_proof::step::ProofStep;
 use resolvo_turn::cdcl::Activity;
 use std::alloc::Global;
+use std::fmt::Debug;
+use std::hash::Hash;
 
-/// The clauses that can't be true together.
+/// The clauses that can't be true together: those from which the last step of the proof follows, the root's aside. The broken one
+/// comes first, then the others as it leads back to them; a learnt clause is replaced by its causes, and each stands once.
 #[derive(Debug, Drop)]
 pub struct Conflict {
     pub clauses: Vec<ClauseId>,
@@ -127,30 +130,54 @@ pub fn offers_for<A: PackageSource>(
     Ok(offers)
 }
 
-/// What a search leaves for a conflict's graph: of a clash its clauses, and what was offered.
+/// The clauses of the steps at these places.
+fn clauses_at(alloc: Global, places: &[usize]) -> R<Vec<ClauseId>>
+    ensures { IfOk result (λ v. v.items ≡ map clause_of_step places.now) }
+{
+    let mut clauses = Vec::new(alloc);
+    for place in places {
+        let number = next_index(place.saturating_add(1))?;
+        clauses.push(ClauseId(number as u32))?;
+    }
+    Ok(clauses)
+}
+
+/// The clauses of a conflict, in its order.
+fn conflict_clauses<N: Copy + Exact + Hash + Debug, S: Copy + Exact + Hash + Debug>(
+    alloc: Global,
+    steps: &[ProofStep<N, S>],
+) -> R<Vec<ClauseId>>
+    ensures { IfOk result (λ v. v.items ≡ conflict_clauses steps.now) }
+{
+    let places = conflict_rules(alloc, steps)?;
+    clauses_at(alloc, places.as_slice())
+}
+
+/// What a search leaves for a conflict's graph: of a clash its clauses, to be told and to be kept, and what was offered.
 fn conflict_left<A: PackageSource>(
     alloc: Global,
     answers: &mut A,
     solved: &Solved<A::NameId, A::SolvableId>,
-) -> Result<Option<KeptConflict<A::SolvableId>>, CacheFault<A::Cancel>>
+) -> Result<(Vec<ClauseId>, Option<KeptConflict<A::SolvableId>>), CacheFault<A::Cancel>>
     ensures same { answers.new ≡ answers.old }
     ensures left { IfOk result
         (λ c.
         IsLeft A.SolvableId.eq (A.packages answers.old) (A.orders answers.old) solved.now.found
-        solved.now.proof.items c) }
+        solved.now.proof.items c.0.items c.1) }
     ensures cancelled { IfErr result (IsCancelledBy (A.may_cancel answers.old)) }
 {
     match &solved.found {
-        SearchResult::Chosen { .. } => Ok(None),
-        SearchResult::Clash(refusal) => {
+        SearchResult::Chosen { .. } => Ok((Vec::new(alloc), None)),
+        SearchResult::Clash(_) => {
             let offers = offers_for(alloc, answers, solved.proof.as_slice())?;
-            let clauses = Vec::from_slice(alloc, refusal.causes.as_slice())?;
-            Ok(Some(KeptConflict { clauses, offers }))
+            let told = conflict_clauses(alloc, solved.proof.as_slice())?;
+            let clauses = Vec::from_slice(alloc, told.as_slice())?;
+            Ok((told, Some(KeptConflict { clauses, offers })))
         }
     }
 }
 
-/// Searches as `solve` does. Of a clash it gives what a solver keeps of the conflict, too.
+/// Searches as `solve` does. Of a clash it gives its clauses and what a solver keeps of the conflict, too.
 pub(crate) fn solve_to_conflict<A: PackageSource, C: ScoreMap<A::NameId> + Drop>(
     alloc: Global,
     answers: &mut A,
@@ -161,6 +188,7 @@ pub(crate) fn solve_to_conflict<A: PackageSource, C: ScoreMap<A::NameId> + Drop>
 ) -> Result<
     (
         Solved<A::NameId, A::SolvableId>,
+        Vec<ClauseId>,
         Option<KeptConflict<A::SolvableId>>,
     ),
     CacheFault<A::Cancel>,
@@ -173,15 +201,18 @@ pub(crate) fn solve_to_conflict<A: PackageSource, C: ScoreMap<A::NameId> + Drop>
         → AreCandidates A.SolvableId.eq (A.packages answers.old) wishes.now
         → IsSolved A.SolvableId.eq (A.packages answers.old) (A.orders answers.old) root
         wishes.now s.0) }
+    ensures once { IfOk result (λ s. AreChosenOnce s.0.found) }
+    ensures alone { IfOk result
+        (λ s. AskNothing requirements.now constraints.now wishes.now → s.0.clause_count ≡ 1) }
     ensures ends { IfOk result (λ s. EndsSo s.0.found s.0.proof.items) }
     ensures count { IfOk result (λ s. Counts s.0.found s.0.clause_count (length s.0.proof.items)) }
     ensures left { IfOk result
         (λ s.
         IsLeft A.SolvableId.eq (A.packages answers.old) (A.orders answers.old) s.0.found
-        s.0.proof.items s.1) }
+        s.0.proof.items s.1.items s.2) }
     ensures cancelled { IfErr result (IsCancelledBy (A.may_cancel answers.old)) }
 {
     let solved = solve::<A, C>(alloc, answers, activity, requirements, constraints, wishes)?;
-    let conflict = conflict_left(alloc, answers, &solved)?;
-    Ok((solved, conflict))
+    let (clauses, conflict) = conflict_left(alloc, answers, &solved)?;
+    Ok((solved, clauses, conflict))
 }

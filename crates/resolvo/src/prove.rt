@@ -14,7 +14,7 @@ ghost use Rattle.resolvo_proof.specs.Places.{HaveOnePlace, AreNamedBy};
 ghost use Rattle.resolvo_proof.specs.Proof.{Proves};
 ghost use Rattle.resolvo_turn.specs.Encoder.{IsRoot};
 ghost use Rattle.resolvo.specs.Wished.{AreCandidates};
-ghost use Rattle.resolvo.specs.Solve.{IsDenial, IsProvable, IsSolved, EndsSo, Counts, HasSteps};
+ghost use Rattle.resolvo.specs.Solve.{AreChosenOnce, AskNothing, IsDenial, IsProvable, IsSolved, EndsSo, Counts, HasSteps};
 
 use crate::search::{SearchResult, search};
 use resolvo_encoder::encoder::Encoder;
@@ -82,6 +82,7 @@ fn prove<N: Copy + Exact + Hash + Debug + Drop, S: Copy + Exact + Hash + Debug>(
     requires { IsProvable encoding.now found }
     ensures found { IfOk result (λ s. s.found ≡ found) }
     ensures count { IfOk result (λ s. Counts s.found s.clause_count (length s.proof.items)) }
+    ensures clause_count { IfOk result (λ s. s.clause_count ≡ length encoding.now.coding.search.clauses) }
     ensures deferred { IfOk result (λ s. s.deferred_count ≡ waiting_count encoding.now) }
     ensures proof { IfOk result (λ s. Proves encoding.now.coding s.proof.items) }
     ensures drawn { IfOk result
@@ -128,6 +129,9 @@ fn solve_in<A: PackageSource, C: ScoreMap<A::NameId> + Drop>(
         → IsEncoding A.SolvableId.eq (A.packages answers.old) root encoding.old
         → IsSolved A.SolvableId.eq (A.packages answers.old) (A.orders answers.old) root
         wishes.now s) }
+    ensures once { IfOk result (λ s. AreChosenOnce s.found) }
+    ensures alone { IfOk result
+        (λ s. AskNothing requirements.now constraints.now wishes.now → s.clause_count ≡ 1) }
     ensures ends { IfOk result (λ s. EndsSo s.found s.proof.items) }
     ensures count { IfOk result (λ s. Counts s.found s.clause_count (length s.proof.items)) }
     ensures cancelled { IfErr result (IsCancelledBy (A.may_cancel answers.old)) }
@@ -167,6 +171,9 @@ pub fn solve<A: PackageSource, C: ScoreMap<A::NameId> + Drop>(
         → AreCandidates A.SolvableId.eq (A.packages answers.old) wishes.now
         → IsSolved A.SolvableId.eq (A.packages answers.old) (A.orders answers.old) root
         wishes.now s) }
+    ensures once { IfOk result (λ s. AreChosenOnce s.found) }
+    ensures alone { IfOk result
+        (λ s. AskNothing requirements.now constraints.now wishes.now → s.clause_count ≡ 1) }
     ensures ends { IfOk result (λ s. EndsSo s.found s.proof.items) }
     ensures count { IfOk result (λ s. Counts s.found s.clause_count (length s.proof.items)) }
     ensures cancelled { IfErr result (IsCancelledBy (A.may_cancel answers.old)) }

@@ -1,5 +1,6 @@
 //! A whole search for what a problem's root needs and for its wishes.
-ghost use Rattle.std.specs.Prelude.{◌≡◌, [], None, IfOk, IfErr, OnOk};
+ghost use Rattle.std.specs.Prelude.{◌≡◌, [], length, None, IfOk, IfErr, OnOk};
+ghost use Rattle.std.specs.Bool.{Decides};
 ghost use Rattle.resolvo_pool.specs.Cached.{IsCancelledBy};
 ghost use Rattle.resolvo_pool_core.specs.RuleKeeping.{Rules};
 ghost use Rattle.resolvo_encoder.specs.Encoded.{IsEncoding};
@@ -7,7 +8,7 @@ ghost use Rattle.resolvo_encoder.specs.Steps.{IsBegunEncoding, IsBuilt};
 ghost use Rattle.resolvo_turn.specs.Encoder.{IsInOrder, IsRoot};
 ghost use Rattle.resolvo_turn.specs.Turn.{IsRooted, IsTurn};
 ghost use Rattle.resolvo.specs.Wished.{AreCandidates};
-ghost use Rattle.resolvo.specs.Solve.{IsFound, IsFoundIn, IsListedIn, IsPreferred, IsSearch, IsDenial, IsProvable};
+ghost use Rattle.resolvo.specs.Solve.{AskNothing, IsFound, IsFoundIn, IsListedIn, IsPreferred, IsSearch, IsDenial, IsProvable};
 
 use crate::soft_requirements::run_soft_requirements;
 use crate::turns::{Turn, Turns};
@@ -161,6 +162,46 @@ fn run_turns<A: PackageSource, C: ScoreMap<A::NameId>>(
     Ok(found)
 }
 
+/// Whether a problem asks nothing.
+fn asks_nothing<S>(
+    requirements: &[ConditionalRequirement],
+    constraints: &[VersionSetId],
+    wishes: &[S],
+) -> bool
+    ensures { Decides result (AskNothing requirements.now constraints.now wishes.now) }
+{
+    requirements.is_empty() && constraints.is_empty() && wishes.is_empty()
+}
+
+/// What is found of a problem that asks nothing, over an encoding that has just begun. It stops with a value with which the answers
+/// are cancelled.
+fn find_nothing<A: PackageSource>(
+    alloc: Global,
+    answers: &A,
+    encoding: &mut Encoder<A::NameId, A::SolvableId>,
+) -> Result<SearchResult<A::SolvableId>, CacheFault<A::Cancel>>
+    requires { IsBegunEncoding encoding.old }
+    ensures found { IfOk result
+        (λ f.
+        (root : Rules)
+        → root.requirements ≡ []
+        → root.constraints ≡ []
+        → IsEncoding A.SolvableId.eq (A.packages answers.now) root encoding.old
+        → IsSearch A.SolvableId.eq (A.packages answers.now) (A.orders answers.now) root []
+        encoding.new f) }
+    ensures listed { IfOk result (IsListedIn encoding.new) }
+    ensures provable { IfOk result (IsProvable encoding.new) }
+    ensures alone { OnOk result (length encoding.new.coding.search.clauses ≡ 1) }
+    ensures cancelled { IfErr result (IsCancelledBy (A.may_cancel answers.now)) }
+{
+    answers.check()?;
+    encoding.end_parent();
+    Ok(SearchResult::Chosen {
+        solvables: Vec::new(alloc),
+        turns: Vec::new(alloc),
+    })
+}
+
 /// Searches for solvables that keep the rules of a root with these requirements and constraints, and of each other, and
 /// takes candidates in the order in which they are tried; then for the wishes, in their order. The solvables come in the order in
 /// which the trail made them true. What it encodes stands in the encoding, which has just begun. It stops with `Memory`, `Ids`,
@@ -186,8 +227,15 @@ pub fn search<A: PackageSource, C: ScoreMap<A::NameId> + Drop>(
         wishes.now encoding.new f) }
     ensures listed { IfOk result (IsListedIn encoding.new) }
     ensures provable { IfOk result (IsProvable encoding.new) }
+    ensures alone { OnOk result
+        (AskNothing requirements.now constraints.now wishes.now
+        → length encoding.new.coding.search.clauses ≡ 1) }
     ensures cancelled { IfErr result (IsCancelledBy (A.may_cancel answers.old)) }
 {
+    if asks_nothing(requirements, constraints, wishes) {
+        let nothing = find_nothing(alloc, answers, encoding)?;
+        return Ok(nothing);
+    }
     let found = run_turns(
         alloc,
         answers,

@@ -1,10 +1,12 @@
 //! The solver: a provider with its answers, and what the last search left.
-ghost use Rattle.std.specs.Prelude.{◌≡◌, ◌≤◌, List, [], None, Some, IsSome};
+ghost use Rattle.std.specs.Prelude.{◌≡◌, ◌≤◌, List, [], None, Some, IsSome, IfOk};
 ghost use Rattle.std.specs.Bool.{Decides};
 ghost use Rattle.std.specs.Option.{option_map};
 ghost use Rattle.std.specs.Iterator.{IsFinite};
 ghost use Rattle.std.specs.Iterator.Runs.{WholeRun};
 ghost use Rattle.resolvo_packages.specs.PackageSource.{packages_by, orders_by};
+ghost use Rattle.resolvo_state.specs.Keys.{AreOnce};
+ghost use Rattle.resolvo.specs.Solve.{AskNothing};
 ghost use Rattle.resolvo.specs.Wished.{AreCandidates};
 ghost use Rattle.resolvo.specs.Conflicts.{Left, left_of};
 ghost use Rattle.resolvo.specs.Solver.{HoldsConflict, Kept, IfEnded, IsAnswer, IsStopped, Keeps, Leaves, root_of, stopped_by};
@@ -17,6 +19,7 @@ use crate::turns::Turn;
 use resolvo_conflict::offers::Offers;
 use resolvo_packages::cached_packages::CachedPackages;
 use resolvo_pool::cache::CacheFault;
+use resolvo_pool_core::id::ClauseId;
 use resolvo_pool_core::provider::DependencyProvider;
 use resolvo_pool_core::solver_id::SolverId;
 use resolvo_proof::step::ProofStep;
@@ -89,13 +92,14 @@ impl<D: DependencyProvider> Solver<D> {
         self.conflict = None;
     }
 
-    /// Keeps what a search left, and tells what it found.
+    /// Keeps what a search left, and tells what it found, or these clauses of a conflict.
     fn keep(
         &mut self,
         solved: Solved<D::NameId, D::SolvableId>,
+        clauses: Vec<ClauseId>,
         conflict: Option<KeptConflict<D::SolvableId>>,
     ) -> Result<Vec<D::SolvableId>, UnsolvableOrCancelled<D::Cancel>>
-        ensures { Keeps solved (option_map left_of conflict) self.old result self.new }
+        ensures { Keeps solved clauses (option_map left_of conflict) self.old result self.new }
     {
         let Solved {
             found,
@@ -112,9 +116,9 @@ impl<D: DependencyProvider> Solver<D> {
                 self.turns = turns;
                 Ok(solvables)
             }
-            SearchResult::Clash(refusal) => Err(UnsolvableOrCancelled::Unsolvable(Conflict {
-                clauses: refusal.causes,
-            })),
+            SearchResult::Clash(_refusal) => {
+                Err(UnsolvableOrCancelled::Unsolvable(Conflict { clauses }))
+            }
         }
     }
 
@@ -143,15 +147,15 @@ impl<D: DependencyProvider> Solver<D> {
         self.answers.provider()
     }
 
-    /// The number of clauses of the last search, the root's among them; 0 before the first, and after one that stopped.
+    /// The number of clauses of the last search, the root's among them; 0 before the first, and after one that stopped. A problem that
+    /// asks nothing has the root's alone.
     pub fn clause_count(&self) -> usize
         ensures { result ≡ self.now.clause_count }
     {
         self.clause_count
     }
 
-    /// How many cases of conditions were deferred in the last search, and still are: each has a version set without a chosen
-    /// match. 0 before the first, and after one that stopped.
+    /// How many cases of conditions the last search deferred, and didn't encode since. 0 before the first, and after one that stopped.
     pub fn deferred_requirements_count(&self) -> usize
         ensures { result ≡ self.now.deferred_count }
     {
@@ -224,7 +228,7 @@ impl<D: DependencyProvider> Solver<D> {
     }
 
     /// Searches for solvables that keep the rules of the problem, then for its wishes, in their order, and gives what was chosen,
-    /// in the order in which it was. A search begins anew, with the answers as they are.
+    /// each once and in the order in which it was. A search begins anew, with the answers as they are.
     pub fn solve<I: Iterator<Item = D::SolvableId>>(
         &mut self,
         problem: Problem<D::SolvableId, I>,
@@ -246,7 +250,10 @@ impl<D: DependencyProvider> Solver<D> {
             (root_of problem)
             (orders_by D.name_of_version_set D.members_of D.candidates_of D.matches
             D.sorts D.SolvableId.eq self.old.provider)
-            wishes result self.new)) }
+            wishes result self.new)
+            × (AskNothing problem.requirements.items problem.constraints.items wishes
+            → self.new.clause_count ≡ 1)) }
+        ensures once { IfOk result (λ v. AreOnce v.items) }
         ensures leaves { Leaves result self.new }
         ensures cancelled { IsStopped (D.may_cancel self.old.provider) result }
     {
@@ -269,7 +276,7 @@ impl<D: DependencyProvider> Solver<D> {
             constraints.as_slice(),
             wishes.as_slice(),
         ) {
-            Ok((solved, conflict)) => self.keep(solved, conflict),
+            Ok((solved, clauses, conflict)) => self.keep(solved, clauses, conflict),
             Err(fault) => Err(UnsolvableOrCancelled::from(fault)),
         }
     }

@@ -1,5 +1,6 @@
 //! What no clause says: that a search comes to an answer where there is memory.
 
+mod conflicts;
 mod pairs;
 mod provider;
 mod sources;

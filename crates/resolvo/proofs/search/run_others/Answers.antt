@@ -10,8 +10,11 @@ pub run_soft_requirements-requires-clause-at : goal.run_soft_requirements-requir
 run_soft_requirements-requires-clause-at g c =
     let same = g.A.SolvableId.PartialEq.eq in
     let exact : IsExact same = record { one = g.met.A.SolvableId.Exact.exact; own = g.met.A.SolvableId.Eq.laws.refl } in
+    let are = first_on_trail same exact c.args.encoding.now c.new-turns.result.chosen.keys c.list.new.self.chosen.keys c.requires.built.coding c.new-turns.ensures.chosen c.in_ok-list.ensures.in_order in
+    let (settled, whole, spent, wish) = c.requires.ended in
     record {
-      chosen = first_on_trail same exact c.args.encoding.now c.new-turns.result.chosen.keys c.list.new.self.chosen.keys c.requires.built.coding c.new-turns.ensures.chosen c.in_ok-list.ensures.in_order;
+      chosen = are;
+      encoded = whole c.list.new.self.chosen.keys (listed_are_chosen c.args.encoding.now c.list.new.self.chosen.keys are);
       wishes = c.requires.first ∙ ap (λ (ts : List (Turn g.row.A-SolvableId.Denot)). accepted_of (reverse ts)) (sym (ap (λ v. v.items) c.in_ok-list.ensures.turns ∙ c.new-turns.ensures.turns));
     }
 

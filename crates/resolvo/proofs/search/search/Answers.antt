@@ -1,3 +1,4 @@
+use Rattle.std.proofs.lemmas.Bool.{both_ways}
 use Rattle.resolvo.proofs.Found.{begun_in_order}
 use Rattle.resolvo.proofs.search.search.Goals as goal
 
@@ -9,3 +10,6 @@ returns-clause-found g c = λ root is candidates encoded.
 
 pub returns-clause-provable : goal.returns-clause-provable
 returns-clause-provable g c = record { built = c.in_ok-found.ensures.built; denial = c.in_ok-found.ensures.denial }
+
+pub returns-clause-alone : goal.returns-clause-alone
+returns-clause-alone g c = λ ask. absurd (both_ways _ c.if-asks_nothing.false (c.asks_nothing.ensures.1 ask))

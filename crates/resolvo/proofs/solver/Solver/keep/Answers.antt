@@ -13,7 +13,7 @@ returns-in-Chosen g c = (
 
 pub returns-in-Clash : goal.returns-in-Clash
 returns-in-Clash g c = (
-  c.in-Clash.refusal,
+  _,
   c.in-Clash.is,
   refl,
   ap (λ (k : Kept g.row.D.Denot g.row.D-NameId.Denot g.row.D-SolvableId.Denot). record k { clause_count = c.args.solved.clause_count; deferred_count = c.args.solved.deferred_count; proof = c.args.solved.proof.items; conflict = option_map left_of c.args.conflict }) c.self.view_is,
