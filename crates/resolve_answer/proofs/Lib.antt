@@ -10,6 +10,7 @@ pub mod Atoms
 pub mod KnowLemmas
 pub mod WalkLemmas
 pub mod UseLemmas
+pub mod Barred
 pub mod ServeLemmas
 pub mod Upheld
 pub mod JoinLemmas

@@ -4,7 +4,7 @@ use Rattle.std.specs.Prelude.{Contains, MatchOption, slice_get}
 use Rattle.std.specs.Option.{option_map}
 use Rattle.std.proofs.lemmas.Bool.{cases_Bool, eq-eqb}
 use Rattle.std.proofs.lemmas.Option.{none-some, slice_get_within}
-use Rattle.std.proofs.lemmas.List.{append-nil, length-append, length-map, take-append-drop, take_all}
+use Rattle.std.proofs.lemmas.List.{append-nil, length-append, length-map, take-append-drop, take-map, take_all}
 use Rattle.resolvo_text.specs.Line.{Version, Line}
 use Rattle.resolvo_text.specs.Matches.{Set}
 use Rattle.resolvo_catalogue_core.specs.Grammar.{AreRequestLines}
@@ -14,7 +14,8 @@ use Rattle.resolvo_catalogue_core.specs.Sets as texts
 use Rattle.resolvo_catalogue_core.specs.Table.{nth}
 use Rattle.resolvo_catalogue_core.specs.declared.rule.VersionNo.{VersionNo}
 use Rattle.resolve_order.specs.Order.{AreReached, chosen_in, wishes_in}
-use Rattle.resolve_order.specs.View.{turns_of}
+use Rattle.resolve_order.specs.Order as order
+use Rattle.resolve_order.specs.View.{turn_of, turns_of}
 use Rattle.resolve_order.specs.declared.entry.Turn.{Turn}
 use Rattle.resolve_order.specs.declared.entry.Turn.TheVariants.{Chose, LeftOut}
 use Rattle.resolvo_soundness.specs.Encoding.{IsExact}
@@ -50,11 +51,12 @@ use Rattle.resolvo.specs.Solve.{HasProof}
 use Rattle.resolvo.specs.Wished.{AreCandidates, IsCandidate}
 use Rattle.resolvo.proofs.Forward.{end_after, end_is, wished_in_turn}
 use Rattle.resolve_answer.specs.First.{AreFirstChosen, orders_of}
+use Rattle.resolve_answer.specs.Reported.{AreKept}
 use Rattle.resolve_answer.specs.Wishes.{AreWishesOf, asked_by, free_of, unless_barred}
 use Rattle.resolve_answer.specs.ReportTurns.{Solved, AreTold, AreWanted, IsBetween, IsFirstTurn, IsWishedTurn, first_end, number_at, past}
 use Rattle.resolve_answer.specs.declared.wishes.Wish.{Wish}
 use Rattle.resolve_answer.proofs.FirstChosen.{first_chosen}
-use Rattle.resolve_answer.proofs.WalkLemmas.{AreServing, AreSoFar, IsKnownWish, index_is, IsServing, Serves, StandAt, keeps_lines, part_is, reached_so_far, serving_more, stand_for, take_next, versions_of, walk}
+use Rattle.resolve_answer.proofs.WalkLemmas.{AreServing, AreSoFar, IsKnownWish, index_is, IsServing, Serves, StandAt, keeping_so_far, keeps_lines, part_is, reached_so_far, serving_more, stand_for, take_next, versions_of, walk}
 
 -- ---- the steps
 
@@ -207,6 +209,7 @@ module _ (catalogue : List Line) (said : ReadRequest) (provider : Provider) (ove
           let (part, is, between) = first_turn in
           record {
             accepted = λ w e. absurd (none-some w (sym (ap accepted_of is) ∙ e));
+            keeping = keeping_so_far catalogue said provider over ids asked asks_rightly same apart exact v (t ∷ []) first [] first_so;
             reached = reached_so_far catalogue said provider over ids asked asks_rightly same apart exact v (t ∷ []) first [] first_so;
             barred = λ w k e. absurd (let no_turn : Chose None part ≡ LeftOut w k = sym is ∙ e in cc);
           }
@@ -221,6 +224,23 @@ module _ (catalogue : List Line) (said : ReadRequest) (provider : Provider) (ove
       -- one turn behind those before it
       up_to : (k : ℕ) (u : Turn) → slice_get (t ∷ rest) k ≡ Some u → chosen_in (turns_of (listed catalogue) (take k (t ∷ rest) ++ u ∷ [])) ≡ chosen_in (turns_of (listed catalogue) (take (suc k) (t ∷ rest)))
       up_to k u e = ap (λ xs. chosen_in (turns_of (listed catalogue) xs)) (sym (take_next k (t ∷ rest) u e))
+
+      -- by the end of each turn what was chosen keeps the rules, and is reached
+      pub kept_is : AreKept catalogue said.lines (turns_of (listed catalogue) (t ∷ rest))
+      kept_is = record {
+        keeping = λ k low. (
+            let (u, e) = get_below (t ∷ rest) k (within k low) in
+            subst (λ (xs : List order.Turn). texts.IsRuleKeeping catalogue said.lines (chosen_in xs)) (turns_to k u e) (each_serves k u e).keeping);
+        reached = λ k low. (
+            let (u, e) = get_below (t ∷ rest) k (within k low) in
+            subst (λ (xs : List order.Turn). AreReached catalogue said.lines (chosen_in xs) (wishes_in xs)) (turns_to k u e) (each_serves k u e).reached);
+      }
+        where
+          within : (k : ℕ) → k < length (turns_of (listed catalogue) (t ∷ rest)) → k < length (t ∷ rest)
+          within k low = (let same_count : length (turns_of (listed catalogue) (t ∷ rest)) ≡ length (t ∷ rest) = length-map (t ∷ rest) (turn_of (listed catalogue)) in omega (arith, low, same_count))
+
+          turns_to : (k : ℕ) (u : Turn) → slice_get (t ∷ rest) k ≡ Some u → turns_of (listed catalogue) (take k (t ∷ rest) ++ u ∷ []) ≡ take (suc k) (turns_of (listed catalogue) (t ∷ rest))
+          turns_to k u e = ap (turns_of (listed catalogue)) (sym (take_next k (t ∷ rest) u e)) ∙ sym (take-map (turn_of (listed catalogue)) (suc k) (t ∷ rest))
 
       pub serve_is : AreSteps catalogue said.lines after → Serve catalogue said.lines (t ∷ rest) after
       serve_is steps = record {

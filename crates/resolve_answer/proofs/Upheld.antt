@@ -8,6 +8,7 @@ use Rattle.resolvo_catalogue_core.specs.Listed.{listed, members}
 use Rattle.resolvo_catalogue_core.specs.Questions.{ReadRequest, AreAll, IsWish, LineIs}
 use Rattle.resolvo_catalogue_core.specs.declared.rule.VersionNo.{VersionNo}
 use Rattle.resolvo_catalogue_core.specs.Answers.{Answer}
+use Rattle.resolve_order.specs.Order as order
 use Rattle.resolve_order.specs.Order.{AreTurns}
 use Rattle.resolve_order.specs.View.{turns_of}
 use Rattle.resolvo_judge.specs.Refusal.{answer_of}
@@ -57,24 +58,25 @@ use Rattle.resolve_answer.specs.declared.wishes.Wish.{Wish}
 use Rattle.resolve_answer.specs.First.{orders_of, AreFirstChosen}
 use Rattle.resolve_answer.specs.Message.{IsMessageOf, IsPlain, IsTextOf, with_message}
 use Rattle.resolve_answer.specs.Solved.{IsInstalledOver, IsRefutedOver, IsSolvedOver}
-use Rattle.resolve_answer.specs.Reported.{AreNamed, AreUsed, AreWishTurns, IsAnswer, IsReportOf}
+use Rattle.resolve_answer.specs.Reported.{AreKept, AreNamed, AreUsed, AreWishTurns, IsAnswer, IsReportOf, TellTheirRules}
 use Rattle.resolve_answer.proofs.Atoms.{same_atom, exact_atom}
 use Rattle.resolve_answer.proofs.KnowLemmas.{known_kept}
-use Rattle.resolve_answer.proofs.ServeLemmas.{AreSteps, first_entries, free_candidates, one_step_more, refused_bars, serve_is, steps_hold, written_steps}
+use Rattle.resolve_answer.proofs.ServeLemmas.{AreSteps, first_entries, free_candidates, kept_is, known_wish, one_step_more, refused_bars, serve_is, steps_hold, written_steps}
 use Rattle.resolve_answer.proofs.UseLemmas.{told_later, wish_turns, steps_used, zip_length}
 use Rattle.resolve_answer.proofs.TellLemmas.{steps_front}
+use Rattle.resolve_answer.proofs.Barred.{AreListedWishes, all_first, steps_told_so}
 
 pub if_ok : {A E : Type 0} {P Q : A → Type 0} (r : Result A E) → ((a : A) → P a → Q a) → IfOk r P → IfOk r Q
 if_ok (Ok a) f h = f a h
 if_ok (Err e) f h = tt
 
 -- the install report of the turns of a search
-pub install_reported : (catalogue request : List Line) (part : Bor (List VersionNo)) (rest : List Turn) (steps : List Step) (r : Report) → IsInstallOf catalogue request (Chose None part ∷ rest) steps r → AreWishTurns request (turns_of (listed catalogue) rest) → AreFirstChosen catalogue request (members (listed catalogue) part.now)
-    → ((answers : List Answer) → AreTurns catalogue request [] [] (turns_of (listed catalogue) (Chose None part ∷ rest)) answers → AreUsed answers steps) → IsReportOf catalogue request r
-install_reported catalogue request part rest steps r i wished first used = record {
+pub install_reported : (catalogue request : List Line) (part : Bor (List VersionNo)) (rest : List Turn) (steps : List Step) (r : Report) → IsInstallOf catalogue request (Chose None part ∷ rest) steps r → AreWishTurns request (turns_of (listed catalogue) rest) → AreKept catalogue request (turns_of (listed catalogue) (Chose None part ∷ rest)) → AreFirstChosen catalogue request (members (listed catalogue) part.now)
+    → ((answers : List Answer) → AreTurns catalogue request [] [] (turns_of (listed catalogue) (Chose None part ∷ rest)) answers → AreUsed answers steps × TellTheirRules catalogue request answers steps) → IsReportOf catalogue request r
+install_reported catalogue request part rest steps r i wished kept first used = record {
   upheld = record { report = i.report; is = refl; accepted = i.accepted };
   claim = i.claim;
-  answer = subst (λ (x : Report). IsAnswer catalogue request x) (sym i.installs) (record { chosen = members (listed catalogue) part.now; later = turns_of (listed catalogue) rest; wished = wished; order = i.order; all = i.entries; first = first }, used (map answer_of i.lines) i.order);
+  answer = subst (λ (x : Report). IsAnswer catalogue request x) (sym i.installs) (record { chosen = members (listed catalogue) part.now; later = turns_of (listed catalogue) rest; wished = wished; kept = kept; order = i.order; all = i.entries; first = first }, (used (map answer_of i.lines) i.order).0, (used (map answer_of i.lines) i.order).1);
 }
 
 -- ---- refusals
@@ -103,7 +105,7 @@ refusal_reported catalogue request ids steps r message i named plain tells =
     subst (λ (x : Report). IsReportOf catalogue request (with_message message x)) (sym i.refuses) (record {
       upheld = upheld_with i.in_catalogue i.in_request i.written catalogue request [] message (plain_texts message plain) upheld;
       claim = subst (λ (x : Report). IsClaimTrue catalogue request x) i.refuses i.claim;
-      answer = (told_named catalogue request ids steps i.written i.each named, tells i.written i.each);
+      answer = (i.used, told_named catalogue request ids steps i.written i.each named, all_first catalogue request ids steps i.written i.each, tells i.written i.each);
     })
 
 -- ---- what was found
@@ -139,10 +141,17 @@ module _ (catalogue : List Line) (said : ReadRequest) (provider : Provider) (wis
         let refuses = refused_bars catalogue said provider is.over is.ids is.asked asks_rightly is.same is.exact is.are_wishes wishes is.told chosen turns is.wished proof kept wanted places is.proofs are_wanted numbered written others after install whole in
         let steps : AreSteps catalogue said.lines after = steps_hold catalogue (AreSteps catalogue said.lines) (one_step_more catalogue said.lines) numbers turns places wishes 0 written rest after is.told.bars (written_steps catalogue said.lines provider.ids kept written install) told in
         let serve = serve_is catalogue said provider is.over is.ids is.asked asks_rightly is.same is.exact is.are_wishes wishes is.told chosen turns is.wished numbers numbers_are places after written t rest first_turn told refuses steps in
+        let kept_turns = kept_is catalogue said provider is.over is.ids is.asked asks_rightly is.same is.exact is.are_wishes wishes is.told chosen turns is.wished numbers numbers_are places after written t rest first_turn told refuses in
+        let listed_wishes : AreListedWishes catalogue wishes =
+        λ w h. (let known = known_wish catalogue said provider is.over is.ids is.asked asks_rightly is.same is.exact is.are_wishes wishes is.told w h in (known.version, known.there, known.bar)) in
         let (part, is_first, between) = first_turn in
         install_reported catalogue said.lines part rest after r (subst (λ (u : Turn). IsInstallOf catalogue said.lines (u ∷ rest) after r) is_first (reports serve)) (wish_turns catalogue said.lines t rest after serve)
+        (subst (λ (u : Turn). AreKept catalogue said.lines (turns_of (listed catalogue) (u ∷ rest))) is_first kept_turns)
         (first_entries catalogue said provider is.over is.ids is.asked asks_rightly is.same is.exact is.are_wishes wishes is.told chosen turns is.wished numbers numbers_are part between is.preferred)
-        (steps_used catalogue said.lines provider.ids turns chosen proof kept wanted places are_wanted numbered is.proofs written install.each numbers wishes (Chose None part) rest after told (one_each is.same (packages_of provider) (root_of is.ids) chosen (first_of chosen turns) (free_of wishes) turns is.wished))
+        (λ answers are. (
+          steps_used catalogue said.lines provider.ids turns chosen proof kept wanted places are_wanted numbered is.proofs written install.each numbers wishes (Chose None part) rest after told (one_each is.same (packages_of provider) (root_of is.ids) chosen (first_of chosen turns) (free_of wishes) turns is.wished) answers are,
+          steps_told_so catalogue said.lines provider.ids kept written install.each numbers turns places wishes listed_wishes (order.Chose None (members (listed catalogue) part.now)) (members (listed catalogue) part.now) refl rest after told answers are,
+        ))
 
   module _ (solved : Solved NameId SolvableId) (is : IsSolvedOver catalogue said provider wishes solved) where
     -- what was chosen

@@ -42,7 +42,7 @@ use Rattle.resolve_answer.specs.declared.wishes.Wish.{Wish}
 use Rattle.resolve_answer.proofs.TellLemmas.{steps_front}
 use Rattle.resolve_answer.proofs.WalkLemmas.{nth_is}
 
-lt-or-ge : (a b : ℕ) → (a < b) ⊎ (b ≤ a)
+pub lt-or-ge : (a b : ℕ) → (a < b) ⊎ (b ≤ a)
 lt-or-ge a b = elim (cases_Bool (ltb a b)) [ inl e ↦ inl (ltb-true a b e) | inr e ↦ inr (ltb-false a b e) ]
 
 -- ---- the turns are those of the wishes
@@ -130,7 +130,7 @@ refused_told numbers turns places (w ∷ ws) m steps told after (u, rest, are, n
 -- ---- the lines
 
 -- a turn that leaves a wish out is told by a line
-left_out_listed : (catalogue request : List Line) (chosen entries : Set) (turns : List order.Turn) (answers : List Answer) → order.AreTurns catalogue request chosen entries turns answers → (w : ℕ × Version) (step : ℕ) → Contains turns (order.LeavesOut w step) → Contains answers (answer.LeftOut w.1 w.0 step)
+pub left_out_listed : (catalogue request : List Line) (chosen entries : Set) (turns : List order.Turn) (answers : List Answer) → order.AreTurns catalogue request chosen entries turns answers → (w : ℕ × Version) (step : ℕ) → Contains turns (order.LeavesOut w step) → Contains answers (answer.LeftOut w.1 w.0 step)
 left_out_listed catalogue request chosen entries [] answers is w step h = absurd (contains_none _ h)
 left_out_listed catalogue request chosen entries (t ∷ turns) answers (first, rest, is, one, more) w step h =
     subst (λ (xs : List Answer). Contains xs (answer.LeftOut w.1 w.0 step)) (sym is) (elim (contains_cases (order.LeavesOut w step) t turns h) [

@@ -161,6 +161,9 @@ module _ (catalogue : List Line) (said : ReadRequest) (provider : Provider) (ove
       reaches n wishes at = reached_alike provider catalogue said.lines over same apart (root_of ids) asked.requirements (take n v) (versions_of catalogue (take n v)) (stand_for n wishes at)
           wishes (versions_of catalogue wishes) (members_stand (listed catalogue) wishes at.has).each at.reached
 
+  pub keeping_so_far : (turns : List Turn) (n : ℕ) (wishes : List SolvableId) → AreSoFar turns n wishes → texts.IsRuleKeeping catalogue said.lines (chosen_in (turns_of (listed catalogue) turns))
+  keeping_so_far turns n wishes so = subst (λ (xs : Set). texts.IsRuleKeeping catalogue said.lines xs) (sym so.chosen) (keeps_lines n wishes so.stand)
+
   -- ---- one turn
 
   module _ (numbers : List VersionNo) (numbers_are : numbers ≡ numbers_of v) (turns : List Solved) (places : List ℕ) (after : List Step)
@@ -168,6 +171,7 @@ module _ (catalogue : List Line) (said : ReadRequest) (provider : Provider) (ove
     -- the turn serves, behind others
     pub record IsServing (before : List Turn) (t : Turn) : Type 0 where
       pub accepted : (wish : ℕ × VersionNo) → accepted_of t ≡ Some wish → Contains (chosen_in (turns_of (listed catalogue) (before ++ t ∷ []))) (nth (listed catalogue) wish.1)
+      pub keeping : texts.IsRuleKeeping catalogue said.lines (chosen_in (turns_of (listed catalogue) (before ++ t ∷ [])))
       pub reached : AreReached catalogue said.lines (chosen_in (turns_of (listed catalogue) (before ++ t ∷ []))) (wishes_in (turns_of (listed catalogue) (before ++ t ∷ [])))
       pub barred : (wish : ℕ × VersionNo) (step : ℕ) → t ≡ LeftOut wish step → IsTrue (step_bars catalogue said.lines after (chosen_in (turns_of (listed catalogue) before)) (nth (listed catalogue) wish.1) step)
 
@@ -198,6 +202,7 @@ module _ (catalogue : List Line) (said : ReadRequest) (provider : Provider) (ove
       pub left_out_serves : step_bars catalogue said.lines after (versions_of catalogue (take n v)) (nth (listed catalogue) wish.1) step ≡ true → IsServing before (LeftOut wish step)
       left_out_serves bars = record {
         accepted = λ w e. absurd (none-some w e);
+        keeping = keeping_so_far (before ++ LeftOut wish step ∷ []) n wishes still_so;
         reached = reached_so_far (before ++ LeftOut wish step ∷ []) n wishes still_so;
         barred = λ w k e. subst (λ (x : Turn). IsBarringTurn before x) e bars_here;
       }
@@ -232,6 +237,7 @@ module _ (catalogue : List Line) (said : ReadRequest) (provider : Provider) (ove
       accepted_serves among = record {
         accepted = λ w e. subst (λ (y : ℕ × VersionNo). Contains (chosen_in (turns_of (listed catalogue) (before ++ turn ∷ []))) (nth (listed catalogue) y.1)) (same_Some wish w e)
             (subst (λ (xs : Set). Contains xs (nth (listed catalogue) wish.1)) (sym now_chosen) version_chosen);
+        keeping = keeping_so_far (before ++ turn ∷ []) end_ (wishes ++ solvable_id wish.1.0 ∷ []) accepted_so;
         reached = reached_so_far (before ++ turn ∷ []) end_ (wishes ++ solvable_id wish.1.0 ∷ []) accepted_so;
         barred = λ w k e. absurd cc;
       }

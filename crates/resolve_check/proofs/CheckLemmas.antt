@@ -3,10 +3,11 @@ use Rattle.std.proofs.Common.{◌≡◌, ℕ, List, Option, Result, IfOk, IfErr,
 use Rattle.std.specs.Prelude.{codes}
 use Rattle.resolvo_text.specs.Line.{Line}
 use Rattle.resolvo_text.specs.Device.{IfKnown}
-use Rattle.resolvo_text.specs.Texts.{IsGrammatical, IsTextFault}
+use Rattle.resolvo_text.specs.Texts.{IsGrammatical, IsFaultyAt, IsTextFault}
 use Rattle.resolvo_text.specs.declared.lines.ReadFault.{ReadFault}
 use Rattle.resolvo_text.specs.declared.lines.ReadFault.TheVariants as read
 use Rattle.resolvo_catalogue_core.specs.Grammar.{IsCatalogueLine, IsRequestLine}
+use Rattle.resolvo_catalogue_core.proofs.GrammarLaws.{catalogue_fault as catalogue_fault_none, request_fault as request_fault_none, one_catalogue}
 use Rattle.resolvo_judge.specs.declared.judgement.Verdict.{Verdict}
 use Rattle.resolvo_judge.specs.Judgement.{IsVerdict, ClaimsTruth}
 use Rattle.resolve_check.specs.declared.outcome.Checked.{Checked}
@@ -14,7 +15,7 @@ use Rattle.resolve_check.specs.declared.outcome.Checked.TheVariants.{Faulty}
 use Rattle.resolve_check.specs.declared.outcome.RunFault.{RunFault}
 use Rattle.resolve_check.specs.declared.outcome.RunFault.TheVariants.{Reader, TooLong, Memory, Ids, Writer}
 use Rattle.resolve_check.specs.declared.check.Told.{Told}
-use Rattle.resolve_check.specs.Devices.{Device, StopsReading}
+use Rattle.resolve_check.specs.Devices.{Device, IfCatalogueFaulty, IfRequestFaulty, StopsReading}
 use Rattle.resolve_check.specs.Texts.{fault_text}
 use Rattle.resolve_check.specs.Check.{TellsVerdict, catalogue_fault, request_fault, judged, ChecksTexts, StopsBeforeCheck, StopsCheck, TellsFaulty}
 use Rattle.resolve_check.proofs.Results.{if_ok, if_err, never_ids}
@@ -53,3 +54,15 @@ nothing_written TooLong catalogue request report writer h same = (h, same)
 nothing_written Memory catalogue request report writer h same = (h, same)
 nothing_written Ids catalogue request report writer h same = absurd h
 nothing_written Writer catalogue request report writer h same = absurd h
+
+-- ---- texts behind a faulty one
+
+-- a catalogue that was read has no faulty line
+pub catalogue_good : (known : Option (List ℕ)) (lines : List Line) (P : Type 0) → IfKnown known (λ t. IsGrammatical IsCatalogueLine t lines) → IfCatalogueFaulty known P
+catalogue_good known lines P says c is n faulty = absurd (catalogue_fault_none c lines n (says c is) faulty)
+
+-- neither has a request that was read over it
+pub request_good : (catalogue request : Option (List ℕ)) (lines asked : List Line) (P : Type 0) → IfKnown catalogue (λ t. IsGrammatical IsCatalogueLine t lines) → IfKnown request (λ t. IsGrammatical (IsRequestLine lines) t asked) → IfRequestFaulty catalogue request P
+request_good catalogue request lines asked P says asks c is_c r is_r others n grammatical faulty =
+    let same_lines : others ≡ lines = one_catalogue c others lines grammatical (says c is_c) in
+    absurd (request_fault_none lines r asked n (asks r is_r) (subst (λ (ls : List Line). IsFaultyAt (IsRequestLine ls) r n) same_lines faulty))

@@ -3,3 +3,4 @@ pub mod SplitLemmas
 pub mod Pieces
 pub mod Results
 pub mod CheckLemmas
+mod CountLemmas

@@ -2,7 +2,7 @@
 use Rattle.std.specs.Prelude.{◌≡◌, ℕ, List, Option}
 use Rattle.resolvo_text.specs.Device.{IfKnown}
 use Rattle.resolvo_text.specs.Line.{Line}
-use Rattle.resolvo_text.specs.Texts.{IsGrammatical, IsTextFault}
+use Rattle.resolvo_text.specs.Texts.{IsGrammatical, IsFaultyAt, IsTextFault}
 use Rattle.resolvo_text.specs.declared.lines.ReadFault.{ReadFault}
 use Rattle.resolvo_catalogue_core.specs.Grammar.{IsCatalogueLine, IsRequestLine}
 
@@ -28,3 +28,11 @@ pub data StopsReading (fault : ReadFault) (catalogue request : Device) : Type 0 
   in_catalogue : IsTextFault IsCatalogueLine fault catalogue.before catalogue.after text_limit catalogue.Failed → request.after ≡ request.before → StopsReading fault catalogue request
   in_request : (lines : List Line) → IfKnown catalogue.before (λ text. IsGrammatical IsCatalogueLine text lines)
       → IsTextFault (IsRequestLine lines) fault request.before request.after text_limit request.Failed → StopsReading fault catalogue request
+
+-- What holds where the catalogue has a faulty line.
+abbrev pub IfCatalogueFaulty : Option (List ℕ) → Type 0 → Type 0
+IfCatalogueFaulty catalogue P = IfKnown catalogue (λ c. (n : ℕ) → IsFaultyAt IsCatalogueLine c n → P)
+
+-- What holds where the catalogue has no faulty line, and the request over it has one.
+abbrev pub IfRequestFaulty : Option (List ℕ) → Option (List ℕ) → Type 0 → Type 0
+IfRequestFaulty catalogue request P = IfKnown catalogue (λ c. IfKnown request (λ r. (lines : List Line) (n : ℕ) → IsGrammatical IsCatalogueLine c lines → IsFaultyAt (IsRequestLine lines) r n → P))

@@ -4,3 +4,4 @@ pub mod Input
 pub mod Devices
 pub mod Faults
 pub mod Check
+pub mod Length

@@ -2,7 +2,7 @@
 
 ghost use Rattle.std.specs.Prelude.{◌≡◌, IfOk, IfErr};
 ghost use Rattle.resolvo_text.specs.Device.{DeviceFailed, WriterFailed};
-ghost use Rattle.resolve_check.specs.Devices.{reader_of, writer_of};
+ghost use Rattle.resolve_check.specs.Devices.{IfCatalogueFaulty, IfRequestFaulty, reader_of, writer_of};
 ghost use Rattle.resolve_check.specs.Check.{TellsVerdict, TellsFaulty, ChecksTexts, StopsBeforeCheck, StopsCheck, WritesCheck};
 
 use crate::outcome::{Checked, RunFault};
@@ -74,6 +74,9 @@ fn answer<C: Source, R: Source, P: Source>(
         (reader_of (P.left report.old) (P.left report.new)
         (DeviceFailed (P.failures report.old) (P.failures report.new)
         (P.interruptions report.new)))) }
+    ensures catalogue_faulty { IfCatalogueFaulty (C.left catalogue.old)
+        ((request.new ≡ request.old) × (report.new ≡ report.old)) }
+    ensures request_faulty { IfRequestFaulty (C.left catalogue.old) (R.left request.old) (report.new ≡ report.old) }
 {
     let catalogue = match Catalogue::read(alloc, catalogue) {
         Ok(catalogue) => catalogue,
@@ -92,7 +95,7 @@ fn answer<C: Source, R: Source, P: Source>(
 }
 
 /// Reads the catalogue to its end, then the request, judges the report, and writes `yes`, or the line from which it
-/// doesn't hold, or the first faulty line of the texts before it.
+/// doesn't hold, or the first faulty line of the texts before it. What comes behind a faulty text isn't read.
 pub fn check<C: Source, R: Source, P: Source, W: Sink>(
     alloc: Global,
     catalogue: &mut C,
@@ -133,6 +136,9 @@ pub fn check<C: Source, R: Source, P: Source, W: Sink>(
         (WriterFailed (W.failures writer.old) (W.failures writer.new)
         (W.interruptions writer.new) (W.empty_writes writer.old)
         (W.empty_writes writer.new)))) }
+    ensures catalogue_faulty { IfCatalogueFaulty (C.left catalogue.old)
+        ((request.new ≡ request.old) × (report.new ≡ report.old)) }
+    ensures request_faulty { IfRequestFaulty (C.left catalogue.old) (R.left request.old) (report.new ≡ report.old) }
 {
     match answer(alloc, catalogue, request, report) {
         Ok(told) => match write_all(writer, told.text.as_slice()) {

@@ -5,5 +5,6 @@
 pub mod check;
 pub mod endings;
 pub mod input;
+pub mod length;
 pub mod outcome;
 pub mod written;

@@ -168,6 +168,7 @@ refusal_of catalogue said provider steps refuted r refused each report = record 
   written = refused.written;
   refuses = refused.is;
   each = each;
+  used = record { named = refused.named; asked = refused.asked };
   report = report;
   accepted = subst (λ (x : Report). IsAccepted catalogue said.lines (report_lines x)) (sym refused.is) (accepted catalogue said provider steps refuted refused.in_catalogue refused.in_request refused.written each refused.named refused.asked);
   claim = subst (λ (x : Report). IsClaimTrue catalogue said.lines x) (sym refused.is) (claimed catalogue said provider steps refuted refused.in_catalogue refused.in_request refused.written each refused.named refused.asked);

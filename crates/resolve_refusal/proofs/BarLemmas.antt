@@ -1,6 +1,7 @@
 -- The line by which a version is barred: it is there where a rule bars the version, and the step that names it says so.
-use Rattle.std.proofs.Common.{◌≡◌, ◌==◌, ◌<◌, ◌⊎◌, inl, inr, ℕ, suc, Bool, true, false, List, [], ◌∷◌, length, Option, Some, None, refl, sym, ap, subst, ◌∙◌, arith}
-use Rattle.std.specs.Prelude.{IfSome, IfNone, ◌||◌, not, ◌≢◌, unwrap_or, Contains, slice_get}
+use Rattle.std.proofs.Common.{◌≡◌, ◌==◌, ◌+◌, ◌<◌, ◌⊎◌, inl, inr, ℕ, zero, suc, Bool, true, false, List, [], ◌∷◌, length, Option, Some, None, refl, sym, ap, subst, ◌∙◌, arith}
+use Rattle.std.specs.Prelude.{◌||◌, not, ◌≢◌, unwrap_or, Contains, slice_get}
+use Rattle.std.specs.Bool.{Decides}
 use Rattle.std.specs.List.{list_any, find, flat_map}
 use Rattle.std.specs.Cmp.Lexicographic.{bytes_decides}
 use Rattle.std.proofs.lemmas.Bool.{cases_Bool, false≢true, eq-eqb, eqb-true, and_parts, or_cases}
@@ -8,18 +9,19 @@ use Rattle.resolvo_text.specs.Line.{Version, Line, Skipped, Listed, Needs, Limit
 use Rattle.resolvo_text.specs.Matches.{same_package}
 use Rattle.resolvo_catalogue_core.specs.Grammar.{line_at, owner_of}
 use Rattle.resolvo_catalogue_core.specs.Listed.{listed, version_at}
-use Rattle.resolvo_catalogue_core.specs.Questions.{is_rule, IsOnly, AreAll, SaysOf, BelongsTo, LineIs, LocksAnother, Excludes, MarksUnknownOf, Bars}
+use Rattle.resolvo_catalogue_core.specs.Questions.{is_rule, IsOnly, BelongsTo, LineIs, LocksAnother, Excludes, MarksUnknownOf, Bars}
+use Rattle.resolvo_catalogue_core.specs.declared.rule.VersionNo.{VersionNo}
 use Rattle.resolvo_catalogue_core.proofs.PlaceLemmas.{at_from_contains}
 use Rattle.resolvo_pool_core.specs.RuleKeeping.{is_unknown, is_barred, locks_out}
 use Rattle.resolvo_pool_core.specs.declared.id.StringId.{StringId}
 use Rattle.resolvo_pool_core.specs.Provider as pool
 use Rattle.resolvo_soundness.specs.Encoding.{IsExact, Bar, KeepsOut}
 use Rattle.resolvo_soundness.proofs.Lists.{contains_none}
-use Rattle.resolvo_catalogue.specs.Ids.{SolvableId, IsPackage, solvable_id, solvables_of}
-use Rattle.resolvo_catalogue.specs.Known.{name_of}
-use Rattle.resolvo_catalogue.specs.Told.{VersionDependencies, reason_in, lines_at}
-use Rattle.resolvo_catalogue.specs.Marked.{IsMarked}
-use Rattle.resolvo_catalogue.specs.Provider.{Provider, packages_of, listing_if_any, exclusion_of, marks_at, told_at, no_marks, no_lines, needs_of, dependencies_of}
+use Rattle.resolvo_catalogue.specs.Ids.{SolvableId, IsPackage, IsWord, solvable_id, solvables_of}
+use Rattle.resolvo_catalogue.specs.Known.{name_of, word_text}
+use Rattle.resolvo_catalogue.specs.Told.{IsReason, VersionDependencies, reason_in, lines_at}
+use Rattle.resolvo_catalogue.specs.Marked.{IsExclusion, IsMarked}
+use Rattle.resolvo_catalogue.specs.Provider.{Provider, packages_of, listing_if_any, exclusion_of, marks_at, told_at, no_marks, no_lines, needs_of}
 use Rattle.resolvo_catalogue.specs.Over.{IsOver}
 use Rattle.resolvo_catalogue.specs.KeptSets.{TellsApart}
 use Rattle.resolvo_catalogue.proofs.Alike.{is_package, in_from, candidate, listed_is}
@@ -27,18 +29,16 @@ use Rattle.resolvo_catalogue.proofs.KeptAlike.{told_of_it, its_version}
 use Rattle.resolvo_catalogue.proofs.MarkLemmas.{one_some}
 use Rattle.resolvo_catalogue.proofs.PassLemmas.{any_from}
 use Rattle.resolvo_catalogue.proofs.Elements.{flat_from, reason_from, from_lines}
-use Rattle.resolvo_catalogue.proofs.RulesKept.{found_in, unknown_from, listing_is, locked_by, excluded_by, exclusion_word}
+use Rattle.resolvo_catalogue.proofs.RulesKept.{found_in, listing_is, locked_by, excluded_by, exclusion_word}
 use Rattle.std.proofs.lemmas.Option.{slice_get-get_or, slice_get_within, get_or_from_slice_get, unwrap_or-slice_get}
 use Rattle.resolvo_report.specs.Value as told
 use Rattle.resolvo_checker.specs.StepClauses as judge
 use Rattle.resolve_refusal.specs.declared.named.Text.{Text}
 use Rattle.resolve_refusal.specs.Named.{line_in, in_catalogue}
-use Rattle.resolve_refusal.specs.Lines.{locks, marks_unknown, IsFree, IsUnknownLine, IsBarredLine, IsBarredLineOf, IsBarringLine}
-use Rattle.resolve_refusal.specs.RefusedReport as refusal
+use Rattle.resolve_refusal.specs.Lines.{locks, BarsAs, ExcludesAt, IsBarredLine, IsBarredLineOf, IsFree, IsLeast, IsLineOf, MarksUnknownAt, SaysAt}
 use Rattle.resolve_refusal.specs.declared.lines.BarringLine.{BarringLine}
 use Rattle.resolve_refusal.specs.declared.lines.BarringLine.TheVariants as barring
-use Rattle.resolve_refusal.specs.StepRules.{TellsBar}
-use Rattle.resolve_refusal.specs.Refusal.{IsBarredBy}
+use Rattle.resolve_refusal.specs.Refusal.{IsBarredAs, IsBarredBy, IsLockStep}
 
 -- ---- what the lines say
 
@@ -77,17 +77,26 @@ unknown_is v owner (Wish w) h = absurd h
 
 -- ---- the step
 
+-- a lock bars
+pub lock_bars : (catalogue : List Line) (v : Version) (t : told.Step) → (line : ℕ) × IsLockStep catalogue v t line → IsBarredBy catalogue v t
+lock_bars catalogue v t (line, lock) = (line, inl lock)
+
+-- what is barred with a word is barred
+pub word_bars : (catalogue : List Line) (v : Version) (word : List ℕ) (t : told.Step) → IsBarredAs catalogue v word t → IsBarredBy catalogue v t
+word_bars catalogue v word t (line, inl (is, at), first) = (line, inr (inl (is, (Exclude v word, at, refl))))
+word_bars catalogue v word t (line, inr (is, (at, own)), first) = (line, inr (inr (is, (Unknown word, at, own))))
+
 -- what the step that bars names is a line that states a rule
 pub bar_stated : (catalogue : List Line) (v : Version) (t : told.Step) → IsBarredBy catalogue v t → (line : ℕ) × (l : Line) × (line_at catalogue line ≡ Some l) × (is_rule l ≡ true) × ((of : Text) → line_in of t ≡ in_catalogue of line)
 bar_stated catalogue v t (line, inl (is, (l, at, other))) = (let (w, same, name, number) = lock_is v (owner_of catalogue line) l other in (line, l, at, ap is_rule same, λ of. ap (line_in of) is))
-bar_stated catalogue v t (line, inr (inl (is, none, (l, at, out)))) = (let (reason, same) = exclude_is v (owner_of catalogue line) l out in (line, l, at, ap is_rule same, λ of. ap (line_in of) is))
-bar_stated catalogue v t (line, inr (inr (is, none, (l, at, unknown)))) = (let (reason, same, own) = unknown_is v (owner_of catalogue line) l unknown in (line, l, at, ap is_rule same, λ of. ap (line_in of) is))
+bar_stated catalogue v t (line, inr (inl (is, (l, at, out)))) = (let (reason, same) = exclude_is v (owner_of catalogue line) l out in (line, l, at, ap is_rule same, λ of. ap (line_in of) is))
+bar_stated catalogue v t (line, inr (inr (is, (l, at, unknown)))) = (let (reason, same, own) = unknown_is v (owner_of catalogue line) l unknown in (line, l, at, ap is_rule same, λ of. ap (line_in of) is))
 
 -- whatever is the same for the three steps that bar a version
 pub by_bar : {X : Type 0} (catalogue : List Line) (v : Version) (t : told.Step) (f : told.Step → X) (x : X) → ((line : ℕ) → f (told.Lock line v) ≡ x) → ((line : ℕ) → f (told.Exclude line) ≡ x) → ((line : ℕ) → f (told.Unknown line) ≡ x) → IsBarredBy catalogue v t → f t ≡ x
 by_bar catalogue v t f x a b c (line, inl (is, other)) = ap f is ∙ a line
-by_bar catalogue v t f x a b c (line, inr (inl (is, none, out))) = ap f is ∙ b line
-by_bar catalogue v t f x a b c (line, inr (inr (is, none, unknown))) = ap f is ∙ c line
+by_bar catalogue v t f x a b c (line, inr (inl (is, out))) = ap f is ∙ b line
+by_bar catalogue v t f x a b c (line, inr (inr (is, unknown))) = ap f is ∙ c line
 
 differs : (m n : ℕ) → (n ≢ m) → not (m == n) ≡ true
 differs m n apart = go (m == n) refl
@@ -104,10 +113,10 @@ bar_clause catalogue request v t here (line, inl (is, (l, at, other))) =
     let differ : not (v.number == w.number) ≡ true = differs v.number w.number number in
     let clause : judge.lock_clause catalogue v (Some (Lock w)) ≡ Some (judge.not_in v ∷ []) = rw (here, one_package, differ) refl in
     ap (judge.clause_of catalogue request) is ∙ (ap (judge.lock_clause catalogue v) (at ∙ ap (λ (x : Line). Some x) same) ∙ clause)
-bar_clause catalogue request v t here (line, inr (inl (is, none, (l, at, out)))) =
+bar_clause catalogue request v t here (line, inr (inl (is, (l, at, out)))) =
     let (reason, same) = exclude_is v (owner_of catalogue line) l out in
     ap (judge.clause_of catalogue request) is ∙ ap judge.exclude_clause (at ∙ ap (λ (x : Line). Some x) same)
-bar_clause catalogue request v t here (line, inr (inr (is, none, (l, at, unknown)))) =
+bar_clause catalogue request v t here (line, inr (inr (is, (l, at, unknown)))) =
     let (reason, same, own) = unknown_is v (owner_of catalogue line) l unknown in
     ap (judge.clause_of catalogue request) is ∙ (ap (judge.unknown_clause (owner_of catalogue line)) (at ∙ ap (λ (x : Line). Some x) same) ∙ ap (λ (o : Option Version). judge.unknown_clause o (Some (Unknown reason))) own)
 
@@ -163,19 +172,6 @@ module _ (catalogue : List Line) (p : Provider) (over : IsOver catalogue p) (sam
     | inr none ↦ none
   ]
 
-  -- some line bars the version
-  pub some_bars : (s : SolvableId) (v : Version) → slice_get (listed catalogue) s.raw ≡ Some v → (is_barred same (packages_of p) s || is_unknown (dependencies_of p s)) ≡ true → IsFree catalogue v → IsUnknownLine catalogue v None → ⊥
-  some_bars s v e h free known = elim (or_cases (is_barred same (packages_of p) s) (is_unknown (dependencies_of p s)) h) [
-    | inl barred ↦ free_bars s v e barred free
-    | inr lost ↦
-        let tells = told_of_it p catalogue over same apart s v e in
-        let r = unknown_from p.ids (told_at p s) (told_at p s).unknown (flat_map reason_in (lines_at catalogue tells.0)) tells.2.unknown lost in
-        let f = flat_from reason_in (lines_at catalogue tells.0) r.0 r.1 in
-        let is : f.0 ≡ Unknown r.0 = reason_from f.0 r.0 f.2 in
-        let at = from_lines (listed catalogue) catalogue s.raw v e tells.0 tells.1 (Unknown r.0) (subst (λ (l : Line). Contains (lines_at catalogue tells.0) l) is f.1) in
-        known at.0 (Unknown r.0, at.1, at.2)
-  ]
-
   -- ---- what a rule bars is a version
 
   -- a solvable of which something is told is a version
@@ -215,6 +211,56 @@ module _ (catalogue : List Line) (p : Provider) (over : IsOver catalogue p) (sam
       by_bar (Bar.word why) (inl c) = among (excluded_in ss (s, why) c)
       by_bar (Bar.word why) (inr lost) = told_version s (λ e. false≢true (sym (ap (λ (t : VersionDependencies). is_unknown (needs_of t t.unknown)) e) ∙ ap is_unknown lost))
 
+  -- ---- what a rule bars is barred by a line
+
+  -- the solvables of its package
+  abbrev beside : SolvableId → List SolvableId
+  beside s = solvables_of p.ids (name_of p.ids s).raw
+
+  among_them : (s : SolvableId) (v : Version) → slice_get (listed catalogue) s.raw ≡ Some v → Contains (beside s) s
+  among_them s v e = subst (λ (xs : List SolvableId). Contains xs s) (listed_is p (beside s)) (in_from p (listed catalogue) over.versions over.once same apart _ s (candidate p (listed catalogue) over.versions over.once same apart (name_of p.ids s) s v e ∙ eq-eqb (name_of p.ids s).raw (name_of p.ids s).raw refl))
+
+  -- a lock is a line that locks another version of the package
+  pub lock_there : (l s : SolvableId) (v : Version) → slice_get (listed catalogue) s.raw ≡ Some v → KeepsOut same (packages_of p) (Bar.lock l) s → (n : ℕ) × LineIs catalogue n (LocksAnother v)
+  lock_there l s v e (is, other, c) =
+      let n = name_of p.ids s in
+      let named : IsPackage p.ids n v.name = is_package p (listed catalogue) over.versions over.once same apart s v e in
+      let found : find (λ (t : SolvableId). (marks_at p t).locked) (beside s) ≡ Some l = ap (λ (x : pool.Listing SolvableId). x.locked) (sym (listing_is p (beside s) s (among_them s v e))) ∙ is in
+      let f = found_in (λ (t : SolvableId). (marks_at p t).locked) (beside s) l found in
+      let w = its_version p catalogue over same apart n l f.0 in
+      let lock = (marks_of l w.0 w.1).locked.0 f.1 in
+      lock_line v w.0 lock (one_some (sym named ∙ w.2)) (λ i. false≢true (sym other ∙ (apart l s).1 (ap (λ (k : ℕ). solvable_id k) (over.distinct v l.raw s.raw (w.1 ∙ ap (λ (x : Version). Some x) (sym i)) e))))
+
+  -- the word of a reason is its text
+  word_is : (reason : StringId) (word : List ℕ) → IsWord p.ids reason word → word_text p.ids reason ≡ word
+  word_is reason word is = get_or_from_slice_get p.ids.words reason.0 word [] is
+
+  exclusion_said : (o : Option StringId) (v : Version) (why : StringId) → IsExclusion p.ids catalogue v o → o ≡ Some why → (word : List ℕ) × Contains catalogue (Exclude v word) × IsWord p.ids why word
+  exclusion_said None v why h e = absurd cc
+  exclusion_said (Some w) v why h e = (let same_word : w ≡ why = one_some e in (h.0, h.1, subst (λ (x : StringId). IsWord p.ids x h.0) same_word h.2))
+
+  reason_said : (t : VersionDependencies) (o : Option StringId) (reasons : List (List ℕ)) (why : StringId) → IsReason p.ids o reasons → needs_of t o ≡ pool.unknown why → (word : List ℕ) × Contains reasons word × IsWord p.ids why word
+  reason_said t None reasons why h e = absurd cc
+  reason_said t (Some w) reasons why h e = (let same_word : w ≡ why = cc in (h.0, h.1, subst (λ (x : StringId). IsWord p.ids x h.0) same_word h.2))
+
+  -- what bars with a reason is a line that does with its word
+  pub word_there : (why : StringId) (s : SolvableId) (v : Version) → slice_get (listed catalogue) s.raw ≡ Some v → KeepsOut same (packages_of p) (Bar.word why) s → (n : ℕ) × BarsAs catalogue v (word_text p.ids why) n
+  word_there why s v e (inl c) =
+      let there : Contains (flat_map (exclusion_of p) (beside s)) (s, why) = subst (λ (x : pool.Listing SolvableId). Contains x.excluded (s, why)) (listing_is p (beside s) s (among_them s v e)) c in
+      let f = flat_from (exclusion_of p) (beside s) (s, why) there in
+      let by = excluded_by f.0 (marks_at p f.0).excluded (s, why) f.2 in
+      let of : (marks_at p s).excluded ≡ Some why = subst (λ (t : SolvableId). (marks_at p t).excluded ≡ Some why) by.1 by.0 in
+      let (word, has, is) = exclusion_said (marks_at p s).excluded v why (marks_of s v e).excluded of in
+      let (k, at) = at_from_contains catalogue (Exclude v word) has in
+      (suc k, inl (subst (λ (x : List ℕ). line_at catalogue (suc k) ≡ Some (Exclude v x)) (sym (word_is why word is)) at))
+  word_there why s v e (inr lost) =
+      let tells = told_of_it p catalogue over same apart s v e in
+      let (word, has, is) = reason_said (told_at p s) (told_at p s).unknown (flat_map reason_in (lines_at catalogue tells.0)) why tells.2.unknown lost in
+      let f = flat_from reason_in (lines_at catalogue tells.0) word has in
+      let said : f.0 ≡ Unknown word = reason_from f.0 word f.2 in
+      let at = from_lines (listed catalogue) catalogue s.raw v e tells.0 tells.1 (Unknown word) (subst (λ (l : Line). Contains (lines_at catalogue tells.0) l) said f.1) in
+      (at.0, inr (subst (λ (x : List ℕ). line_at catalogue at.0 ≡ Some (Unknown x)) (sym (word_is why word is)) at.1, at.2))
+
 -- ---- the line that is found
 
 -- the one line that bars the version does
@@ -229,12 +275,12 @@ lock_found catalogue k v line lock at only tells locked = elim (line_bars catalo
   | inr (none, (l, there, out)) ↦ (let (reason, same) = exclude_is v (owner_of catalogue line) l out in absurd (false≢true (sym (ap locks same) ∙ (sym (tells l there) ∙ locked))))
 ]
 
--- one that doesn't lock excludes the version
+-- one that doesn't lock excludes the version, and no other one does
 pub exclusion_found : (catalogue : List Line) (k : ℕ) (v : Version) (line : ℕ) (lock : Bool) → slice_get (listed catalogue) k ≡ Some v → IsOnly (Some line) (λ n. (w : Version) × (version_at catalogue k ≡ Some w) × Bars catalogue w n)
-    → ((l : Line) → line_at catalogue line ≡ Some l → lock ≡ locks l) → lock ≡ false → ((m : ℕ) → LineIs catalogue m (LocksAnother v) → ⊥) × LineIs catalogue line (Excludes v)
+    → ((l : Line) → line_at catalogue line ≡ Some l → lock ≡ locks l) → lock ≡ false → IsBarredLine catalogue v (Some (barring.Exclude line))
 exclusion_found catalogue k v line lock at only tells free = elim (line_bars catalogue k v line at only) [
   | inl (l, there, other) ↦ (let (w, same, name, number) = lock_is v (owner_of catalogue line) l other in absurd (false≢true (sym free ∙ (tells l there ∙ ap locks same))))
-  | inr h ↦ h
+  | inr (none, out) ↦ (none, out, λ m excludes. one_some (sym ((only m).1 (v, at, inr (none, excludes)))))
 ]
 
 -- nothing bars where no such line is
@@ -245,47 +291,7 @@ none_found catalogue k v at only m bars = (let e : None ≡ Some m = (only m).1 
 pub barred_listed : (catalogue : List Line) (k line : ℕ) → IsOnly (Some line) (λ n. (w : Version) × (version_at catalogue k ≡ Some w) × Bars catalogue w n) → (v : Version) × (slice_get (listed catalogue) k ≡ Some v)
 barred_listed catalogue k line only = (let (w, there, bars) = (only line).0 refl in (w, there))
 
--- a line that bars the version of this number bars it
-pub line_of_it : (catalogue : List Line) (k : ℕ) (v : Version) (line : BarringLine) → slice_get (listed catalogue) k ≡ Some v → IsBarredLineOf catalogue k (Some line) → IsBarringLine catalogue v (Some line)
-line_of_it catalogue k v line at (w, there, bars) = by_line line (subst (λ (x : Version). IsBarredLine catalogue x (Some line)) (one_some (sym there ∙ at)) bars)
-  where
-    by_line : (l : BarringLine) → IsBarredLine catalogue v (Some l) → IsBarringLine catalogue v (Some l)
-    by_line (barring.Lock n) h = h
-    by_line (barring.Exclude n) h = h
-    by_line (barring.Unknown n) h = absurd h
-
-unknown_line : (l : Line) (v : Version) (owner : Option Version) → marks_unknown l ≡ true → BelongsTo v owner l → MarksUnknownOf v owner l
-unknown_line (Unknown reason) v owner e h = h
-unknown_line Skipped v owner e h = absurd (false≢true e)
-unknown_line (Listed w) v owner e h = absurd (false≢true e)
-unknown_line (Needs ss c) v owner e h = absurd (false≢true e)
-unknown_line (Limits s) v owner e h = absurd (false≢true e)
-unknown_line (Lock w) v owner e h = absurd (false≢true e)
-unknown_line (Favour w) v owner e h = absurd (false≢true e)
-unknown_line (Exclude w reason) v owner e h = absurd (false≢true e)
-unknown_line (Wish w) v owner e h = absurd (false≢true e)
-
--- the line of a version that says that its needs are unknown
-unknown_found : (catalogue : List Line) (k : ℕ) (lines : List ℕ) (n : ℕ) (v : Version) → AreAll lines (SaysOf (listed catalogue) catalogue k BelongsTo) → slice_get (listed catalogue) k ≡ Some v → Contains lines n → ((l : Line) → line_at catalogue n ≡ Some l → marks_unknown l ≡ true) → LineIs catalogue n (MarksUnknownOf v)
-unknown_found catalogue k lines n v all at has says =
-    let (w, there, (l, stands, belongs)) = (all.all n).0 has in
-    let same : w ≡ v = one_some (sym there ∙ at) in
-    (l, stands, unknown_line l v _ (says l stands) (subst (λ (x : Version). BelongsTo x (owner_of catalogue n) l) same belongs))
-
-unknown_none : (catalogue : List Line) (k : ℕ) (lines : List ℕ) (v : Version) → AreAll lines (SaysOf (listed catalogue) catalogue k BelongsTo) → slice_get (listed catalogue) k ≡ Some v
-    → ((n : ℕ) → Contains lines n → (l : Line) → line_at catalogue n ≡ Some l → marks_unknown l ≡ false) → IsUnknownLine catalogue v None
-unknown_none catalogue k lines v all at says m (l, stands, unknown) =
-    let (reason, same, own) = unknown_is v (owner_of catalogue m) l unknown in
-    let belongs : BelongsTo v (owner_of catalogue m) l = subst (λ (x : Line). BelongsTo v (owner_of catalogue m) x) (sym same) own in
-    false≢true (sym (says m ((all.all m).1 (v, at, (l, stands, belongs))) l stands) ∙ ap marks_unknown same)
-
--- the first line that says so, among those of the version
-pub unknown_by : (catalogue : List Line) (k : ℕ) (lines : List ℕ) (v : Version) (found : Option ℕ) → AreAll lines (SaysOf (listed catalogue) catalogue k BelongsTo) → slice_get (listed catalogue) k ≡ Some v
-    → IfSome found (λ n. Contains lines n × ((l : Line) → line_at catalogue n ≡ Some l → marks_unknown l ≡ true)) → IfNone found ((n : ℕ) → Contains lines n → (l : Line) → line_at catalogue n ≡ Some l → marks_unknown l ≡ false) → IsUnknownLine catalogue v found
-unknown_by catalogue k lines v None all at some none = unknown_none catalogue k lines v all at none
-unknown_by catalogue k lines v (Some n) all at some none = unknown_found catalogue k lines n v all at some.0 some.1
-
--- a line that states no rule neither locks nor says that needs are unknown
+-- a line that states no rule locks nothing
 pub no_lock : (l : Line) → is_rule l ≡ false → false ≡ locks l
 no_lock (Lock v) e = sym e
 no_lock Skipped e = refl
@@ -297,32 +303,54 @@ no_lock (Favour w) e = refl
 no_lock (Exclude w reason) e = refl
 no_lock (Wish w) e = refl
 
-pub no_unknown : (l : Line) → is_rule l ≡ false → false ≡ marks_unknown l
-no_unknown (Unknown reason) e = sym e
-no_unknown Skipped e = refl
-no_unknown (Listed w) e = refl
-no_unknown (Needs ss c) e = refl
-no_unknown (Limits s) e = refl
-no_unknown (Lock v) e = refl
-no_unknown (Favour w) e = refl
-no_unknown (Exclude w reason) e = refl
-no_unknown (Wish w) e = refl
+-- ---- the line of a word
 
--- what is told by the line that bars a version; an exclusion at line 0 where none does
-abbrev pub bar_by : Version → Option BarringLine → told.Step
-bar_by v None = told.Exclude 0
-bar_by v (Some (barring.Lock n)) = told.Lock n v
-bar_by v (Some (barring.Exclude n)) = told.Exclude n
-bar_by v (Some (barring.Unknown n)) = told.Unknown n
+-- where the version isn't barred before a search, no line excludes it
+pub free_exclusions : (catalogue : List Line) (v : Version) (word : List ℕ) (m : ℕ) → IsFree catalogue v → ExcludesAt catalogue v word m → ⊥
+free_exclusions catalogue v word m free at = free m (inr (λ k lock. free k (inl lock), (Exclude v word, at, refl)))
 
-pub tells_bar : (catalogue : List Line) (s : SolvableId) (found : Option BarringLine) → ((v : Version) → slice_get (listed catalogue) s.raw ≡ Some v → IsBarringLine catalogue v found) → TellsBar catalogue s (bar_by (refusal.version_at catalogue s) found)
-tells_bar catalogue s found bars v at = by_found found (bars v at)
+-- what is known of the line that bars the version of a number is known of this version
+its_bar : (catalogue : List Line) (number : ℕ) (v : Version) (line : BarringLine) → slice_get (listed catalogue) number ≡ Some v → IsBarredLineOf catalogue number (Some line) → IsBarredLine catalogue v (Some line)
+its_bar catalogue number v line at (u, there, bars) = subst (λ (x : Version). IsBarredLine catalogue x (Some line)) (one_some (sym there ∙ at)) bars
+
+-- the line of a lock locks another version
+pub lock_of_line : (catalogue : List Line) (number n : ℕ) (v : Version) → slice_get (listed catalogue) number ≡ Some v → IsBarredLineOf catalogue number (Some (barring.Lock n)) → LineIs catalogue n (LocksAnother v)
+lock_of_line catalogue number n v at barred = its_bar catalogue number v (barring.Lock n) at barred
+
+-- where a line excludes the version before a search, no line locks another one
+pub no_lock_of_line : (catalogue : List Line) (number n : ℕ) (v : Version) → slice_get (listed catalogue) number ≡ Some v → IsBarredLineOf catalogue number (Some (barring.Exclude n)) → (m : ℕ) → LineIs catalogue m (LocksAnother v) → ⊥
+no_lock_of_line catalogue number n v at barred = (its_bar catalogue number v (barring.Exclude n) at barred).0
+
+-- the one line that excludes a version is the first one with its word
+pub one_exclusion : (catalogue : List Line) (number : ℕ) (v : Version) (word : List ℕ) (line : ℕ) (has : Bool) → slice_get (listed catalogue) number ≡ Some v → IsBarredLineOf catalogue number (Some (barring.Exclude line)) → Decides has (ExcludesAt catalogue v word line) → has ≡ true → IsLeast (Some line) (ExcludesAt catalogue v word)
+one_exclusion catalogue number v word line has at barred tells e =
+    let (none, out, alone) = its_bar catalogue number v (barring.Exclude line) at barred in
+    (tells.0 e, λ m below says. (let same_line : m ≡ line = alone m (Exclude v word, says, refl) in omega (arith, below, same_line)))
+
+-- with another word there is none
+pub no_exclusion : (catalogue : List Line) (number : ℕ) (v : Version) (word : List ℕ) (line : ℕ) (has : Bool) → slice_get (listed catalogue) number ≡ Some v → IsBarredLineOf catalogue number (Some (barring.Exclude line)) → Decides has (ExcludesAt catalogue v word line) → has ≡ false → IsLeast None (ExcludesAt catalogue v word)
+no_exclusion catalogue number v word line has at barred tells e m says =
+    let (none, out, alone) = its_bar catalogue number v (barring.Exclude line) at barred in
+    false≢true (sym e ∙ tells.1 (subst (ExcludesAt catalogue v word) (alone m (Exclude v word, says, refl)) says))
+
+-- an exclusion stands behind so many lines
+pub excluded_behind : (catalogue : List Line) (v : Version) (word : List ℕ) (m : ℕ) → ExcludesAt catalogue v word m → (k : ℕ) × (m ≡ k + 1) × (k < length catalogue)
+excluded_behind catalogue v word zero says = absurd cc
+excluded_behind catalogue v word (suc k) says = (k, omega arith, slice_get_within catalogue k (Exclude v word) says)
+
+-- a line of the version says with this word that its needs are unknown, and none before it does
+pub marks_least : (catalogue request : List Line) (version : VersionNo) (v : Version) (word : List ℕ) (found : Option ℕ) → slice_get (listed catalogue) version.0 ≡ Some v → IsLeast found (λ n. IsLineOf catalogue request (Some version) n × SaysAt catalogue (Unknown word) n) → IsLeast found (MarksUnknownAt catalogue v word)
+marks_least catalogue request version v word found there least = go found least
   where
-    its : refusal.version_at catalogue s ≡ v
-    its = get_or_from_slice_get (listed catalogue) s.raw v _ at
+    of_it : (n : ℕ) → MarksUnknownAt catalogue v word n → IsLineOf catalogue request (Some version) n × SaysAt catalogue (Unknown word) n
+    of_it n (at, own) = ((v, there, (Unknown word, at, own)), at)
 
-    by_found : (o : Option BarringLine) → IsBarringLine catalogue v o → IsBarredBy catalogue v (bar_by (refusal.version_at catalogue s) o) ⊎ (IsFree catalogue v × IsUnknownLine catalogue v None)
-    by_found None h = inr h
-    by_found (Some (barring.Lock n)) h = inl (n, inl (ap (λ (w : Version). told.Lock n w) its, h))
-    by_found (Some (barring.Exclude n)) h = inl (n, inr (inl (refl, h.0, h.1)))
-    by_found (Some (barring.Unknown n)) h = inl (n, inr (inr (refl, h.0, h.1)))
+    from_it : (n : ℕ) → IsLineOf catalogue request (Some version) n × SaysAt catalogue (Unknown word) n → MarksUnknownAt catalogue v word n
+    from_it n ((w, of, (l, stands, belongs)), at) =
+        let same_line : l ≡ Unknown word = one_some (sym stands ∙ at) in
+        let own : owner_of catalogue n ≡ Some w = subst (λ (x : Line). BelongsTo w (owner_of catalogue n) x) same_line belongs in
+        (at, own ∙ ap (λ (x : Version). Some x) (one_some (sym of ∙ there)))
+
+    go : (o : Option ℕ) → IsLeast o (λ n. IsLineOf catalogue request (Some version) n × SaysAt catalogue (Unknown word) n) → IsLeast o (MarksUnknownAt catalogue v word)
+    go None none = λ n marks. none n (of_it n marks)
+    go (Some n) (is, first) = (from_it n is, λ m below marks. first m below (of_it m marks))

@@ -255,7 +255,7 @@ module _ (catalogue : List Line) (provider : Provider) (over : IsOver catalogue 
     IsSpelled request c step = (d : judge.Clause) × (judge.clause_of catalogue request step ≡ Some d) × Spells c d
 
     pub need_spelled : (request : List Line) (parent : Option SolvableId) (r : Requirement) (case : List VersionSetId) (line k : ℕ) → ((s : SolvableId) → parent ≡ Some s → IsVersion catalogue provider.ids s) → IsRequirement catalogue provider.ids r
-        → (specs : List Spec) × AreEach (IsSpec provider.ids) case specs → IsOfPlace catalogue provider.ids request (place_at catalogue parent) (NeedsAs (alternatives_at provider.ids r) (map (spec_at provider.ids) case) k) line
+        → (specs : List Spec) × AreEach (IsSpec provider.ids) case specs → IsOfPlace catalogue request (place_at catalogue parent) (NeedsAs (alternatives_at provider.ids r) (map (spec_at provider.ids) case) k) line
         → IsSpelled request (parent_literals parent ++ (case_literals same (packages_of provider) case ++ candidate_literals same (packages_of provider) (alternatives_of (members_of provider.ids) r))) (told.Need (place_at catalogue parent) line k)
     need_spelled request parent r case line k listed known (specs, each) (l, says, (condition, is, (at, first))) =
         let stated : judge.line_of catalogue request (place_at catalogue parent) line ≡ Some (Needs (alternatives_at provider.ids r) condition) = says ∙ ap (λ (x : Line). Some x) is in

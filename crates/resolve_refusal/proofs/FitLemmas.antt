@@ -19,7 +19,7 @@ use Rattle.resolvo_proof.specs.declared.step.ProofStep.{ProofStep}
 use Rattle.resolvo_proof.specs.declared.step.ProofStep.TheVariants.{Rule, Derived}
 use Rattle.resolvo_proof.specs.declared.step.ProofRule.TheVariants.{Needs as NeedsRule, GateOf, Shared, Limit, Outside, Locked, Excluded, Digit, AtLeastOne}
 use Rattle.resolvo_catalogue.specs.Ids.{NameId, SolvableId}
-use Rattle.resolvo_catalogue.specs.Known.{alternatives_at}
+use Rattle.resolvo_catalogue.specs.Known.{alternatives_at, word_text}
 use Rattle.resolvo_catalogue.specs.Provider.{Provider, packages_of, dependencies_of}
 use Rattle.resolvo_catalogue.specs.KeptSets.{root_of}
 use Rattle.resolvo_catalogue.proofs.CoverLemmas.{spec_stands}
@@ -39,7 +39,7 @@ use Rattle.resolve_refusal.proofs.RenameLemmas.{named_once}
 use Rattle.resolve_refusal.proofs.Clauses.{Spells, spelled_members, asked_for, gate_asked, limited, is_out, candidate_of, literals_spelled}
 use Rattle.resolve_refusal.proofs.Taken.{out_says}
 use Rattle.resolve_refusal.proofs.FollowLemmas.{owned, digit_known}
-use Rattle.resolve_refusal.proofs.BarLemmas.{barred_version}
+use Rattle.resolve_refusal.proofs.BarLemmas.{barred_version, lock_bars, word_bars}
 use Rattle.resolve_refusal.proofs.AcceptLemmas.{refusal_of}
 use Rattle.resolve_refusal.proofs.TellLemmas.{within_line, zipped, version_line, same_need, need_told, steps_told}
 use Rattle.resolve_refusal.proofs.Spelled.{version_fits, atom_fits}
@@ -72,8 +72,8 @@ bar_text catalogue long v t fits = λ by. (let (line, l, at, is) = by_line by in
     -- each step that bars names a line of the catalogue
     by_line : IsBarredBy catalogue v t → (line : ℕ) × (l : Line) × (line_at catalogue line ≡ Some l) × ((t ≡ told.Lock line v) ⊎ ((t ≡ told.Exclude line) ⊎ (t ≡ told.Unknown line)))
     by_line (line, inl (is, (l, at, locks))) = (line, l, at, inl is)
-    by_line (line, inr (inl (is, none, (l, at, out)))) = (line, l, at, inr (inl is))
-    by_line (line, inr (inr (is, none, (l, at, unknown)))) = (line, l, at, inr (inr is))
+    by_line (line, inr (inl (is, (l, at, out)))) = (line, l, at, inr (inl is))
+    by_line (line, inr (inr (is, (l, at, unknown)))) = (line, l, at, inr (inr is))
 
     text : (line : ℕ) (l : Line) → line_at catalogue line ≡ Some l → (t ≡ told.Lock line v) ⊎ ((t ≡ told.Exclude line) ⊎ (t ≡ told.Unknown line)) → IsStep t
     text line l at is =
@@ -160,8 +160,8 @@ module _ (catalogue : List Line) (said : ReadRequest) (provider : Provider) (ste
       let (spec, named, fits) = proves.known n _ at in
       let (version, outside) = is_out catalogue provider proves.over proves.same proves.exact v spec s named (out_says proves.same (packages_of provider) (root_of proves.ids) v s out) in
       subst (λ (x : Step). IsStep x) (sym is) (subst (λ (x : Spec). form.IsSpec x) (sym (spec_stands provider.ids v spec named)) fits, version_fits catalogue provider proves.over s version)
-  step_fits n (Rule (Locked locked s)) t at tells by = (let (condition, bars) = proves.proof n _ at in bar_fits s t (barred_version catalogue provider proves.over proves.same proves.exact s (Bar.lock locked) bars) by)
-  step_fits n (Rule (Excluded s reason)) t at tells by = (let (condition, bars) = proves.proof n _ at in bar_fits s t (barred_version catalogue provider proves.over proves.same proves.exact s (Bar.word reason) bars) by)
+  step_fits n (Rule (Locked locked s)) t at tells by = (let (condition, bars) = proves.proof n _ at in bar_fits s t (barred_version catalogue provider proves.over proves.same proves.exact s (Bar.lock locked) bars) (lock_bars catalogue (version_at catalogue s) t by))
+  step_fits n (Rule (Excluded s reason)) t at tells by = (let (condition, bars) = proves.proof n _ at in bar_fits s t (barred_version catalogue provider proves.over proves.same proves.exact s (Bar.word reason) bars) (word_bars catalogue (version_at catalogue s) (word_text provider.ids reason) t by))
   step_fits n (Rule (Digit s place bit)) t at tells is =
       let (version, below) = digit_known catalogue said provider steps proves n s place bit at in
       subst (λ (x : Step). IsStep x) (sym is) (version_fits catalogue provider proves.over s version, tells, below)

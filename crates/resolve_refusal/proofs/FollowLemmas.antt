@@ -20,7 +20,7 @@ use Rattle.resolvo_proof.specs.declared.step.ProofStep.{ProofStep}
 use Rattle.resolvo_proof.specs.declared.step.ProofStep.TheVariants.{Rule, Derived}
 use Rattle.resolvo_proof.specs.declared.step.ProofRule.TheVariants.{Needs as NeedsRule, GateOf, Shared, Limit, Outside, Locked, Excluded, Digit, AtLeastOne}
 use Rattle.resolvo_catalogue.specs.Ids.{NameId, SolvableId}
-use Rattle.resolvo_catalogue.specs.Known.{name_of, spec_at, alternatives_at}
+use Rattle.resolvo_catalogue.specs.Known.{name_of, spec_at, alternatives_at, word_text}
 use Rattle.resolvo_catalogue.specs.Provider.{Provider, packages_of}
 use Rattle.resolvo_catalogue.specs.KeptSets.{root_of}
 use Rattle.resolvo_catalogue.proofs.MarkLemmas.{one_some}
@@ -39,7 +39,7 @@ use Rattle.resolve_refusal.specs.Refusal.{IsVersion, IsToldBy, AreLiterals, IsPr
 use Rattle.resolve_refusal.proofs.RenameLemmas.{IsKnownClause, name_clause, version_is, pass_told}
 use Rattle.resolve_refusal.proofs.Taken.{out_says}
 use Rattle.resolve_refusal.proofs.Cases.{case_said}
-use Rattle.resolve_refusal.proofs.BarLemmas.{bar_stated, by_bar, barred_version}
+use Rattle.resolve_refusal.proofs.BarLemmas.{bar_stated, by_bar, barred_version, lock_bars, word_bars}
 use Rattle.resolve_refusal.proofs.Clauses.{Spells, IsSpelled, spelled_members, asked_for, gate_asked, need_spelled, gate_spelled, shared_spelled, limited, limit_spelled, limit_bars_spelled, outside_spelled, candidate_of, any_spelled, bar_spelled, digit_spelled, literals_spelled, derived_spelled}
 
 -- ---- lists, place by place
@@ -114,8 +114,8 @@ module _ (catalogue : List Line) (said : ReadRequest) (provider : Provider) (ste
   line_stated of (Rule (Limit parent v None)) t n (line, is, first) e = (_, place_stated catalogue said.lines of (place_at catalogue parent) line n _ first.says (subst (λ (x : told.Step). line_in of x ≡ Some n) is e), refl)
   line_stated of (Rule (Limit parent v (Some s))) t n (line, is, first) e = (_, place_stated catalogue said.lines of (place_at catalogue parent) line n _ first.says (subst (λ (x : told.Step). line_in of x ≡ Some n) is e), refl)
   line_stated of (Rule (Outside v s)) t n is e = absurd (let g : line_in of (told.Outside (spec_at provider.ids v) (version_at catalogue s)) ≡ Some n = subst (λ (x : told.Step). line_in of x ≡ Some n) is e in cc)
-  line_stated of (Rule (Locked locked s)) t n bars e = (let (line, l, at, rule, in_text) = bar_stated catalogue (version_at catalogue s) t bars in (l, catalogue_stated catalogue said.lines of line n l at (sym (in_text of) ∙ e), rule))
-  line_stated of (Rule (Excluded s reason)) t n bars e = (let (line, l, at, rule, in_text) = bar_stated catalogue (version_at catalogue s) t bars in (l, catalogue_stated catalogue said.lines of line n l at (sym (in_text of) ∙ e), rule))
+  line_stated of (Rule (Locked locked s)) t n lock e = (let (line, l, at, rule, in_text) = bar_stated catalogue (version_at catalogue s) t (lock_bars catalogue (version_at catalogue s) t lock) in (l, catalogue_stated catalogue said.lines of line n l at (sym (in_text of) ∙ e), rule))
+  line_stated of (Rule (Excluded s reason)) t n bars e = (let (line, l, at, rule, in_text) = bar_stated catalogue (version_at catalogue s) t (word_bars catalogue (version_at catalogue s) (word_text provider.ids reason) t bars) in (l, catalogue_stated catalogue said.lines of line n l at (sym (in_text of) ∙ e), rule))
   line_stated of (Rule (Digit s place bit)) t n is e = absurd (let g : line_in of (told.Digit (version_at catalogue s) place bit) ≡ Some n = subst (λ (x : told.Step). line_in of x ≡ Some n) is e in cc)
   line_stated of (Rule (AtLeastOne m s)) t n is e = absurd (let g : line_in of (told.Any (version_at catalogue s)) ≡ Some n = subst (λ (x : told.Step). line_in of x ≡ Some n) is e in cc)
   line_stated of (Derived literals causes) t n (written, is, are) e = absurd (let g : line_in of (told.Derive written (map suc causes.items)) ≡ Some n = subst (λ (x : told.Step). line_in of x ≡ Some n) is e in cc)
@@ -160,8 +160,8 @@ module _ (catalogue : List Line) (said : ReadRequest) (provider : Provider) (ste
       let (condition, out) = proves.proof n _ at in
       let (spec, known, fits) = proves.known n _ at in
       subst (λ (x : told.Step). IsClauseOf (Rule (Outside v s)) x) (sym is) (outside_spelled catalogue provider proves.over proves.same proves.exact said.lines v s (spec, known) (out_says proves.same (packages_of provider) (root_of proves.ids) v s out))
-  step_spelled n (Rule (Locked locked s)) t at by = (let (condition, bars) = proves.proof n _ at in bar_spelled catalogue provider proves.over proves.same proves.exact said.lines s t (barred_version catalogue provider proves.over proves.same proves.exact s (Bar.lock locked) bars) by)
-  step_spelled n (Rule (Excluded s reason)) t at by = (let (condition, bars) = proves.proof n _ at in bar_spelled catalogue provider proves.over proves.same proves.exact said.lines s t (barred_version catalogue provider proves.over proves.same proves.exact s (Bar.word reason) bars) by)
+  step_spelled n (Rule (Locked locked s)) t at by = (let (condition, bars) = proves.proof n _ at in bar_spelled catalogue provider proves.over proves.same proves.exact said.lines s t (barred_version catalogue provider proves.over proves.same proves.exact s (Bar.lock locked) bars) (lock_bars catalogue (version_at catalogue s) t by))
+  step_spelled n (Rule (Excluded s reason)) t at by = (let (condition, bars) = proves.proof n _ at in bar_spelled catalogue provider proves.over proves.same proves.exact said.lines s t (barred_version catalogue provider proves.over proves.same proves.exact s (Bar.word reason) bars) (word_bars catalogue (version_at catalogue s) (word_text provider.ids reason) t by))
   step_spelled n (Rule (Digit s place bit)) t at is =
       let (version, below) = digit_known n s place bit at in
       subst (λ (x : told.Step). IsClauseOf (Rule (Digit s place bit)) x) (sym is) (digit_spelled catalogue provider proves.over proves.same proves.exact said.lines s place bit version below)
@@ -208,8 +208,8 @@ module _ (catalogue : List Line) (said : ReadRequest) (provider : Provider) (ste
     no_other_place n m s place bit (Rule (Limit parent v None)) u at there (line, is, first) = ap (allows_place (version_at catalogue s) place) is
     no_other_place n m s place bit (Rule (Limit parent v (Some q))) u at there (line, is, first) = ap (allows_place (version_at catalogue s) place) is
     no_other_place n m s place bit (Rule (Outside v q)) u at there is = ap (allows_place (version_at catalogue s) place) is
-    no_other_place n m s place bit (Rule (Locked locked q)) u at there bars = by_bar catalogue (version_at catalogue q) u (allows_place (version_at catalogue s) place) true (λ l. refl) (λ l. refl) (λ l. refl) bars
-    no_other_place n m s place bit (Rule (Excluded q reason)) u at there bars = by_bar catalogue (version_at catalogue q) u (allows_place (version_at catalogue s) place) true (λ l. refl) (λ l. refl) (λ l. refl) bars
+    no_other_place n m s place bit (Rule (Locked locked q)) u at there lock = by_bar catalogue (version_at catalogue q) u (allows_place (version_at catalogue s) place) true (λ l. refl) (λ l. refl) (λ l. refl) (lock_bars catalogue (version_at catalogue q) u lock)
+    no_other_place n m s place bit (Rule (Excluded q reason)) u at there bars = by_bar catalogue (version_at catalogue q) u (allows_place (version_at catalogue s) place) true (λ l. refl) (λ l. refl) (λ l. refl) (word_bars catalogue (version_at catalogue q) (word_text provider.ids reason) u bars)
     no_other_place n m s place bit (Rule (AtLeastOne o q)) u at there is = ap (allows_place (version_at catalogue s) place) is
     no_other_place n m s place bit (Derived literals causes) u at there (w, is, are) = ap (allows_place (version_at catalogue s) place) is
     no_other_place n m s place bit (Rule (Digit q other digit)) u at there is = ap (allows_place (version_at catalogue s) place) is ∙ go (same_version (version_at catalogue q) (version_at catalogue s)) refl
@@ -236,8 +236,8 @@ module _ (catalogue : List Line) (said : ReadRequest) (provider : Provider) (ste
     step_follows n (Rule (Limit parent v None)) t at there (line, is, first) = ap (follows catalogue said.lines (take n written)) is
     step_follows n (Rule (Limit parent v (Some q))) t at there (line, is, first) = ap (follows catalogue said.lines (take n written)) is
     step_follows n (Rule (Outside v q)) t at there is = ap (follows catalogue said.lines (take n written)) is
-    step_follows n (Rule (Locked locked q)) t at there bars = by_bar catalogue (version_at catalogue q) t (follows catalogue said.lines (take n written)) true (λ l. refl) (λ l. refl) (λ l. refl) bars
-    step_follows n (Rule (Excluded q reason)) t at there bars = by_bar catalogue (version_at catalogue q) t (follows catalogue said.lines (take n written)) true (λ l. refl) (λ l. refl) (λ l. refl) bars
+    step_follows n (Rule (Locked locked q)) t at there lock = by_bar catalogue (version_at catalogue q) t (follows catalogue said.lines (take n written)) true (λ l. refl) (λ l. refl) (λ l. refl) (lock_bars catalogue (version_at catalogue q) t lock)
+    step_follows n (Rule (Excluded q reason)) t at there bars = by_bar catalogue (version_at catalogue q) t (follows catalogue said.lines (take n written)) true (λ l. refl) (λ l. refl) (λ l. refl) (word_bars catalogue (version_at catalogue q) (word_text provider.ids reason) t bars)
     step_follows n (Rule (AtLeastOne o q)) t at there is = ap (follows catalogue said.lines (take n written)) is
     step_follows n (Rule (Digit s place bit)) t at there is = ap (follows catalogue said.lines (take n written)) is ∙ contained_all (allows_place (version_at catalogue s) place) (take n written) (λ u h. (
         let (k, e) = at_from_contains (take n written) u h in

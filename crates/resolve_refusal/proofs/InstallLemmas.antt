@@ -112,7 +112,7 @@ module _ (catalogue : List Line) (said : ReadRequest) (provider : Provider) (ste
 
 barred_by : (catalogue : List Line) (v : Version) (t : told.Step) → IsBarredBefore catalogue v t → IsBarredBy catalogue v t
 barred_by catalogue v t (line, inl lock) = (line, inl lock)
-barred_by catalogue v t (line, inr exclusion) = (line, inr (inl exclusion))
+barred_by catalogue v t (line, inr (is, none, out)) = (line, inr (inl (is, out)))
 
 -- a step that bars a listed version so stands anywhere in an install report, and bars it there
 pub barring_step : (catalogue : List Line) → AreCatalogueLines catalogue → length catalogue < 4294967296 → (number : ℕ) (v : Version) (t : told.Step) → slice_get (listed catalogue) number ≡ Some v → IsBarredBefore catalogue v t → IsBarringStep catalogue v t

@@ -8,10 +8,6 @@ use Rattle.resolvo_soundness.specs.Encoding.{IsExact, Rule, Bar, IsRule}
 use Rattle.resolvo_soundness.proofs.Members.{kept_out}
 
 module _ {N S : Type 0} (same : S → S → Bool) (p : Packages N S) (root : Rules) where
-  -- a lock or an exclusion bars the solvable, or its dependencies are unknown
-  pub bars_says : IsExact same → (w : Bar S) (s : S) → IsRule same p root (Rule.bars w s) → (is_barred same p s || is_unknown (p.dependencies_of s)) ≡ true
-  bars_says exact w s h = kept_out same exact p w s h
-
   -- the solvable is outside the version set
   pub out_says : (v : VersionSetId) (s : S) → IsRule same p root (Rule.is_out v s) → is_outside same p v s ≡ true
   out_says v s (parent, has, out) = out

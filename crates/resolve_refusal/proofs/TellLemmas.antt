@@ -10,15 +10,16 @@ use Rattle.resolvo_text.specs.Cases.{condition_cases}
 use Rattle.resolvo_text.specs.Spelling.{IsNumber}
 use Rattle.resolvo_catalogue_core.specs.Grammar.{line_at, owner_of}
 use Rattle.resolvo_catalogue_core.specs.Listed.{listed}
-use Rattle.resolvo_catalogue_core.specs.Questions.{SaysOf, BelongsTo}
+use Rattle.resolvo_catalogue_core.specs.Questions.{SaysOf, BelongsTo, LineIs, LocksAnother}
 use Rattle.resolvo_catalogue_core.proofs.PlaceLemmas.{at_from_contains}
 use Rattle.resolvo_catalogue_core.proofs.TableSteps.{same_version_is}
 use Rattle.resolvo_pool_core.specs.declared.id.ConditionId.{ConditionId}
+use Rattle.resolvo_pool_core.specs.declared.id.StringId.{StringId}
 use Rattle.resolvo_pool_core.specs.declared.id.VersionSetId.{VersionSetId}
 use Rattle.resolvo_pool_core.specs.declared.requirement.Requirement.{Requirement}
 use Rattle.resolvo_pool_core.specs.declared.requirement.ConditionalRequirement.{ConditionalRequirement}
 use Rattle.resolvo_pool_core.specs.RuleKeeping.{rules_of, rules_for, is_barred, is_unknown}
-use Rattle.resolvo_soundness.specs.Encoding.{Bar, has_condition, same_requirement, cases_under}
+use Rattle.resolvo_soundness.specs.Encoding.{Bar, KeepsOut, has_condition, same_requirement, cases_under}
 use Rattle.resolvo_soundness.proofs.Lists.{contains_first, contains_later, any_contained}
 use Rattle.resolvo_proof.specs.declared.step.ProofStep.{ProofStep}
 use Rattle.resolvo_proof.specs.declared.step.ProofStep.TheVariants.{Rule, Derived}
@@ -26,7 +27,7 @@ use Rattle.resolvo_proof.specs.declared.step.ProofRule.TheVariants.{Needs as Nee
 use Rattle.resolvo_catalogue_core.specs.Questions.{ReadRequest}
 use Rattle.resolvo_pool_core.specs.declared.requirement.Requirement.TheVariants.{Single, Union}
 use Rattle.resolvo_catalogue.specs.Ids.{Ids, NameId, SolvableId, AreEach, IsNeed, IsSpec, IsConditionOf}
-use Rattle.resolvo_catalogue.specs.Known.{spec_at, alternatives_at, condition_at}
+use Rattle.resolvo_catalogue.specs.Known.{spec_at, alternatives_at, condition_at, word_text}
 use Rattle.resolvo_catalogue.specs.Told.{VersionDependencies, need_in, limit_in, lines_at}
 use Rattle.resolvo_catalogue.specs.Provider.{Provider, packages_of, told_at, no_lines, dependencies_of}
 use Rattle.resolvo_catalogue.specs.Over.{IsOver}
@@ -40,14 +41,15 @@ use Rattle.resolvo_report.specs.Value as told
 use Rattle.resolvo_checker.specs.StepClauses.{is_owner}
 use Rattle.resolve_refusal.specs.RefusedReport.{version_at, place_at, number_of, IsWritten}
 use Rattle.resolve_refusal.specs.declared.lines.NeedLine.{NeedLine}
-use Rattle.resolve_refusal.specs.Lines.{IsLeast, IsLineOf, SaysAt, NeedsIn, IsNeedLine}
-use Rattle.resolve_refusal.specs.StepRules.{version_no, IsFirstLine, IsNeedLineOf, TellsNeed, TellsBar, Tells}
-use Rattle.resolve_refusal.specs.Refusal.{IsVersion, PlaceSays, IsFirst, IsFirstNeed, IsBarredBy, IsToldBy, IsProofOver}
+use Rattle.resolve_refusal.specs.declared.lines.WordLine.{WordLine}
+use Rattle.resolve_refusal.specs.declared.lines.WordLine.TheVariants as with_word
+use Rattle.resolve_refusal.specs.Lines.{BarsAs, IsLeast, IsLineOf, IsLockLine, IsWordLine, SaysAt, NeedsIn, IsNeedLine}
+use Rattle.resolve_refusal.specs.StepRules.{version_no, word_step, IsFirstLine, IsNeedLineOf, TellsLock, TellsNeed, TellsWord, Tells}
+use Rattle.resolve_refusal.specs.Refusal.{IsVersion, PlaceSays, IsBarredAs, IsFirst, IsFirstNeed, IsLockStep, IsToldBy, IsProofOver}
 use Rattle.resolve_refusal.proofs.Cases.{case_said}
 use Rattle.resolve_refusal.proofs.RenameLemmas.{version_is, specs_are}
 use Rattle.resolve_refusal.proofs.Clauses.{told_limits}
-use Rattle.resolve_refusal.proofs.Taken.{bars_says}
-use Rattle.resolve_refusal.proofs.BarLemmas.{some_bars, barred_version}
+use Rattle.resolve_refusal.proofs.BarLemmas.{barred_version, lock_there, word_there}
 use Rattle.resolve_refusal.proofs.Spelled.{literals_fit}
 
 -- ---- lines that need
@@ -125,7 +127,7 @@ within_line lines zero l e = absurd cc
 within_line lines (suc k) l e = (let b : k < length lines = slice_get_within lines k l e in (omega arith, omega (arith, b)))
 
 -- by the first line of the request
-pub first_asked : (catalogue : List Line) (ids : Ids) (request : List Line) (said : Line) (line : ℕ) → IsFirstLine catalogue request None said line → Contains request said → IsFirst catalogue ids request OfRequest said line
+pub first_asked : (catalogue : List Line) (ids : Ids) (request : List Line) (said : Line) (line : ℕ) → IsFirstLine catalogue request None said line → Contains request said → IsFirst catalogue request OfRequest said line
 first_asked catalogue ids request said line (found, is, least) has =
     let (m, bounds, there) = request_line request said has in
     let (here, none) = least_is {P = λ n. IsLineOf catalogue request None n × SaysAt request said n} found line is least m (bounds, there) in
@@ -151,21 +153,21 @@ module _ (catalogue : List Line) (ids : Ids) (request : List Line) (s : Solvable
   own_version = get_or_from_slice_get (listed catalogue) s.raw v (record { name = []; number = 0 }) listed_at
 
   -- a line of the version stands at its place
-  placed : (said : Line) → IsOwned said → (n : ℕ) → SaysOf (listed catalogue) catalogue s.raw BelongsTo n → line_at catalogue n ≡ Some said → PlaceSays catalogue ids request (OfVersion (version_at catalogue s)) said n
+  placed : (said : Line) → IsOwned said → (n : ℕ) → SaysOf (listed catalogue) catalogue s.raw BelongsTo n → line_at catalogue n ≡ Some said → PlaceSays catalogue request (OfVersion (version_at catalogue s)) said n
   placed said own n (w, at, (l, stands, has)) e =
       let same : l ≡ said = (let both : Some l ≡ Some said = sym stands ∙ e in cc) in
       let owner : owner_of catalogue n ≡ Some (version_at catalogue s) = (own w (owner_of catalogue n)).0 (subst (λ (x : Line). BelongsTo w (owner_of catalogue n) x) same has) ∙ ap (λ (x : Version). Some x) (sym (get_or_from_slice_get (listed catalogue) s.raw w (record { name = []; number = 0 }) at)) in
       subst (λ (b : Bool). (if b then line_at catalogue n else None) ≡ Some said) (sym (is_own (version_at catalogue s) (owner_of catalogue n) owner)) e
 
   -- what stands at its place is a line of the version
-  of_place : (said : Line) → IsOwned said → (n : ℕ) → PlaceSays catalogue ids request (OfVersion (version_at catalogue s)) said n → SaysOf (listed catalogue) catalogue s.raw BelongsTo n × (line_at catalogue n ≡ Some said)
+  of_place : (said : Line) → IsOwned said → (n : ℕ) → PlaceSays catalogue request (OfVersion (version_at catalogue s)) said n → SaysOf (listed catalogue) catalogue s.raw BelongsTo n × (line_at catalogue n ≡ Some said)
   of_place said own n e =
       let (mine, is) = taken (is_owner (version_at catalogue s) (owner_of catalogue n)) (line_at catalogue n) said e in
       ((v, listed_at, (said, is, (own v (owner_of catalogue n)).1 (owner_is (version_at catalogue s) (owner_of catalogue n) mine ∙ ap (λ (x : Version). Some x) own_version))), is)
 
 -- by the first line of the version
 pub first_told : (catalogue : List Line) (ids : Ids) (request : List Line) (said : Line) → IsOwned said → (s : SolvableId) (line : ℕ) → IsFirstLine catalogue request (Some (version_no s)) said line
-    → (m : ℕ) → SaysOf (listed catalogue) catalogue s.raw BelongsTo m → line_at catalogue m ≡ Some said → IsFirst catalogue ids request (OfVersion (version_at catalogue s)) said line
+    → (m : ℕ) → SaysOf (listed catalogue) catalogue s.raw BelongsTo m → line_at catalogue m ≡ Some said → IsFirst catalogue request (OfVersion (version_at catalogue s)) said line
 first_told catalogue ids request said own s line (found, is, least) m belongs there =
     let (here, none) = least_is {P = λ n. IsLineOf catalogue request (Some (version_no s)) n × SaysAt catalogue said n} found line is least m (belongs, there) in
     record {
@@ -183,7 +185,7 @@ limit_owned s v owner = (λ e. e, λ e. e)
 
 -- by the first line of the request
 first_need_asked : (catalogue : List Line) (ids : Ids) (request : List Line) (alternatives case : List Spec) (found : Option NeedLine) → IsNeedLine (IsLineOf catalogue request None) request alternatives case found → (l : Line) → Contains request l → NeedsIn alternatives case l
-    → (n : NeedLine) × (found ≡ Some n) × IsFirstNeed catalogue ids request OfRequest alternatives case n.line n.case
+    → (n : NeedLine) × (found ≡ Some n) × IsFirstNeed catalogue request OfRequest alternatives case n.line n.case
 first_need_asked catalogue ids request alternatives case None none l has needs = (let (m, bounds, there) = request_line request l has in absurd (none m bounds (l, there, needs)))
 first_need_asked catalogue ids request alternatives case (Some n) (bounds, says, first) l has needs = (
   n,
@@ -197,7 +199,7 @@ needing_owned alternatives case l (condition, is, has) = subst (λ (x : Line). I
 -- by the first line of the version
 first_need_told : (catalogue : List Line) (ids : Ids) (request : List Line) (alternatives case : List Spec) (s : SolvableId) (found : Option NeedLine) → IsNeedLine (IsLineOf catalogue request (Some (version_no s))) catalogue alternatives case found
     → (m : ℕ) → SaysOf (listed catalogue) catalogue s.raw BelongsTo m → (l : Line) → line_at catalogue m ≡ Some l → NeedsIn alternatives case l
-    → (n : NeedLine) × (found ≡ Some n) × IsFirstNeed catalogue ids request (OfVersion (version_at catalogue s)) alternatives case n.line n.case
+    → (n : NeedLine) × (found ≡ Some n) × IsFirstNeed catalogue request (OfVersion (version_at catalogue s)) alternatives case n.line n.case
 first_need_told catalogue ids request alternatives case s None none m belongs l there needs = absurd (none m belongs (l, there, needs))
 first_need_told catalogue ids request alternatives case s (Some n) (of, (k, here, (condition, is, numbered)), first) m belongs l there needs = (
   n,
@@ -242,23 +244,39 @@ same_need need r e = (let (none, same) = and_parts (not (has_condition need.cond
 module _ (catalogue : List Line) (said : ReadRequest) (p : Provider) (steps : List (ProofStep NameId SolvableId)) (proves : IsProofOver catalogue said p steps) (fits : length steps < 4294967296) where
   -- a limit is told by the first line that states it
   limit_told : (parent : Option SolvableId) (v : VersionSetId) (line : ℕ) → IsFirstLine catalogue said.lines (option_map version_no parent) (Limits (spec_at p.ids v)) line → Contains (rules_for proves.same (packages_of p) (root_of proves.ids) parent).constraints v
-      → IsFirst catalogue p.ids said.lines (place_at catalogue parent) (Limits (spec_at p.ids v)) line
+      → IsFirst catalogue said.lines (place_at catalogue parent) (Limits (spec_at p.ids v)) line
   limit_told None v line by has = first_asked catalogue p.ids said.lines (Limits (spec_at p.ids v)) line by (limit_in_lines p.ids proves.ids.constraints.items said.lines proves.asked.constraints v has)
   limit_told (Some s) v line by has =
       let (m, of, there) = version_limit catalogue p proves.over s v has in
       first_told catalogue p.ids said.lines (Limits (spec_at p.ids v)) (limit_owned (spec_at p.ids v)) s line by m of there
 
-  -- what bars a version is told by a line that does
-  bar_told : (s : SolvableId) (t : Step) → IsVersion catalogue p.ids s → TellsBar catalogue s t → (is_barred proves.same (packages_of p) s || is_unknown (dependencies_of p s)) ≡ true → IsBarredBy catalogue (version_at catalogue s) t
-  bar_told s t (v, e) tells bars = elim (tells v e) [
-    | inl by ↦ subst (λ (w : Version). IsBarredBy catalogue w t) (sym (version_is catalogue p proves.over s v e)) by
-    | inr none ↦ absurd (some_bars catalogue p proves.over proves.same proves.exact s v e bars none.0 none.1)
-  ]
+  -- a lock is told by its line
+  lock_told : (l s : SolvableId) (t : Step) → TellsLock catalogue s t → KeepsOut proves.same (packages_of p) (Bar.lock l) s → (line : ℕ) × IsLockStep catalogue (version_at catalogue s) t line
+  lock_told l s t (found, is, line) bars =
+      let (v, e) = barred_version catalogue p proves.over proves.same proves.exact s (Bar.lock l) bars in
+      let (n, there) = lock_there catalogue p proves.over proves.same proves.exact l s v e bars in
+      by_line v (version_is catalogue p proves.over s v e) found (line v e) n there is
+    where
+      by_line : (v : Version) → version_at catalogue s ≡ v → (o : Option ℕ) → IsLockLine catalogue v o → (n : ℕ) → LineIs catalogue n (LocksAnother v) → t ≡ told.Lock (unwrap_or o 0) (version_at catalogue s) → (k : ℕ) × IsLockStep catalogue (version_at catalogue s) t k
+      by_line v own None none n there e = absurd (none n there)
+      by_line v own (Some k) at n there e = (k, (e, subst (λ (w : Version). LineIs catalogue k (LocksAnother w)) (sym own) at))
+
+  -- what bars a version with a word is told by the first line that does
+  word_told : (why : StringId) (s : SolvableId) (t : Step) → TellsWord catalogue p.ids s why t → KeepsOut proves.same (packages_of p) (Bar.word why) s → IsBarredAs catalogue (version_at catalogue s) (word_text p.ids why) t
+  word_told why s t (found, is, line) bars =
+      let (v, e) = barred_version catalogue p proves.over proves.same proves.exact s (Bar.word why) bars in
+      let (n, there) = word_there catalogue p proves.over proves.same proves.exact why s v e bars in
+      subst (λ (w : Version). IsBarredAs catalogue w (word_text p.ids why) t) (sym (version_is catalogue p proves.over s v e)) (by_line v (word_text p.ids why) found (line v e) n there is)
+    where
+      by_line : (v : Version) (word : List ℕ) (o : Option WordLine) → IsWordLine catalogue v word o → (n : ℕ) → BarsAs catalogue v word n → t ≡ word_step o → IsBarredAs catalogue v word t
+      by_line v word None none n there e = absurd (none n there)
+      by_line v word (Some (with_word.Exclude k)) (at, first) n there e = (k, inl (e, at), first)
+      by_line v word (Some (with_word.Unknown k)) (at, first) n there e = (k, inr (e, at), first)
 
   -- a need of a parent is told by the first line that states it
   need_found : (parent : Option SolvableId) (r : Requirement) (condition : Option ConditionId) (case : List VersionSetId) (found : Option NeedLine) → IsNeedLineOf catalogue said.lines p.ids parent r case found
       → Contains (rules_for proves.same (packages_of p) (root_of proves.ids) parent).requirements (record { condition = condition; requirement = r }) → Contains (cases_under (condition_at p.ids) condition) case
-      → (n : NeedLine) × (found ≡ Some n) × IsFirstNeed catalogue p.ids said.lines (place_at catalogue parent) (alternatives_at p.ids r) (map (spec_at p.ids) case) n.line n.case
+      → (n : NeedLine) × (found ≡ Some n) × IsFirstNeed catalogue said.lines (place_at catalogue parent) (alternatives_at p.ids r) (map (spec_at p.ids) case) n.line n.case
   need_found None r condition case found by has among =
       let (c, is, here) = line_from p.ids proves.ids.requirements.items said.lines proves.asked.requirements (record { condition = condition; requirement = r }) has in
       first_need_asked catalogue p.ids said.lines (alternatives_at p.ids r) (map (spec_at p.ids) case) found by _ here (needs_in catalogue p proves.over r condition c is case among)
@@ -268,7 +286,7 @@ module _ (catalogue : List Line) (said : ReadRequest) (p : Provider) (steps : Li
 
   -- a need that is written is told rightly
   pub need_told : (n : ℕ) (parent : Option SolvableId) (r : Requirement) (case : Vec VersionSetId Global) (t : Step) → slice_get steps n ≡ Some (Rule (NeedsRule parent r case)) → TellsNeed catalogue said.lines p.ids parent r case.items t
-      → (line k : ℕ) × IsNumber k × (t ≡ told.Need (place_at catalogue parent) line k) × IsFirstNeed catalogue p.ids said.lines (place_at catalogue parent) (alternatives_at p.ids r) (map (spec_at p.ids) case.items) line k
+      → (line k : ℕ) × IsNumber k × (t ≡ told.Need (place_at catalogue parent) line k) × IsFirstNeed catalogue said.lines (place_at catalogue parent) (alternatives_at p.ids r) (map (spec_at p.ids) case.items) line k
   need_told n parent r case t at (found, by, tells) =
       let (condition, (has, among)) = proves.proof n _ at in
       let (l, is, first) = need_found parent r condition case.items found by has among in
@@ -292,8 +310,8 @@ module _ (catalogue : List Line) (said : ReadRequest) (p : Provider) (steps : Li
       let (condition, (has, out)) = proves.proof n _ at in
       (line, is, limit_told parent v line by has)
   step_told n (Rule (Outside v s)) t at tells written = written
-  step_told n (Rule (Locked locked s)) t at tells written = (let (condition, bars) = proves.proof n _ at in bar_told s t (barred_version catalogue p proves.over proves.same proves.exact s (Bar.lock locked) bars) tells (bars_says proves.same (packages_of p) (root_of proves.ids) proves.exact (Bar.lock locked) s bars))
-  step_told n (Rule (Excluded s reason)) t at tells written = (let (condition, bars) = proves.proof n _ at in bar_told s t (barred_version catalogue p proves.over proves.same proves.exact s (Bar.word reason) bars) tells (bars_says proves.same (packages_of p) (root_of proves.ids) proves.exact (Bar.word reason) s bars))
+  step_told n (Rule (Locked locked s)) t at tells written = (let (condition, bars) = proves.proof n _ at in lock_told locked s t tells bars)
+  step_told n (Rule (Excluded s reason)) t at tells written = (let (condition, bars) = proves.proof n _ at in word_told reason s t tells bars)
   step_told n (Rule (Digit s place bit)) t at tells written = written
   step_told n (Rule (AtLeastOne name s)) t at tells written = written
   step_told n (Derived literals causes) t at tells written =

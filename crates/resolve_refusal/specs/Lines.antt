@@ -1,10 +1,10 @@
 -- The line of a place by which a need or a limit is told, and the line by which a version is barred.
-use Rattle.std.specs.Prelude.{◌≡◌, ◌<◌, ◌≤◌, ◌+◌, ℕ, Bool, true, false, List, length, slice_index_or, slice_get, Option, None, Some, Contains}
+use Rattle.std.specs.Prelude.{◌≡◌, ◌⊎◌, ◌<◌, ◌≤◌, ◌+◌, ℕ, Bool, true, false, List, length, slice_index_or, slice_get, Option, None, Some, Contains}
 use Rattle.resolvo_text.specs.Line.{Version, Spec, Cond, Line, Skipped, Listed, Needs, Limits, Unknown, Lock, Favour, Exclude, Wish}
 use Rattle.resolvo_text.specs.Cases.{condition_cases}
-use Rattle.resolvo_catalogue_core.specs.Grammar.{line_at}
+use Rattle.resolvo_catalogue_core.specs.Grammar.{line_at, owner_of}
 use Rattle.resolvo_catalogue_core.specs.Listed.{listed}
-use Rattle.resolvo_catalogue_core.specs.Questions.{SaysOf, BelongsTo, LineIs, LocksAnother, Excludes, MarksUnknownOf, Bars}
+use Rattle.resolvo_catalogue_core.specs.Questions.{SaysOf, BelongsTo, LineIs, LocksAnother, Excludes, Bars}
 use Rattle.resolvo_catalogue_core.specs.declared.rule.VersionNo.{VersionNo}
 use Rattle.resolvo_checker.specs.StepClauses.{case_at}
 use Rattle.resolve_refusal.specs.declared.lines.PlaceLines.{PlaceLines}
@@ -12,6 +12,8 @@ use Rattle.resolve_refusal.specs.declared.lines.PlaceLines.TheVariants as of_pla
 use Rattle.resolve_refusal.specs.declared.lines.NeedLine.{NeedLine}
 use Rattle.resolve_refusal.specs.declared.lines.BarringLine.{BarringLine}
 use Rattle.resolve_refusal.specs.declared.lines.BarringLine.TheVariants as barring
+use Rattle.resolve_refusal.specs.declared.lines.WordLine.{WordLine}
+use Rattle.resolve_refusal.specs.declared.lines.WordLine.TheVariants as with_word
 
 -- how many lines the place has
 abbrev pub count_of : PlaceLines → ℕ
@@ -89,44 +91,41 @@ locks (Favour v) = false
 locks (Exclude v reason) = false
 locks (Wish v) = false
 
--- the line says that the needs of its owner are unknown
-abbrev pub marks_unknown : Line → Bool
-marks_unknown (Unknown reason) = true
-marks_unknown Skipped = false
-marks_unknown (Listed v) = false
-marks_unknown (Needs alternatives condition) = false
-marks_unknown (Limits s) = false
-marks_unknown (Lock v) = false
-marks_unknown (Favour v) = false
-marks_unknown (Exclude v reason) = false
-marks_unknown (Wish v) = false
+-- Line n excludes the version with this word.
+abbrev pub ExcludesAt : List Line → Version → List ℕ → ℕ → Type 0
+ExcludesAt catalogue v word n = line_at catalogue n ≡ Some (Exclude v word)
 
--- The line says that the needs of the version are unknown; or none does.
-abbrev pub IsUnknownLine : List Line → Version → Option ℕ → Type 0
-IsUnknownLine catalogue v None = (m : ℕ) → LineIs catalogue m (MarksUnknownOf v) → ⊥
-IsUnknownLine catalogue v (Some n) = LineIs catalogue n (MarksUnknownOf v)
+-- Line n says with this word that the version's needs are unknown.
+abbrev pub MarksUnknownAt : List Line → Version → List ℕ → ℕ → Type 0
+MarksUnknownAt catalogue v word n = (line_at catalogue n ≡ Some (Unknown word)) × (owner_of catalogue n ≡ Some v)
+
+-- Line n bars the version with this word.
+abbrev pub BarsAs : List Line → Version → List ℕ → ℕ → Type 0
+BarsAs catalogue v word n = ExcludesAt catalogue v word n ⊎ MarksUnknownAt catalogue v word n
+
+-- It is the first line that bars the version with this word, by what it says; or none does.
+abbrev pub IsWordLine : List Line → Version → List ℕ → Option WordLine → Type 0
+IsWordLine catalogue v word None = (m : ℕ) → BarsAs catalogue v word m → ⊥
+IsWordLine catalogue v word (Some (with_word.Exclude n)) = ExcludesAt catalogue v word n × ((m : ℕ) → m < n → BarsAs catalogue v word m → ⊥)
+IsWordLine catalogue v word (Some (with_word.Unknown n)) = MarksUnknownAt catalogue v word n × ((m : ℕ) → m < n → BarsAs catalogue v word m → ⊥)
+
+-- The line locks another version of the package; or none does.
+abbrev pub IsLockLine : List Line → Version → Option ℕ → Type 0
+IsLockLine catalogue v None = (m : ℕ) → LineIs catalogue m (LocksAnother v) → ⊥
+IsLockLine catalogue v (Some n) = LineIs catalogue n (LocksAnother v)
 
 -- Nothing locks another version of the package, or excludes the version.
 abbrev pub IsFree : List Line → Version → Type 0
 IsFree catalogue v = (m : ℕ) → Bars catalogue v m → ⊥
 
--- The line bars the version before a search: one that locks another version of its package, else one that excludes it;
+-- The line bars the version before a search: one that locks another version of its package, else the one that excludes it;
 -- or none does.
 abbrev pub IsBarredLine : List Line → Version → Option BarringLine → Type 0
 IsBarredLine catalogue v (Some (barring.Lock n)) = LineIs catalogue n (LocksAnother v)
-IsBarredLine catalogue v (Some (barring.Exclude n)) = ((m : ℕ) → LineIs catalogue m (LocksAnother v) → ⊥) × LineIs catalogue n (Excludes v)
-IsBarredLine catalogue v (Some (barring.Unknown n)) = ⊥
+IsBarredLine catalogue v (Some (barring.Exclude n)) = ((m : ℕ) → LineIs catalogue m (LocksAnother v) → ⊥) × LineIs catalogue n (Excludes v) × ((m : ℕ) → LineIs catalogue m (Excludes v) → m ≡ n)
 IsBarredLine catalogue v None = IsFree catalogue v
 
 -- The version of this number is listed, and the line bars it so; or it isn't listed, or no line bars it so.
 abbrev pub IsBarredLineOf : List Line → ℕ → Option BarringLine → Type 0
 IsBarredLineOf catalogue number None = (v : Version) → slice_get (listed catalogue) number ≡ Some v → IsBarredLine catalogue v None
 IsBarredLineOf catalogue number (Some line) = (v : Version) × (slice_get (listed catalogue) number ≡ Some v) × IsBarredLine catalogue v (Some line)
-
--- The line bars the version: one that locks another version of its package, else one that excludes it, else one that
--- says that its needs are unknown; or none does.
-abbrev pub IsBarringLine : List Line → Version → Option BarringLine → Type 0
-IsBarringLine catalogue v (Some (barring.Lock n)) = IsBarredLine catalogue v (Some (barring.Lock n))
-IsBarringLine catalogue v (Some (barring.Exclude n)) = IsBarredLine catalogue v (Some (barring.Exclude n))
-IsBarringLine catalogue v (Some (barring.Unknown n)) = IsFree catalogue v × LineIs catalogue n (MarksUnknownOf v)
-IsBarringLine catalogue v None = IsFree catalogue v × IsUnknownLine catalogue v None

@@ -1,5 +1,7 @@
 -- The lines of the two texts that steps rest on.
 use Rattle.std.specs.Prelude.{◌≡◌, ℕ, suc, ◌<◌, Bool, true, List, length, Option, Some, None, slice_get, Contains}
+use Rattle.resolvo_text.specs.Line.{Line}
+use Rattle.resolvo_catalogue_core.specs.Questions.{AreAll}
 use Rattle.resolvo_report.specs.Value.{Place, OfRequest, OfVersion, Step, Need, Gate, Shared, LimitBars, Limit, Outside, Lock, Exclude, Unknown, Digit, Any, Derive}
 use Rattle.resolve_refusal.specs.declared.named.Text.{Text}
 use Rattle.resolve_refusal.specs.declared.named.Text.TheVariants as text
@@ -38,6 +40,11 @@ RestsOn of steps n = (s : Step) × Contains steps s × (line_in of s ≡ Some n)
 -- it is a line of the text, which has so many, and a step rests on it
 abbrev pub IsNamedBy : Text → ℕ → List Step → ℕ → Type 0
 IsNamedBy of count steps n = (k : ℕ) × (n ≡ suc k) × (k < count) × RestsOn of steps n
+
+-- The lines that are named, of the catalogue and of the request, are exactly those on which steps rest.
+pub record AreUsedLines (catalogue request : List Line) (in_catalogue in_request : List ℕ) (steps : List Step) : Type 0 where
+  pub named : AreAll in_catalogue (IsNamedBy text.Catalogue (length catalogue) steps)
+  pub asked : AreAll in_request (IsNamedBy text.Request (length request) steps)
 
 -- the flag at this place is set
 abbrev pub IsFlagged : List Bool → ℕ → Type 0

@@ -6,7 +6,7 @@ use Rattle.resolvo_text.specs.Line.{Version, Spec, Line, Needs, Limits}
 use Rattle.resolvo_text.specs.Spelling.{is_name}
 use Rattle.resolvo_text.specs.Spelling as form
 use Rattle.resolvo_catalogue_core.specs.Listed.{listed}
-use Rattle.resolvo_catalogue_core.specs.Questions.{ReadRequest, LineIs, LocksAnother, Excludes, MarksUnknownOf, Bars}
+use Rattle.resolvo_catalogue_core.specs.Questions.{ReadRequest, LineIs, LocksAnother, Excludes, MarksUnknownOf}
 use Rattle.resolvo_pool_core.specs.declared.id.VersionSetId.{VersionSetId}
 use Rattle.resolvo_pool_core.specs.declared.requirement.Requirement.{Requirement}
 use Rattle.resolvo_soundness.specs.Encoding.{Atom, IsExact}
@@ -21,7 +21,7 @@ use Rattle.resolvo_proof.specs.Steps.{literal_in}
 use Rattle.resolvo_proof.specs.Members.{HaveOneSign}
 use Rattle.resolvo_proof.specs.Places.{HaveOnePlace}
 use Rattle.resolvo_catalogue.specs.Ids.{Ids, NameId, SolvableId, IsPackage, IsSpec, AreAlternatives}
-use Rattle.resolvo_catalogue.specs.Known.{name_text, spec_at, alternatives_at}
+use Rattle.resolvo_catalogue.specs.Known.{name_text, spec_at, alternatives_at, word_text}
 use Rattle.resolvo_catalogue.specs.Provider.{Provider, packages_of}
 use Rattle.resolvo_catalogue.specs.Over.{IsOver, AreAsked}
 use Rattle.resolvo_catalogue.specs.KeptSets.{root_of}
@@ -35,7 +35,8 @@ use Rattle.resolvo_checker.specs.StepClauses.{line_of}
 use Rattle.resolvo_judge.specs.Judgement.{IsClaimTrue}
 use Rattle.resolvo_judge.specs.Refusal.{IsAccepted}
 use Rattle.resolve_refusal.specs.RefusedReport.{version_at, place_at}
-use Rattle.resolve_refusal.specs.Lines.{NeedsIn, NeedsAs}
+use Rattle.resolve_refusal.specs.Lines.{NeedsIn, NeedsAs, ExcludesAt, MarksUnknownAt, BarsAs}
+use Rattle.resolve_refusal.specs.Named.{AreUsedLines}
 
 -- ---- ids that the provider knows
 
@@ -90,10 +91,49 @@ IsLockStep catalogue v step line = (step ≡ told.Lock line v) × LineIs catalog
 abbrev pub IsExclusionStep : List Line → Version → Step → ℕ → Type 0
 IsExclusionStep catalogue v step line = (step ≡ told.Exclude line) × ((m : ℕ) → LineIs catalogue m (LocksAnother v) → ⊥) × LineIs catalogue line (Excludes v)
 
--- The step bars the version: by a line that locks another version of its package, else by one that excludes it, else by
--- one that says that its needs are unknown.
+-- The step bars the version by a line that locks another version of its package, excludes it, or says that its needs are unknown.
 abbrev pub IsBarredBy : List Line → Version → Step → Type 0
-IsBarredBy catalogue v step = (line : ℕ) × (IsLockStep catalogue v step line ⊎ (IsExclusionStep catalogue v step line ⊎ ((step ≡ told.Unknown line) × ((m : ℕ) → Bars catalogue v m → ⊥) × LineIs catalogue line (MarksUnknownOf v))))
+IsBarredBy catalogue v step = (line : ℕ) × (IsLockStep catalogue v step line ⊎ (((step ≡ told.Exclude line) × LineIs catalogue line (Excludes v)) ⊎ ((step ≡ told.Unknown line) × LineIs catalogue line (MarksUnknownOf v))))
+
+-- It bars the version with this word, by the first line that does: one that excludes it, or one that says that its needs are unknown.
+abbrev pub IsBarredAs : List Line → Version → List ℕ → Step → Type 0
+IsBarredAs catalogue v word step = (line : ℕ) × (((step ≡ told.Exclude line) × ExcludesAt catalogue v word line) ⊎ ((step ≡ told.Unknown line) × MarksUnknownAt catalogue v word line)) × ((m : ℕ) → m < line → BarsAs catalogue v word m → ⊥)
+
+module _ (catalogue : List Line) where
+  -- line n of the place says this
+  abbrev pub PlaceSays : List Line → Place → Line → ℕ → Type 0
+  PlaceSays request place said n = line_of catalogue request place n ≡ Some said
+
+  -- The line says it, and none of the place before it does.
+  pub record IsFirst (request : List Line) (place : Place) (said : Line) (n : ℕ) : Type 0 where
+    pub says : PlaceSays request place said n
+    pub first : (m : ℕ) → m < n → PlaceSays request place said m → ⊥
+
+  -- line n of the place has the property
+  abbrev pub IsOfPlace : List Line → Place → (Line → Type 0) → ℕ → Type 0
+  IsOfPlace request place P n = (l : Line) × PlaceSays request place l n × P l
+
+  -- The line needs these alternatives in this case, which is its case k and none before; and no line of the place before
+  -- it does.
+  pub record IsFirstNeed (request : List Line) (place : Place) (alternatives case : List Spec) (n k : ℕ) : Type 0 where
+    pub says : IsOfPlace request place (NeedsAs alternatives case k) n
+    pub first : (m : ℕ) → m < n → IsOfPlace request place (NeedsIn alternatives case) m → ⊥
+
+  -- The step tells its rule by the first line that states it, a need by the first of its cases too. A package is locked by one line
+  -- at most; an exclusion and an unknown mark of one version state one rule where their words are the same.
+  abbrev pub TellsFirst : List Line → Step → Type 0
+  TellsFirst request (told.Need place line k) = (alternatives case : List Spec) × IsFirstNeed request place alternatives case line k
+  TellsFirst request (told.Gate v line) = (alternatives : List Spec) × IsFirst request (OfVersion v) (Needs alternatives None) line
+  TellsFirst request (told.Shared alternatives) = ⊤
+  TellsFirst request (told.LimitBars place line v) = (s : Spec) × IsFirst request place (Limits s) line
+  TellsFirst request (told.Limit place line) = (s : Spec) × IsFirst request place (Limits s) line
+  TellsFirst request (told.Outside s v) = ⊤
+  TellsFirst request (told.Lock line v) = LineIs catalogue line (LocksAnother v)
+  TellsFirst request (told.Exclude line) = (v : Version) × (word : List ℕ) × IsBarredAs catalogue v word (told.Exclude line)
+  TellsFirst request (told.Unknown line) = (v : Version) × (word : List ℕ) × IsBarredAs catalogue v word (told.Unknown line)
+  TellsFirst request (told.Digit v place bit) = ⊤
+  TellsFirst request (told.Any v) = ⊤
+  TellsFirst request (told.Derive literals causes) = ⊤
 
 module _ (catalogue : List Line) (ids : Ids) where
   -- the atom in the words of a report
@@ -115,36 +155,18 @@ module _ (catalogue : List Line) (ids : Ids) where
   abbrev pub AreLiterals : List (ProofLiteral NameId SolvableId) → List Literal → Type 0
   AreLiterals literals written = (l : Literal) → Contains written l ↔ ((k : ProofLiteral NameId SolvableId) × Contains literals k × (l ≡ literal_at k))
 
-  -- line n of the place says this
-  abbrev pub PlaceSays : List Line → Place → Line → ℕ → Type 0
-  PlaceSays request place said n = line_of catalogue request place n ≡ Some said
-
-  -- The line says it, and none of the place before it does.
-  pub record IsFirst (request : List Line) (place : Place) (said : Line) (n : ℕ) : Type 0 where
-    pub says : PlaceSays request place said n
-    pub first : (m : ℕ) → m < n → PlaceSays request place said m → ⊥
-
-  -- line n of the place has the property
-  abbrev pub IsOfPlace : List Line → Place → (Line → Type 0) → ℕ → Type 0
-  IsOfPlace request place P n = (l : Line) × PlaceSays request place l n × P l
-
-  -- The line needs these alternatives in this case, which is its case k and none before; and no line of the place before
-  -- it does.
-  pub record IsFirstNeed (request : List Line) (place : Place) (alternatives case : List Spec) (n k : ℕ) : Type 0 where
-    pub says : IsOfPlace request place (NeedsAs alternatives case k) n
-    pub first : (m : ℕ) → m < n → IsOfPlace request place (NeedsIn alternatives case) m → ⊥
-
-  -- The step tells the proof's step: a need or a limit by the first line that states it, a need by its first such case too,
-  -- what bars a version by a line that does, a derived clause by its literals and the numbers of its causes.
+  -- The step tells the proof's step: a rule by the first line that states it, a need by its first such case too; a lock by the line
+  -- that locks another version, what bars a version with a word by that word; a derived clause by its literals and the numbers of
+  -- its causes.
   abbrev pub IsToldBy : List Line → ProofStep NameId SolvableId → Step → Type 0
-  IsToldBy request (Rule (NeedsRule parent r case)) step = (line k : ℕ) × (step ≡ told.Need (place_at catalogue parent) line k) × IsFirstNeed request (place_at catalogue parent) (alternatives_at ids r) (map (spec_at ids) case.items) line k
-  IsToldBy request (Rule (GateOf s r)) step = (line : ℕ) × (step ≡ told.Gate (version_at catalogue s) line) × IsFirst request (OfVersion (version_at catalogue s)) (Needs (alternatives_at ids r) None) line
+  IsToldBy request (Rule (NeedsRule parent r case)) step = (line k : ℕ) × (step ≡ told.Need (place_at catalogue parent) line k) × IsFirstNeed catalogue request (place_at catalogue parent) (alternatives_at ids r) (map (spec_at ids) case.items) line k
+  IsToldBy request (Rule (GateOf s r)) step = (line : ℕ) × (step ≡ told.Gate (version_at catalogue s) line) × IsFirst catalogue request (OfVersion (version_at catalogue s)) (Needs (alternatives_at ids r) None) line
   IsToldBy request (Rule (Shared r)) step = step ≡ told.Shared (alternatives_at ids r)
-  IsToldBy request (Rule (Limit parent v None)) step = (line : ℕ) × (step ≡ told.Limit (place_at catalogue parent) line) × IsFirst request (place_at catalogue parent) (Limits (spec_at ids v)) line
-  IsToldBy request (Rule (Limit parent v (Some s))) step = (line : ℕ) × (step ≡ told.LimitBars (place_at catalogue parent) line (version_at catalogue s)) × IsFirst request (place_at catalogue parent) (Limits (spec_at ids v)) line
+  IsToldBy request (Rule (Limit parent v None)) step = (line : ℕ) × (step ≡ told.Limit (place_at catalogue parent) line) × IsFirst catalogue request (place_at catalogue parent) (Limits (spec_at ids v)) line
+  IsToldBy request (Rule (Limit parent v (Some s))) step = (line : ℕ) × (step ≡ told.LimitBars (place_at catalogue parent) line (version_at catalogue s)) × IsFirst catalogue request (place_at catalogue parent) (Limits (spec_at ids v)) line
   IsToldBy request (Rule (Outside v s)) step = step ≡ told.Outside (spec_at ids v) (version_at catalogue s)
-  IsToldBy request (Rule (Locked locked s)) step = IsBarredBy catalogue (version_at catalogue s) step
-  IsToldBy request (Rule (Excluded s reason)) step = IsBarredBy catalogue (version_at catalogue s) step
+  IsToldBy request (Rule (Locked locked s)) step = (line : ℕ) × IsLockStep catalogue (version_at catalogue s) step line
+  IsToldBy request (Rule (Excluded s reason)) step = IsBarredAs catalogue (version_at catalogue s) (word_text ids reason) step
   IsToldBy request (Rule (Digit s place bit)) step = step ≡ told.Digit (version_at catalogue s) place bit
   IsToldBy request (Rule (AtLeastOne n s)) step = step ≡ told.Any (version_at catalogue s)
   IsToldBy request (Derived literals causes) step = (written : List Literal) × (step ≡ told.Derive written (map suc causes.items)) × AreLiterals literals.items written
@@ -171,13 +193,14 @@ pub record Refutes (catalogue : List Line) (said : ReadRequest) (provider : Prov
   pub proves : IsProofOver catalogue said provider steps
   pub empty : EndsEmpty steps
 
--- The report is a refusal of these steps that the judge accepts, so what it claims is true.
+-- The report is a refusal of these steps that the judge accepts, so what it claims is true. It names the lines that they use.
 pub record IsRefusalOf (catalogue request : List Line) (ids : Ids) (steps : List (ProofStep NameId SolvableId)) (r : Report) : Type 0 where
   pub in_catalogue : List ℕ
   pub in_request : List ℕ
   pub written : List Step
   pub refuses : r ≡ Refused in_catalogue in_request written []
   pub each : AllZip (IsToldBy catalogue ids request) steps written
+  pub used : AreUsedLines catalogue request in_catalogue in_request written
   pub report : IsReport r
   pub accepted : IsAccepted catalogue request (report_lines r)
   pub claim : IsClaimTrue catalogue request r

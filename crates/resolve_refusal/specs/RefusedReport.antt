@@ -27,9 +27,9 @@ place_at catalogue (Some s) = OfVersion (version_at catalogue s)
 abbrev pub number_of : ℕ → ℕ
 number_of place = if nat_lt place 4294967295 then place + 1 else 4294967295
 
--- The step bars the version by a lock, an exclusion or its unknown needs.
-abbrev pub IsBar : Version → Step → Type 0
-IsBar v step = (line : ℕ) × ((step ≡ told.Lock line v) ⊎ ((step ≡ told.Exclude line) ⊎ (step ≡ told.Unknown line)))
+-- The step bars a version by an exclusion or its unknown needs.
+abbrev pub HasWord : Step → Type 0
+HasWord step = (line : ℕ) × ((step ≡ told.Exclude line) ⊎ (step ≡ told.Unknown line))
 
 -- The step tells what the proof's step does, by the versions, SPECs and places of its ids, and a rule by some line.
 abbrev pub IsWritten : List Line → Ids → ProofStep NameId SolvableId → Step → Type 0
@@ -39,8 +39,8 @@ IsWritten catalogue ids (Rule (Shared r)) step = step ≡ told.Shared (alternati
 IsWritten catalogue ids (Rule (Limit parent v None)) step = (line : ℕ) × (step ≡ told.Limit (place_at catalogue parent) line)
 IsWritten catalogue ids (Rule (Limit parent v (Some s))) step = (line : ℕ) × (step ≡ told.LimitBars (place_at catalogue parent) line (version_at catalogue s))
 IsWritten catalogue ids (Rule (Outside v s)) step = step ≡ told.Outside (spec_at ids v) (version_at catalogue s)
-IsWritten catalogue ids (Rule (Locked locked s)) step = IsBar (version_at catalogue s) step
-IsWritten catalogue ids (Rule (Excluded s reason)) step = IsBar (version_at catalogue s) step
+IsWritten catalogue ids (Rule (Locked locked s)) step = (line : ℕ) × (step ≡ told.Lock line (version_at catalogue s))
+IsWritten catalogue ids (Rule (Excluded s reason)) step = HasWord step
 IsWritten catalogue ids (Rule (Digit s place bit)) step = step ≡ told.Digit (version_at catalogue s) place bit
 IsWritten catalogue ids (Rule (AtLeastOne n s)) step = step ≡ told.Any (version_at catalogue s)
 IsWritten catalogue ids (Derived literals causes) step = (written : List Literal) × (step ≡ told.Derive written (map number_of causes.items))

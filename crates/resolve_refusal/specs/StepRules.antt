@@ -1,25 +1,28 @@
 -- By which line and case a need is told, by which line a limit and a bar, and by which literals a derived clause.
-use Rattle.std.specs.Prelude.{◌≡◌, ◌⊎◌, ℕ, ⊤, IsTrue, IfSome, List, map, Option, Some, None, unwrap_or, slice_get}
+use Rattle.std.specs.Prelude.{◌≡◌, ℕ, ⊤, IsTrue, IfSome, List, map, Option, Some, None, unwrap_or, slice_get}
 use Rattle.std.specs.Option.{option_map}
 use Rattle.resolvo_text.specs.Line.{Version, Line}
 use Rattle.resolvo_text.specs.Line as says
 use Rattle.resolvo_text.specs.Spelling.{IsNumber}
 use Rattle.resolvo_catalogue_core.specs.Listed.{listed}
 use Rattle.resolvo_catalogue_core.specs.declared.rule.VersionNo.{VersionNo}
+use Rattle.resolvo_pool_core.specs.declared.id.StringId.{StringId}
 use Rattle.resolvo_pool_core.specs.declared.id.VersionSetId.{VersionSetId}
 use Rattle.resolvo_pool_core.specs.declared.requirement.Requirement.{Requirement}
 use Rattle.resolvo_proof.specs.declared.step.ProofStep.{ProofStep}
 use Rattle.resolvo_proof.specs.declared.step.ProofStep.TheVariants.{Rule, Derived}
 use Rattle.resolvo_proof.specs.declared.step.ProofRule.TheVariants.{Needs, GateOf, Shared, Limit, Outside, Locked, Excluded, Digit, AtLeastOne}
 use Rattle.resolvo_catalogue.specs.Ids.{Ids, NameId, SolvableId}
-use Rattle.resolvo_catalogue.specs.Known.{spec_at, alternatives_at}
+use Rattle.resolvo_catalogue.specs.Known.{spec_at, alternatives_at, word_text}
 use Rattle.resolvo_report.specs.Value.{Literal, Step}
 use Rattle.resolvo_report.specs.Value as told
 use Rattle.resolvo_report.specs.Text.{are_rising, literal_text}
 use Rattle.resolve_refusal.specs.RefusedReport.{version_at, place_at, number_of}
 use Rattle.resolve_refusal.specs.declared.lines.NeedLine.{NeedLine}
-use Rattle.resolve_refusal.specs.Lines.{IsLeast, text_of, IsLineOf, SaysAt, IsNeedLine, IsFree, IsUnknownLine}
-use Rattle.resolve_refusal.specs.Refusal.{AreLiterals, HaveForm, IsBarredBy}
+use Rattle.resolve_refusal.specs.declared.lines.WordLine.{WordLine}
+use Rattle.resolve_refusal.specs.declared.lines.WordLine.TheVariants as with_word
+use Rattle.resolve_refusal.specs.Lines.{IsLeast, text_of, IsLineOf, SaysAt, IsNeedLine, IsLockLine, IsWordLine}
+use Rattle.resolve_refusal.specs.Refusal.{AreLiterals, HaveForm}
 
 -- the version of a solvable by its number
 abbrev pub version_no : SolvableId → VersionNo
@@ -37,11 +40,21 @@ IsNeedLineOf catalogue request ids parent r case found = IsNeedLine (IsLineOf ca
 abbrev pub TellsNeed : List Line → List Line → Ids → Option SolvableId → Requirement → List VersionSetId → Step → Type 0
 TellsNeed catalogue request ids parent r case step = (found : Option NeedLine) × IsNeedLineOf catalogue request ids parent r case found × IfSome found (λ l. IsNumber l.case × (step ≡ told.Need (place_at catalogue parent) l.line l.case))
 
--- The step bars the solvable's version by a line that does; or none does.
-abbrev pub TellsBar : List Line → SolvableId → Step → Type 0
-TellsBar catalogue s step = (v : Version) → slice_get (listed catalogue) s.raw ≡ Some v → IsBarredBy catalogue v step ⊎ (IsFree catalogue v × IsUnknownLine catalogue v None)
+-- The step tells a lock by the line that locks another version of the solvable's package; or none does.
+abbrev pub TellsLock : List Line → SolvableId → Step → Type 0
+TellsLock catalogue s step = (found : Option ℕ) × (step ≡ told.Lock (unwrap_or found 0) (version_at catalogue s)) × ((v : Version) → slice_get (listed catalogue) s.raw ≡ Some v → IsLockLine catalogue v found)
 
--- What a step tells beside `IsWritten`: a need and a limit by the first line that states it, a bar by a line that is one,
+-- what is told by the line that bars a version with a word; an exclusion at line 0 where none does
+abbrev pub word_step : Option WordLine → Step
+word_step None = told.Exclude 0
+word_step (Some (with_word.Exclude n)) = told.Exclude n
+word_step (Some (with_word.Unknown n)) = told.Unknown n
+
+-- The step bars the solvable's version by the first line that does with the reason's word; or none does.
+abbrev pub TellsWord : List Line → Ids → SolvableId → StringId → Step → Type 0
+TellsWord catalogue ids s reason step = (found : Option WordLine) × (step ≡ word_step found) × ((v : Version) → slice_get (listed catalogue) s.raw ≡ Some v → IsWordLine catalogue v (word_text ids reason) found)
+
+-- What a step tells beside `IsWritten`: a need, a limit and a bar with a word by the first line that states it, a lock by its line,
 -- a place by a number that has a text, and a derived clause by its literals in the order of their texts.
 abbrev pub Tells : List Line → List Line → Ids → ProofStep NameId SolvableId → Step → Type 0
 Tells catalogue request ids (Rule (Needs parent r case)) step = TellsNeed catalogue request ids parent r case.items step
@@ -50,8 +63,8 @@ Tells catalogue request ids (Rule (Shared r)) step = ⊤
 Tells catalogue request ids (Rule (Limit parent v None)) step = (line : ℕ) × (step ≡ told.Limit (place_at catalogue parent) line) × IsFirstLine catalogue request (option_map version_no parent) (says.Limits (spec_at ids v)) line
 Tells catalogue request ids (Rule (Limit parent v (Some s))) step = (line : ℕ) × (step ≡ told.LimitBars (place_at catalogue parent) line (version_at catalogue s)) × IsFirstLine catalogue request (option_map version_no parent) (says.Limits (spec_at ids v)) line
 Tells catalogue request ids (Rule (Outside v s)) step = ⊤
-Tells catalogue request ids (Rule (Locked locked s)) step = TellsBar catalogue s step
-Tells catalogue request ids (Rule (Excluded s reason)) step = TellsBar catalogue s step
+Tells catalogue request ids (Rule (Locked locked s)) step = TellsLock catalogue s step
+Tells catalogue request ids (Rule (Excluded s reason)) step = TellsWord catalogue ids s reason step
 Tells catalogue request ids (Rule (Digit s place bit)) step = IsNumber place
 Tells catalogue request ids (Rule (AtLeastOne n s)) step = ⊤
 Tells catalogue request ids (Derived literals causes) step = (written : List Literal) × (step ≡ told.Derive written (map number_of causes.items)) × (HaveForm catalogue ids literals.items → AreLiterals catalogue ids literals.items written) × IsTrue (are_rising (map literal_text written))

@@ -57,7 +57,6 @@ pub fn barring_step(alloc: Global, catalogue: &Catalogue, version: VersionNo) ->
             version: version_of(alloc, catalogue, SolvableId::from_raw(version.0))?,
         })),
         Some(BarringLine::Exclude(line)) => Ok(Some(Step::Exclude { line })),
-        Some(BarringLine::Unknown(_)) => Ok(None),
         None => Ok(None),
     }
 }

@@ -1,14 +1,14 @@
 //! The first line of a text that states a rule. The lines of a place are looked through in order, those of the request
 //! or those of a version; where several state the rule, the first one is found.
 
-ghost use Rattle.std.specs.Prelude.{◌≡◌, ◌<◌, ℕ, List, IfOk, IfSome, IfNone, Option, Some, None, true, false, Contains, slice_get};
+ghost use Rattle.std.specs.Prelude.{◌≡◌, ◌<◌, ℕ, List, IfOk, IfSome, IfNone, Option, Some, None, false, slice_get};
 ghost use Rattle.std.specs.Bool.{Decides};
 ghost use Rattle.resolvo_text.specs.Line as says;
 ghost use Rattle.resolvo_text.specs.View.{spec_of, specs_of, cases_of};
 ghost use Rattle.resolvo_catalogue_core.specs.Grammar.{line_at};
-ghost use Rattle.resolvo_catalogue_core.specs.Listed.{listed};
+ghost use Rattle.resolvo_catalogue_core.specs.Listed.{listed, AreDistinct};
 ghost use Rattle.resolvo_catalogue_core.specs.Questions.{States, is_rule};
-ghost use Rattle.resolve_refusal.specs.Lines.{count_of, number_at, AreLines, IsLeast, text_of, IsLineOf, SaysAt, IsCaseOf, IsCaseAt, IsNeedLine, locks, marks_unknown, IsUnknownLine, IsBarredLineOf, IsBarringLine};
+ghost use Rattle.resolve_refusal.specs.Lines.{count_of, number_at, AreLines, IsLeast, text_of, IsLineOf, SaysAt, IsCaseOf, IsCaseAt, IsNeedLine, locks, ExcludesAt, MarksUnknownAt, IsWordLine, IsLockLine, IsBarredLineOf};
 
 use resolvo_catalogue_core::{Catalogue, Request, Rule, Spec, VersionNo};
 use resolvo_pool_core::want::{R, Want};
@@ -28,10 +28,16 @@ pub(crate) struct NeedLine {
     pub case: u32,
 }
 
-/// A line by which a version is barred.
+/// A line by which a version is barred before a search.
 #[derive(Clone, Copy, Debug)]
 pub(crate) enum BarringLine {
     Lock(u32),
+    Exclude(u32),
+}
+
+/// A line by which a version is barred with a word.
+#[derive(Clone, Copy, Debug)]
+pub(crate) enum WordLine {
     Exclude(u32),
     Unknown(u32),
 }
@@ -201,64 +207,135 @@ impl<'a> Texts<'a> {
         }
     }
 
-    /// The line that bars the version: one that locks another version of its package, else one that excludes it, else
-    /// one that says that its needs are unknown.
-    pub fn barring_line(self, version: VersionNo) -> Option<BarringLine>
+    /// The first line that bars the version with this word: one that excludes it, or one that says that its needs are unknown.
+    pub fn word_line(self, version: VersionNo, word: &str) -> Option<WordLine>
         ensures { (v : says.Version)
             → slice_get (listed self.entry.catalogue.now) version.0 ≡ Some v
-            → IsBarringLine self.entry.catalogue.now v result }
+            → IsWordLine self.entry.catalogue.now v word.now result }
     {
-        match barred_line(self.catalogue, version) {
-            Some(line) => Some(line),
-            None => {
-                let line = self.unknown_line(version)?;
-                Some(BarringLine::Unknown(line))
-            }
-        }
+        let excludes = self.exclusion_line(version, word);
+        let unknown = self.unknown_line(version, word);
+        earlier(excludes, unknown)
     }
 
-    /// The line that says that the version's needs are unknown.
-    fn unknown_line(self, version: VersionNo) -> Option<u32>
-        ensures { (v : says.Version)
-            → slice_get (listed self.entry.catalogue.now) version.0 ≡ Some v
-            → IsUnknownLine self.entry.catalogue.now v result }
-    {
-        self.first_unknown(self.catalogue.lines_of(version))
-    }
-
-    /// The first of these lines of the catalogue that says that something's needs are unknown.
-    fn first_unknown(self, lines: &[u32]) -> Option<u32>
-        ensures some { IfSome result
+    /// The first line of a version that says with this word that its needs are unknown.
+    fn unknown_line(self, version: VersionNo, word: &str) -> Option<u32>
+        ensures { IsLeast result
             (λ n.
-            Contains lines.now n
-            × ((l : says.Line)
-            → line_at self.entry.catalogue.now n ≡ Some l
-            → marks_unknown l ≡ true)) }
-        ensures none { IfNone result
-            ((n : ℕ)
-            → Contains lines.now n
-            → (l : says.Line)
-            → line_at self.entry.catalogue.now n ≡ Some l
-            → marks_unknown l ≡ false) }
+            IsLineOf self.entry.catalogue.now self.entry.request.now.lines (Some version) n
+            × SaysAt self.entry.catalogue.now (says.Unknown word.now) n) }
     {
-        for line in lines {
-            if self.is_unknown(*line) {
-                return Some(*line);
+        let lines = self.lines_of(Some(version));
+        for at in 0..lines.count() {
+            let line = lines.number(at);
+            if self.is_unknown(line, word) {
+                return Some(line);
             }
         }
         None
     }
 
-    /// Whether this line of the catalogue says that something's needs are unknown.
-    fn is_unknown(self, line: u32) -> bool
-        ensures { (l : says.Line)
-            → line_at self.entry.catalogue.now line ≡ Some l
-            → result ≡ marks_unknown l }
+    /// Whether this line of the catalogue says with this word that something's needs are unknown.
+    fn is_unknown(self, line: u32, word: &str) -> bool
+        ensures { Decides result (SaysAt self.entry.catalogue.now (says.Unknown word.now) line) }
     {
         match self.catalogue.rule(line) {
-            Some(rule) => marks_unknown(rule),
+            Some(rule) => marks_unknown(rule, word),
             None => false,
         }
+    }
+
+    /// The line that excludes the version with this word. Where a lock bars the version too, it is looked for among all lines.
+    fn exclusion_line(self, version: VersionNo, word: &str) -> Option<u32>
+        ensures { (v : says.Version)
+            → slice_get (listed self.entry.catalogue.now) version.0 ≡ Some v
+            → IsLeast result (ExcludesAt self.entry.catalogue.now v word.now) }
+    {
+        match barred_line(self.catalogue, version) {
+            None => None,
+            Some(BarringLine::Lock(_)) => self.first_exclusion(version, word),
+            Some(BarringLine::Exclude(line)) => self.this_exclusion(line, version, word),
+        }
+    }
+
+    /// The line that excludes the version, if it does so with this word.
+    fn this_exclusion(self, line: u32, version: VersionNo, word: &str) -> Option<u32>
+        ensures { IsBarredLineOf self.entry.catalogue.now version.0 (Some (BarringLine.Exclude line))
+            → (v : says.Version)
+            → slice_get (listed self.entry.catalogue.now) version.0 ≡ Some v
+            → IsLeast result (ExcludesAt self.entry.catalogue.now v word.now) }
+    {
+        if self.excludes(line, version, word) {
+            Some(line)
+        } else {
+            None
+        }
+    }
+
+    /// The first line of the catalogue that excludes the version with this word.
+    fn first_exclusion(self, version: VersionNo, word: &str) -> Option<u32>
+        ensures { (v : says.Version)
+            → slice_get (listed self.entry.catalogue.now) version.0 ≡ Some v
+            → IsLeast result (ExcludesAt self.entry.catalogue.now v word.now) }
+    {
+        for above in 0..self.catalogue.line_count() {
+            if self.excludes(above + 1, version, word) {
+                return Some(above + 1);
+            }
+        }
+        None
+    }
+
+    /// Whether this line of the catalogue excludes the version with this word.
+    fn excludes(self, line: u32, version: VersionNo, word: &str) -> bool
+        ensures { (v : says.Version)
+            → slice_get (listed self.entry.catalogue.now) version.0 ≡ Some v
+            → Decides result (ExcludesAt self.entry.catalogue.now v word.now line) }
+    {
+        // No version is listed twice, so its number tells it.
+        let _versions = self.catalogue.versions();
+        match self.catalogue.rule(line) {
+            Some(rule) => excludes(rule, version, word),
+            None => false,
+        }
+    }
+}
+
+/// The earlier one of two lines that bar a version with one word.
+fn earlier(excludes: Option<u32>, unknown: Option<u32>) -> Option<WordLine>
+    ensures { (catalogue : List says.Line) (v : says.Version) (word : List ℕ)
+        → IsLeast excludes (ExcludesAt catalogue v word)
+        → IsLeast unknown (MarksUnknownAt catalogue v word)
+        → IsWordLine catalogue v word result }
+{
+    match excludes {
+        None => match unknown {
+            None => None,
+            Some(line) => Some(WordLine::Unknown(line)),
+        },
+        Some(line) => match unknown {
+            None => Some(WordLine::Exclude(line)),
+            Some(other) => {
+                if line < other {
+                    Some(WordLine::Exclude(line))
+                } else {
+                    Some(WordLine::Unknown(other))
+                }
+            }
+        },
+    }
+}
+
+/// The line that locks another version of the version's package.
+pub(crate) fn lock_line(catalogue: &Catalogue, version: VersionNo) -> Option<u32>
+    ensures { (v : says.Version)
+        → slice_get (listed catalogue.now) version.0 ≡ Some v
+        → IsLockLine catalogue.now v result }
+{
+    match barred_line(catalogue, version) {
+        Some(BarringLine::Lock(line)) => Some(line),
+        Some(BarringLine::Exclude(_)) => None,
+        None => None,
     }
 }
 
@@ -359,14 +436,32 @@ fn locks(rule: &Rule) -> bool
     }
 }
 
-/// Whether the rule says that a version's needs are unknown.
-fn marks_unknown(rule: &Rule) -> bool
+/// Whether the rule says with this word that a version's needs are unknown.
+fn marks_unknown(rule: &Rule, word: &str) -> bool
     ensures { (versions : List says.Version) (owner : Option says.Version) (line : says.Line)
         → States versions rule.now owner line
-        → result ≡ marks_unknown line }
+        → Decides result (line ≡ says.Unknown word.now) }
 {
     match rule {
-        Rule::Unknown { .. } => true,
+        Rule::Unknown { word: said, .. } => said.as_str() == word,
+        _ => false,
+    }
+}
+
+/// Whether the rule excludes the version with this word.
+fn excludes(rule: &Rule, version: VersionNo, word: &str) -> bool
+    ensures { (versions : List says.Version) (owner : Option says.Version) (line : says.Line)
+        (v : says.Version)
+        → AreDistinct versions
+        → States versions rule.now owner line
+        → slice_get versions version.0 ≡ Some v
+        → Decides result (line ≡ says.Exclude v word.now) }
+{
+    match rule {
+        Rule::Exclude {
+            version: excluded,
+            word: said,
+        } => excluded.0 == version.0 && said.as_str() == word,
         _ => false,
     }
 }

@@ -9,15 +9,15 @@ ghost use Rattle.resolvo_report.specs.View.{step_of, place_of};
 ghost use Rattle.resolvo_proof.specs.declared.step.ProofStep.TheVariants.{Rule as RuleStep};
 ghost use Rattle.resolvo_proof.specs.declared.step.ProofRule.TheVariants.{Limit};
 ghost use Rattle.resolvo_catalogue.specs.Known.{spec_at, alternatives_at};
-ghost use Rattle.resolve_refusal.specs.RefusedReport.{version_at, place_at, number_of, IsBar, IsWritten};
+ghost use Rattle.resolve_refusal.specs.RefusedReport.{version_at, place_at, number_of, HasWord, IsWritten};
 ghost use Rattle.resolve_refusal.specs.Lines.{IsLeast, text_of, IsLineOf, SaysAt};
-ghost use Rattle.resolve_refusal.specs.StepRules.{version_no, IsFirstLine, IsNeedLineOf, TellsNeed, TellsBar, Tells};
+ghost use Rattle.resolve_refusal.specs.StepRules.{version_no, IsFirstLine, IsNeedLineOf, TellsNeed, TellsLock, TellsWord, Tells};
 
-use crate::lines::{BarringLine, NeedLine, Texts};
+use crate::lines::{NeedLine, Texts, WordLine, lock_line};
 use crate::literals::{sorted_literals, version_of};
 use resolvo_catalogue::provider::CatalogueProvider;
 use resolvo_catalogue_core::{Spec, Version, VersionNo};
-use resolvo_pool_core::id::{NameId, SolvableId, VersionSetId};
+use resolvo_pool_core::id::{NameId, SolvableId, StringId, VersionSetId};
 use resolvo_pool_core::requirement::Requirement;
 use resolvo_pool_core::want::R;
 use resolvo_proof::step::{ProofRule, ProofStep};
@@ -95,8 +95,8 @@ impl Writing<'_> {
                 spec: self.provider.spec_of(*version_set)?,
                 version: self.version(*solvable)?,
             }),
-            ProofRule::Locked { barred, .. } => self.bar(*barred),
-            ProofRule::Excluded { solvable, .. } => self.bar(*solvable),
+            ProofRule::Locked { barred, .. } => self.lock(*barred),
+            ProofRule::Excluded { solvable, reason } => Ok(self.exclusion(*solvable, *reason)),
             ProofRule::Digit {
                 solvable,
                 place,
@@ -250,20 +250,34 @@ impl Writing<'_> {
         Ok(self.texts.limit_line(place, &spec).unwrap_or(0))
     }
 
-    /// The step that bars a version: by a line that locks another version of its package, else by one that excludes it,
-    /// else by one that says that its needs are unknown.
-    fn bar(self, solvable: SolvableId) -> R<Step>
-        ensures tells { IfOk result (λ w. TellsBar self.entry.texts.catalogue.now solvable (step_of w)) }
+    /// The step that bars a version by the line that locks another version of its package.
+    fn lock(self, solvable: SolvableId) -> R<Step>
+        ensures tells { IfOk result (λ w. TellsLock self.entry.texts.catalogue.now solvable (step_of w)) }
         ensures written { IfOk result
-            (λ w. IsBar (version_at self.entry.texts.catalogue.now solvable) (step_of w)) }
+            (λ w.
+            (line : ℕ)
+            × (step_of w
+            ≡ told.Lock line (version_at self.entry.texts.catalogue.now solvable))) }
     {
         let version = self.version(solvable)?;
         let number = self.provider.version_of(solvable);
-        match self.texts.barring_line(number) {
-            Some(BarringLine::Lock(line)) => Ok(Step::Lock { line, version }),
-            Some(BarringLine::Exclude(line)) => Ok(Step::Exclude { line }),
-            Some(BarringLine::Unknown(line)) => Ok(Step::Unknown { line }),
-            None => Ok(Step::Exclude { line: 0 }),
+        let line = lock_line(self.texts.catalogue, number).unwrap_or(0);
+        Ok(Step::Lock { line, version })
+    }
+
+    /// The step that bars a version with the word of a reason, by the first line that does: one that excludes it, or one that
+    /// says that its needs are unknown.
+    fn exclusion(self, solvable: SolvableId, reason: StringId) -> Step
+        ensures tells { TellsWord self.entry.texts.catalogue.now self.entry.provider.now.ids solvable reason
+            (step_of result) }
+        ensures written { HasWord (step_of result) }
+    {
+        let number = self.provider.version_of(solvable);
+        let word = self.provider.word_of(reason);
+        match self.texts.word_line(number, word) {
+            Some(WordLine::Exclude(line)) => Step::Exclude { line },
+            Some(WordLine::Unknown(line)) => Step::Unknown { line },
+            None => Step::Exclude { line: 0 },
         }
     }
 

@@ -1,15 +1,30 @@
--- A run installs exactly if some set keeps the rules.
-use Rattle.std.proofs.Common.{◌≡◌, ℕ, List, sym, ◌∙◌}
+-- A run installs exactly if some set keeps the rules, and the judge accepts each report that it wrote.
+use Rattle.std.proofs.Common.{◌≡◌, ◌≤◌, ◌+◌, ℕ, List, Option, Some, length, refl, sym, ap, subst, ◌∙◌, arith}
 use Rattle.std.specs.Prelude.{◌↔◌}
 use Rattle.resolvo_text.specs.Line.{Line}
 use Rattle.resolvo_text.specs.Matches.{Set}
 use Rattle.resolvo_catalogue_core.specs.Answers.{entries_of}
 use Rattle.resolvo_catalogue_core.specs.Sets.{IsRuleKeeping}
+use Rattle.resolvo_catalogue_core.specs.Grammar.{IsRequestLine}
+use Rattle.resolvo_catalogue_core.proofs.GrammarLaws.{catalogue_fault, one_catalogue, one_request, request_fault}
+use Rattle.resolvo_text.specs.Texts.{IsFaultyAt, IsGrammatical}
+use Rattle.std.proofs.lemmas.List.{length-append}
 use Rattle.resolvo_report.specs.Value.{Report, Install, Refused}
-use Rattle.resolvo_judge.specs.Judgement.{IsClaimTrue}
+use Rattle.resolvo_report.specs.Text.{report_text}
+use Rattle.resolvo_report.specs.Grammar.{most_bytes}
+use Rattle.resolvo_judge.specs.declared.judgement.JudgeFault.TheVariants.{TooLong}
+use Rattle.resolvo_judge.specs.declared.judgement.Verdict.{Verdict}
+use Rattle.resolvo_judge.specs.declared.judgement.Verdict.TheVariants as verdict
+use Rattle.resolvo_judge.specs.Judgement.{IsClaimTrue, IsJudgeFault, IsRefusedAt, IsVerdict}
+use Rattle.resolvo_judge.proofs.PlaceLaws.{upheld_nowhere}
+use Rattle.resolve_check.specs.declared.outcome.Checked.{Checked}
+use Rattle.resolve_check.specs.declared.outcome.Checked.TheVariants.{Yes as Accepted}
+use Rattle.resolve_check.specs.Check as check
+use Rattle.resolve_check.specs.Check.{IsCheck, TellsVerdict, yes_text}
 use Rattle.resolve_check.specs.declared.outcome.Outcome.{Outcome}
 use Rattle.resolve_check.specs.declared.outcome.Outcome.TheVariants as outcome
-use Rattle.resolve_run.specs.Answer.{IsAnswerOfLines, outcome_of}
+use Rattle.resolve_run.specs.Answer as answer
+use Rattle.resolve_run.specs.Answer.{IsAnswer, IsAnswerOfLines, outcome_of}
 
 pub installs_if_any : (catalogue request : List Line) (ended : Outcome) (output : List ℕ) → IsAnswerOfLines catalogue request ended output → (ended ≡ outcome.Installed) ↔ ((set : Set) × IsRuleKeeping catalogue request set)
 installs_if_any catalogue request ended output a = go a.report a.ends a.reported.claim
@@ -20,3 +35,34 @@ installs_if_any catalogue request ended output a = go a.report a.ends a.reported
       λ e. absurd (let no : outcome.Refused ≡ outcome.Installed = sym ends ∙ e in cc),
       λ any. absurd (claim any.0 any.1.single (λ n h. any.1.catalogue_lines n) (λ n h. any.1.request_lines n)),
     )
+
+-- ---- the judge
+
+-- no line of the report is refused
+pub refused_nowhere : (catalogue request : List Line) (ended : Outcome) (output : List ℕ) (n : ℕ) → IsAnswerOfLines catalogue request ended output → IsRefusedAt catalogue request output n → ⊥
+refused_nowhere catalogue request ended output n a refused = upheld_nowhere catalogue request (report_text a.report) a.report n a.reported.upheld (subst (λ (text : List ℕ). IsRefusedAt catalogue request text n) a.is_text refused)
+
+pub judged_yes : (catalogue request : List Line) (ended : Outcome) (output : List ℕ) (v : Verdict) → IsAnswerOfLines catalogue request ended output → IsVerdict catalogue request output v → v ≡ verdict.Yes
+judged_yes catalogue request ended output verdict.Yes a is = refl
+judged_yes catalogue request ended output (verdict.No n) a refused = absurd (refused_nowhere catalogue request ended output n a refused)
+
+pub not_too_long : (catalogue request : List Line) (ended : Outcome) (output : List ℕ) (after : Option (List ℕ)) → IsAnswerOfLines catalogue request ended output → IsJudgeFault catalogue request TooLong (Some output) after (Unit {0}) → ⊥
+not_too_long catalogue request ended output after a fault =
+    let (came, rest, most, more, right) = fault output refl in
+    let parts : length output ≡ length came + length rest = ap length right.parts ∙ length-append came rest in
+    let few : length output ≤ most_bytes = a.bound in
+    omega (arith, most, more, parts, few)
+
+-- what a check writes for the report of a run over the same texts
+pub accepted : (c r : List ℕ) (ended : Outcome) (output : List ℕ) (checked : Checked) (told : List ℕ) → IsAnswer c r ended output → (ended ≡ outcome.Faulty → ⊥) → IsCheck c r output checked told → (checked ≡ Accepted) × (told ≡ yes_text)
+accepted c r ended output checked told (answer.catalogue_fault n faulty ends is) sound found = absurd (sound ends)
+accepted c r ended output checked told (answer.request_fault catalogue n grammatical faulty ends is) sound found = absurd (sound ends)
+accepted c r ended output checked told (answer.grammatical catalogue request is_c is_r a) sound (check.catalogue_fault n faulty how says) = absurd (catalogue_fault c catalogue n is_c faulty)
+accepted c r ended output checked told (answer.grammatical catalogue request is_c is_r a) sound (check.request_fault other n grammatical faulty how says) =
+    let same : other ≡ catalogue = one_catalogue c other catalogue grammatical is_c in
+    absurd (request_fault catalogue r request n is_r (subst (λ (ls : List Line). IsFaultyAt (IsRequestLine ls) r n) same faulty))
+accepted c r ended output checked told (answer.grammatical catalogue request is_c is_r a) sound (check.judged other asked v grammatical asks judged claims tells) =
+    let same : other ≡ catalogue = one_catalogue c other catalogue grammatical is_c in
+    let same_request : asked ≡ request = one_request catalogue r asked request (subst (λ (ls : List Line). IsGrammatical (IsRequestLine ls) r asked) same asks) is_r in
+    let yes : v ≡ verdict.Yes = judged_yes catalogue request ended output v a (subst (λ (ls : List Line). IsVerdict catalogue ls output v) same_request (subst (λ (ls : List Line). IsVerdict ls asked output v) same judged)) in
+    subst (λ (w : Verdict). TellsVerdict w checked told) yes tells

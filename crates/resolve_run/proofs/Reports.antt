@@ -1,5 +1,5 @@
 -- A report is an answer of the lines, and so of the texts.
-use Rattle.std.proofs.Common.{◌≡◌, ℕ, List, Option, Result, Ok, Err, refl, sym, subst}
+use Rattle.std.proofs.Common.{◌≡◌, ℕ, List, Option, Result, Ok, Err, refl, sym, subst, inl, inr}
 use Rattle.std.specs.Prelude.{IfOk, IfErr, codes}
 use Rattle.resolvo_text.specs.Line.{Line}
 use Rattle.resolvo_text.specs.Device.{IfKnown}
@@ -18,7 +18,9 @@ use Rattle.resolve_check.specs.declared.outcome.RunFault.TheVariants.{Reader, To
 use Rattle.resolve_check.specs.Devices.{Device, StopsReading}
 use Rattle.resolve_check.specs.Faults.{TellsFault}
 use Rattle.resolve_check.proofs.Results.{if_ok, if_err, never_ids}
-use Rattle.resolve_run.specs.Run.{AnswersTexts, AreRead, IsLack, StopsBefore, StopsRun}
+use Rattle.resolve_run.specs.Run.{AnswersTexts, AreRead, IsLack, IsWriteLack, StopsBefore, StopsRun}
+use Rattle.resolvo_report.specs.Value.{Report}
+use Rattle.resolve_answer.specs.Reported.{IsReportOf}
 
 pub of_texts : (c r : Option (List ℕ)) (catalogue request : List Line) (outcome : Outcome) (output : List ℕ) → IfKnown c (λ t. IsGrammatical IsCatalogueLine t catalogue) → IfKnown r (λ t. IsGrammatical (IsRequestLine catalogue) t request)
     → IsAnswerOfLines catalogue request outcome output → AnswersTexts c r outcome output
@@ -47,7 +49,7 @@ request_told catalogue before after lines Failed fault told says stopped tells =
 pub told_err : (catalogue request : Device) (fault : ReadFault) (which : List ℕ) (told : Result Written RunFault) → TellsFault fault which told → StopsReading fault catalogue request → IfErr told (λ e. StopsBefore e catalogue request)
 told_err catalogue request (read.Fault n) which told h stops = if_err told (λ e is. subst (λ (x : RunFault). StopsBefore x catalogue request) (sym is) tt) h.1
 told_err catalogue request read.Reader which told h stops = rw h stops
-told_err catalogue request read.TooLong which told h stops = rw h stops
+told_err catalogue request read.TooLong which told h stops = rw h (inl stops)
 told_err catalogue request read.Memory which told h stops = rw h tt
 told_err catalogue request read.Ids which told h stops = absurd (never_ids catalogue request stops)
 
@@ -60,10 +62,20 @@ nothing_written Memory catalogue request writer h same = (h, same)
 nothing_written Ids catalogue request writer h same = (h, same)
 nothing_written Writer catalogue request writer h same = absurd h
 
--- a search that lacked something stopped the run so
-pub lacked : (e : RunFault) (catalogue request : Device) → IsLack e → AreRead catalogue request → StopsBefore e catalogue request
-lacked Reader catalogue request lack are = absurd lack
-lacked TooLong catalogue request lack are = absurd lack
-lacked Memory catalogue request lack are = tt
-lacked Ids catalogue request lack are = are
-lacked Writer catalogue request lack are = absurd lack
+-- ---- texts that were read
+
+-- a report that isn't written is that of its lines
+pub lack_of : (e : RunFault) (catalogue request : List Line) (r : Report) → IsReportOf catalogue request r → IsWriteLack e r → IsLack e catalogue request
+lack_of Reader catalogue request r reported lack = absurd lack
+lack_of TooLong catalogue request r reported lack = (r, reported, lack)
+lack_of Memory catalogue request r reported lack = tt
+lack_of Ids catalogue request r reported lack = absurd lack
+lack_of Writer catalogue request r reported lack = absurd lack
+
+-- texts without an answer stopped the run so
+pub lacked : (e : RunFault) (catalogue request : Device) (are : AreRead catalogue request) → IsLack e are.catalogue_lines are.request_lines → StopsBefore e catalogue request
+lacked Reader catalogue request are lack = absurd lack
+lacked TooLong catalogue request are lack = inr (are, lack)
+lacked Memory catalogue request are lack = tt
+lacked Ids catalogue request are lack = are
+lacked Writer catalogue request are lack = absurd lack

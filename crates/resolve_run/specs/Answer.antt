@@ -1,10 +1,11 @@
 -- What a run may write for the texts of a catalogue and a request.
-use Rattle.std.specs.Prelude.{◌≡◌, ℕ, List, codes}
+use Rattle.std.specs.Prelude.{◌≡◌, ◌≤◌, ℕ, List, length, codes}
 use Rattle.resolvo_text.specs.Line.{Line}
 use Rattle.resolvo_text.specs.Texts.{IsGrammatical, IsFaultyAt}
 use Rattle.resolvo_catalogue_core.specs.Grammar.{IsCatalogueLine, IsRequestLine}
 use Rattle.resolvo_report.specs.Value.{Report, Install, Refused}
 use Rattle.resolvo_report.specs.Text.{report_text}
+use Rattle.resolvo_report.specs.Grammar.{most_bytes}
 use Rattle.resolve_answer.specs.Reported.{IsReportOf}
 use Rattle.resolve_check.specs.declared.outcome.Outcome.{Outcome}
 use Rattle.resolve_check.specs.declared.outcome.Outcome.TheVariants as outcome
@@ -15,12 +16,14 @@ abbrev pub outcome_of : Report → Outcome
 outcome_of (Install lines steps) = outcome.Installed
 outcome_of (Refused catalogue request steps message) = outcome.Refused
 
--- What is written for the lines of grammatical texts: a report that the judge says yes to, whose claim is true.
+-- What is written for the lines of grammatical texts: a report that the judge says yes to, whose claim is true. It has no more bytes
+-- than the judge reads.
 pub record IsAnswerOfLines (catalogue request : List Line) (ended : Outcome) (output : List ℕ) : Type 0 where
   pub report : Report
   pub reported : IsReportOf catalogue request report
   pub ends : ended ≡ outcome_of report
   pub is_text : output ≡ report_text report
+  pub bound : length output ≤ most_bytes
 
 -- What is written for two texts: the catalogue's first faulty line, else that of the request; where there is none, the
 -- answer of their lines.

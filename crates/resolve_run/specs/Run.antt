@@ -1,11 +1,15 @@
 -- What a run does to its devices: a text is written, or a front of one, or nothing, and why.
-use Rattle.std.specs.Prelude.{◌≡◌, ℕ, List, Option}
+use Rattle.std.specs.Prelude.{◌≡◌, ◌⊎◌, ◌<◌, ℕ, List, length, Option}
 use Rattle.std.specs.Io.KnownBytes.{Appends}
 use Rattle.resolvo_text.specs.Device.{IfKnown, TakesFront}
 use Rattle.resolvo_text.specs.Line.{Line}
 use Rattle.resolvo_text.specs.Texts.{IsGrammatical}
 use Rattle.resolvo_text.specs.declared.lines.ReadFault.TheVariants as read
 use Rattle.resolvo_catalogue_core.specs.Grammar.{IsCatalogueLine, IsRequestLine}
+use Rattle.resolvo_report.specs.Value.{Report}
+use Rattle.resolvo_report.specs.Text.{report_text}
+use Rattle.resolvo_report.specs.Grammar.{most_bytes}
+use Rattle.resolve_answer.specs.Reported.{IsReportOf}
 use Rattle.resolve_check.specs.declared.outcome.Outcome.{Outcome}
 use Rattle.resolve_check.specs.declared.outcome.RunFault.{RunFault}
 use Rattle.resolve_check.specs.declared.outcome.RunFault.TheVariants.{Reader, TooLong, Memory, Ids, Writer}
@@ -27,16 +31,27 @@ pub record AreRead (catalogue request : Device) : Type 0 where
   pub catalogue_read : IfKnown catalogue.before (λ text. IsGrammatical IsCatalogueLine text catalogue_lines)
   pub request_read : IfKnown request.before (λ text. IsGrammatical (IsRequestLine catalogue_lines) text request_lines)
 
--- What a search over texts that were read may lack.
-abbrev pub IsLack : RunFault → Type 0
-IsLack Memory = Unit {0}
-IsLack Ids = Unit {0}
-IsLack _ = ⊥
+-- The report of these lines has more bytes than a report may have.
+abbrev pub HaveLongReport : List Line → List Line → Type 0
+HaveLongReport catalogue request = (report : Report) × IsReportOf catalogue request report × (most_bytes < length (report_text report))
+
+-- Why a report isn't written: it lacks memory, or has more bytes than a report may have.
+abbrev pub IsWriteLack : RunFault → Report → Type 0
+IsWriteLack Memory report = Unit {0}
+IsWriteLack TooLong report = most_bytes < length (report_text report)
+IsWriteLack _ report = ⊥
+
+-- Why texts that were read have no answer: the search lacks something, or their report is too long.
+abbrev pub IsLack : RunFault → List Line → List Line → Type 0
+IsLack Memory catalogue request = Unit {0}
+IsLack Ids catalogue request = Unit {0}
+IsLack TooLong catalogue request = HaveLongReport catalogue request
+IsLack _ catalogue request = ⊥
 
 -- Why nothing is written: neither text's fault nor its line is told here.
 abbrev pub StopsBefore : RunFault → Device → Device → Type 0
 StopsBefore Reader catalogue request = StopsReading read.Reader catalogue request
-StopsBefore TooLong catalogue request = StopsReading read.TooLong catalogue request
+StopsBefore TooLong catalogue request = StopsReading read.TooLong catalogue request ⊎ ((are : AreRead catalogue request) × HaveLongReport are.catalogue_lines are.request_lines)
 StopsBefore Memory catalogue request = Unit {0}
 StopsBefore Ids catalogue request = AreRead catalogue request
 StopsBefore Writer catalogue request = ⊥

@@ -1,21 +1,27 @@
 //! From the bytes of a catalogue and a request to the bytes of a report. `main` and the tests call `run`.
 
-ghost use Rattle.std.specs.Prelude.{◌≡◌, IfOk, IfErr};
+ghost use Rattle.std.specs.Prelude.{◌≡◌, ◌≤◌, length, IfOk, IfErr};
 ghost use Rattle.resolvo_text.specs.Device.{DeviceFailed, WriterFailed};
 ghost use Rattle.resolvo_catalogue_core.specs.Grammar.{AreRequestLines};
+ghost use Rattle.resolvo_report.specs.Grammar.{most_bytes};
+ghost use Rattle.resolvo_report.specs.Text.{report_text};
 ghost use Rattle.resolvo_report.specs.View.{report_of};
 ghost use Rattle.resolve_answer.specs.Wishes.{AreWishesAt};
 ghost use Rattle.resolve_run.specs.Answer.{IsAnswerOfLines, outcome_of};
-ghost use Rattle.resolve_run.specs.Run.{AnswersTexts, IsLack, StopsBefore, StopsRun, Writes};
-ghost use Rattle.resolve_check.specs.Devices.{reader_of, writer_of};
+ghost use Rattle.resolve_run.specs.Run.{AnswersTexts, IsLack, IsWriteLack, StopsBefore, StopsRun, Writes};
+ghost use Rattle.resolve_check.specs.Devices.{IfCatalogueFaulty, reader_of, writer_of};
 
 use crate::report::report_text;
 use resolve_answer::answer::report_for;
+use resolve_check::length::report_length;
 use resolve_check::outcome::{Outcome, RunFault};
 use resolve_check::written::{Written, not_read};
 use resolvo_catalogue_core::{Catalogue, Request, Sink, Source, write_all};
 use resolvo_report::Report;
 use std::alloc::Global;
+
+/// The most bytes that a report may have, as for the judge.
+const MOST_BYTES: u64 = 1 << 30;
 
 /// How a run ends that writes this report.
 fn outcome_of(report: &Report) -> Outcome
@@ -27,6 +33,25 @@ fn outcome_of(report: &Report) -> Outcome
     }
 }
 
+/// The text of a report. One that is too long is refused before its text is made.
+fn written(alloc: Global, report: &Report) -> Result<Written, RunFault>
+    ensures ok { IfOk result
+        (λ answer.
+        (answer.outcome ≡ outcome_of (report_of report.now))
+        × (answer.text.items ≡ report_text (report_of report.now))
+        × (length answer.text.items ≤ most_bytes)) }
+    ensures err { IfErr result (λ e. IsWriteLack e (report_of report.now)) }
+{
+    let count = report_length(alloc, report)?;
+    if count > MOST_BYTES {
+        return Err(RunFault::TooLong);
+    }
+    Ok(Written {
+        outcome: outcome_of(report),
+        text: report_text(alloc, report)?,
+    })
+}
+
 /// The report of grammatical texts.
 fn report(alloc: Global, catalogue: &Catalogue, request: &Request) -> Result<Written, RunFault>
     ensures ok { IfOk result
@@ -34,13 +59,14 @@ fn report(alloc: Global, catalogue: &Catalogue, request: &Request) -> Result<Wri
         AreRequestLines catalogue.now request.now.lines
         → AreWishesAt catalogue.now request.now
         → IsAnswerOfLines catalogue.now request.now.lines answer.outcome answer.text.items) }
-    ensures err { IfErr result IsLack }
+    ensures err { IfErr result
+        (λ e.
+        AreRequestLines catalogue.now request.now.lines
+        → AreWishesAt catalogue.now request.now
+        → IsLack e catalogue.now request.now.lines) }
 {
     let report = report_for(alloc, catalogue, request)?;
-    Ok(Written {
-        outcome: outcome_of(&report),
-        text: report_text(alloc, &report)?,
-    })
+    written(alloc, &report)
 }
 
 /// What is written for two texts. The catalogue is read to its end first; where it is refused the request isn't read.
@@ -62,6 +88,7 @@ fn answer<C: Source, R: Source>(
         (reader_of (R.left request.old) (R.left request.new)
         (DeviceFailed (R.failures request.old) (R.failures request.new)
         (R.interruptions request.new)))) }
+    ensures catalogue_faulty { IfCatalogueFaulty (C.left catalogue.old) (request.new ≡ request.old) }
 {
     let catalogue = match Catalogue::read(alloc, catalogue) {
         Ok(catalogue) => catalogue,
@@ -109,6 +136,7 @@ pub fn run<C: Source, R: Source, W: Sink>(
         (WriterFailed (W.failures writer.old) (W.failures writer.new)
         (W.interruptions writer.new) (W.empty_writes writer.old)
         (W.empty_writes writer.new)))) }
+    ensures catalogue_faulty { IfCatalogueFaulty (C.left catalogue.old) (request.new ≡ request.old) }
 {
     match answer(alloc, catalogue, request) {
         Ok(answer) => match write_all(writer, answer.text.as_slice()) {

@@ -1,6 +1,6 @@
 use Rattle.std.proofs.Common.{refl, inr}
 use Rattle.resolve_check.specs.Devices.{in_request}
-use Rattle.resolve_check.proofs.CheckLemmas.{catalogue_told, request_told, told_err, verdict_checks}
+use Rattle.resolve_check.proofs.CheckLemmas.{catalogue_good, catalogue_told, request_good, request_told, told_err, verdict_checks}
 use Rattle.resolve_check.proofs.check.answer.Goals as goal
 
 pub returns-in-Err-clause-ok : goal.returns-in-Err-clause-ok
@@ -20,3 +20,39 @@ returns-in-Err-Reader-clause-err g c = inr (record { catalogue_lines = _; reques
 
 pub returns-in-Err-TooLong-clause-err : goal.returns-in-Err-TooLong-clause-err
 returns-in-Err-TooLong-clause-err g c = inr (record { catalogue_lines = _; request_lines = _; catalogue_read = c.in-Ok.ensures.ok; request_read = c.in-Ok-read.ensures.ok; stops = rw c.in-Err-TooLong.field-0-is at c.in-Err-TooLong.ensures.fault })
+
+pub returns-in-Err-clause-catalogue_faulty : goal.returns-in-Err-clause-catalogue_faulty
+returns-in-Err-clause-catalogue_faulty g c = λ text is n faulty. (refl, refl)
+
+pub returns-in-Err-clause-request_faulty : goal.returns-in-Err-clause-request_faulty
+returns-in-Err-clause-request_faulty g c = λ text is other asks lines n grammatical faulty. refl
+
+pub returns-in-Err-read-clause-catalogue_faulty : goal.returns-in-Err-read-clause-catalogue_faulty
+returns-in-Err-read-clause-catalogue_faulty g c = catalogue_good _ _ _ c.in-Ok.ensures.ok
+
+pub returns-in-Err-read-clause-request_faulty : goal.returns-in-Err-read-clause-request_faulty
+returns-in-Err-read-clause-request_faulty g c = λ text is other asks lines n grammatical faulty. refl
+
+pub returns-in-Ok-judge-clause-catalogue_faulty : goal.returns-in-Ok-judge-clause-catalogue_faulty
+returns-in-Ok-judge-clause-catalogue_faulty g c = catalogue_good _ _ _ c.in-Ok.ensures.ok
+
+pub returns-in-Ok-judge-clause-request_faulty : goal.returns-in-Ok-judge-clause-request_faulty
+returns-in-Ok-judge-clause-request_faulty g c = request_good _ _ _ _ _ c.in-Ok.ensures.ok c.in-Ok-read.ensures.ok
+
+pub returns-in-Err-Reader-clause-catalogue_faulty : goal.returns-in-Err-Reader-clause-catalogue_faulty
+returns-in-Err-Reader-clause-catalogue_faulty g c = catalogue_good _ _ _ c.in-Ok.ensures.ok
+
+pub returns-in-Err-Reader-clause-request_faulty : goal.returns-in-Err-Reader-clause-request_faulty
+returns-in-Err-Reader-clause-request_faulty g c = request_good _ _ _ _ _ c.in-Ok.ensures.ok c.in-Ok-read.ensures.ok
+
+pub returns-in-Err-TooLong-clause-catalogue_faulty : goal.returns-in-Err-TooLong-clause-catalogue_faulty
+returns-in-Err-TooLong-clause-catalogue_faulty g c = catalogue_good _ _ _ c.in-Ok.ensures.ok
+
+pub returns-in-Err-TooLong-clause-request_faulty : goal.returns-in-Err-TooLong-clause-request_faulty
+returns-in-Err-TooLong-clause-request_faulty g c = request_good _ _ _ _ _ c.in-Ok.ensures.ok c.in-Ok-read.ensures.ok
+
+pub returns-clause-catalogue_faulty : goal.returns-clause-catalogue_faulty
+returns-clause-catalogue_faulty g c = catalogue_good _ _ _ c.in-Ok.ensures.ok
+
+pub returns-clause-request_faulty : goal.returns-clause-request_faulty
+returns-clause-request_faulty g c = request_good _ _ _ _ _ c.in-Ok.ensures.ok c.in-Ok-read.ensures.ok

@@ -21,8 +21,5 @@ returns-in_ok-version_of-in-Some-Lock c =
     let same : version_of c.in_ok-version_of-in-Some-Lock.field-0 ≡ v = c.in_ok-version_of-in-Some-Lock.ensures ∙ own in
     (v, at, barring_step catalogue c.lines_are_in_place.ensures long c.args.version.0 v _ at (line, inl (ap (λ (w : Version). told.Lock line w) same, locks)))
 
-pub returns-in-Some-Unknown : goal.returns-in-Some-Unknown
-returns-in-Some-Unknown c = absurd (subst (IsBarredLineOf c.args.catalogue.now c.args.version.0) (ap (λ (l : BarringLine). Some l) c.in-Some-Unknown.field-0-is) c.in-Some-Unknown.ensures).2
-
 pub returns-in-None : goal.returns-in-None
 returns-in-None c = c.in-None.ensures

@@ -1,4 +1,6 @@
 use Rattle.resolve_check.specs.Devices.{in_request}
+use Rattle.std.proofs.Common.{refl}
+use Rattle.resolve_check.proofs.CheckLemmas.{catalogue_good}
 use Rattle.resolve_check.proofs.Results.{if_ok, if_err}
 use Rattle.resolve_run.proofs.Reports.{of_texts, catalogue_told, request_told, told_err, lacked}
 use Rattle.resolve_run.proofs.run.answer.Goals as goal
@@ -16,4 +18,13 @@ pub returns-clause-ok : goal.returns-clause-ok
 returns-clause-ok g c = if_ok c.report.result (λ a h. of_texts _ _ _ _ a.outcome _ c.in-Ok.ensures.ok c.in-Ok-read.ensures.ok (h c.in-Ok-read.ensures.lines c.in-Ok-read.ensures.wishes)) c.report.ensures.ok
 
 pub returns-clause-err : goal.returns-clause-err
-returns-clause-err g c = if_err c.report.result (λ e lack. lacked e _ _ lack (record { catalogue_lines = _; request_lines = _; catalogue_read = c.in-Ok.ensures.ok; request_read = c.in-Ok-read.ensures.ok })) c.report.ensures.err
+returns-clause-err g c = if_err c.report.result (λ e lack. lacked e _ _ (record { catalogue_lines = _; request_lines = _; catalogue_read = c.in-Ok.ensures.ok; request_read = c.in-Ok-read.ensures.ok }) (lack c.in-Ok-read.ensures.lines c.in-Ok-read.ensures.wishes)) c.report.ensures.err
+
+pub returns-in-Err-clause-catalogue_faulty : goal.returns-in-Err-clause-catalogue_faulty
+returns-in-Err-clause-catalogue_faulty g c = λ text is n faulty. refl
+
+pub returns-in-Err-read-clause-catalogue_faulty : goal.returns-in-Err-read-clause-catalogue_faulty
+returns-in-Err-read-clause-catalogue_faulty g c = catalogue_good _ _ _ c.in-Ok.ensures.ok
+
+pub returns-clause-catalogue_faulty : goal.returns-clause-catalogue_faulty
+returns-clause-catalogue_faulty g c = catalogue_good _ _ _ c.in-Ok.ensures.ok
