@@ -41,7 +41,7 @@ def rooms() -> Dict[str, List[str]]:
         if line.startswith("#"):
             room = line[1:].strip()
         elif ":" in line:
-            found.setdefault(room, []).append(line.split(":")[0])
+            found.setdefault(room, []).append(line.split(":")[0].split()[0])
     return found
 
 
