@@ -2,8 +2,9 @@
 """Judges long reports with `resolve judge`, and counts their lines and words with wc and awk in the same run.
 
 Usage: bench/judging.py [PATH OF THE PROGRAM]   (default: crates/resolve/out/resolve, which `rt run` leaves)
-Prints a table for docs/BENCHMARKS.md: medians of five, processor seconds; this process itself, some 14 MB, is the least peak
-memory that is seen. Files are made anew in a temporary folder.
+Prints two tables for docs/BENCHMARKS.md: medians of five, processor seconds; this process itself, some 14 MB, is the least peak
+memory that is seen. Files are made anew in a temporary folder. The second table has reports of which single lines cost more than
+their bytes: each shape at three sizes, four times the size from one to the next.
 """
 import os
 import statistics
@@ -40,6 +41,37 @@ def report(steps):
     yield f"step {max(steps, VERSIONS + 2)} derive [] by " + " ".join(str(n + 1) for n in range(VERSIONS + 1))
 
 
+def entries(size):
+    """Each alternative of one need is an entry because of it."""
+    catalogue = [f"version p{k} 1" for k in range(size)]
+    request = ["needs " + " | ".join(f"p{k}" for k in range(size))]
+    return catalogue, request, ["install"] + [f"p{k}=1 for request line 1" for k in range(size)]
+
+
+def versions(size):
+    """Steps that name one version of a package that has many, and that nothing names."""
+    catalogue = [f"version a {k}" for k in range(size)]
+    report = ["install", "a=1 for request line 1"] + [f"step {k + 1} shared a 1" for k in range(size)]
+    return catalogue, ["needs a 1"], report
+
+
+def unnamed(size):
+    """Steps with long clauses that nothing names."""
+    catalogue = [f"version a {k}" for k in range(size)]
+    report = ["install", "a=1 for request line 1"] + [f"step {k + 1} shared a" for k in range(size)]
+    return catalogue, ["needs a 1"], report
+
+
+def gates(size):
+    """Steps that name one line with many alternatives by its gate."""
+    catalogue = ["version p 1", "needs " + " | ".join(f"q{k}" for k in range(size)), "version q0 1"]
+    report = ["install", "p=1 for request line 1", "q0=1 for p=1 line 2"]
+    return catalogue, ["needs p"], report + [f"step {k + 1} gate p=1 line 2" for k in range(size)]
+
+
+SHAPES = ((entries, 1000), (versions, 1000), (unnamed, 250), (gates, 500))
+
+
 def timed(command):
     process = subprocess.Popen(command, stdout=subprocess.DEVNULL)
     _, status, usage = os.wait4(process.pid, 0)
@@ -68,6 +100,15 @@ def main():
             own, memory, status = median([program, "judge", *paths])
             lines, words = median(["wc", "-l", paths[2]])[0], median(AWK + [paths[2]])[0]
             print(f"| {steps} | {size} | {own:.2f} | {lines:.3f} | {words:.2f} | {own / max(lines, 0.001):.0f} | {own / words:.1f} | {memory / size:.1f} | {status} |")
+        print()
+        print("| shape | size | report, bytes | judge, s | memory, MB | status |")
+        print("|---|---|---|---|---|---|")
+        for shape, least in SHAPES:
+            for size in (least, 4 * least, 16 * least):
+                for path, lines in zip(paths, shape(size)):
+                    open(path, "w").write("\n".join(lines) + "\n")
+                own, memory, status = median([program, "judge", *paths])
+                print(f"| {shape.__name__} | {size} | {os.path.getsize(paths[2])} | {own:.2f} | {memory / 1e6:.0f} | {status} |")
 
 
 if __name__ == "__main__":

@@ -2,6 +2,7 @@
 //! What is kept of the steps stands for them: `StandFor` of specs/Checking.antt. The judge takes each step of a report here.
 
 ghost use Rattle.std.specs.Prelude.{◌≡◌, ◌+◌, ◌^◌, ◌<◌, ◌≤◌, ◌&&◌, [], ◌∷◌, ◌++◌, ℕ, List, IfOk, IsTrue, length, map, is_some, slice_get, true};
+ghost use Rattle.std.specs.Global.{Vec};
 ghost use Rattle.std.specs.Bool.{nat_eq};
 ghost use Rattle.std.specs.List.{list_all};
 ghost use Rattle.resolvo_text.specs.Line as says;
@@ -24,7 +25,7 @@ use crate::atom_ids::AtomIds;
 use crate::clause_atoms::{
     number_all, push_any, push_bit, push_outside, push_shared, push_version,
 };
-use crate::clauses::{Clauses, Readings};
+use crate::clauses::Clauses;
 use crate::literal::Literal;
 use crate::rup::is_rup;
 use crate::steps::{clause_of, number_of};
@@ -214,17 +215,17 @@ fn may_have(places: &[Option<u32>], version: VersionNo, place: u32) -> bool
     }
 }
 
-fn are_earlier(causes: &[u32], count: usize) -> bool
+/// Whether these are numbers of the first so many steps, from 1.
+pub fn are_earlier(causes: &[u32], count: usize) -> bool
     ensures { result ≡ list_all (is_earlier count) causes.now }
 {
     causes.iter().all(|n| 0 < *n && *n as usize <= count)
 }
 
-/// What is kept of the steps so far, and the literals of the present one.
+/// What is kept of the steps so far beside their clauses, and the literals of the present one.
 #[derive(Drop)]
 pub struct Checker {
     pub numbers: AtomIds,
-    pub clauses: Clauses,
     pub truth: Assignment,
     /// The places that digit steps gave to versions, by their numbers.
     pub places: Vec<Option<u32>>,
@@ -233,31 +234,34 @@ pub struct Checker {
 
 /// Whether the causes are earlier steps, and one pass over their clauses refutes the derived one.
 fn is_derived(
+    alloc: Global,
     truth: &mut Assignment,
-    readings: &mut Readings,
-    clauses: &Clauses,
+    clauses: &mut Clauses,
     derived: &[Literal],
     causes: &[u32],
 ) -> Result<bool, AllocError>
-    requires later { truth.old.pass ≤ length clauses.now }
-    requires short { length clauses.now + 1 < 2 ^ 32 }
-    requires room { readings.old.read + length causes.now < 2 ^ 64 }
+    requires later { truth.old.pass ≤ length clauses.old.kept }
+    requires short { length clauses.old.kept + 1 < 2 ^ 32 }
+    requires room { clauses.old.readings.read + length causes.now < 2 ^ 64 }
     ensures answer { IfOk result
         (λ fine.
         fine
-        ≡ (list_all (is_earlier (length clauses.now)) causes.now && one_pass nat_eq
-        (literals_of derived.now) (map (clause_at clauses.now) causes.now))) }
-    ensures pass { truth.new.pass ≤ length clauses.now + 1 }
+        ≡ (list_all (is_earlier (length clauses.old.kept)) causes.now && one_pass nat_eq
+        (literals_of derived.now) (map (clause_at clauses.old.kept) causes.now))) }
+    ensures pass { truth.new.pass ≤ length clauses.old.kept + 1 }
+    ensures kept { clauses.new.kept ≡ clauses.old.kept }
     ensures read { IfOk result
         (λ fine.
         IsTrue fine
-        → readings.new ≡ record readings.old { read = readings.old.read + length causes.now }) }
+        → clauses.new.readings
+        ≡ record clauses.old.readings
+        { read = clauses.old.readings.read + length causes.now }) }
 {
     if !are_earlier(causes, clauses.len()) {
         return Ok(false);
     }
     let pass = clauses.len() as u32 + 1;
-    is_rup(truth, pass, derived, clauses, causes, readings)
+    is_rup(alloc, truth, pass, derived, clauses, causes)
 }
 
 /// Whether the version has no other place. A version that isn't listed has none.
@@ -281,38 +285,40 @@ fn has_no_other(
 /// Whether the step owes nothing to the earlier ones that it hasn't: a version has one place, and one pass over
 /// the clauses of earlier steps refutes a derived one.
 fn follows(
+    alloc: Global,
     catalogue: &Catalogue,
-    numbers: &AtomIds,
     truth: &mut Assignment,
-    readings: &mut Readings,
-    clauses: &Clauses,
+    clauses: &mut Clauses,
     places: &[Option<u32>],
     literals: &[Literal],
     step: &Step,
 ) -> Result<bool, AllocError>
-    requires later { truth.old.pass ≤ length clauses.now }
-    requires short { length clauses.now + 1 < 2 ^ 32 }
-    requires room { readings.old.read + causes_in (step_of step.now) < 2 ^ 64 }
+    requires later { truth.old.pass ≤ length clauses.old.kept }
+    requires short { length clauses.old.kept + 1 < 2 ^ 32 }
+    requires room { clauses.old.readings.read + causes_in (step_of step.now) < 2 ^ 64 }
     ensures answer { IfOk result
         (λ fine.
-        (request : List says.Line) (earlier : List SaidStep) (count : ℕ)
-        → AreNumbers numbers.now count
+        (request : List says.Line) (entries : List (Vec ℕ × ℕ)) (earlier : List SaidStep)
+        (count : ℕ)
+        → AreNumbers entries count
         → AreDistinct (listed catalogue.now)
         → is_some (clause_of_lem catalogue.now request (step_of step.now)) ≡ true
-        → StandFor catalogue.now request numbers.now clauses.now places.now earlier
-        → Numbered (listed catalogue.now) numbers.now
+        → StandFor catalogue.now request entries clauses.old.kept places.now earlier
+        → Numbered (listed catalogue.now) entries
         (clause_or_none catalogue.now request (step_of step.now)) literals.now
         → fine ≡ follows_lem catalogue.now request earlier (step_of step.now)) }
-    ensures pass { truth.new.pass ≤ length clauses.now + 1 }
+    ensures pass { truth.new.pass ≤ length clauses.old.kept + 1 }
+    ensures kept { clauses.new.kept ≡ clauses.old.kept }
     ensures read { IfOk result
         (λ fine.
         IsTrue fine
-        → readings.new
-        ≡ record readings.old { read = readings.old.read + causes_in (step_of step.now) }) }
+        → clauses.new.readings
+        ≡ record clauses.old.readings
+        { read = clauses.old.readings.read + causes_in (step_of step.now) }) }
 {
     match step {
         Step::Digit { version, place, .. } => Ok(has_no_other(catalogue, places, version, *place)),
-        Step::Derive { causes, .. } => is_derived(truth, readings, clauses, literals, causes),
+        Step::Derive { causes, .. } => is_derived(alloc, truth, clauses, literals, causes),
         Step::Need { .. }
         | Step::Gate { .. }
         | Step::Shared { .. }
@@ -353,17 +359,17 @@ pub fn advance(
     request: &Request,
     scope: &Premises,
     checker: &mut Checker,
-    readings: &mut Readings,
+    clauses: &mut Clauses,
     step: &Step,
 ) -> Result<bool, AllocError>
-    requires later { checker.old.truth.pass ≤ length checker.old.clauses }
+    requires later { checker.old.truth.pass ≤ length clauses.old.kept }
     requires long { length checker.old.places.items ≡ length (listed catalogue.now) }
-    requires short { length checker.old.clauses + 1 < 2 ^ 32 }
-    requires room { readings.old.read + causes_in (step_of step.now) < 2 ^ 64 }
+    requires short { length clauses.old.kept + 1 < 2 ^ 32 }
+    requires room { clauses.old.readings.read + causes_in (step_of step.now) < 2 ^ 64 }
     ensures answer { IfOk result
         (λ fine.
         (earlier : List SaidStep)
-        → StandFor catalogue.now request.now.lines checker.old.numbers checker.old.clauses
+        → StandFor catalogue.now request.now.lines checker.old.numbers clauses.old.kept
         checker.old.places.items earlier
         → fine
         ≡ may_stand catalogue.now request.now.lines (names_catalogue scope.now)
@@ -372,20 +378,20 @@ pub fn advance(
         (λ fine.
         IsTrue fine
         → (earlier : List SaidStep)
-        → StandFor catalogue.now request.now.lines checker.old.numbers checker.old.clauses
+        → StandFor catalogue.now request.now.lines checker.old.numbers clauses.old.kept
         checker.old.places.items earlier
-        → StandFor catalogue.now request.now.lines checker.new.numbers checker.new.clauses
+        → StandFor catalogue.now request.now.lines checker.new.numbers clauses.new.kept
         checker.new.places.items (earlier ++ step_of step.now ∷ [])) }
-    ensures later { IfOk result (λ fine. IsTrue fine → checker.new.truth.pass ≤ length checker.new.clauses) }
+    ensures later { IfOk result (λ fine. IsTrue fine → checker.new.truth.pass ≤ length clauses.new.kept) }
     ensures long { IfOk result
         (λ fine. IsTrue fine → length checker.new.places.items ≡ length (listed catalogue.now)) }
-    ensures count { IfOk result
-        (λ fine. IsTrue fine → length checker.new.clauses ≡ length checker.old.clauses + 1) }
+    ensures count { IfOk result (λ fine. IsTrue fine → length clauses.new.kept ≡ length clauses.old.kept + 1) }
     ensures read { IfOk result
         (λ fine.
         IsTrue fine
-        → readings.new
-        ≡ record readings.old { read = readings.old.read + causes_in (step_of step.now) }) }
+        → clauses.new.readings
+        ≡ record clauses.old.readings
+        { read = clauses.old.readings.read + causes_in (step_of step.now) }) }
 {
     let there = number_step(
         alloc,
@@ -402,11 +408,10 @@ pub fn advance(
     let _versions = catalogue.versions();
     let _count = checker.numbers.count();
     let fine = follows(
+        alloc,
         catalogue,
-        &checker.numbers,
         &mut checker.truth,
-        readings,
-        &checker.clauses,
+        clauses,
         &checker.places,
         &checker.literals,
         step,
@@ -414,7 +419,7 @@ pub fn advance(
     if !fine {
         return Ok(false);
     }
-    checker.clauses.push(&checker.literals)?;
+    clauses.push(&checker.literals)?;
     note_place(catalogue, &mut checker.places, step);
     Ok(true)
 }

@@ -1,6 +1,7 @@
-//! The clauses of earlier steps, and how often they were read.
+//! The clauses of earlier steps, and how often they were named and read.
+//! They and their counter are one value: a clause is given out by `Clauses::clause` alone, which counts it there.
 
-ghost use Rattle.std.specs.Prelude.{◌≡◌, ◌+◌, ◌^◌, ◌<◌, ◌≤◌, [], ◌∷◌, ◌++◌, ◌==◌, OnOk, OnErr, length, Some, slice_get};
+ghost use Rattle.std.specs.Prelude.{◌≡◌, ◌+◌, ◌^◌, ◌<◌, ◌≤◌, [], ◌∷◌, ◌++◌, OnOk, OnErr, length, Some, slice_get};
 ghost use Rattle.std.specs.List.{slice_range};
 ghost use Rattle.resolvo_checker.specs.Pieces.{pieces, AreEnds, start_of};
 
@@ -15,14 +16,14 @@ pub struct Readings {
     read: u64,
 }
 
-/// The clauses, one for each step, in one flat vector of literals with an end for each.
-#[derive(Debug, Drop)]
-pub struct Clauses {
+/// A clause for each step, in one flat vector of literals with an end for each.
+#[derive(Drop)]
+pub struct Flat {
     literals: Vec<Literal>,
     ends: Vec<usize>,
 }
 
-impl Model for Clauses {
+impl Model for Flat {
     ghost use Rattle.std.specs.Prelude.{List, ℕ, length};
     ghost use Rattle.resolvo_checker.specs.declared.literal.Literal.{Literal};
     ghost use Rattle.resolvo_checker.specs.Pieces.{pieces, AreEnds};
@@ -90,56 +91,104 @@ fn push_piece(
     }
 }
 
-impl Clauses {
-    pub fn new(alloc: Global) -> Self
+impl Flat {
+    fn new(alloc: Global) -> Self
         ensures { result ≡ [] }
     {
-        Clauses {
+        Flat {
             literals: Vec::new(alloc),
             ends: Vec::new(alloc),
         }
     }
 
-    pub fn len(&self) -> usize
+    fn len(&self) -> usize
         ensures { result ≡ length self.now }
     {
         self.ends.len()
     }
 
-    pub fn is_empty(&self) -> bool
-        ensures { result ≡ (length self.now == 0) }
-    {
-        self.ends.is_empty()
-    }
-
-    /// Adds the clause of the next step.
-    pub fn push(&mut self, clause: &[Literal]) -> Result<(), AllocError>
+    fn push(&mut self, clause: &[Literal]) -> Result<(), AllocError>
         ensures ok { OnOk result (self.new ≡ self.old ++ clause.now ∷ []) }
         ensures err { OnErr result (self.new ≡ self.old) }
     {
         push_piece(&mut self.literals, &mut self.ends, clause)
     }
 
-    /// The clause of a step, counted from 0.
-    pub fn clause(&self, step: usize, readings: &mut Readings) -> &[Literal]
-        requires within { step < length self.now }
-        requires room { readings.old.read + 1 < 2 ^ 64 }
-        ensures clause { slice_get self.now step ≡ Some result.now }
-        ensures read { readings.new ≡ record readings.old { read = readings.old.read + 1 } }
+    /// The n-th clause, n from 0.
+    fn at(&self, n: usize) -> &[Literal]
+        requires within { n < length self.now }
+        ensures { slice_get self.now n ≡ Some result.now }
     {
-        readings.read += 1;
-        piece(self.literals.as_slice(), self.ends.as_slice(), step)
+        piece(self.literals.as_slice(), self.ends.as_slice(), n)
+    }
+}
+
+/// The clauses of the steps so far, and how many of them were named and read.
+#[derive(Drop)]
+pub struct Clauses {
+    kept: Flat,
+    readings: Readings,
+}
+
+impl Clauses {
+    pub fn new(alloc: Global) -> Self
+        ensures kept { result.kept ≡ [] }
+        ensures named { result.readings.named ≡ 0 }
+        ensures read { result.readings.read ≡ 0 }
+    {
+        Clauses {
+            kept: Flat::new(alloc),
+            readings: Readings { named: 0, read: 0 },
+        }
+    }
+
+    pub fn len(&self) -> usize
+        ensures { result ≡ length self.now.kept }
+    {
+        self.kept.len()
+    }
+
+    /// Adds the clause of the next step.
+    pub fn push(&mut self, clause: &[Literal]) -> Result<(), AllocError>
+        ensures ok { OnOk result (self.new.kept ≡ self.old.kept ++ clause.now ∷ []) }
+        ensures err { OnErr result (self.new.kept ≡ self.old.kept) }
+        ensures readings { self.new.readings ≡ self.old.readings }
+    {
+        self.kept.push(clause)
+    }
+
+    /// Gives out the clause of a step, counted from 0. It is counted as read.
+    pub(crate) fn clause(&mut self, step: usize, out: &mut Vec<Literal>) -> Result<(), AllocError>
+        requires within { step < length self.old.kept }
+        requires room { self.old.readings.read + 1 < 2 ^ 64 }
+        ensures clause { OnOk result (slice_get self.old.kept step ≡ Some out.new.items) }
+        ensures kept { self.new.kept ≡ self.old.kept }
+        ensures read { self.new.readings ≡ record self.old.readings { read = self.old.readings.read + 1 } }
+    {
+        self.readings.read += 1;
+        out.clear();
+        out.extend_from_slice(self.kept.at(step))?;
+        Ok(())
+    }
+
+    /// Notes that so many clauses are named.
+    pub fn name(&mut self, count: u64)
+        requires { self.old.readings.named + count < 2 ^ 64 }
+        ensures kept { self.new.kept ≡ self.old.kept }
+        ensures named { self.new.readings ≡ record self.old.readings { named = self.old.readings.named + count } }
+    {
+        self.readings.named += count;
+    }
+
+    /// How many clauses were named and read so far.
+    pub fn readings(&self) -> Readings
+        ensures { result ≡ self.now.readings }
+    {
+        self.readings
     }
 }
 
 impl Readings {
-    pub fn new() -> Self
-        ensures named { result.named ≡ 0 }
-        ensures read { result.read ≡ 0 }
-    {
-        Readings { named: 0, read: 0 }
-    }
-
     pub fn named(&self) -> u64
         ensures { result ≡ self.now.named }
     {
@@ -150,13 +199,5 @@ impl Readings {
         ensures { result ≡ self.now.read }
     {
         self.read
-    }
-
-    /// Notes that so many clauses are named.
-    pub fn name(&mut self, count: u64)
-        requires { self.old.named + count < 2 ^ 64 }
-        ensures { self.new ≡ record self.old { named = self.old.named + count } }
-    {
-        self.named += count;
     }
 }

@@ -39,16 +39,13 @@ pub fn nothing_each<T: Copy>(alloc: Global, count: usize) -> Result<Vec<Option<T
 
 /// What is kept of no step.
 pub fn begin(alloc: Global, catalogue: &Catalogue, request: &Request) -> Result<Checker, AllocError>
-    ensures stands { IfOk result
-        (λ c. StandFor catalogue.now request.now.lines c.numbers c.clauses c.places.items []) }
+    ensures stands { IfOk result (λ c. StandFor catalogue.now request.now.lines c.numbers [] c.places.items []) }
     ensures pass { IfOk result (λ c. c.truth.pass ≡ 0) }
-    ensures count { IfOk result (λ c. c.clauses ≡ []) }
     ensures long { IfOk result (λ c. length c.places.items ≡ length (listed catalogue.now)) }
 {
     let places = nothing_each(alloc, catalogue.versions().len())?;
     Ok(Checker {
         numbers: AtomIds::new(alloc),
-        clauses: Clauses::new(alloc),
         truth: Assignment::new(alloc),
         places,
         literals: Vec::new(alloc),
@@ -77,58 +74,48 @@ pub fn count_causes(steps: &[Step]) -> Option<u64>
     Some(count)
 }
 
-/// Takes the steps in order.
+/// Takes the steps in order: the first, from 0, that may not stand after those before it.
 fn check_from(
     alloc: Global,
     catalogue: &Catalogue,
     request: &Request,
     scope: &Premises,
     checker: &mut Checker,
+    clauses: &mut Clauses,
     steps: &[Step],
-) -> Result<Checked, AllocError>
-    requires stands { StandFor catalogue.now request.now.lines checker.old.numbers checker.old.clauses
+) -> Result<Option<usize>, AllocError>
+    requires stands { StandFor catalogue.now request.now.lines checker.old.numbers clauses.old.kept
         checker.old.places.items [] }
     requires pass { checker.old.truth.pass ≡ 0 }
-    requires count { checker.old.clauses ≡ [] }
+    requires count { clauses.old.kept ≡ [] }
+    requires unnamed { clauses.old.readings.named ≡ 0 }
+    requires unread { clauses.old.readings.read ≡ 0 }
     requires long { length checker.old.places.items ≡ length (listed catalogue.now) }
     requires few { length steps.now + 1 < 2 ^ 32 }
     requires room { count_causes (steps_of steps.now) < 2 ^ 64 }
     ensures wrong { IfOk result
-        (λ c.
-        IfSome c.wrong
+        (λ wrong.
+        IfSome wrong
         (IsWrongAt catalogue.now request.now.lines (names_catalogue scope.now)
         (names_request scope.now) (steps_of steps.now))) }
     ensures proof { IfOk result
-        (λ c.
-        IfNone c.wrong
+        (λ wrong.
+        IfNone wrong
         (IsProof catalogue.now request.now.lines (names_catalogue scope.now)
         (names_request scope.now) (steps_of steps.now))) }
-    ensures named { IfOk result (λ c. IfNone c.wrong (c.readings.named ≡ count_causes (steps_of steps.now))) }
-    ensures read { IfOk result (λ c. IfNone c.wrong (c.readings.read ≡ count_causes (steps_of steps.now))) }
+    ensures named { IfOk result
+        (λ wrong. IfNone wrong (clauses.new.readings.named ≡ count_causes (steps_of steps.now))) }
+    ensures read { IfOk result
+        (λ wrong. IfNone wrong (clauses.new.readings.read ≡ count_causes (steps_of steps.now))) }
 {
-    let mut readings = Readings::new();
     for at in 0..steps.len() {
         let step = &steps[at];
-        if !advance(
-            alloc,
-            catalogue,
-            request,
-            scope,
-            checker,
-            &mut readings,
-            step,
-        )? {
-            return Ok(Checked {
-                wrong: Some(at),
-                readings,
-            });
+        if !advance(alloc, catalogue, request, scope, checker, clauses, step)? {
+            return Ok(Some(at));
         }
-        readings.name(causes_in(step));
+        clauses.name(causes_in(step));
     }
-    Ok(Checked {
-        wrong: None,
-        readings,
-    })
+    Ok(None)
 }
 
 /// Checks a proof from the lines of the scope.
@@ -167,6 +154,18 @@ pub fn check_steps(
         → ⊥)) }
 {
     let mut checker = begin(alloc, catalogue, request)?;
-    let checked = check_from(alloc, catalogue, request, scope, &mut checker, steps)?;
-    Ok(checked)
+    let mut clauses = Clauses::new(alloc);
+    let wrong = check_from(
+        alloc,
+        catalogue,
+        request,
+        scope,
+        &mut checker,
+        &mut clauses,
+        steps,
+    )?;
+    Ok(Checked {
+        wrong,
+        readings: clauses.readings(),
+    })
 }

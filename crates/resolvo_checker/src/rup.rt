@@ -9,9 +9,9 @@ ghost use Rattle.resolvo_checker.specs.Literals.{literal_of, literals_of, rest_o
 ghost use Rattle.resolvo_checker.specs.Rup.{is_earlier, meet as meet_lem};
 
 use crate::assignment::Assignment;
-use crate::clauses::{Clauses, Readings};
+use crate::clauses::Clauses;
 use crate::literal::{Literal, Rest};
-use std::alloc::AllocError;
+use std::alloc::{AllocError, Global};
 
 fn is_false(truth: &Assignment, literal: Literal) -> bool
     ensures { result
@@ -98,30 +98,34 @@ fn deny_all(truth: &mut Assignment, clause: &[Literal]) -> Result<(), AllocError
 ///
 /// The pass gets a number above those of the passes before it.
 pub fn is_rup(
+    alloc: Global,
     truth: &mut Assignment,
     pass: u32,
     denied: &[Literal],
-    clauses: &Clauses,
+    clauses: &mut Clauses,
     causes: &[u32],
-    readings: &mut Readings,
 ) -> Result<bool, AllocError>
     requires later { truth.old.pass < pass }
-    requires causes { list_all (is_earlier (length clauses.now)) causes.now ≡ true }
-    requires room { readings.old.read + length causes.now < 2 ^ 64 }
+    requires causes { list_all (is_earlier (length clauses.old.kept)) causes.now ≡ true }
+    requires room { clauses.old.readings.read + length causes.now < 2 ^ 64 }
     ensures answer { IfOk result
         (λ refuted.
         refuted
-        ≡ one_pass nat_eq (literals_of denied.now) (map (clause_at clauses.now) causes.now)) }
+        ≡ one_pass nat_eq (literals_of denied.now)
+        (map (clause_at clauses.old.kept) causes.now)) }
     ensures read { OnOk result
-        (readings.new ≡ record readings.old { read = readings.old.read + length causes.now }) }
+        (clauses.new.readings
+        ≡ record clauses.old.readings { read = clauses.old.readings.read + length causes.now }) }
+    ensures kept { clauses.new.kept ≡ clauses.old.kept }
     ensures pass { truth.new.pass ≡ pass }
 {
     truth.begin(pass);
     deny_all(truth, denied)?;
+    let mut clause = Vec::new(alloc);
     let mut refuted = false;
     for cause in causes {
-        let clause = clauses.clause(*cause as usize - 1, readings);
-        refuted |= read(truth, clause)?;
+        clauses.clause(*cause as usize - 1, &mut clause)?;
+        refuted |= read(truth, &clause)?;
     }
     Ok(refuted)
 }

@@ -1,120 +1,265 @@
--- Whether a clause bars, over what is kept of it.
-use Rattle.std.proofs.Common.{◌≡◌, ℕ, zero, suc, ◌+◌, ◌-◌, ◌<◌, Bool, true, false, List, [], ◌∷◌, length, map, take, get_or, Option, Some, None, refl, sym, ap, subst, ◌∙◌, eqb, arith, cond}
-use Rattle.std.specs.Prelude.{not, ◌&&◌, ◌||◌, slice_get, is_some, unwrap_or}
+-- What steps bar: clauses that are built, wishes by their steps, and one step more.
+use Rattle.std.proofs.Common.{◌≡◌, inl, inr, ℕ, zero, suc, ◌+◌, ◌<◌, ◌≤◌, Bool, true, false, List, [], ◌∷◌, ◌++◌, length, map, take, get_or, Option, Some, None, refl, sym, ap, subst, ◌∙◌, append_assoc, length-append, arith}
+use Rattle.std.specs.Prelude.{not, ◌&&◌, ◌||◌, nat_eq, nat_lt, nat_le, is_some, slice_get, if◌then◌else◌}
 use Rattle.std.specs.Global.{Vec}
-use Rattle.std.specs.List.{list_any, list_all}
+use Rattle.std.specs.HashMap.{get}
+use Rattle.std.specs.Map.{update}
+use Rattle.std.specs.List.{list_all}
 use Rattle.std.specs.Option.{option_map_or, option_and_then}
-use Rattle.std.proofs.lemmas.Bool.{false≢true, and_parts, eqb-true, false_from_ne_true}
-use Rattle.std.proofs.lemmas.Option.{slice_get_within}
+use Rattle.std.proofs.lemmas.Bool.{cases_Bool, cases_lt, false≢true, and_parts, and_from, eqb-true, eq-eqb, lt-ltb, le-leb, leb-true, false_from_ne_true}
+use Rattle.std.proofs.lemmas.List.{append-nil, map_push, map-append, take_more}
+use Rattle.std.proofs.lemmas.List.Folds.{list_all-append}
+use Rattle.std.proofs.lemmas.Option.{slice_get_past}
 use Rattle.resolvo_text.specs.Line.{Version, Line}
-use Rattle.resolvo_text.specs.Matches.{Set, same_version, is_member}
-use Rattle.resolvo_catalogue_core.specs.Listed.{listed}
-use Rattle.resolvo_pool_core.specs.OnePass.{AreNamed, AreNamedClauses}
-use Rattle.resolvo_report.specs.Value.{Atom, Chosen, AnyOf, SharedBy, OutsideOf, BitOf, Step}
-use Rattle.resolvo_checker.specs.declared.literal.Literal.{Literal}
-use Rattle.resolvo_checker.specs.Literals.{literals_of}
-use Rattle.resolvo_checker.specs.Numbers.{number_in, AreNumbers}
+use Rattle.resolvo_text.specs.Matches.{Set}
+use Rattle.resolvo_report.specs.Value.{Step, AnswerLine, ReportLine, InstallHead, Numbered}
+use Rattle.resolvo_report.specs.Value as line
+use Rattle.resolvo_report.specs.Text.{numbered}
+use Rattle.resolvo_checker.specs.Rup.{is_earlier}
 use Rattle.resolvo_checker.specs.StepClauses.{Clause, clause_of}
-use Rattle.resolvo_checker.specs.Proof.{is_among, bars, IsProof}
-use Rattle.resolvo_judge.specs.Refusal.{step_bars}
-use Rattle.resolvo_checker.specs.Keys.{IsKey, Names}
-use Rattle.resolvo_checker.specs.CheckStep.{clause_or_none, StandFor}
-use Rattle.resolvo_judge.specs.KeptAnswers.{BarredWish}
-use Rattle.resolvo_judge.specs.Bars.{number_told, TellsVersions, version_told, is_barring, are_barring, clause_bars, is_barred}
+use Rattle.resolvo_checker.specs.Proof.{bars}
+use Rattle.resolvo_judge.specs.Entries.{entries_of}
+use Rattle.resolvo_judge.specs.declared.barred_wishes.Barred as code
+use Rattle.resolvo_judge.specs.declared.barred_wishes.BarredWishes.{BarredWishes}
+use Rattle.resolvo_judge.specs.BarredWishes.{BarredWish, barred_of, named_by, wishes_kept, HoldsWishes, AddsWish}
+use Rattle.resolvo_judge.specs.KeptAnswers.{barred_from}
+use Rattle.resolvo_judge.specs.Refusal.{answer_in, answers_in, step_in, steps_in, step_bars, passes}
+use Rattle.resolvo_judge.specs.Bars.{literal_bars, built_bar, clause_bars, is_barred, is_barred_so_far, AreFirst, TellsBarred}
+use Rattle.resolvo_judge.proofs.Accepted.{get_seam}
+use Rattle.resolvo_judge.proofs.LogLemmas.{one_more, answers_more, no_answers_more}
 
--- the version that the atom says to be in the set
-abbrev version_in : Atom → Option Version
-version_in (Chosen v) = Some v
-version_in (AnyOf n) = None
-version_in (SharedBy ss) = None
-version_in (OutsideOf s) = None
-version_in (BitOf i n) = None
+-- ---- clauses that are built
 
--- a helper's key is no version's
-no_key : (versions : List Version) (a : Atom) (n : ℕ) → version_in a ≡ None → IsKey versions a (0 ∷ n ∷ []) → ⊥
-no_key versions (Chosen v) n none p = absurd cc
-no_key versions (AnyOf x) n none p = cc
-no_key versions (SharedBy x) n none p = cc
-no_key versions (OutsideOf x) n none p = cc
-no_key versions (BitOf l x) n none p = cc
+pub built_alike : (entries : Set) (wish : Version) (clause : Clause) → built_bar entries wish (map Some clause) ≡ bars entries wish clause
+built_alike entries wish [] = refl
+built_alike entries wish (l ∷ ls) = ap (λ b. literal_bars entries wish l && b) (built_alike entries wish ls)
 
-module _ (versions : List Version) (entries : List (Vec ℕ × ℕ)) (count : ℕ) (numbers : AreNumbers entries count) (atoms : List (Option ℕ)) (tells : TellsVersions entries (length versions) atoms) where
-  -- a helper's number tells no version
-  none_told : (a : Atom) (i : ℕ) → version_in a ≡ None → Names versions entries a i → version_told versions atoms i ≡ None
-  none_told a i none name = one (number_told atoms i) refl where
-    one : (o : Option ℕ) → number_told atoms i ≡ o → option_and_then (λ n. slice_get versions n) o ≡ None
-    one None e = refl
-    one (Some n) e = absurd (no_key versions a n none (subst (IsKey versions a) (numbers.apart name.0 (0 ∷ n ∷ []) i name.2 (tells.told i n e)) name.1))
-
-  told_so : (a : Atom) (i : ℕ) → Names versions entries a i → version_told versions atoms i ≡ version_in a
-  told_so (Chosen v) i name =
-      let at : slice_get versions name.1.0 ≡ Some v = name.1.1 in
-      let number : number_in entries (0 ∷ name.1.0 ∷ []) ≡ Some i = ap (number_in entries) (sym name.1.2) ∙ name.2 in
-      ap (λ (o : Option ℕ). option_and_then (λ n. slice_get versions n) o) (tells.all i name.1.0 (slice_get_within versions name.1.0 v at) number) ∙ at
-  told_so (AnyOf x) i name = none_told (AnyOf x) i refl name
-  told_so (SharedBy x) i name = none_told (SharedBy x) i refl name
-  told_so (OutsideOf x) i name = none_told (OutsideOf x) i refl name
-  told_so (BitOf j x) i name = none_told (BitOf j x) i refl name
-
-  among : (set : Set) (wish : Version) (a : Atom) → option_map_or (λ v. same_version v wish || is_member v set) (version_in a) false ≡ is_among set wish a
-  among set wish (Chosen v) = refl
-  among set wish (AnyOf x) = refl
-  among set wish (SharedBy x) = refl
-  among set wish (OutsideOf x) = refl
-  among set wish (BitOf i x) = refl
-
-  literal_alike : (set : Set) (wish : Version) (a : Atom) (l : Literal) → Names versions entries a l.atom → is_barring versions atoms set wish l ≡ (not l.positive && is_among set wish a)
-  literal_alike set wish a l name = ap (λ (o : Option Version). not l.positive && option_map_or (λ v. same_version v wish || is_member v set) o false) (told_so a l.atom name) ∙ ap (λ b. not l.positive && b) (among set wish a)
-
-  clause_alike : (set : Set) (wish : Version) (clause : Clause) (ls : List Literal) → AreNamed (Names versions entries) clause (literals_of ls) → list_all (is_barring versions atoms set wish) ls ≡ bars set wish clause
-  clause_alike set wish [] [] n = refl
-  clause_alike set wish [] (l ∷ ls) n = absurd n
-  clause_alike set wish (m ∷ ms) [] n = absurd n
-  clause_alike set wish (m ∷ ms) (l ∷ ls) n =
-      ap (λ b. b && list_all (is_barring versions atoms set wish) ls) (literal_alike set wish m.atom l n.0)
-      ∙ (ap (λ p. (not p && is_among set wish m.atom) && list_all (is_barring versions atoms set wish) ls) n.1
-      ∙ ap (λ b. (not m.positive && is_among set wish m.atom) && b) (clause_alike set wish ms ls n.2))
-
--- the clause of step k, from 0, over what is kept of it
-bars_at : (catalogue request : List Line) (entries : List (Vec ℕ × ℕ)) (count : ℕ) (numbers : AreNumbers entries count) (atoms : List (Option ℕ)) (tells : TellsVersions entries (length (listed catalogue)) atoms) (set : Set) (wish : Version)
-    → (steps : List Step) (clauses : List (List Literal)) (k : ℕ) → AreNamedClauses (Names (listed catalogue) entries) (map (clause_or_none catalogue request) steps) (map literals_of clauses)
-    → ((n : ℕ) (s : Step) → slice_get steps n ≡ Some s → is_some (clause_of catalogue request s) ≡ true)
-    → option_map_or (list_all (is_barring (listed catalogue) atoms set wish)) (slice_get clauses k) false ≡ option_map_or (bars set wish) (option_and_then (clause_of catalogue request) (slice_get steps k)) false
-bars_at catalogue request entries count numbers atoms tells set wish [] [] k n all = refl
-bars_at catalogue request entries count numbers atoms tells set wish [] (c ∷ cs) k n all = absurd n
-bars_at catalogue request entries count numbers atoms tells set wish (s ∷ ss) [] k n all = absurd n
-bars_at catalogue request entries count numbers atoms tells set wish (s ∷ ss) (c ∷ cs) zero n all = one (clause_of catalogue request s) refl (all 0 s refl) where
-  one : (o : Option Clause) → clause_of catalogue request s ≡ o → is_some o ≡ true → list_all (is_barring (listed catalogue) atoms set wish) c ≡ option_map_or (bars set wish) o false
-  one None e h = absurd (false≢true h)
-  one (Some clause) e h = clause_alike (listed catalogue) entries count numbers atoms tells set wish clause c (subst (λ (d : Clause). AreNamed (Names (listed catalogue) entries) d (literals_of c)) (ap (λ o. unwrap_or o []) e) n.0)
-bars_at catalogue request entries count numbers atoms tells set wish (s ∷ ss) (c ∷ cs) (suc k) n all = bars_at catalogue request entries count numbers atoms tells set wish ss cs k n.1 (λ i t e. all (suc i) t e)
-
-bars_alike : (catalogue request : List Line) (c r : ℕ → Bool) (entries : List (Vec ℕ × ℕ)) (count : ℕ) (numbers : AreNumbers entries count) (atoms : List (Option ℕ)) (tells : TellsVersions entries (length (listed catalogue)) atoms) (set : Set) (wish : Version)
-    → (steps : List Step) (clauses : List (List Literal)) (places : List (Option ℕ)) (k : ℕ) → IsProof catalogue request c r steps → StandFor catalogue request entries clauses places steps
-    → are_barring (listed catalogue) atoms clauses set wish k ≡ step_bars catalogue request steps set wish k
-bars_alike catalogue request c r entries count numbers atoms tells set wish steps clauses places zero proof stands = refl
-bars_alike catalogue request c r entries count numbers atoms tells set wish steps clauses places (suc k) proof stands =
-    let d : suc k - 1 ≡ k = omega arith in
-    let z : eqb (suc k) 0 ≡ false = false_from_ne_true (eqb (suc k) 0) (λ t. let e : suc k ≡ 0 = eqb-true (suc k) 0 t in omega (arith, e)) in
-    ap (λ b. cond b false (option_map_or (list_all (is_barring (listed catalogue) atoms set wish)) (slice_get clauses (suc k - 1)) false)) z
-    ∙ (ap (λ i. option_map_or (list_all (is_barring (listed catalogue) atoms set wish)) (slice_get clauses i) false) d
-    ∙ bars_at catalogue request entries count numbers atoms tells set wish steps clauses k stands.numbered (λ n s e. (and_parts _ _ (proof n s e)).0))
-
--- the same of all left-out wishes
-pub each_barred : (catalogue request : List Line) (c r : ℕ → Bool) (entries : List (Vec ℕ × ℕ)) (count : ℕ) (numbers : AreNumbers entries count) (atoms : List (Option ℕ)) (tells : TellsVersions entries (length (listed catalogue)) atoms)
-    → (steps : List Step) (clauses : List (List Literal)) (places : List (Option ℕ)) (set : Set) → IsProof catalogue request c r steps → StandFor catalogue request entries clauses places steps
-    → (bs : List BarredWish) → list_all (clause_bars (listed catalogue) atoms clauses set) bs ≡ list_all (is_barred catalogue request steps set) bs
-each_barred catalogue request c r entries count numbers atoms tells steps clauses places set proof stands [] = refl
-each_barred catalogue request c r entries count numbers atoms tells steps clauses places set proof stands (b ∷ bs) =
-    ap (λ x. x && list_all (clause_bars (listed catalogue) atoms clauses set) bs) (bars_alike catalogue request c r entries count numbers atoms tells (take b.above set) b.wish steps clauses places b.step proof stands)
-    ∙ ap (λ x. is_barred catalogue request steps set b && x) (each_barred catalogue request c r entries count numbers atoms tells steps clauses places set proof stands bs)
+and_false : (x : Bool) → (x && false) ≡ false
+and_false true = refl
+and_false false = refl
 
 -- an element that doesn't pass
 pub not_all_at : {X Y : Type 0} (f : X → Y) (p : Y → Bool) (xs : List X) (i : ℕ) (x : X) → i < length xs → x ≡ get_or xs i x → p (f x) ≡ false → list_all p (map f xs) ≡ false
 not_all_at f p [] i x lt is e = absurd (omega (arith, lt))
 not_all_at f p (y ∷ xs) zero x lt is e = ap (λ z. p (f z) && list_all p (map f xs)) (sym is) ∙ ap (λ (b : Bool). b && list_all p (map f xs)) e
 not_all_at f p (y ∷ xs) (suc i) x lt is e = ap (λ (b : Bool). p (f y) && b) (not_all_at f p xs i x (omega (arith, lt)) is e) ∙ and_false (p (f y))
+
+-- the same under two maps
+pub not_all_twice : {X Y Z : Type 0} (f : X → Y) (g : Y → Z) (p : Z → Bool) (xs : List X) (i : ℕ) (x : X) → i < length xs → x ≡ get_or xs i x → p (g (f x)) ≡ false → list_all p (map g (map f xs)) ≡ false
+not_all_twice f g p [] i x lt is e = absurd (omega (arith, lt))
+not_all_twice f g p (y ∷ xs) zero x lt is e = ap (λ z. p (g (f z)) && list_all p (map g (map f xs))) (sym is) ∙ ap (λ (b : Bool). b && list_all p (map g (map f xs))) e
+not_all_twice f g p (y ∷ xs) (suc i) x lt is e = ap (λ (b : Bool). p (g (f y)) && b) (not_all_twice f g p xs i x (omega (arith, lt)) is e) ∙ and_false (p (g (f y)))
+
+-- one more element that passes
+pub all_more : {X Y : Type 0} (f : X → Y) (p : Y → Bool) (xs : List X) (i : ℕ) (x : X) → i < length xs → x ≡ get_or xs i x → list_all p (map f (take i xs)) ≡ true → p (f x) ≡ true → list_all p (map f (take (i + 1) xs)) ≡ true
+all_more f p xs i x lt is before here =
+    ap (λ ys. list_all p (map f ys)) (take_more xs i x lt ∙ ap (λ y. take i xs ++ y ∷ []) (sym is))
+    ∙ (ap (list_all p) (map-append f (take i xs) (x ∷ []))
+    ∙ (list_all-append p (map f (take i xs)) (f x ∷ [])
+    ∙ and_from _ _ before (and_from _ _ here refl)))
+
+-- a step that passes has a clause
+pub has_clause : (catalogue request : List Line) (above : List ReportLine) (n : ℕ) (s : Step) → passes catalogue request above (Numbered n s) ≡ true → (clause : Clause) × (clause_of catalogue request s ≡ Some clause)
+has_clause catalogue request above n s h = go (clause_of catalogue request s) refl (and_parts (is_some (clause_of catalogue request s)) _ h).0
   where
-    and_false : (b : Bool) → b && false ≡ false
-    and_false true = refl
-    and_false false = refl
+    go : (o : Option Clause) → clause_of catalogue request s ≡ o → is_some o ≡ true → (clause : Clause) × (clause_of catalogue request s ≡ Some clause)
+    go None e t = absurd (false≢true t)
+    go (Some clause) e t = (clause, e)
+
+-- ---- wishes by their steps
+
+pub named_more : (bs : List BarredWish) (b : BarredWish) (n : ℕ) → named_by (bs ++ b ∷ []) n ≡ (if nat_eq b.step n then named_by bs n ++ b ∷ [] else named_by bs n)
+named_more [] b n = refl
+named_more (x ∷ bs) b n = by_test (nat_eq x.step n) (named_more bs b n)
+  where
+    inside : (t : Bool) (ys : List BarredWish) → x ∷ (if t then ys ++ b ∷ [] else ys) ≡ (if t then (x ∷ ys) ++ b ∷ [] else x ∷ ys)
+    inside true ys = refl
+    inside false ys = refl
+
+    by_test : (t : Bool) → named_by (bs ++ b ∷ []) n ≡ (if nat_eq b.step n then named_by bs n ++ b ∷ [] else named_by bs n)
+        → (if t then x ∷ named_by (bs ++ b ∷ []) n else named_by (bs ++ b ∷ []) n) ≡ (if nat_eq b.step n then (if t then x ∷ named_by bs n else named_by bs n) ++ b ∷ [] else (if t then x ∷ named_by bs n else named_by bs n))
+    by_test true more = ap (λ (ys : List BarredWish). x ∷ ys) more ∙ inside (nat_eq b.step n) (named_by bs n)
+    by_test false more = more
+
+-- a wish is put to those of its step
+pub puts_wish : (before after : ℕ → Option (Vec code.Barred)) (b : BarredWish) (kept : Vec code.Barred) → ((n : ℕ) → after n ≡ update nat_eq before b.step (Some kept) n) → map barred_of kept.items ≡ wishes_kept (before b.step) ++ b ∷ [] → AddsWish before b after
+puts_wish before after b kept updated items n =
+    elim (cases_Bool (nat_eq b.step n)) [
+      | inl here ↦
+          let is : b.step ≡ n = eqb-true b.step n here in
+          ap wishes_kept (updated n) ∙ rw here (items ∙ ap (λ (k : ℕ). wishes_kept (before k) ++ b ∷ []) is)
+      | inr apart ↦ ap wishes_kept (updated n) ∙ rw apart refl
+    ]
+
+pub holds_more : (before after : BarredWishes) (wishes : List BarredWish) (b : BarredWish) → AddsWish (get nat_eq before.by_step) b (get nat_eq after.by_step) → after.steps.items ≡ before.steps.items ++ b.step ∷ [] → HoldsWishes before wishes → HoldsWishes after (wishes ++ b ∷ [])
+holds_more before after wishes b adds steps h = record {
+  by_step = λ n. adds n ∙ ap (λ (bs : List BarredWish). if nat_eq b.step n then bs ++ b ∷ [] else bs) (h.by_step n) ∙ sym (named_more wishes b n);
+  steps = steps ∙ ap (λ (ns : List ℕ). ns ++ b.step ∷ []) h.steps ∙ sym (map_push (λ (x : BarredWish). x.step) wishes b);
+}
+
+-- ---- which steps are there
+
+earlier_yes : (c k : ℕ) → 0 < k → k ≤ c → is_earlier c k ≡ true
+earlier_yes c k some within = and_from (nat_lt 0 k) (nat_le k c) (lt-ltb 0 k some) (le-leb k c within)
+
+earlier_no : (c k : ℕ) → c < k → is_earlier c k ≡ false
+earlier_no c k past = false_from_ne_true (is_earlier c k) (λ t. let low = leb-true k c (and_parts (nat_lt 0 k) (nat_le k c) t).1 in omega (arith, past, low))
+
+get_front : {X : Type 0} (xs ys : List X) (k : ℕ) → k < length xs → slice_get (xs ++ ys) k ≡ slice_get xs k
+get_front [] ys k h = absurd (omega (arith, h))
+get_front (x ∷ xs) ys zero h = refl
+get_front (x ∷ xs) ys (suc k) h = get_front xs ys k (omega (arith, h))
+
+-- ---- tests of many
+
+group : (x y z : Bool) → ((x && y) && z) ≡ (x && (y && z))
+group true y z = refl
+group false y z = refl
+
+swap : (x y z : Bool) → (x && (y && z)) ≡ (y && (x && z))
+swap true y z = refl
+swap false true z = refl
+swap false false z = refl
+
+both : (there x rest others all : Bool) → (there ≡ false → x ≡ false) → (rest && others) ≡ all → (((not there || x) && rest) && (there && others)) ≡ (x && all)
+both true x rest others all none h = group x rest others ∙ ap (λ y. x && y) h
+both false x rest others all none h = and_false rest ∙ sym (ap (λ y. y && all) (none refl))
+
+asked : (x rest c others y all : Bool) → x ≡ true → c ≡ y → (rest && others) ≡ all → ((x && rest) && (c && others)) ≡ (y && all)
+asked x rest c others y all e f h = ap (λ z. (z && rest) && (c && others)) e ∙ (swap rest c others ∙ (ap (λ z. z && (rest && others)) f ∙ ap (λ z. y && z) h))
+
+unasked : (x rest others y all : Bool) → x ≡ y → (rest && others) ≡ all → ((x && rest) && others) ≡ (y && all)
+unasked x rest others y all e h = group x rest others ∙ (ap (λ z. z && (rest && others)) e ∙ ap (λ z. y && z) h)
+
+module _ (catalogue request : List Line) where
+  -- a step that isn't there bars nothing
+  none_bars : (steps : List Step) (set : Set) (wish : Version) (k : ℕ) → is_earlier (length steps) k ≡ false → step_bars catalogue request steps set wish k ≡ false
+  none_bars steps set wish zero e = refl
+  none_bars steps set wish (suc k) e = elim (cases_lt (length steps) (suc k)) [
+    | inl past ↦ ap (λ (o : Option Step). option_map_or (bars set wish) (option_and_then (clause_of catalogue request) o) false) (slice_get_past steps k (omega (arith, past)))
+    | inr within ↦ absurd (false≢true (sym e ∙ earlier_yes (length steps) (suc k) (omega arith) within))
+  ]
+
+  -- each wish is barred, where each is by the steps that are there, and all their steps are
+  pub all_barred : (steps : List Step) (set : Set) (bs : List BarredWish) → (list_all (is_barred_so_far catalogue request steps set) bs && list_all (is_earlier (length steps)) (map (λ b. b.step) bs)) ≡ list_all (is_barred catalogue request steps set) bs
+  all_barred steps set [] = refl
+  all_barred steps set (b ∷ bs) =
+      both (is_earlier (length steps) b.step) (is_barred catalogue request steps set b) (list_all (is_barred_so_far catalogue request steps set) bs) (list_all (is_earlier (length steps)) (map (λ x. x.step) bs)) (list_all (is_barred catalogue request steps set) bs)
+      (none_bars steps (take b.above set) b.wish b.step) (all_barred steps set bs)
+
+  -- no step is there yet
+  all_open : (set : Set) (bs : List BarredWish) → list_all (is_barred_so_far catalogue request [] set) bs ≡ true
+  all_open set [] = refl
+  all_open set (b ∷ bs) = and_from (is_barred_so_far catalogue request [] set b) (list_all (is_barred_so_far catalogue request [] set) bs) (ap (λ e. not e || is_barred catalogue request [] set b) (none_earlier b.step)) (all_open set bs)
+    where
+      none_earlier : (k : ℕ) → is_earlier 0 k ≡ false
+      none_earlier zero = refl
+      none_earlier (suc k) = earlier_no 0 (suc k) (omega arith)
+
+  -- ---- one step more
+
+  module _ (steps : List Step) (s : Step) (clause : Clause) (is : clause_of catalogue request s ≡ Some clause) (set : Set) where
+    abbrev after : List Step
+    after = steps ++ s ∷ []
+
+    long : length after ≡ length steps + 1
+    long = length-append steps (s ∷ [])
+
+    -- the wishes that name it
+    here : (entries : Set) (wish : Version) (k : ℕ) → k ≡ length steps + 1 → (not (is_earlier (length after) k) || step_bars catalogue request after entries wish k) ≡ bars entries wish clause
+    here entries wish zero e = absurd (omega (arith, e))
+    here entries wish (suc k) e =
+        let at : k ≡ length steps = omega (arith, e) in
+        ap (λ t. not t || step_bars catalogue request after entries wish (suc k)) (earlier_yes (length after) (suc k) (omega arith) (omega (arith, e, long)))
+        ∙ (ap (λ i. option_map_or (bars entries wish) (option_and_then (clause_of catalogue request) (slice_get after i)) false) at
+        ∙ (ap (λ o. option_map_or (bars entries wish) (option_and_then (clause_of catalogue request) o) false) (get_seam steps s [])
+        ∙ ap (λ o. option_map_or (bars entries wish) o false) is))
+
+    before : (entries : Set) (wish : Version) (k : ℕ) → k ≡ length steps + 1 → (not (is_earlier (length steps) k) || step_bars catalogue request steps entries wish k) ≡ true
+    before entries wish k e = ap (λ t. not t || step_bars catalogue request steps entries wish k) (earlier_no (length steps) k (omega (arith, e)))
+
+    -- the others
+    other : (entries : Set) (wish : Version) (k : ℕ) → (k ≡ length steps + 1 → ⊥) → (not (is_earlier (length after) k) || step_bars catalogue request after entries wish k) ≡ (not (is_earlier (length steps) k) || step_bars catalogue request steps entries wish k)
+    other entries wish zero apart = refl
+    other entries wish (suc k) apart = elim (cases_lt (length steps) (suc k)) [
+      | inr within ↦
+          ap (λ t. not t || step_bars catalogue request after entries wish (suc k)) (earlier_yes (length after) (suc k) (omega arith) (omega (arith, within, long)) ∙ sym (earlier_yes (length steps) (suc k) (omega arith) within))
+          ∙ ap (λ o. not (is_earlier (length steps) (suc k)) || option_map_or (bars entries wish) (option_and_then (clause_of catalogue request) o) false) (get_front steps (s ∷ []) k (omega (arith, within)))
+      | inl high ↦ elim (cases_lt (length after) (suc k)) [
+        | inr near ↦ absurd (apart (omega (arith, near, high, long)))
+        | inl far ↦
+            ap (λ t. not t || step_bars catalogue request after entries wish (suc k)) (earlier_no (length after) (suc k) far)
+            ∙ sym (ap (λ t. not t || step_bars catalogue request steps entries wish (suc k)) (earlier_no (length steps) (suc k) high))
+      ]
+    ]
+
+    pub so_far_more : (bs : List BarredWish) → (list_all (is_barred_so_far catalogue request steps set) bs && list_all (clause_bars set clause) (named_by bs (length steps + 1))) ≡ list_all (is_barred_so_far catalogue request after set) bs
+    so_far_more [] = refl
+    so_far_more (b ∷ bs) = one (so_far_more bs) (nat_eq b.step (length steps + 1)) refl
+      where
+        one : (list_all (is_barred_so_far catalogue request steps set) bs && list_all (clause_bars set clause) (named_by bs (length steps + 1))) ≡ list_all (is_barred_so_far catalogue request after set) bs → (t : Bool) → nat_eq b.step (length steps + 1) ≡ t
+            → ((is_barred_so_far catalogue request steps set b && list_all (is_barred_so_far catalogue request steps set) bs) && list_all (clause_bars set clause) (if t then b ∷ named_by bs (length steps + 1) else named_by bs (length steps + 1)))
+            ≡ (is_barred_so_far catalogue request after set b && list_all (is_barred_so_far catalogue request after set) bs)
+        one rest true e =
+            let at : b.step ≡ length steps + 1 = eqb-true b.step (length steps + 1) e in
+            asked (is_barred_so_far catalogue request steps set b) (list_all (is_barred_so_far catalogue request steps set) bs) (clause_bars set clause b) (list_all (clause_bars set clause) (named_by bs (length steps + 1))) (is_barred_so_far catalogue request after set b) (list_all (is_barred_so_far catalogue request after set) bs)
+            (before (take b.above set) b.wish b.step at) (sym (here (take b.above set) b.wish b.step at)) rest
+        one rest false e =
+            unasked (is_barred_so_far catalogue request steps set b) (list_all (is_barred_so_far catalogue request steps set) bs) (list_all (clause_bars set clause) (named_by bs (length steps + 1))) (is_barred_so_far catalogue request after set b) (list_all (is_barred_so_far catalogue request after set) bs)
+            (sym (other (take b.above set) b.wish b.step (λ at. false≢true (sym e ∙ eq-eqb b.step (length steps + 1) at)))) rest
+
+  -- ---- one line more
+
+  first_front : (above : List ReportLine) (l : ReportLine) → AreFirst (above ++ l ∷ []) → AreFirst above
+  first_front above l first xs ys a e = first xs (ys ++ l ∷ []) a (ap (λ zs. zs ++ l ∷ []) e ∙ append_assoc xs (line.Answer a ∷ ys) (l ∷ []))
+
+  steps_same : (above : List ReportLine) (l : ReportLine) → step_in l ≡ [] → steps_in above ≡ steps_in (above ++ l ∷ [])
+  steps_same above l none = sym (one_more step_in above l [] none ∙ append-nil (steps_in above))
+
+  pub tells_plain : (barred : Bool) (above : List ReportLine) (l : ReportLine) → answer_in l ≡ [] → step_in l ≡ [] → TellsBarred catalogue request barred above → TellsBarred catalogue request barred (above ++ l ∷ [])
+  tells_plain barred above l answers steps tells first =
+      tells (first_front above l first)
+      ∙ ap (λ xs. list_all (is_barred_so_far catalogue request xs (entries_of (answers_in above))) (barred_from 0 (answers_in above))) (steps_same above l steps)
+      ∙ ap (λ xs. list_all (is_barred_so_far catalogue request (steps_in (above ++ l ∷ [])) (entries_of xs)) (barred_from 0 xs)) (no_answers_more above l answers)
+
+  pub tells_answer : (barred : Bool) (above : List ReportLine) (a : AnswerLine) → TellsBarred catalogue request barred above → TellsBarred catalogue request barred (above ++ line.Answer a ∷ [])
+  tells_answer barred above a tells first =
+      let none : steps_in above ≡ [] = first above [] a refl in
+      tells (first_front above (line.Answer a) first)
+      ∙ ap (λ xs. list_all (is_barred_so_far catalogue request xs (entries_of (answers_in above))) (barred_from 0 (answers_in above))) none
+      ∙ all_open (entries_of (answers_in above)) (barred_from 0 (answers_in above))
+      ∙ sym (ap (λ xs. list_all (is_barred_so_far catalogue request xs (entries_of (answers_in (above ++ line.Answer a ∷ [])))) (barred_from 0 (answers_in (above ++ line.Answer a ∷ [])))) (sym (steps_same above (line.Answer a) refl) ∙ none)
+      ∙ all_open (entries_of (answers_in (above ++ line.Answer a ∷ []))) (barred_from 0 (answers_in (above ++ line.Answer a ∷ []))))
+
+  pub tells_step : (barred : Bool) (above : List ReportLine) (n : ℕ) (s : Step) (clause : Clause) (bar : Bool) → clause_of catalogue request s ≡ Some clause
+      → bar ≡ list_all (clause_bars (entries_of (answers_in above)) clause) (named_by (barred_from 0 (answers_in above)) (length (steps_in above) + 1)) → TellsBarred catalogue request barred above → TellsBarred catalogue request (barred && bar) (above ++ Numbered n s ∷ [])
+  tells_step barred above n s clause bar is asked tells first =
+      let l : ReportLine = Numbered n s in
+      ap (λ b. b && bar) (tells (first_front above l first))
+      ∙ ap (λ b. list_all (is_barred_so_far catalogue request (steps_in above) (entries_of (answers_in above))) (barred_from 0 (answers_in above)) && b) asked
+      ∙ so_far_more (steps_in above) s clause is (entries_of (answers_in above)) (barred_from 0 (answers_in above))
+      ∙ ap (λ xs. list_all (is_barred_so_far catalogue request xs (entries_of (answers_in above))) (barred_from 0 (answers_in above))) (sym (one_more step_in above l (s ∷ []) refl))
+      ∙ ap (λ xs. list_all (is_barred_so_far catalogue request (steps_in (above ++ l ∷ [])) (entries_of xs)) (barred_from 0 xs)) (no_answers_more above l refl)
+
+-- ---- the answers of an install report stand above its steps
+
+no_answer_below : (ss : List Step) (n : ℕ) (xs ys : List ReportLine) (a : AnswerLine) → numbered n ss ≡ xs ++ line.Answer a ∷ ys → ⊥
+no_answer_below [] n [] ys a e = cc
+no_answer_below [] n (x ∷ xs) ys a e = cc
+no_answer_below (s ∷ ss) n [] ys a e = cc
+no_answer_below (s ∷ ss) n (x ∷ xs) ys a e = let t : numbered (n + 1) ss ≡ xs ++ line.Answer a ∷ ys = cc in no_answer_below ss (n + 1) xs ys a t
+
+none_above : (ls : List AnswerLine) (ss : List Step) (n : ℕ) (xs ys : List ReportLine) (a : AnswerLine) → map (λ x. line.Answer x) ls ++ numbered n ss ≡ xs ++ line.Answer a ∷ ys → steps_in xs ≡ []
+none_above ls ss n [] ys a e = refl
+none_above [] ss n (x ∷ xs) ys a e = absurd (no_answer_below ss n (x ∷ xs) ys a e)
+none_above (l ∷ ls) ss n (x ∷ xs) ys a e =
+    let h : line.Answer l ≡ x = cc in
+    let t : map (λ x. line.Answer x) ls ++ numbered n ss ≡ xs ++ line.Answer a ∷ ys = cc in
+    ap (λ z. step_in z ++ steps_in xs) (sym h) ∙ none_above ls ss n xs ys a t
+
+pub answers_first : (ls : List AnswerLine) (ss : List Step) → AreFirst (InstallHead ∷ (map (λ x. line.Answer x) ls ++ numbered 1 ss))
+answers_first ls ss [] ys a e = absurd cc
+answers_first ls ss (x ∷ xs) ys a e =
+    let h : InstallHead ≡ x = cc in
+    let t : map (λ x. line.Answer x) ls ++ numbered 1 ss ≡ xs ++ line.Answer a ∷ ys = cc in
+    ap (λ z. step_in z ++ steps_in xs) (sym h) ∙ none_above ls ss 1 xs ys a t

@@ -9,7 +9,8 @@ use Rattle.resolvo_text.specs.Line.{Version}
 use Rattle.resolvo_text.specs.Matches.{Set}
 use Rattle.resolvo_report.specs.Value.{AnswerLine, Entry, Wished, LeftOut}
 use Rattle.resolvo_judge.specs.Entries.{entry_of, entries_of}
-use Rattle.resolvo_judge.specs.KeptAnswers.{BarredWish, barred_from}
+use Rattle.resolvo_judge.specs.BarredWishes.{BarredWish}
+use Rattle.resolvo_judge.specs.KeptAnswers.{barred_from}
 use Rattle.resolvo_checker.proofs.WholeProofs.{take_front}
 
 module _ (f : Set → Version → ℕ → Bool) (answers : List AnswerLine) where

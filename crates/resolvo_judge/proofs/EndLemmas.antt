@@ -1,5 +1,6 @@
 -- Whether a report may end after its lines, over what is kept of them.
-use Rattle.std.proofs.Common.{◌≡◌, ℕ, Bool, true, false, List, [], ◌∷◌, ◌++◌, map, refl, sym, ap, subst, ◌∙◌}
+use Rattle.std.proofs.Common.{◌≡◌, ℕ, Bool, true, false, List, [], ◌∷◌, ◌++◌, length, map, refl, sym, ap, subst, ◌∙◌}
+use Rattle.std.specs.Prelude.{◌&&◌}
 use Rattle.std.specs.List.{list_all}
 use Rattle.std.proofs.lemmas.Bool.{false≢true}
 use Rattle.resolvo_text.specs.Line.{Line}
@@ -9,20 +10,23 @@ use Rattle.resolvo_judge.specs.declared.judge_state.JudgeState.{JudgeState}
 use Rattle.resolvo_judge.specs.declared.log.ProofState.{ProofState}
 use Rattle.resolvo_judge.specs.declared.entries.Entries.{Entries}
 use Rattle.resolvo_judge.specs.Log.{LogStands, is_head}
-use Rattle.resolvo_checker.specs.Proof.{IsProof, every_line, ends_empty}
+use Rattle.resolvo_checker.specs.Proof.{ends_empty}
 use Rattle.resolvo_judge.specs.Entries.{entries_of}
-use Rattle.resolvo_judge.specs.Refusal.{answers_in, steps_in, is_refusal, step_bars, ArePassed}
+use Rattle.resolvo_judge.specs.Refusal.{answers_in, steps_in, is_refusal, step_bars}
 use Rattle.resolvo_judge.specs.EndRules.{KeepsAll}
-use Rattle.resolvo_judge.specs.KeptAnswers.{barred_of, BarredWish, barred_from, AreWishesTold, KeepsAnswers, KeepsLines}
-use Rattle.resolvo_judge.specs.Bars.{is_barred}
+use Rattle.resolvo_judge.specs.KeptAnswers.{barred_from, AreWishesTold, KeepsAnswers, KeepsLines}
+use Rattle.resolvo_judge.specs.Bars.{is_barred, is_barred_so_far}
 use Rattle.resolvo_judge.specs.JudgeState.{Stands, EndsSo}
-use Rattle.resolvo_judge.proofs.Accepted.{install_proof}
+use Rattle.resolvo_checker.specs.declared.literal.Literal.{Literal}
+use Rattle.resolvo_checker.specs.Rup.{is_earlier}
+use Rattle.resolvo_checker.proofs.CheckLemmas.{same_length}
+use Rattle.resolvo_judge.proofs.BarLemmas.{all_barred, answers_first}
 use Rattle.resolvo_judge.proofs.BarredLemmas.{barred_each, barred_all}
 
 -- the last step of a refusal
-pub refused_ends : (catalogue request : List Line) (j : JudgeState) (r : Report) → j.refused ≡ true → Stands catalogue request j (report_lines r) → EndsSo catalogue request (report_lines r) j.log.ends_empty
-refused_ends catalogue request j (Install ls ss) refused stands = absurd (false≢true (sym stands.refused ∙ refused))
-refused_ends catalogue request j (Refused cs rs ss ms) refused stands = one j.log.ends_empty stands.log.ends where
+pub refused_ends : (catalogue request : List Line) (j : JudgeState) (clauses : List (List Literal)) (r : Report) → j.refused ≡ true → Stands catalogue request j clauses (report_lines r) → EndsSo catalogue request (report_lines r) j.log.ends_empty
+refused_ends catalogue request j clauses (Install ls ss) refused stands = absurd (false≢true (sym stands.refused ∙ refused))
+refused_ends catalogue request j clauses (Refused cs rs ss ms) refused stands = one j.log.ends_empty stands.log.ends where
   one : (b : Bool) → b ≡ ends_empty (steps_in (report_lines (Refused cs rs ss ms))) → EndsSo catalogue request (report_lines (Refused cs rs ss ms)) b
   one true e = sym e
   one false e = λ ends. false≢true (e ∙ ends)
@@ -39,17 +43,21 @@ by_answer catalogue request rest true keeps told all = record {
 by_answer catalogue request rest false keeps told all = λ ends. false≢true (all ∙ barred_all (step_bars catalogue request (steps_in rest)) (answers_in rest) ends.barred)
 
 -- an install report: the entries keep all rules, the wishes are told, and those that are left out are barred
-pub install_ends : (catalogue request : List Line) (j : JudgeState) (r : Report) (fine : Bool) → is_refusal (report_lines r) ≡ false → ArePassed catalogue request (report_lines r) → Stands catalogue request j (report_lines r)
+pub install_ends : (catalogue request : List Line) (j : JudgeState) (clauses : List (List Literal)) (r : Report) (fine : Bool) → is_refusal (report_lines r) ≡ false → Stands catalogue request j clauses (report_lines r)
     → KeepsAll catalogue request (entries_of (answers_in (report_lines r))) true → AreWishesTold request (answers_in (report_lines r)) true
-    → (IsProof catalogue request every_line every_line (steps_in (report_lines r)) → fine ≡ list_all (is_barred catalogue request (steps_in (report_lines r)) (entries_of (answers_in (report_lines r)))) (map barred_of j.entries.barred.items))
-    → EndsSo catalogue request (report_lines r) fine
-install_ends catalogue request j (Refused cs rs ss ms) fine install passed stands keeps told barred = absurd (false≢true (sym install))
-install_ends catalogue request j (Install ls ss) fine install passed stands keeps told barred =
+    → fine ≡ (j.barred && list_all (is_earlier (length clauses)) j.entries.barred.steps.items) → EndsSo catalogue request (report_lines r) fine
+install_ends catalogue request j clauses (Refused cs rs ss ms) fine install stands keeps told barred = absurd (false≢true (sym install))
+install_ends catalogue request j clauses (Install ls ss) fine install stands keeps told barred =
     let rest : List ReportLine = map (λ a. Answer a) ls ++ numbered 1 ss in
     let answers : List AnswerLine = answers_in rest in
     let steps : List Step = steps_in rest in
+    let many : length clauses ≡ length steps = same_length catalogue request j.log.checker.numbers steps clauses stands.log.steps.numbered in
     let all : fine ≡ list_all (is_barred catalogue request steps (entries_of answers)) (barred_from 0 answers) =
-    barred (install_proof catalogue request rest passed) ∙ ap (λ (bs : List BarredWish). list_all (is_barred catalogue request steps (entries_of answers)) bs) stands.entries.barred in
+    barred
+    ∙ ap (λ (b : Bool). b && list_all (is_earlier (length clauses)) j.entries.barred.steps.items) (stands.barred (answers_first ls ss))
+    ∙ ap (λ (ns : List ℕ). list_all (is_barred_so_far catalogue request steps (entries_of answers)) (barred_from 0 answers) && list_all (is_earlier (length clauses)) ns) stands.entries.barred.steps
+    ∙ ap (λ (n : ℕ). list_all (is_barred_so_far catalogue request steps (entries_of answers)) (barred_from 0 answers) && list_all (is_earlier n) (map (λ b. b.step) (barred_from 0 answers))) many
+    ∙ all_barred catalogue request steps (entries_of answers) (barred_from 0 answers) in
     by_answer catalogue request rest fine keeps told all
 
 -- ---- the first line
@@ -73,12 +81,13 @@ is_install_head (Numbered n s) head h = absurd cc
 is_install_head (Message b) head h = absurd cc
 
 pub head_stands : (catalogue request : List Line) (l head : ReportLine) (refused : Bool) (given log : ProofState) (entries : Entries) → l ≡ head → answers_in (head ∷ []) ≡ [] → given ≡ log → refused ≡ is_refusal (l ∷ [])
-    → LogStands catalogue request log.checker.numbers log.checker.clauses log.checker.places.items log.scope log.ends_empty (head ∷ []) → KeepsAnswers entries [] → KeepsLines request entries [] → Stands catalogue request (record { refused = refused; log = given; entries = entries }) (l ∷ [])
+    → LogStands catalogue request log.checker.numbers [] log.checker.places.items log.scope log.ends_empty (head ∷ []) → KeepsAnswers entries [] → KeepsLines request entries [] → Stands catalogue request (record { refused = refused; log = given; entries = entries; barred = true }) [] (l ∷ [])
 head_stands catalogue request l head refused given log entries is none same refusal stands kept lines =
-    subst (λ (x : ReportLine). Stands catalogue request (record { refused = refused; log = given; entries = entries }) (x ∷ [])) (sym is)
-    (subst (λ (g : ProofState). Stands catalogue request (record { refused = refused; log = g; entries = entries }) (head ∷ [])) (sym same) (record {
+    subst (λ (x : ReportLine). Stands catalogue request (record { refused = refused; log = given; entries = entries; barred = true }) [] (x ∷ [])) (sym is)
+    (subst (λ (g : ProofState). Stands catalogue request (record { refused = refused; log = g; entries = entries; barred = true }) [] (head ∷ [])) (sym same) (record {
       refused = refusal ∙ ap (λ (x : ReportLine). is_refusal (x ∷ [])) is;
       log = stands;
       entries = subst (λ (xs : List AnswerLine). KeepsAnswers entries xs) (sym none) kept;
       lines = subst (λ (xs : List AnswerLine). KeepsLines request entries xs) (sym none) lines;
+      barred = λ first. sym (ap (λ (xs : List AnswerLine). list_all (is_barred_so_far catalogue request (steps_in (head ∷ [])) (entries_of xs)) (barred_from 0 xs)) none);
     }))

@@ -19,10 +19,11 @@ use Rattle.std.specs.HashMap.{get}
 use Rattle.std.specs.Map.{update}
 use Rattle.resolvo_judge.specs.Chosen.{Holds}
 use Rattle.resolvo_judge.specs.Versions.{HoldsAll}
-use Rattle.resolvo_judge.specs.KeptAnswers.{BarredWish, barred_of, barred_from, is_after, KeepsAnswers, KeepsLines, IsWishTold}
+use Rattle.resolvo_judge.specs.BarredWishes.{BarredWish, HoldsWishes}
+use Rattle.resolvo_judge.specs.KeptAnswers.{barred_from, is_after, KeepsAnswers, KeepsLines, IsWishTold}
 use Rattle.resolvo_judge.specs.declared.chosen.Chosen.{Chosen}
 use Rattle.resolvo_judge.specs.declared.versions.Versions.{Versions}
-use Rattle.resolvo_judge.specs.declared.entries.Barred as code
+use Rattle.resolvo_judge.specs.declared.barred_wishes.BarredWishes.{BarredWishes}
 use Rattle.resolvo_judge.specs.declared.entries.Entries.{Entries}
 
 -- ---- one line more
@@ -128,7 +129,7 @@ entry_kept e chosen catalogue before l v entry out wish none h may adds = record
   chosen = subst (λ (vs : Set). Holds chosen vs) (sym (entries_more before l ∙ ap (λ (vs : Set). entries_of before ++ vs) entry)) (adds (entries_of before) h.chosen (fresh catalogue before v may));
   out = subst (λ (vs : Set). HoldsAll e.out vs) (sym (left_out_more before l ∙ ap (λ (vs : Set). left_out before ++ vs) out ∙ append-nil (left_out before))) h.out;
   rising = λ n. ap (λ (ns : List ℕ). list_all (λ m. nat_lt m n) ns) (wish_lines_more before l ∙ ap (λ (ns : List ℕ). wish_lines before ++ ns) wish ∙ append-nil (wish_lines before)) ∙ h.rising n;
-  barred = h.barred ∙ sym (barred_more 0 before l ∙ ap (λ (bs : List BarredWish). barred_from 0 before ++ bs) (none (0 + length (entries_of before))) ∙ append-nil (barred_from 0 before));
+  barred = subst (HoldsWishes e.barred) (sym (barred_more 0 before l ∙ ap (λ (bs : List BarredWish). barred_from 0 before ++ bs) (none (0 + length (entries_of before))) ∙ append-nil (barred_from 0 before))) h.barred;
 }
 
 pub wished_kept : (e : Entries) (chosen : Chosen) (catalogue request : List Line) (before : List AnswerLine) (v : Version) (n : ℕ) → KeepsAnswers e before → may_enter catalogue before v ≡ true → is_wish request before n v ≡ true → Adds e.chosen chosen v
@@ -138,22 +139,18 @@ wished_kept e chosen catalogue request before v n h may wish adds =
       chosen = subst (λ (vs : Set). Holds chosen vs) (sym (entries_more before l)) (adds (entries_of before) h.chosen (fresh catalogue before v may));
       out = subst (λ (vs : Set). HoldsAll e.out vs) (sym (left_out_more before l ∙ append-nil (left_out before))) h.out;
       rising = λ k. ap (λ (ns : List ℕ). list_all (λ m. nat_lt m k) ns) (wish_lines_more before l) ∙ rises request before n v wish k;
-      barred = h.barred ∙ sym (barred_more 0 before l ∙ append-nil (barred_from 0 before));
+      barred = subst (HoldsWishes e.barred) (sym (barred_more 0 before l ∙ append-nil (barred_from 0 before))) h.barred;
     }
 
-pub left_out_kept : (e : Entries) (out : Versions) (barred : List code.Barred) (b : code.Barred) (request : List Line) (before : List AnswerLine) (v : Version) (n step : ℕ) → KeepsAnswers e before → is_wish request before n v ≡ true
-    → ((set : Set) → HoldsAll e.out set → HoldsAll out (set ++ v ∷ [])) → barred ≡ e.barred.items ++ b ∷ [] → barred_of b ≡ record { wish = v; step = step; above = length (entries_of before) }
-    → (f : Entries) → f.chosen ≡ e.chosen → f.out ≡ out → f.barred.items ≡ barred → f.last_wish ≡ Some n → KeepsAnswers f (before ++ LeftOut v n step ∷ [])
-left_out_kept e out barred b request before v n step h wish adds more is f same_chosen same_out same_barred same_wish =
+pub left_out_kept : (e : Entries) (out : Versions) (barred : BarredWishes) (request : List Line) (before : List AnswerLine) (v : Version) (n step above : ℕ) → KeepsAnswers e before → is_wish request before n v ≡ true
+    → ((set : Set) → HoldsAll e.out set → HoldsAll out (set ++ v ∷ [])) → ((wishes : List BarredWish) → HoldsWishes e.barred wishes → HoldsWishes barred (wishes ++ record { wish = v; step = step; above = above } ∷ [])) → above ≡ length (entries_of before)
+    → (f : Entries) → f.chosen ≡ e.chosen → f.out ≡ out → f.barred ≡ barred → f.last_wish ≡ Some n → KeepsAnswers f (before ++ LeftOut v n step ∷ [])
+left_out_kept e out barred request before v n step above h wish adds more is f same_chosen same_out same_barred same_wish =
     let l : AnswerLine = LeftOut v n step in record {
       chosen = rw same_chosen (subst (λ (vs : Set). Holds e.chosen vs) (sym (entries_more before l ∙ append-nil (entries_of before))) h.chosen);
       out = rw same_out (subst (λ (vs : Set). HoldsAll out vs) (sym (left_out_more before l)) (adds (left_out before) h.out));
       rising = λ k. ap (λ (ns : List ℕ). list_all (λ m. nat_lt m k) ns) (wish_lines_more before l) ∙ rises request before n v wish k ∙ ap (λ (o : Option ℕ). is_after o k) (sym same_wish);
-      barred =
-          ap (λ (bs : List code.Barred). map barred_of bs) (same_barred ∙ more) ∙ map_push barred_of e.barred.items b
-          ∙ ap (λ (bs : List BarredWish). bs ++ barred_of b ∷ []) h.barred
-          ∙ ap (λ (x : BarredWish). barred_from 0 before ++ x ∷ []) (is ∙ ap (λ (k : ℕ). let x : BarredWish = record { wish = v; step = step; above = k } in x) (omega arith))
-          ∙ sym (barred_more 0 before l);
+      barred = rw same_barred (subst (HoldsWishes barred) (ap (λ (k : ℕ). let x : BarredWish = record { wish = v; step = step; above = k } in barred_from 0 before ++ x ∷ []) (is ∙ omega arith) ∙ sym (barred_more 0 before l)) (more (barred_from 0 before) h.barred));
     }
 
 -- only a `needs` line gives a reason

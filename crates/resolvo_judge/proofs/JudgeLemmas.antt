@@ -30,7 +30,7 @@ use Rattle.resolvo_report.specs.Stream.{GivesLine, IsLineFault}
 use Rattle.resolvo_report.proofs.DraftLemmas.{push_answer, push_install_step, push_catalogue, push_request, push_refused_step, push_message, install_takes, no_install_head, no_refused_head, no_answer}
 use Rattle.resolvo_report.proofs.StreamLemmas.{ReadTo, first_newline, read_gives, read_whole}
 use Rattle.resolvo_report.proofs.WholeLines.{line_has_no_newline, same_line}
-use Rattle.resolvo_checker.specs.declared.clauses.Readings.{Readings}
+use Rattle.resolvo_checker.specs.declared.clauses.Clauses.{Clauses}
 use Rattle.resolvo_judge.specs.declared.judge_state.JudgeState.{JudgeState}
 use Rattle.resolvo_judge.specs.declared.judgement.Verdict.{Verdict}
 use Rattle.resolvo_judge.specs.declared.judgement.Verdict.TheVariants.{Yes, No}
@@ -186,24 +186,24 @@ lines_within (l ∷ ls) =
 -- ---- the lines so far
 
 -- Of the bytes known at first, the lines of a report were read; all passed, and what is kept stands for them.
-pub record Reached (catalogue request : List Line) (known left : Option (List ℕ)) (r : ReportReader) (j : JudgeState) (readings : Readings) (next : ℕ) : Type 0 where
+pub record Reached (catalogue request : List Line) (known left : Option (List ℕ)) (r : ReportReader) (j : JudgeState) (clauses : Clauses) (next : ℕ) : Type 0 where
   pub report : Report
   pub read : ReadTo known left (report_lines report) r.part r.number r.lines.room
   pub part : r.part ≡ part_of report
   pub passed : ArePassed catalogue request (report_lines report)
-  pub stands : Stands catalogue request j (report_lines report)
+  pub stands : Stands catalogue request j clauses.kept (report_lines report)
   pub next_line : next ≡ r.number + 1
-  pub later : j.log.checker.truth.pass ≤ length j.log.checker.clauses
+  pub later : j.log.checker.truth.pass ≤ length clauses.kept
   pub long : length j.log.checker.places.items ≡ length (listed catalogue)
-  pub few_steps : length j.log.checker.clauses ≤ r.number
+  pub few_steps : length clauses.kept ≤ r.number
   pub few_entries : j.entries.chosen.count ≤ r.number
-  pub named : readings.named ≡ causes_named report
-  pub counted : readings.read ≡ causes_named report
+  pub named : clauses.readings.named ≡ causes_named report
+  pub counted : clauses.readings.read ≡ causes_named report
 
-pub reached_first : (catalogue request : List Line) (known before after : Option (List ℕ)) (fresh r : ReportReader) (l : ReportLine) (j : JudgeState) (readings : Readings) → ReadTo known before [] fresh.part fresh.number fresh.lines.room → fresh.part ≡ part.Start
-    → GivesLine before fresh l after r → Stands catalogue request j (l ∷ []) → j.log.checker.truth.pass ≤ length j.log.checker.clauses → length j.log.checker.places.items ≡ length (listed catalogue) → length j.log.checker.clauses ≡ 0 → j.entries.chosen.count ≡ 0
-    → readings.named ≡ 0 → readings.read ≡ 0 → Reached catalogue request known after r j readings 2
-reached_first catalogue request known before after fresh r l j readings nothing start g stands later long steps entries named read =
+pub reached_first : (catalogue request : List Line) (known before after : Option (List ℕ)) (fresh r : ReportReader) (l : ReportLine) (j : JudgeState) (clauses : Clauses) → ReadTo known before [] fresh.part fresh.number fresh.lines.room → fresh.part ≡ part.Start
+    → GivesLine before fresh l after r → Stands catalogue request j clauses.kept (l ∷ []) → j.log.checker.truth.pass ≤ length clauses.kept → length j.log.checker.places.items ≡ length (listed catalogue) → length clauses.kept ≡ 0 → j.entries.chosen.count ≡ 0
+    → clauses.readings.named ≡ 0 → clauses.readings.read ≡ 0 → Reached catalogue request known after r j clauses 2
+reached_first catalogue request known before after fresh r l j clauses nothing start g stands later long steps entries named read =
     let placed : next_part part.Start l ≡ Some r.part = ap (λ (p : Part). next_part p l) (sym start) ∙ g.placed in
     let b = begun l r.part placed in
     let head = head_first l r.part placed in
@@ -213,7 +213,7 @@ reached_first catalogue request known before after fresh r l j readings nothing 
       read = read_gives known before after [] (report_lines b.0) l fresh r nothing g b.1;
       part = b.2;
       passed = subst (ArePassed catalogue request) (sym b.1) (head_passes catalogue request l head);
-      stands = subst (λ (ls : List ReportLine). Stands catalogue request j ls) (sym b.1) stands;
+      stands = subst (λ (ls : List ReportLine). Stands catalogue request j clauses.kept ls) (sym b.1) stands;
       next_line = omega (arith, g.number, nothing.count);
       later = later;
       long = long;
@@ -228,7 +228,7 @@ pub refusal_kept : (r : Report) (l : ReportLine) → is_refusal (report_lines r 
 refusal_kept (Install ls ss) l = refl
 refusal_kept (Refused cs rs ss ms) l = refl
 
-module _ (catalogue request : List Line) (known before after : Option (List ℕ)) (r s : ReportReader) (l : ReportLine) (j : JudgeState) (readings : Readings) (n : ℕ) (reached : Reached catalogue request known before r j readings n) (g : GivesLine before r l after s) where
+module _ (catalogue request : List Line) (known before after : Option (List ℕ)) (r s : ReportReader) (l : ReportLine) (j : JudgeState) (clauses : Clauses) (n : ℕ) (reached : Reached catalogue request known before r j clauses n) (g : GivesLine before r l after s) where
   -- so many clauses were named, with those of the line
   pub few_causes : causes_named reached.report + causes_of_line l ≤ most_bytes
   few_causes = omega (arith, (lines_within (report_lines reached.report)).0, line_within l, length-append (line_text l) (codes "\n"), reached.read.used, g.room)
@@ -239,10 +239,10 @@ module _ (catalogue request : List Line) (known before after : Option (List ℕ)
   pub is_no_head : is_head l ≡ false
   is_no_head = no_head reached.report l s.part (ap (λ (p : Part). next_part p l) (sym reached.part) ∙ g.placed)
 
-  pub reached_more : (k : JudgeState) (after_readings : Readings) → passes catalogue request (report_lines reached.report) l ≡ true → Stands catalogue request k (report_lines reached.report ++ l ∷ []) → k.log.checker.truth.pass ≤ length k.log.checker.clauses
-      → length k.log.checker.places.items ≡ length (listed catalogue) → length k.log.checker.clauses ≤ length j.log.checker.clauses + 1 → k.entries.chosen.count < j.entries.chosen.count + 2
-      → after_readings.named ≡ readings.named + causes_of_line l → after_readings.read ≡ readings.read + causes_of_line l → Reached catalogue request known after s k after_readings (n + 1)
-  reached_more k after_readings pass stands later long steps entries named read =
+  pub reached_more : (k : JudgeState) (grown_clauses : Clauses) → passes catalogue request (report_lines reached.report) l ≡ true → Stands catalogue request k grown_clauses.kept (report_lines reached.report ++ l ∷ []) → k.log.checker.truth.pass ≤ length grown_clauses.kept
+      → length k.log.checker.places.items ≡ length (listed catalogue) → length grown_clauses.kept ≤ length clauses.kept + 1 → k.entries.chosen.count < j.entries.chosen.count + 2
+      → grown_clauses.readings.named ≡ clauses.readings.named + causes_of_line l → grown_clauses.readings.read ≡ clauses.readings.read + causes_of_line l → Reached catalogue request known after s k grown_clauses (n + 1)
+  reached_more k grown_clauses pass stands later long steps entries named read =
       let grown = grows reached.report l s.part (ap (λ (p : Part). next_part p l) (sym reached.part) ∙ g.placed) in
       let lines = grown.1.lines in
       let causes : causes_named grown.0 ≡ causes_named reached.report + causes_of_line l = ap (λ (ls : List ReportLine). count_causes (steps_in ls)) lines ∙ causes_more (report_lines reached.report) l in
@@ -251,7 +251,7 @@ module _ (catalogue request : List Line) (known before after : Option (List ℕ)
         read = read_gives known before after (report_lines reached.report) (report_lines grown.0) l r s reached.read g lines;
         part = same_Some s.part (part_of grown.0) (sym g.placed ∙ ap (λ (p : Part). next_part p l) reached.part ∙ grown.1.placed);
         passed = subst (ArePassed catalogue request) (sym lines) (passed_push catalogue request (report_lines reached.report) l reached.passed pass);
-        stands = subst (λ (ls : List ReportLine). Stands catalogue request k ls) (sym lines) stands;
+        stands = subst (λ (ls : List ReportLine). Stands catalogue request k grown_clauses.kept ls) (sym lines) stands;
         next_line = omega (arith, reached.next_line, g.number);
         later = later;
         long = long;
@@ -342,9 +342,9 @@ claim_true catalogue request (Refused cs rs ss ms) accepted =
     (subst (λ (xs : List ℕ). ClaimsRefusal catalogue request xs (request_lines_in (map CatalogueLine cs ++ map RequestLine rs ++ numbered 1 ss ++ map Message ms))) (catalogue_lines_are cs rs ss ms)
     (refusal_true catalogue request (map CatalogueLine cs ++ map RequestLine rs ++ numbered 1 ss ++ map Message ms) accepted))
 
-pub upheld : (catalogue request : List Line) (known left : Option (List ℕ)) (r : ReportReader) (j : JudgeState) (readings : Readings) (n : ℕ) (reached : Reached catalogue request known left r j readings n) → IsAtEnd left → IsTrue (may_end r.part) → EndsSo catalogue request (report_lines reached.report) true
+pub upheld : (catalogue request : List Line) (known left : Option (List ℕ)) (r : ReportReader) (j : JudgeState) (clauses : Clauses) (n : ℕ) (reached : Reached catalogue request known left r j clauses n) → IsAtEnd left → IsTrue (may_end r.part) → EndsSo catalogue request (report_lines reached.report) true
     → IfKnown known (λ text. IsUpheld catalogue request text reached.report)
-upheld catalogue request known left r j readings n reached end may ends = λ text e. record {
+upheld catalogue request known left r j clauses n reached end may ends = λ text e. record {
   report = record { part = r.part; lines = reached.read.good; whole = may };
   is = read_whole known left (report_lines reached.report) r.part r.number r.lines.room reached.read end text e;
   accepted = record { passed = reached.passed; ends = ends };

@@ -13,3 +13,4 @@ pub mod EndLemmas
 pub mod JudgeLemmas
 pub mod PlaceLaws
 pub mod MessageLaws
+pub mod MessageLines

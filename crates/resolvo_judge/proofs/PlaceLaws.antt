@@ -19,19 +19,19 @@ use Rattle.resolvo_judge.specs.Judgement.{IsUpheld, HoldsOn, IsRefusedAt}
 use Rattle.resolvo_checker.proofs.WholeProofs.{take_front}
 use Rattle.resolvo_judge.proofs.Accepted.{get_seam}
 
-abbrev AllHaveText : List ReportLine → Type 0
+abbrev pub AllHaveText : List ReportLine → Type 0
 AllHaveText ls = AllByRecursion HasText ls
 
-line_first : (l : ReportLine) (ls : List ReportLine) (rest : List ℕ) → lines_text (l ∷ ls) ++ rest ≡ line_text l ++ 10 ∷ (lines_text ls ++ rest)
+pub line_first : (l : ReportLine) (ls : List ReportLine) (rest : List ℕ) → lines_text (l ∷ ls) ++ rest ≡ line_text l ++ 10 ∷ (lines_text ls ++ rest)
 line_first l ls rest = append_assoc (line_text l ++ codes "\n") (lines_text ls) rest ∙ append_assoc (line_text l) (codes "\n") (lines_text ls ++ rest)
 
 -- Of two ways to cut one text, that with no more lines is a front of the other.
-record Splits (above lines : List ReportLine) (below rest : List ℕ) : Type 0 where
-  more : List ReportLine
-  parts : lines ≡ above ++ more
-  left : below ≡ lines_text more ++ rest
+pub record Splits (above lines : List ReportLine) (below rest : List ℕ) : Type 0 where
+  pub more : List ReportLine
+  pub parts : lines ≡ above ++ more
+  pub left : below ≡ lines_text more ++ rest
 
-splits : (above lines : List ReportLine) (below rest : List ℕ) → AllHaveText above → AllHaveText lines → length above ≤ length lines → lines_text lines ++ rest ≡ lines_text above ++ below → Splits above lines below rest
+pub splits : (above lines : List ReportLine) (below rest : List ℕ) → AllHaveText above → AllHaveText lines → length above ≤ length lines → lines_text lines ++ rest ≡ lines_text above ++ below → Splits above lines below rest
 splits [] lines below rest p q le e = record { more = lines; parts = refl; left = sym e }
 splits (a ∷ above) [] below rest p q le e = absurd (omega (arith, le))
 splits (a ∷ above) (l ∷ lines) below rest p q le e =

@@ -2,17 +2,20 @@
 use Rattle.std.specs.Prelude.{◌≡◌, Bool, true, false, List}
 use Rattle.resolvo_text.specs.Line.{Line}
 use Rattle.resolvo_report.specs.Value.{ReportLine}
+use Rattle.resolvo_checker.specs.declared.literal.Literal.{Literal}
 use Rattle.resolvo_judge.specs.declared.judge_state.JudgeState.{JudgeState}
 use Rattle.resolvo_judge.specs.Refusal.{answers_in, is_refusal, Ends}
 use Rattle.resolvo_judge.specs.Log.{LogStands}
+use Rattle.resolvo_judge.specs.Bars.{TellsBarred}
 use Rattle.resolvo_judge.specs.KeptAnswers.{KeepsAnswers, KeepsLines}
 
 -- What is kept stands for these lines.
-pub record Stands (catalogue request : List Line) (j : JudgeState) (above : List ReportLine) : Type 0 where
+pub record Stands (catalogue request : List Line) (j : JudgeState) (clauses : List (List Literal)) (above : List ReportLine) : Type 0 where
   pub refused : j.refused ≡ is_refusal above
-  pub log : LogStands catalogue request j.log.checker.numbers j.log.checker.clauses j.log.checker.places.items j.log.scope j.log.ends_empty above
+  pub log : LogStands catalogue request j.log.checker.numbers clauses j.log.checker.places.items j.log.scope j.log.ends_empty above
   pub entries : KeepsAnswers j.entries (answers_in above)
   pub lines : KeepsLines request j.entries (answers_in above)
+  pub barred : TellsBarred catalogue request j.barred above
 
 -- The answer says whether the report may end after these lines.
 abbrev pub EndsSo : List Line → List Line → List ReportLine → Bool → Type 0

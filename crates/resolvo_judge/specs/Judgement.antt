@@ -98,7 +98,3 @@ IsStop catalogue request (read.NotAReport n) before after failed = IfKnown befor
 IsStop catalogue request read.Reader before after failed = IsJudgeFault catalogue request Reader before after failed
 IsStop catalogue request read.TooLong before after failed = IsJudgeFault catalogue request TooLong before after failed
 IsStop catalogue request read.Memory before after failed = ⊤
-
--- no clause was named or read
-abbrev pub none_read : Readings
-none_read = record { named = 0; read = 0 }

@@ -1,27 +1,17 @@
 -- What the judge keeps of the entries and left-out wishes so far.
-use Rattle.std.specs.Prelude.{◌≡◌, ℕ, ◌+◌, ◌||◌, Bool, true, false, IsTrue, nat_lt, List, [], ◌∷◌, map, Option, Some, None, is_some, nat_eq}
+use Rattle.std.specs.Prelude.{◌≡◌, ℕ, ◌+◌, ◌||◌, Bool, true, false, IsTrue, nat_lt, List, [], ◌∷◌, Option, Some, None, is_some, nat_eq}
 use Rattle.std.specs.HashMap.{get}
 use Rattle.std.specs.List.{list_any, list_all}
 use Rattle.resolvo_text.specs.Line.{Version, Line, Wish}
 use Rattle.resolvo_text.specs.Matches.{is_member}
 use Rattle.resolvo_catalogue_core.specs.Grammar.{line_at}
-use Rattle.resolvo_text.specs.View.{version_of}
 use Rattle.resolvo_report.specs.Value.{AnswerLine, Entry, Wished, LeftOut}
 use Rattle.resolvo_judge.specs.Entries.{entries_of, left_out, wish_lines, wishes}
 use Rattle.resolvo_judge.specs.Refusal.{leaves_out}
 use Rattle.resolvo_judge.specs.Chosen.{Holds}
 use Rattle.resolvo_judge.specs.Versions.{HoldsAll}
-use Rattle.resolvo_judge.specs.declared.entries.Barred as code
+use Rattle.resolvo_judge.specs.BarredWishes.{BarredWish, HoldsWishes}
 use Rattle.resolvo_judge.specs.declared.entries.Entries.{Entries}
-
--- a wish that is left out, the step that bars it, and how many entries stand above its line
-pub record BarredWish : Type 0 where
-  pub wish : Version
-  pub step : ℕ
-  pub above : ℕ
-
-abbrev pub barred_of : code.Barred → BarredWish
-barred_of b = record { wish = version_of b.wish; step = b.step; above = b.above }
 
 -- the left-out wishes of these lines, with i entries before them
 abbrev pub barred_from : ℕ → List AnswerLine → List BarredWish
@@ -40,7 +30,7 @@ pub record KeepsAnswers (e : Entries) (before : List AnswerLine) : Type 0 where
   pub chosen : Holds e.chosen (entries_of before)
   pub out : HoldsAll e.out (left_out before)
   pub rising : (n : ℕ) → list_all (λ m. nat_lt m n) (wish_lines before) ≡ is_after e.last_wish n
-  pub barred : map barred_of e.barred.items ≡ barred_from 0 before
+  pub barred : HoldsWishes e.barred (barred_from 0 before)
 
 -- The lines of the request whose wishes are left out are kept.
 abbrev pub KeepsLines : List Line → Entries → List AnswerLine → Type 0

@@ -3,6 +3,7 @@ pub mod Chosen
 pub mod Refusal
 pub mod Log
 pub mod Versions
+pub mod BarredWishes
 pub mod EndRules
 pub mod KeptAnswers
 pub mod Bars

@@ -1,59 +1,27 @@
-//! Whether steps bar the wishes that are left out. The judge asks it at the end of an `install` report.
+//! Whether the clause of a step bars the wishes that are left out because of it. The judge asks it as it takes the step.
 
-ghost use Rattle.std.specs.Prelude.{◌≡◌, ℕ, Bool, List, IfOk, length, map, option_map, take};
+ghost use Rattle.std.specs.Prelude.{◌≡◌, ◌&&◌, ◌||◌, not, false, List, IfOk, Some, map, slice_get, take};
 ghost use Rattle.std.specs.List.{list_all};
+ghost use Rattle.std.specs.Option.{option_map_or};
 ghost use Rattle.resolvo_text.specs.Line as says;
-ghost use Rattle.resolvo_text.specs.Matches.{Set, same_version};
+ghost use Rattle.resolvo_text.specs.Matches.{Set, same_version, is_member};
 ghost use Rattle.resolvo_text.specs.View.{version_of};
 ghost use Rattle.resolvo_catalogue_core.specs.Listed.{pair_version, pair_versions};
-ghost use Rattle.resolvo_report.specs.Value.{Step as SaidStep};
-ghost use Rattle.resolvo_checker.specs.Proof.{IsProof};
+ghost use Rattle.resolvo_report.specs.View.{step_of, literal_of as said_literal, literals_of as said_literals};
+ghost use Rattle.resolvo_checker.specs.StepClauses.{Clause, clause_of as clause_of_lem, literal_of as plain_literal};
+ghost use Rattle.resolvo_checker.specs.Proof.{bars};
+ghost use Rattle.resolvo_checker.specs.Built.{literals_in, literal_of as built_literal, somes, rule_clause_of};
 ghost use Rattle.resolvo_judge.specs.Chosen.{Holds};
-ghost use Rattle.resolvo_checker.specs.CheckStep.{StandFor};
-ghost use Rattle.resolvo_judge.specs.KeptAnswers.{barred_of};
-ghost use Rattle.resolvo_judge.specs.Bars.{TellsVersions, version_told as version_told_lem, is_barring as is_barring_lem, clause_bars as clause_bars_lem, is_barred};
+ghost use Rattle.resolvo_judge.specs.BarredWishes.{barred_of};
+ghost use Rattle.resolvo_judge.specs.Bars.{literal_bars as literal_bars_lem, built_bar, clause_bars};
 
+use crate::barred_wishes::Barred;
 use crate::chosen::Chosen;
-use crate::entries::Barred;
-use resolvo_catalogue_core::{Catalogue, Version};
-use resolvo_checker::atom_ids::AtomIds;
-use resolvo_checker::check_step::Checker;
-use resolvo_checker::clauses::{Clauses, Readings};
-use resolvo_checker::literal::Literal;
-use resolvo_checker::proof::nothing_each;
+use resolvo_catalogue_core::{Catalogue, Request, Version, VersionNo};
+use resolvo_checker::atom::{Atom as BuiltAtom, Built};
+use resolvo_checker::steps::clause_of;
+use resolvo_report::{Atom, Literal, Step};
 use std::alloc::{AllocError, Global};
-
-/// The number of the listed version that each atom says to be in the set, None for a helper.
-fn atoms_of(
-    alloc: Global,
-    numbers: &AtomIds,
-    count: usize,
-) -> Result<Vec<Option<usize>>, AllocError>
-    ensures { IfOk result (λ atoms. TellsVersions numbers.now count atoms.items) }
-{
-    let mut atoms = nothing_each(alloc, numbers.count())?;
-    for number in 0..count {
-        if let Some(atom) = numbers.find(&[0, number]) {
-            atoms[atom] = Some(number);
-        }
-    }
-    Ok(atoms)
-}
-
-/// The listed version that the atom says to be in the set.
-fn version_told<'a>(
-    versions: &'a [(String, u32)],
-    atoms: &[Option<usize>],
-    atom: usize,
-) -> Option<&'a (String, u32)>
-    ensures { option_map (λ p. pair_version p.now) result
-        ≡ version_told_lem (pair_versions versions.now) atoms.now atom }
-{
-    match atoms.get(atom) {
-        Some(Some(number)) => versions.get(*number),
-        _ => None,
-    }
-}
 
 fn is_same(listed: &(String, u32), wish: &Version) -> bool
     ensures { result ≡ same_version (pair_version listed.now) (version_of wish.now) }
@@ -61,117 +29,190 @@ fn is_same(listed: &(String, u32), wish: &Version) -> bool
     listed.0 == wish.name && listed.1 == wish.number
 }
 
-/// Whether the literal is `not` of the wish, or of an entry above its line.
-fn is_barring(
+/// Whether the version of this number is the wish, or an entry above its line.
+fn is_listed_among(
     chosen: &Chosen,
     versions: &[(String, u32)],
-    atoms: &[Option<usize>],
+    version: VersionNo,
     barred: &Barred,
-    literal: Literal,
 ) -> bool
     ensures { (set : Set)
         → Holds chosen.now set
         → result
-        ≡ is_barring_lem (pair_versions versions.now) atoms.now (take barred.now.above set)
-        (version_of barred.now.wish) literal }
+        ≡ option_map_or
+        (λ v.
+        same_version v (version_of barred.now.wish) || is_member v
+        (take barred.now.above set))
+        (slice_get (pair_versions versions.now) version.0) false }
 {
-    match version_told(versions, atoms, literal.atom) {
-        Some(version) => {
-            !literal.positive
-                && (is_same(version, &barred.wish)
-                    || chosen.has_listed_among(version, barred.above))
+    match versions.get(version.0 as usize) {
+        Some(listed) => {
+            is_same(listed, &barred.wish) || chosen.has_listed_among(listed, barred.above)
         }
         None => false,
     }
 }
 
-fn are_barring(
+/// Whether the built literal is `not` of the wish, or of an entry above its line.
+fn built_bars(chosen: &Chosen, versions: &[(String, u32)], built: &Built, barred: &Barred) -> bool
+    ensures { (set : Set)
+        → Holds chosen.now set
+        → result
+        ≡ option_map_or
+        (literal_bars_lem (take barred.now.above set) (version_of barred.now.wish))
+        (built_literal (pair_versions versions.now) built.now.atom built.now.positive) false }
+{
+    match &built.atom {
+        BuiltAtom::Version(version) => {
+            !built.positive && is_listed_among(chosen, versions, *version, barred)
+        }
+        BuiltAtom::Any(_) | BuiltAtom::Shared(_) | BuiltAtom::Outside(_) | BuiltAtom::Bit(..) =>
+            false,
+    }
+}
+
+/// Whether the version is the wish, or an entry above its line.
+fn is_among(chosen: &Chosen, version: &Version, barred: &Barred) -> bool
+    ensures { (set : Set)
+        → Holds chosen.now set
+        → result
+        ≡ (same_version (version_of version.now) (version_of barred.now.wish) || is_member
+        (version_of version.now) (take barred.now.above set)) }
+{
+    let is_wish = version.name == barred.wish.name && version.number == barred.wish.number;
+    is_wish || chosen.has_among(version, barred.above)
+}
+
+/// Whether the literal is `not` of the wish, or of an entry above its line.
+fn literal_bars(chosen: &Chosen, literal: &Literal, barred: &Barred) -> bool
+    ensures { (set : Set)
+        → Holds chosen.now set
+        → result
+        ≡ literal_bars_lem (take barred.now.above set) (version_of barred.now.wish)
+        (plain_literal (said_literal literal.now)) }
+{
+    match &literal.atom {
+        Atom::Version(version) => !literal.positive && is_among(chosen, version, barred),
+        Atom::Any { .. } | Atom::Shared { .. } | Atom::Outside { .. } | Atom::Bit { .. } => false,
+    }
+}
+
+/// Whether all literals of a built clause do.
+fn all_built_bar(
     chosen: &Chosen,
     versions: &[(String, u32)],
-    atoms: &[Option<usize>],
+    clause: &[Built],
     barred: &Barred,
-    literals: &[Literal],
 ) -> bool
     ensures { (set : Set)
         → Holds chosen.now set
         → result
-        ≡ list_all
-        (is_barring_lem (pair_versions versions.now) atoms.now (take barred.now.above set)
-        (version_of barred.now.wish))
-        literals.now }
+        ≡ built_bar (take barred.now.above set) (version_of barred.now.wish)
+        (literals_in (pair_versions versions.now) clause.now) }
+{
+    for built in clause {
+        if !built_bars(chosen, versions, built, barred) {
+            return false;
+        }
+    }
+    true
+}
+
+/// Whether all literals of a derived clause do.
+fn all_bar(chosen: &Chosen, literals: &[Literal], barred: &Barred) -> bool
+    ensures { (set : Set)
+        → Holds chosen.now set
+        → result
+        ≡ bars (take barred.now.above set) (version_of barred.now.wish)
+        (map plain_literal (said_literals literals.now)) }
 {
     for literal in literals {
-        if !is_barring(chosen, versions, atoms, barred, *literal) {
+        if !literal_bars(chosen, literal, barred) {
             return false;
         }
     }
     true
 }
 
-/// Whether the wish's step is there, and its clause has no literal but `not` of the wish or of an entry above its line.
-fn clause_bars(
+/// Whether the built clause bars each of the wishes.
+fn rule_bars(
     chosen: &Chosen,
     versions: &[(String, u32)],
-    atoms: &[Option<usize>],
-    clauses: &Clauses,
-    barred: &Barred,
+    clause: &[Built],
+    wishes: &[Barred],
 ) -> bool
-    ensures { (set : Set)
+    ensures { (set : Set) (said : Clause)
         → Holds chosen.now set
-        → result
-        ≡ clause_bars_lem (pair_versions versions.now) atoms.now clauses.now set
-        (barred_of barred.now) }
+        → somes said ≡ literals_in (pair_versions versions.now) clause.now
+        → result ≡ list_all (clause_bars set said) (map barred_of wishes.now) }
 {
-    if barred.step == 0 || clauses.len() < barred.step as usize {
-        return false;
-    }
-    // This reading is none of a derivation.
-    let mut other = Readings::new();
-    let clause = clauses.clause(barred.step as usize - 1, &mut other);
-    are_barring(chosen, versions, atoms, barred, clause)
-}
-
-fn each_bars(
-    chosen: &Chosen,
-    versions: &[(String, u32)],
-    atoms: &[Option<usize>],
-    clauses: &Clauses,
-    all: &[Barred],
-) -> bool
-    ensures { (set : Set)
-        → Holds chosen.now set
-        → result
-        ≡ list_all (clause_bars_lem (pair_versions versions.now) atoms.now clauses.now set)
-        (map barred_of all.now) }
-{
-    for barred in all {
-        if !clause_bars(chosen, versions, atoms, clauses, barred) {
+    for barred in wishes {
+        if !all_built_bar(chosen, versions, clause, barred) {
             return false;
         }
     }
     true
 }
 
-/// Whether each wish that is left out is barred by its step, together with the entries above its line.
-pub fn are_barred(
+/// Whether the derived clause bars each of the wishes.
+fn derived_bars(chosen: &Chosen, literals: &[Literal], wishes: &[Barred]) -> bool
+    ensures { (set : Set)
+        → Holds chosen.now set
+        → result
+        ≡ list_all (clause_bars set (map plain_literal (said_literals literals.now)))
+        (map barred_of wishes.now) }
+{
+    for barred in wishes {
+        if !all_bar(chosen, literals, barred) {
+            return false;
+        }
+    }
+    true
+}
+
+/// The same of a step that takes a rule from a line, or says what a helper means.
+fn rule_step_bars(
     alloc: Global,
     catalogue: &Catalogue,
-    checker: &Checker,
+    request: &Request,
     chosen: &Chosen,
-    all: &[Barred],
+    step: &Step,
+    wishes: &[Barred],
 ) -> Result<bool, AllocError>
     ensures { IfOk result
         (λ fine.
-        (request : List says.Line) (c r : ℕ → Bool) (steps : List SaidStep) (set : Set)
-        → IsProof catalogue.now request c r steps
-        → StandFor catalogue.now request checker.now.numbers checker.now.clauses
-        checker.now.places.items steps
+        (set : Set) (clause : Clause)
         → Holds chosen.now set
-        → fine ≡ list_all (is_barred catalogue.now request steps set) (map barred_of all.now)) }
+        → rule_clause_of catalogue.now request.now.lines (step_of step.now) ≡ Some clause
+        → fine ≡ list_all (clause_bars set clause) (map barred_of wishes.now)) }
 {
-    let versions = catalogue.versions();
-    // The proof rests on what this says: no two keys have one number.
-    let _count = checker.numbers.count();
-    let atoms = atoms_of(alloc, &checker.numbers, versions.len())?;
-    Ok(each_bars(chosen, versions, &atoms, &checker.clauses, all))
+    match clause_of(alloc, catalogue, request, step)? {
+        Some(clause) => Ok(rule_bars(chosen, catalogue.versions(), &clause, wishes)),
+        None => Ok(false),
+    }
+}
+
+/// Whether the step's clause bars each of the wishes: it has no literal but `not` of the wish, or of an entry above its line.
+pub fn step_bars(
+    alloc: Global,
+    catalogue: &Catalogue,
+    request: &Request,
+    chosen: &Chosen,
+    step: &Step,
+    wishes: &[Barred],
+) -> Result<bool, AllocError>
+    ensures { IfOk result
+        (λ fine.
+        (set : Set) (clause : Clause)
+        → Holds chosen.now set
+        → clause_of_lem catalogue.now request.now.lines (step_of step.now) ≡ Some clause
+        → fine ≡ list_all (clause_bars set clause) (map barred_of wishes.now)) }
+{
+    if wishes.is_empty() {
+        return Ok(true);
+    }
+    if let Step::Derive { literals, .. } = step {
+        return Ok(derived_bars(chosen, literals, wishes));
+    }
+    rule_step_bars(alloc, catalogue, request, chosen, step, wishes)
 }

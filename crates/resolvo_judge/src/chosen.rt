@@ -97,6 +97,18 @@ impl Chosen {
         }
     }
 
+    /// Whether the version is among the first so many.
+    pub fn has_among(&self, version: &Version, first: usize) -> bool
+        ensures { (set : Set)
+            → Holds self.now set
+            → result ≡ is_member (version_of version.now) (take first set) }
+    {
+        match self.pick(&version.name) {
+            Some(pick) => version.number == pick.number && pick.index < first,
+            None => false,
+        }
+    }
+
     /// Whether a version of this version's package is chosen.
     pub fn has_package_of(&self, version: &Version) -> bool
         ensures { (set : Set)

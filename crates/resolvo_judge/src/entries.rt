@@ -15,6 +15,7 @@ ghost use Rattle.resolvo_judge.specs.Chosen.{Holds};
 ghost use Rattle.resolvo_judge.specs.Entries.{may_enter as may_enter_lem, is_place_taken as is_place_taken_lem, gives as gives_lem, is_reason as is_reason_lem, is_wish as is_wish_lem, answer_fits, entries_of};
 ghost use Rattle.resolvo_judge.specs.KeptAnswers.{KeepsAnswers, KeepsLines, IsWishTold, AreWishesTold, is_after};
 
+use crate::barred_wishes::BarredWishes;
 use crate::chosen::Chosen;
 use crate::versions::Versions;
 use resolvo_catalogue_core::{Catalogue, Request, Rule, Spec, Version};
@@ -25,20 +26,12 @@ use resolvo_text::matches;
 use std::alloc::{AllocError, Global};
 use std::collections::HashMap;
 
-/// A wish that is left out, the step that bars it, and how many entries stand above its line.
-#[derive(Drop)]
-pub struct Barred {
-    pub wish: Version,
-    pub step: u32,
-    pub above: usize,
-}
-
 /// The entries and left-out wishes so far.
 #[derive(Drop)]
 pub struct Entries {
     pub chosen: Chosen,
     pub out: Versions,
-    pub barred: Vec<Barred>,
+    pub barred: BarredWishes,
     /// The steps that bar the left-out wishes, by their request lines.
     pub lines: HashMap<u32, u32>,
     /// The last request line that a `wished` or `left out` line named.
@@ -93,7 +86,7 @@ impl Entries {
         Entries {
             chosen: Chosen::new(alloc),
             out: Versions::new(alloc),
-            barred: Vec::new(alloc),
+            barred: BarredWishes::new(alloc),
             lines: HashMap::new(alloc),
             last_wish: None,
         }
@@ -286,11 +279,8 @@ impl Entries {
             return Ok(false);
         }
         self.out.add(alloc, version)?;
-        self.barred.push(Barred {
-            wish: version.copy()?,
-            step,
-            above: self.chosen.count(),
-        })?;
+        let above = self.chosen.count();
+        self.barred.add(alloc, version, step, above)?;
         self.lines.insert(line, step)?;
         self.last_wish = Some(line);
         Ok(true)

@@ -1,26 +1,29 @@
 //! The lines of a report below its first one, taken one after the other.
 //! What is kept stands for the lines so far: `LogStands` for named lines and steps, `KeepsAnswers` for the entries.
 
-ghost use Rattle.std.specs.Prelude.{◌≡◌, ◌+◌, ◌^◌, ◌<◌, ◌≤◌, [], ◌∷◌, ◌++◌, List, IfOk, IsTrue, length, true, false};
+ghost use Rattle.std.specs.Prelude.{◌≡◌, ◌+◌, ◌^◌, ◌<◌, ◌≤◌, [], ◌∷◌, ◌++◌, ℕ, List, IfOk, IsTrue, length, true, false};
 ghost use Rattle.resolvo_catalogue_core.specs.Listed.{listed};
-ghost use Rattle.resolvo_report.specs.Value.{Report as SaidReport, ReportLine as SaidLine};
+ghost use Rattle.resolvo_report.specs.Value.{Report as SaidReport, ReportLine as SaidLine, Numbered};
 ghost use Rattle.resolvo_report.specs.Text.{report_lines};
-ghost use Rattle.resolvo_report.specs.View.{report_line_of};
+ghost use Rattle.resolvo_report.specs.View.{report_line_of, step_of};
+ghost use Rattle.resolvo_checker.specs.CheckStep.{causes_in as causes_in_lem};
 ghost use Rattle.resolvo_judge.specs.Refusal.{passes, answers_in, is_refusal as is_refusal_lem, ArePassed};
 ghost use Rattle.resolvo_judge.specs.Log.{LogStands, is_head, causes_of_line as causes_of_line_lem};
 ghost use Rattle.resolvo_judge.specs.KeptAnswers.{KeepsAnswers, KeepsLines};
+ghost use Rattle.resolvo_judge.specs.Bars.{TellsBarred};
 ghost use Rattle.resolvo_judge.specs.JudgeState.{Stands, EndsSo};
 
-use crate::bar::are_barred;
+use crate::bar::step_bars;
 use crate::end_rules::keeps_all;
 use crate::entries::Entries;
 use crate::log::{
     ProofState, install_log, refusal_log, take_catalogue_line, take_request_line, take_step,
 };
 use resolvo_catalogue_core::{Catalogue, Request};
-use resolvo_checker::clauses::Readings;
+use resolvo_checker::check_step::are_earlier;
+use resolvo_checker::clauses::Clauses;
 use resolvo_checker::proof::causes_in;
-use resolvo_report::ReportLine;
+use resolvo_report::{ReportLine, Step};
 use std::alloc::{AllocError, Global};
 
 /// What is kept of the lines so far.
@@ -29,6 +32,8 @@ pub struct JudgeState {
     pub refused: bool,
     pub log: ProofState,
     pub entries: Entries,
+    /// Each left-out wish whose step was taken is barred by it.
+    pub barred: bool,
 }
 
 // split for the prover: what owns one calls this drop, and doesn't drop each field at each exit
@@ -38,6 +43,7 @@ impl Drop for JudgeState {
             refused: _,
             log: _,
             entries: _,
+            barred: _,
         } = self;
     }
 }
@@ -50,10 +56,10 @@ pub fn begin(
     first: &ReportLine,
 ) -> Result<JudgeState, AllocError>
     requires { is_head (report_line_of first.now) ≡ true }
-    ensures stands { IfOk result (λ j. Stands catalogue.now request.now.lines j (report_line_of first.now ∷ [])) }
-    ensures later { IfOk result (λ j. j.log.checker.truth.pass ≤ length j.log.checker.clauses) }
+    ensures stands { IfOk result
+        (λ j. Stands catalogue.now request.now.lines j [] (report_line_of first.now ∷ [])) }
+    ensures pass { IfOk result (λ j. j.log.checker.truth.pass ≡ 0) }
     ensures long { IfOk result (λ j. length j.log.checker.places.items ≡ length (listed catalogue.now)) }
-    ensures count { IfOk result (λ j. length j.log.checker.clauses ≡ 0) }
     ensures few { IfOk result (λ j. j.entries.chosen.count ≡ 0) }
 {
     let refused = is_refusal(first);
@@ -66,6 +72,7 @@ pub fn begin(
         refused,
         log,
         entries: Entries::new(alloc),
+        barred: true,
     })
 }
 
@@ -79,26 +86,95 @@ fn is_refusal(first: &ReportLine) -> bool
     }
 }
 
+/// Takes a step, and asks it of the left-out wishes that name it: whether its line passes. Where it does, what is kept
+/// stands for it too.
+fn take_numbered(
+    alloc: Global,
+    catalogue: &Catalogue,
+    request: &Request,
+    judging: &mut JudgeState,
+    clauses: &mut Clauses,
+    step: &Step,
+) -> Result<bool, AllocError>
+    requires later { judging.old.log.checker.truth.pass ≤ length clauses.old.kept }
+    requires long { length judging.old.log.checker.places.items ≡ length (listed catalogue.now) }
+    requires short { length clauses.old.kept + 1 < 2 ^ 32 }
+    requires room { clauses.old.readings.read + causes_in_lem (step_of step.now) < 2 ^ 64 }
+    ensures answer { IfOk result
+        (λ fine.
+        (above : List SaidLine) (n : ℕ)
+        → LogStands catalogue.now request.now.lines judging.old.log.checker.numbers
+        clauses.old.kept judging.old.log.checker.places.items judging.old.log.scope
+        judging.old.log.ends_empty above
+        → fine ≡ passes catalogue.now request.now.lines above (Numbered n (step_of step.now))) }
+    ensures log { IfOk result
+        (λ fine.
+        IsTrue fine
+        → (above : List SaidLine) (n : ℕ)
+        → LogStands catalogue.now request.now.lines judging.old.log.checker.numbers
+        clauses.old.kept judging.old.log.checker.places.items judging.old.log.scope
+        judging.old.log.ends_empty above
+        → LogStands catalogue.now request.now.lines judging.new.log.checker.numbers
+        clauses.new.kept judging.new.log.checker.places.items judging.new.log.scope
+        judging.new.log.ends_empty (above ++ Numbered n (step_of step.now) ∷ [])) }
+    ensures barred { IfOk result
+        (λ fine.
+        IsTrue fine
+        → (above : List SaidLine) (n : ℕ)
+        → LogStands catalogue.now request.now.lines judging.old.log.checker.numbers
+        clauses.old.kept judging.old.log.checker.places.items judging.old.log.scope
+        judging.old.log.ends_empty above
+        → KeepsAnswers judging.old.entries (answers_in above)
+        → TellsBarred catalogue.now request.now.lines judging.old.barred above
+        → TellsBarred catalogue.now request.now.lines judging.new.barred
+        (above ++ Numbered n (step_of step.now) ∷ [])) }
+    ensures entries { judging.new.entries ≡ judging.old.entries }
+    ensures refused { judging.new.refused ≡ judging.old.refused }
+    ensures later { IfOk result
+        (λ fine. IsTrue fine → judging.new.log.checker.truth.pass ≤ length clauses.new.kept) }
+    ensures long { IfOk result
+        (λ fine.
+        IsTrue fine
+        → length judging.new.log.checker.places.items ≡ length (listed catalogue.now)) }
+    ensures count { IfOk result (λ fine. IsTrue fine → length clauses.new.kept ≡ length clauses.old.kept + 1) }
+    ensures read { IfOk result
+        (λ fine.
+        IsTrue fine
+        → clauses.new.readings
+        ≡ record clauses.old.readings
+        { read = clauses.old.readings.read + causes_in_lem (step_of step.now) }) }
+{
+    let number = clauses.len() as u32 + 1;
+    if !take_step(alloc, catalogue, request, &mut judging.log, clauses, step)? {
+        return Ok(false);
+    }
+    let wishes = judging.entries.barred.of(number);
+    let chosen = &judging.entries.chosen;
+    let bars = step_bars(alloc, catalogue, request, chosen, step, wishes)?;
+    judging.barred = judging.barred && bars;
+    Ok(true)
+}
+
 /// Takes a line below the first one: whether it passes. Where it does, what is kept stands for it too.
 fn take_line(
     alloc: Global,
     catalogue: &Catalogue,
     request: &Request,
     judging: &mut JudgeState,
-    readings: &mut Readings,
+    clauses: &mut Clauses,
     line: &ReportLine,
 ) -> Result<bool, AllocError>
-    requires later { judging.old.log.checker.truth.pass ≤ length judging.old.log.checker.clauses }
+    requires later { judging.old.log.checker.truth.pass ≤ length clauses.old.kept }
     requires long { length judging.old.log.checker.places.items ≡ length (listed catalogue.now) }
-    requires short { length judging.old.log.checker.clauses + 1 < 2 ^ 32 }
+    requires short { length clauses.old.kept + 1 < 2 ^ 32 }
     requires few { judging.old.entries.chosen.count < 2 ^ 32 }
-    requires room { readings.old.read + causes_of_line_lem (report_line_of line.now) < 2 ^ 64 }
+    requires room { clauses.old.readings.read + causes_of_line_lem (report_line_of line.now) < 2 ^ 64 }
     ensures answer { IfOk result
         (λ fine.
         (above : List SaidLine)
         → LogStands catalogue.now request.now.lines judging.old.log.checker.numbers
-        judging.old.log.checker.clauses judging.old.log.checker.places.items
-        judging.old.log.scope judging.old.log.ends_empty above
+        clauses.old.kept judging.old.log.checker.places.items judging.old.log.scope
+        judging.old.log.ends_empty above
         → KeepsAnswers judging.old.entries (answers_in above)
         → fine ≡ passes catalogue.now request.now.lines above (report_line_of line.now)) }
     ensures log { IfOk result
@@ -107,12 +183,11 @@ fn take_line(
         → (above : List SaidLine)
         → is_head (report_line_of line.now) ≡ false
         → LogStands catalogue.now request.now.lines judging.old.log.checker.numbers
-        judging.old.log.checker.clauses judging.old.log.checker.places.items
-        judging.old.log.scope judging.old.log.ends_empty above
+        clauses.old.kept judging.old.log.checker.places.items judging.old.log.scope
+        judging.old.log.ends_empty above
         → LogStands catalogue.now request.now.lines judging.new.log.checker.numbers
-        judging.new.log.checker.clauses judging.new.log.checker.places.items
-        judging.new.log.scope judging.new.log.ends_empty
-        (above ++ report_line_of line.now ∷ [])) }
+        clauses.new.kept judging.new.log.checker.places.items judging.new.log.scope
+        judging.new.log.ends_empty (above ++ report_line_of line.now ∷ [])) }
     ensures entries { IfOk result
         (λ fine.
         IsTrue fine
@@ -128,28 +203,35 @@ fn take_line(
         → KeepsLines request.now.lines judging.old.entries (answers_in above)
         → KeepsLines request.now.lines judging.new.entries
         (answers_in (above ++ report_line_of line.now ∷ []))) }
-    ensures refused { judging.new.refused ≡ judging.old.refused }
-    ensures later { IfOk result
+    ensures barred { IfOk result
         (λ fine.
         IsTrue fine
-        → judging.new.log.checker.truth.pass ≤ length judging.new.log.checker.clauses) }
+        → (above : List SaidLine)
+        → is_head (report_line_of line.now) ≡ false
+        → LogStands catalogue.now request.now.lines judging.old.log.checker.numbers
+        clauses.old.kept judging.old.log.checker.places.items judging.old.log.scope
+        judging.old.log.ends_empty above
+        → KeepsAnswers judging.old.entries (answers_in above)
+        → TellsBarred catalogue.now request.now.lines judging.old.barred above
+        → TellsBarred catalogue.now request.now.lines judging.new.barred
+        (above ++ report_line_of line.now ∷ [])) }
+    ensures refused { judging.new.refused ≡ judging.old.refused }
+    ensures later { IfOk result
+        (λ fine. IsTrue fine → judging.new.log.checker.truth.pass ≤ length clauses.new.kept) }
     ensures long { IfOk result
         (λ fine.
         IsTrue fine
         → length judging.new.log.checker.places.items ≡ length (listed catalogue.now)) }
-    ensures count { IfOk result
-        (λ fine.
-        IsTrue fine
-        → length judging.new.log.checker.clauses ≤ length judging.old.log.checker.clauses + 1) }
+    ensures count { IfOk result (λ fine. IsTrue fine → length clauses.new.kept ≤ length clauses.old.kept + 1) }
     ensures few { IfOk result
         (λ fine.
         IsTrue fine → judging.new.entries.chosen.count < judging.old.entries.chosen.count + 2) }
     ensures read { IfOk result
         (λ fine.
         IsTrue fine
-        → readings.new
-        ≡ record readings.old
-        { read = readings.old.read + causes_of_line_lem (report_line_of line.now) }) }
+        → clauses.new.readings
+        ≡ record clauses.old.readings
+        { read = clauses.old.readings.read + causes_of_line_lem (report_line_of line.now) }) }
 {
     match line {
         ReportLine::Install | ReportLine::Refused | ReportLine::Message { .. } => Ok(true),
@@ -166,7 +248,7 @@ fn take_line(
             Ok(fine)
         }
         ReportLine::Step { step, .. } => {
-            let fine = take_step(alloc, catalogue, request, &mut judging.log, readings, step)?;
+            let fine = take_numbered(alloc, catalogue, request, judging, clauses, step)?;
             Ok(fine)
         }
     }
@@ -189,19 +271,19 @@ pub fn take(
     catalogue: &Catalogue,
     request: &Request,
     judging: &mut JudgeState,
-    readings: &mut Readings,
+    clauses: &mut Clauses,
     line: ReportLine,
 ) -> Result<bool, AllocError>
-    requires later { judging.old.log.checker.truth.pass ≤ length judging.old.log.checker.clauses }
+    requires later { judging.old.log.checker.truth.pass ≤ length clauses.old.kept }
     requires long { length judging.old.log.checker.places.items ≡ length (listed catalogue.now) }
-    requires short { length judging.old.log.checker.clauses + 1 < 2 ^ 32 }
+    requires short { length clauses.old.kept + 1 < 2 ^ 32 }
     requires few { judging.old.entries.chosen.count < 2 ^ 32 }
-    requires room { readings.old.read + causes_of_line_lem (report_line_of line) < 2 ^ 64 }
-    requires named { readings.old.named + causes_of_line_lem (report_line_of line) < 2 ^ 64 }
+    requires room { clauses.old.readings.read + causes_of_line_lem (report_line_of line) < 2 ^ 64 }
+    requires named { clauses.old.readings.named + causes_of_line_lem (report_line_of line) < 2 ^ 64 }
     ensures answer { IfOk result
         (λ fine.
         (above : List SaidLine)
-        → Stands catalogue.now request.now.lines judging.old above
+        → Stands catalogue.now request.now.lines judging.old clauses.old.kept above
         → fine ≡ passes catalogue.now request.now.lines above (report_line_of line)) }
     ensures stands { IfOk result
         (λ fine.
@@ -209,84 +291,70 @@ pub fn take(
         → (above : List SaidLine)
         → is_head (report_line_of line) ≡ false
         → is_refusal_lem (above ++ report_line_of line ∷ []) ≡ is_refusal_lem above
-        → Stands catalogue.now request.now.lines judging.old above
-        → Stands catalogue.now request.now.lines judging.new
+        → Stands catalogue.now request.now.lines judging.old clauses.old.kept above
+        → Stands catalogue.now request.now.lines judging.new clauses.new.kept
         (above ++ report_line_of line ∷ [])) }
     ensures later { IfOk result
-        (λ fine.
-        IsTrue fine
-        → judging.new.log.checker.truth.pass ≤ length judging.new.log.checker.clauses) }
+        (λ fine. IsTrue fine → judging.new.log.checker.truth.pass ≤ length clauses.new.kept) }
     ensures long { IfOk result
         (λ fine.
         IsTrue fine
         → length judging.new.log.checker.places.items ≡ length (listed catalogue.now)) }
-    ensures count { IfOk result
-        (λ fine.
-        IsTrue fine
-        → length judging.new.log.checker.clauses ≤ length judging.old.log.checker.clauses + 1) }
+    ensures count { IfOk result (λ fine. IsTrue fine → length clauses.new.kept ≤ length clauses.old.kept + 1) }
     ensures few { IfOk result
         (λ fine.
         IsTrue fine → judging.new.entries.chosen.count < judging.old.entries.chosen.count + 2) }
     ensures read { IfOk result
         (λ fine.
         IsTrue fine
-        → readings.new.read ≡ readings.old.read + causes_of_line_lem (report_line_of line)) }
+        → clauses.new.readings.read
+        ≡ clauses.old.readings.read + causes_of_line_lem (report_line_of line)) }
     ensures named { IfOk result
         (λ fine.
         IsTrue fine
-        → readings.new.named ≡ readings.old.named + causes_of_line_lem (report_line_of line)) }
+        → clauses.new.readings.named
+        ≡ clauses.old.readings.named + causes_of_line_lem (report_line_of line)) }
 {
-    if !take_line(alloc, catalogue, request, judging, readings, &line)? {
+    if !take_line(alloc, catalogue, request, judging, clauses, &line)? {
         return Ok(false);
     }
-    readings.name(causes_of_line(&line));
+    clauses.name(causes_of_line(&line));
     Ok(true)
 }
 
-/// Whether an `install` report may end after its lines.
+/// Whether an `install` report may end after its lines: the entries keep all rules, each wish is told, and the step of each
+/// left-out wish is there and bars it.
 fn installs(
-    alloc: Global,
     catalogue: &Catalogue,
     request: &Request,
     judging: &JudgeState,
-) -> Result<bool, AllocError>
-    ensures { IfOk result
-        (λ fine.
-        (r : SaidReport)
+    clauses: &Clauses,
+) -> bool
+    ensures { (r : SaidReport)
         → is_refusal_lem (report_lines r) ≡ false
-        → ArePassed catalogue.now request.now.lines (report_lines r)
-        → Stands catalogue.now request.now.lines judging.now (report_lines r)
-        → EndsSo catalogue.now request.now.lines (report_lines r) fine) }
+        → Stands catalogue.now request.now.lines judging.now clauses.now.kept (report_lines r)
+        → EndsSo catalogue.now request.now.lines (report_lines r) result }
 {
     let entries = &judging.entries;
     if !keeps_all(&entries.chosen, catalogue, request) || !entries.are_wishes_told(request) {
-        return Ok(false);
+        return false;
     }
-    are_barred(
-        alloc,
-        catalogue,
-        &judging.log.checker,
-        &entries.chosen,
-        &entries.barred,
-    )
+    judging.barred && are_earlier(entries.barred.steps(), clauses.len())
 }
 
 /// Whether the report may end after its lines, all of which passed.
 pub fn may_end(
-    alloc: Global,
     catalogue: &Catalogue,
     request: &Request,
     judging: &JudgeState,
-) -> Result<bool, AllocError>
-    ensures { IfOk result
-        (λ fine.
-        (r : SaidReport)
-        → ArePassed catalogue.now request.now.lines (report_lines r)
-        → Stands catalogue.now request.now.lines judging.now (report_lines r)
-        → EndsSo catalogue.now request.now.lines (report_lines r) fine) }
+    clauses: &Clauses,
+) -> bool
+    ensures { (r : SaidReport)
+        → Stands catalogue.now request.now.lines judging.now clauses.now.kept (report_lines r)
+        → EndsSo catalogue.now request.now.lines (report_lines r) result }
 {
     if judging.refused {
-        return Ok(judging.log.ends_empty);
+        return judging.log.ends_empty;
     }
-    installs(alloc, catalogue, request, judging)
+    installs(catalogue, request, judging, clauses)
 }

@@ -3,13 +3,13 @@
 //! It takes the report line by line and holds one line at a time, beside what it keeps of those above. A registry can
 //! run it on reports from strangers: its yes alone implies that the report's claim is true.
 
-ghost use Rattle.std.specs.Prelude.{◌≡◌, IfOk, IfErr};
+ghost use Rattle.std.specs.Prelude.{◌≡◌, [], IfOk, IfErr};
 ghost use Rattle.resolvo_text.specs.Device.{IfKnown, DeviceFailed};
-ghost use Rattle.resolvo_judge.specs.Judgement.{IsVerdict, ClaimsTruth, CountsReadings, IsJudgeFault, IsStop, none_read};
+ghost use Rattle.resolvo_judge.specs.Judgement.{IsVerdict, ClaimsTruth, CountsReadings, IsJudgeFault, IsStop};
 
 use crate::judge_state::{begin, may_end, take};
 use resolvo_catalogue_core::{Catalogue, Request, Source};
-use resolvo_checker::clauses::Readings;
+use resolvo_checker::clauses::{Clauses, Readings};
 use resolvo_report::{ReportFault, ReportReader};
 use std::alloc::{AllocError, Global};
 use thiserror::Error;
@@ -60,16 +60,18 @@ fn judge_lines<S: Source>(
     catalogue: &Catalogue,
     request: &Request,
     source: &mut S,
-    readings: &mut Readings,
+    clauses: &mut Clauses,
 ) -> Result<Verdict, ReportFault>
-    requires { readings.old ≡ none_read }
+    requires kept { clauses.old.kept ≡ [] }
+    requires named { clauses.old.readings.named ≡ 0 }
+    requires read { clauses.old.readings.read ≡ 0 }
     ensures verdict { IfOk result
         (λ verdict.
         IfKnown (S.left source.old)
         (λ text. IsVerdict catalogue.now request.now.lines text verdict)) }
     ensures counted { IfOk result
         (λ verdict.
-        IfKnown (S.left source.old) (λ text. CountsReadings text verdict readings.new)) }
+        IfKnown (S.left source.old) (λ text. CountsReadings text verdict clauses.new.readings)) }
     ensures fault { IfErr result
         (λ e.
         IsStop catalogue.now request.now.lines e (S.left source.old) (S.left source.new)
@@ -84,12 +86,12 @@ fn judge_lines<S: Source>(
     drop(first);
     let mut number = 2;
     while let Some(line) = reader.next(alloc, source)? {
-        if !take(alloc, catalogue, request, &mut judging, readings, line)? {
+        if !take(alloc, catalogue, request, &mut judging, clauses, line)? {
             return Ok(Verdict::No(number));
         }
         number += 1;
     }
-    if may_end(alloc, catalogue, request, &judging)? {
+    if may_end(catalogue, request, &judging, clauses) {
         Ok(Verdict::Yes)
     } else {
         Ok(Verdict::No(number))
@@ -121,15 +123,20 @@ pub fn judge_counted<S: Source>(
         (DeviceFailed (S.failures source.old) (S.failures source.new)
         (S.interruptions source.new))) }
 {
-    let mut readings = Readings::new();
-    let verdict = match judge_lines(alloc, catalogue, request, source, &mut readings) {
-        Ok(verdict) => verdict,
-        Err(ReportFault::NotAReport(line)) => Verdict::No(line),
-        Err(ReportFault::Reader) => return Err(JudgeFault::Reader),
-        Err(ReportFault::TooLong) => return Err(JudgeFault::TooLong),
-        Err(ReportFault::Memory) => return Err(JudgeFault::Memory),
-    };
-    Ok(Judged { verdict, readings })
+    let mut clauses = Clauses::new(alloc);
+    match judge_lines(alloc, catalogue, request, source, &mut clauses) {
+        Ok(verdict) => Ok(Judged {
+            verdict,
+            readings: clauses.readings(),
+        }),
+        Err(ReportFault::NotAReport(line)) => Ok(Judged {
+            verdict: Verdict::No(line),
+            readings: clauses.readings(),
+        }),
+        Err(ReportFault::Reader) => Err(JudgeFault::Reader),
+        Err(ReportFault::TooLong) => Err(JudgeFault::TooLong),
+        Err(ReportFault::Memory) => Err(JudgeFault::Memory),
+    }
 }
 
 /// Whether the report that the device gives holds for the catalogue and the request, and where it doesn't.

@@ -1,13 +1,13 @@
 //! What a proof and a verdict show, for those who rest on them. Each is a function that does nothing.
 
-ghost use Rattle.std.specs.Prelude.{◌≡◌, ℕ, List, Some, true, slice_get, ◌∷◌, map};
+ghost use Rattle.std.specs.Prelude.{◌≡◌, ℕ, List, Some, true, slice_get, [], ◌∷◌, ◌++◌, map};
 ghost use Rattle.std.specs.List.{AllByRecursion};
 ghost use Rattle.resolvo_text.specs.Line.{Version, Line};
 ghost use Rattle.resolvo_text.specs.Matches.{Set};
 ghost use Rattle.resolvo_catalogue_core.specs.Sets.{AreRefuted};
 ghost use Rattle.resolvo_catalogue_core.specs.Answers.{ClaimsInstall, ClaimsRefusal};
 ghost use Rattle.resolvo_report.specs.Value.{Step, ReportLine, InstallHead, RefusedHead, Message, Refused};
-ghost use Rattle.resolvo_report.specs.Text.{HasText, report_text};
+ghost use Rattle.resolvo_report.specs.Text.{HasText, lines_text, report_text};
 ghost use Rattle.resolvo_judge.specs.Refusal.{IsAccepted, answers_claimed, catalogue_lines_in, request_lines_in};
 ghost use Rattle.resolvo_checker.specs.StepClauses.{Clause, clause_of};
 ghost use Rattle.resolvo_checker.specs.Proof.{IsProof, is_named, every_line, ends_empty, bars, AreApart, ObeysLines, IsTrueIn};
@@ -76,7 +76,7 @@ pub fn upheld_texts_are_refused_nowhere()
         → ⊥ }
 {}
 
-/// The message of a refused report changes nothing: with other lines of message in its place, or with none, the judge says the same.
+/// The message of a refused report takes no yes away: with other lines of message in its place, or with none, it is upheld too.
 pub fn messages_change_nothing()
     ensures { (catalogue request : List Line) (catalogue_lines request_lines : List ℕ) (steps : List Step)
         (message other : List (List ℕ))
@@ -87,4 +87,16 @@ pub fn messages_change_nothing()
         → IsUpheld catalogue request
         (report_text (Refused catalogue_lines request_lines steps other))
         (Refused catalogue_lines request_lines steps other) }
+{}
+
+/// Other bytes in a line of message change no place of refusal: below lines that have the form of a report's, the text is refused
+/// where it was. So with other bytes in as many lines of message the judge says the same.
+pub fn message_bytes_change_nothing()
+    ensures { (catalogue request : List Line) (above : List ReportLine) (bytes other below : List ℕ)
+        (n : ℕ)
+        → AllByRecursion HasText above
+        → HasText (Message bytes)
+        → HasText (Message other)
+        → IsRefusedAt catalogue request (lines_text (above ++ Message bytes ∷ []) ++ below) n
+        → IsRefusedAt catalogue request (lines_text (above ++ Message other ∷ []) ++ below) n }
 {}

@@ -2,6 +2,7 @@
 #![tactic(auto)]
 
 mod bar;
+mod barred_wishes;
 mod chosen;
 mod end_rules;
 mod entries;
@@ -14,8 +15,9 @@ mod versions;
 
 pub use judgement::{JudgeFault, Judged, Verdict, judge, judge_counted};
 pub use laws::{
-    accepted_install_is_true, accepted_refusal_is_true, messages_change_nothing, places_are_one,
-    proof_bars, proof_refutes, steps_are_true, upheld_texts_are_refused_nowhere,
+    accepted_install_is_true, accepted_refusal_is_true, message_bytes_change_nothing,
+    messages_change_nothing, places_are_one, proof_bars, proof_refutes, steps_are_true,
+    upheld_texts_are_refused_nowhere,
 };
 pub use resolvo_checker::check_step::Premises;
 pub use resolvo_checker::clauses::Readings;

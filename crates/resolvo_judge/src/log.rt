@@ -5,6 +5,7 @@ ghost use Rattle.std.specs.Prelude.{◌≡◌, ◌+◌, ◌^◌, ◌<◌, ◌≤
 ghost use Rattle.resolvo_catalogue_core.specs.Listed.{listed};
 ghost use Rattle.resolvo_report.specs.Value.{ReportLine, InstallHead, RefusedHead, CatalogueLine, RequestLine, Numbered};
 ghost use Rattle.resolvo_report.specs.View.{step_of};
+ghost use Rattle.resolvo_checker.specs.declared.literal.Literal.{Literal};
 ghost use Rattle.resolvo_checker.specs.CheckStep.{causes_in, names_catalogue, names_request};
 ghost use Rattle.resolvo_checker.specs.Proof.{derives_empty as derives_empty_lem};
 ghost use Rattle.resolvo_judge.specs.Refusal.{passes, states_rule};
@@ -15,7 +16,7 @@ ghost use Rattle.resolvo_judge.specs.Log.{LogStands};
 use crate::named::{is_rule, name_in_catalogue, name_in_request};
 use resolvo_catalogue_core::{Catalogue, Request};
 use resolvo_checker::check_step::{Checker, Premises, advance};
-use resolvo_checker::clauses::Readings;
+use resolvo_checker::clauses::Clauses;
 use resolvo_checker::proof::begin;
 use resolvo_report::Step;
 use std::alloc::{AllocError, Global};
@@ -37,11 +38,10 @@ pub fn install_log(
 ) -> Result<ProofState, AllocError>
     ensures stands { IfOk result
         (λ l.
-        LogStands catalogue.now request.now.lines l.checker.numbers l.checker.clauses
-        l.checker.places.items l.scope l.ends_empty (InstallHead ∷ [])) }
-    ensures later { IfOk result (λ l. l.checker.truth.pass ≤ length l.checker.clauses) }
+        LogStands catalogue.now request.now.lines l.checker.numbers [] l.checker.places.items
+        l.scope l.ends_empty (InstallHead ∷ [])) }
+    ensures pass { IfOk result (λ l. l.checker.truth.pass ≡ 0) }
     ensures long { IfOk result (λ l. length l.checker.places.items ≡ length (listed catalogue.now)) }
-    ensures count { IfOk result (λ l. length l.checker.clauses ≡ 0) }
 {
     Ok(ProofState {
         checker: begin(alloc, catalogue, request)?,
@@ -58,11 +58,10 @@ pub fn refusal_log(
 ) -> Result<ProofState, AllocError>
     ensures stands { IfOk result
         (λ l.
-        LogStands catalogue.now request.now.lines l.checker.numbers l.checker.clauses
-        l.checker.places.items l.scope l.ends_empty (RefusedHead ∷ [])) }
-    ensures later { IfOk result (λ l. l.checker.truth.pass ≤ length l.checker.clauses) }
+        LogStands catalogue.now request.now.lines l.checker.numbers [] l.checker.places.items
+        l.scope l.ends_empty (RefusedHead ∷ [])) }
+    ensures pass { IfOk result (λ l. l.checker.truth.pass ≡ 0) }
     ensures long { IfOk result (λ l. length l.checker.places.items ≡ length (listed catalogue.now)) }
-    ensures count { IfOk result (λ l. length l.checker.clauses ≡ 0) }
 {
     Ok(ProofState {
         checker: begin(alloc, catalogue, request)?,
@@ -89,43 +88,39 @@ pub fn take_step(
     catalogue: &Catalogue,
     request: &Request,
     log: &mut ProofState,
-    readings: &mut Readings,
+    clauses: &mut Clauses,
     step: &Step,
 ) -> Result<bool, AllocError>
-    requires later { log.old.checker.truth.pass ≤ length log.old.checker.clauses }
+    requires later { log.old.checker.truth.pass ≤ length clauses.old.kept }
     requires long { length log.old.checker.places.items ≡ length (listed catalogue.now) }
-    requires short { length log.old.checker.clauses + 1 < 2 ^ 32 }
-    requires room { readings.old.read + causes_in (step_of step.now) < 2 ^ 64 }
+    requires short { length clauses.old.kept + 1 < 2 ^ 32 }
+    requires room { clauses.old.readings.read + causes_in (step_of step.now) < 2 ^ 64 }
     ensures answer { IfOk result
         (λ fine.
         (above : List ReportLine) (n : ℕ)
-        → LogStands catalogue.now request.now.lines log.old.checker.numbers
-        log.old.checker.clauses log.old.checker.places.items log.old.scope
-        log.old.ends_empty above
+        → LogStands catalogue.now request.now.lines log.old.checker.numbers clauses.old.kept
+        log.old.checker.places.items log.old.scope log.old.ends_empty above
         → fine ≡ passes catalogue.now request.now.lines above (Numbered n (step_of step.now))) }
     ensures stands { IfOk result
         (λ fine.
         IsTrue fine
         → (above : List ReportLine) (n : ℕ)
-        → LogStands catalogue.now request.now.lines log.old.checker.numbers
-        log.old.checker.clauses log.old.checker.places.items log.old.scope
-        log.old.ends_empty above
-        → LogStands catalogue.now request.now.lines log.new.checker.numbers
-        log.new.checker.clauses log.new.checker.places.items log.new.scope
-        log.new.ends_empty (above ++ Numbered n (step_of step.now) ∷ [])) }
-    ensures later { IfOk result
-        (λ fine. IsTrue fine → log.new.checker.truth.pass ≤ length log.new.checker.clauses) }
+        → LogStands catalogue.now request.now.lines log.old.checker.numbers clauses.old.kept
+        log.old.checker.places.items log.old.scope log.old.ends_empty above
+        → LogStands catalogue.now request.now.lines log.new.checker.numbers clauses.new.kept
+        log.new.checker.places.items log.new.scope log.new.ends_empty
+        (above ++ Numbered n (step_of step.now) ∷ [])) }
+    ensures later { IfOk result (λ fine. IsTrue fine → log.new.checker.truth.pass ≤ length clauses.new.kept) }
     ensures long { IfOk result
         (λ fine.
         IsTrue fine → length log.new.checker.places.items ≡ length (listed catalogue.now)) }
-    ensures count { IfOk result
-        (λ fine.
-        IsTrue fine → length log.new.checker.clauses ≡ length log.old.checker.clauses + 1) }
+    ensures count { IfOk result (λ fine. IsTrue fine → length clauses.new.kept ≡ length clauses.old.kept + 1) }
     ensures read { IfOk result
         (λ fine.
         IsTrue fine
-        → readings.new
-        ≡ record readings.old { read = readings.old.read + causes_in (step_of step.now) }) }
+        → clauses.new.readings
+        ≡ record clauses.old.readings
+        { read = clauses.old.readings.read + causes_in (step_of step.now) }) }
 {
     let fine = advance(
         alloc,
@@ -133,7 +128,7 @@ pub fn take_step(
         request,
         &log.scope,
         &mut log.checker,
-        readings,
+        clauses,
         step,
     )?;
     log.ends_empty = derives_empty(step);
@@ -153,10 +148,10 @@ pub fn take_catalogue_line(
     ensures stands { IfOk result
         (λ fine.
         IsTrue fine
-        → (request : List Line) (above : List ReportLine)
-        → LogStands catalogue.now request log.old.checker.numbers log.old.checker.clauses
+        → (request : List Line) (clauses : List (List Literal)) (above : List ReportLine)
+        → LogStands catalogue.now request log.old.checker.numbers clauses
         log.old.checker.places.items log.old.scope log.old.ends_empty above
-        → LogStands catalogue.now request log.new.checker.numbers log.new.checker.clauses
+        → LogStands catalogue.now request log.new.checker.numbers clauses
         log.new.checker.places.items log.new.scope log.new.ends_empty
         (above ++ CatalogueLine line ∷ [])) }
     ensures checker { log.new.checker ≡ log.old.checker }
@@ -178,10 +173,10 @@ pub fn take_request_line(
     ensures stands { IfOk result
         (λ fine.
         IsTrue fine
-        → (catalogue : List Line) (above : List ReportLine)
-        → LogStands catalogue request.now.lines log.old.checker.numbers log.old.checker.clauses
+        → (catalogue : List Line) (clauses : List (List Literal)) (above : List ReportLine)
+        → LogStands catalogue request.now.lines log.old.checker.numbers clauses
         log.old.checker.places.items log.old.scope log.old.ends_empty above
-        → LogStands catalogue request.now.lines log.new.checker.numbers log.new.checker.clauses
+        → LogStands catalogue request.now.lines log.new.checker.numbers clauses
         log.new.checker.places.items log.new.scope log.new.ends_empty
         (above ++ RequestLine line ∷ [])) }
     ensures checker { log.new.checker ≡ log.old.checker }

@@ -7,11 +7,11 @@ use Rattle.resolvo_checker.proofs.proof.check_from.Given as goal
 
 abbrev pub invariant-loop-at : goal.invariant-loop-at
 invariant-loop-at l = record {
-  stands : StandFor l.catalogue l.request.lines l.checker.numbers l.checker.clauses l.checker.places.items (steps_of (take l.at l.steps));
+  stands : StandFor l.catalogue l.request.lines l.checker.numbers l.clauses.kept l.checker.places.items (steps_of (take l.at l.steps));
   proof : IsProof l.catalogue l.request.lines (names_catalogue l.scope) (names_request l.scope) (steps_of (take l.at l.steps));
-  later : l.checker.truth.pass ≤ length l.checker.clauses;
-  count : length l.checker.clauses ≡ l.at;
+  later : l.checker.truth.pass ≤ length l.clauses.kept;
+  count : length l.clauses.kept ≡ l.at;
   long : length l.checker.places.items ≡ length (listed l.catalogue);
-  named : l.readings.named ≡ count_causes (steps_of (take l.at l.steps));
-  read : l.readings.read ≡ count_causes (steps_of (take l.at l.steps));
+  named : l.clauses.readings.named ≡ count_causes (steps_of (take l.at l.steps));
+  read : l.clauses.readings.read ≡ count_causes (steps_of (take l.at l.steps));
 }

@@ -1,16 +1,22 @@
-use Rattle.std.proofs.Common.{◌≡◌, ap, ◌∙◌, ◌+◌, ℕ, arith}
+use Rattle.std.proofs.Common.{◌≡◌, ap, sym, ◌∙◌, ◌+◌, ◌-◌, ℕ, List, get_or, arith, Some}
+use Rattle.std.specs.Prelude.{slice_get}
 use Rattle.resolvo_checker.specs.declared.clauses.Readings.{Readings}
+use Rattle.resolvo_checker.specs.declared.literal.Literal.{Literal}
 use Rattle.resolvo_checker.specs.Truth.{known_in}
 use Rattle.resolvo_checker.proofs.ReadLemmas.{refutes-more}
 use Rattle.resolvo_checker.proofs.rup.is_rup.Goals as goal
 
 pub loop-cause-preserved : goal.loop-cause-preserved
 loop-cause-preserved c =
-    let more : c.args.readings.now.read + c.loop-cause.cause-index + 1 ≡ c.args.readings.now.read + (c.loop-cause.cause-index + 1) = omega arith in
+    let more : c.args.clauses.now.readings.read + c.loop-cause.cause-index + 1 ≡ c.args.clauses.now.readings.read + (c.loop-cause.cause-index + 1) = omega arith in
+    let step = get_or c.args.causes.now c.loop-cause.cause-index 0 - 1 in
+    let given : slice_get c.args.clauses.now.kept step ≡ Some c.deref.result.now =
+    ap (λ (ks : List (List Literal)). slice_get ks step) (sym c.loop-cause.invariant.kept) ∙ (c.in_ok-clause.ensures.clause ∙ ap Some (sym c.deref.ensures.value)) in
     record {
       answer = rw (c.in_ok-refuted.ensures.broken, c.in_ok-refuted.ensures.known)
-          (refutes-more c.args.clauses.now c.args.causes.now c.loop-cause.cause-index 0 (known_in c.loop-cause.truth.marks.items c.loop-cause.truth.pass) c.clause-clause.result.now c.loop-cause.refuted c.loop-cause-test.true c.clause-clause.ensures.clause
+          (refutes-more c.args.clauses.now.kept c.args.causes.now c.loop-cause.cause-index 0 (known_in c.loop-cause.truth.marks.items c.loop-cause.truth.pass) c.deref.result.now c.loop-cause.refuted c.loop-cause-test.true given
           ∙ c.loop-cause.invariant.answer);
-      read = c.clause-clause.ensures.read ∙ (ap (λ (r : Readings). record r { read = r.read + 1 }) c.loop-cause.invariant.read ∙ ap (λ (n : ℕ). record c.args.readings.now { read = n }) more);
+      kept = c.in_ok-clause.ensures.kept ∙ c.loop-cause.invariant.kept;
+      read = c.in_ok-clause.ensures.read ∙ (ap (λ (r : Readings). record r { read = r.read + 1 }) c.loop-cause.invariant.read ∙ ap (λ (n : ℕ). record c.args.clauses.now.readings { read = n }) more);
       pass = c.in_ok-refuted.ensures.pass ∙ c.loop-cause.invariant.pass;
     }

@@ -7,7 +7,8 @@ use Rattle.resolvo_checker.proofs.rup.is_rup.Given as goal
 
 abbrev pub invariant-loop-cause : goal.invariant-loop-cause
 invariant-loop-cause l = record {
-  answer : (l.refuted || refutes nat_eq (known_in l.truth.marks.items l.truth.pass) (map (clause_at l.clauses) (drop l.cause-index l.causes))) ≡ one_pass nat_eq (literals_of l.fn.denied) (map (clause_at l.clauses) l.causes);
-  read : l.readings ≡ record l.fn.readings { read = l.fn.readings.read + l.cause-index };
+  answer : (l.refuted || refutes nat_eq (known_in l.truth.marks.items l.truth.pass) (map (clause_at l.fn.clauses.kept) (drop l.cause-index l.causes))) ≡ one_pass nat_eq (literals_of l.fn.denied) (map (clause_at l.fn.clauses.kept) l.causes);
+  kept : l.clauses.kept ≡ l.fn.clauses.kept;
+  read : l.clauses.readings ≡ record l.fn.clauses.readings { read = l.fn.clauses.readings.read + l.cause-index };
   pass : l.truth.pass ≡ l.pass;
 }

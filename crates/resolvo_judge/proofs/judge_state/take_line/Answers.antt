@@ -1,5 +1,7 @@
-use Rattle.std.proofs.Common.{◌≡◌, ap, sym, ◌∙◌}
-use Rattle.resolvo_report.specs.View.{report_line_of}
+use Rattle.std.proofs.Common.{◌≡◌, [], ◌∷◌, ◌++◌, ap, sym, subst, ◌∙◌}
+use Rattle.resolvo_report.specs.View.{report_line_of, answer_line_of}
+use Rattle.resolvo_judge.specs.Bars.{TellsBarred}
+use Rattle.resolvo_judge.proofs.BarLemmas.{tells_answer}
 use Rattle.resolvo_judge.specs.Refusal.{passes}
 use Rattle.resolvo_judge.proofs.judge_state.take_line.Goals as goal
 
@@ -14,3 +16,8 @@ returns-in_ok-fine-in-Request-clause-answer c = λ above s kept.
 pub returns-in_ok-fine-in-Step-clause-answer : goal.returns-in_ok-fine-in-Step-clause-answer
 returns-in_ok-fine-in-Step-clause-answer c = λ above s kept.
     c.in_ok-fine-in-Step.ensures.answer above c.in-Step.number s ∙ ap (λ l. passes c.args.catalogue.now c.args.request.now.lines above (report_line_of l)) (sym c.in-Step.is)
+
+pub returns-in_ok-fine-in-Answer-clause-barred : goal.returns-in_ok-fine-in-Answer-clause-barred
+returns-in_ok-fine-in-Answer-clause-barred c = λ _ above head s kept tells.
+    subst (λ l. TellsBarred c.args.catalogue.now c.args.request.now.lines c.args.judging.now.barred (above ++ report_line_of l ∷ [])) (sym c.in-Answer.is)
+    (tells_answer c.args.catalogue.now c.args.request.now.lines c.args.judging.now.barred above (answer_line_of c.in-Answer.answer) tells)

@@ -1,4 +1,4 @@
-use Rattle.std.proofs.Common.{◌≡◌, Bool, [], ◌∷◌, Option, refl, sym, ap, subst, ◌∙◌, arith}
+use Rattle.std.proofs.Common.{◌≡◌, Bool, [], ◌∷◌, List, length, Option, refl, sym, ap, subst, ◌∙◌, arith}
 use Rattle.std.specs.Prelude.{IfSome, IfNone, IsTrue}
 use Rattle.std.specs.Io.KnownBytes.{IsAtEnd}
 use Rattle.std.proofs.lemmas.Result.{err_from_is_err_and}
@@ -8,8 +8,8 @@ use Rattle.resolvo_report.specs.Text.{report_lines}
 use Rattle.resolvo_report.specs.Grammar.{may_end}
 use Rattle.resolvo_report.specs.Stream.{left, GivesLine}
 use Rattle.resolvo_report.proofs.StreamLemmas.{read_nothing}
-use Rattle.resolvo_checker.specs.declared.clauses.Readings.{Readings}
-use Rattle.resolvo_judge.specs.JudgeState.{EndsSo}
+use Rattle.resolvo_checker.specs.declared.literal.Literal.{Literal}
+use Rattle.resolvo_judge.specs.JudgeState.{Stands, EndsSo}
 use Rattle.resolvo_judge.proofs.JudgeLemmas.{reached_first, few_causes, reached_more, is_no_head, refusal_kept, refused_here, line_refused, end_refused, upheld, stops}
 use Rattle.resolvo_judge.proofs.judgement.judge_lines.Goals as goal
 
@@ -26,7 +26,7 @@ loop-judging-init g c =
     let nothing = read_nothing (g.S.Source.left c.args.source.now) _ _ _ _ _ refl r.fresh r.room r.number r.part in
     let given = subst (λ (o : Option ReportLine). IfSome o (λ (line : ReportLine). GivesLine (left c.in_ok-reader.reader (g.S.Source.left c.args.source.now)) c.in_ok-reader.reader (report_line_of line) (left c.next.new.self (g.S.Source.left c.next.new.source)) c.next.new.self)) c.in-Some.is c.in_ok-first.ensures.given in
     let j = c.in_ok-judging.ensures in
-    (reached_first c.args.catalogue.now c.args.request.now.lines _ _ _ c.in_ok-reader.reader c.next.new.self (report_line_of c.in-Some.first) c.in_ok-judging.judging c.args.readings.now nothing r.part given j.stands j.later j.long j.count j.few (ap (λ (x : Readings). x.named) c.requires) (ap (λ (x : Readings). x.read) c.requires), c.in_ok-first.ensures.failures)
+    (reached_first c.args.catalogue.now c.args.request.now.lines _ _ _ c.in_ok-reader.reader c.next.new.self (report_line_of c.in-Some.first) c.in_ok-judging.judging c.args.clauses.now nothing r.part given (subst (λ (ks : List (List Literal)). Stands c.args.catalogue.now c.args.request.now.lines c.in_ok-judging.judging ks (report_line_of c.in-Some.first ∷ [])) (sym c.requires.kept) j.stands) (omega (arith, j.pass)) j.long (ap length c.requires.kept) j.few c.requires.named c.requires.read, c.in_ok-first.ensures.failures)
 
 pub returns-in_err-line-clause-fault : goal.returns-in_err-line-clause-fault
 returns-in_err-line-clause-fault g c =
@@ -40,7 +40,7 @@ take-requires-clause-room g c =
     let r = c.loop-judging.reader in
     let next = c.next-in-loop-judging.new in
     let given = subst (λ (o : Option ReportLine). IfSome o (λ (line : ReportLine). GivesLine (left r (g.S.Source.left c.loop-judging.source)) r (report_line_of line) (left next.self (g.S.Source.left next.source)) next.self)) c.in-Some-2.is c.in_ok-line.ensures.given in
-    omega (arith, few_causes _ _ _ _ _ r next.self (report_line_of c.in-Some-2.line) c.loop-judging.judging c.loop-judging.readings _ inv.0 given, inv.0.counted)
+    omega (arith, few_causes _ _ _ _ _ r next.self (report_line_of c.in-Some-2.line) c.loop-judging.judging c.loop-judging.clauses _ inv.0 given, inv.0.counted)
 
 pub take-requires-clause-named : goal.take-requires-clause-named
 take-requires-clause-named g c =
@@ -48,7 +48,7 @@ take-requires-clause-named g c =
     let r = c.loop-judging.reader in
     let next = c.next-in-loop-judging.new in
     let given = subst (λ (o : Option ReportLine). IfSome o (λ (line : ReportLine). GivesLine (left r (g.S.Source.left c.loop-judging.source)) r (report_line_of line) (left next.self (g.S.Source.left next.source)) next.self)) c.in-Some-2.is c.in_ok-line.ensures.given in
-    omega (arith, few_causes _ _ _ _ _ r next.self (report_line_of c.in-Some-2.line) c.loop-judging.judging c.loop-judging.readings _ inv.0 given, inv.0.named)
+    omega (arith, few_causes _ _ _ _ _ r next.self (report_line_of c.in-Some-2.line) c.loop-judging.judging c.loop-judging.clauses _ inv.0 given, inv.0.named)
 
 pub returns-then-not-branch-clause-verdict : goal.returns-then-not-branch-clause-verdict
 returns-then-not-branch-clause-verdict g c =
@@ -71,27 +71,27 @@ loop-judging-preserved g c =
     let t = c.in_ok-take.ensures in
     let fine = c.if-not-branch.false in
     let lines = report_lines inv.0.report in
-    let head = is_no_head c.args.catalogue.now c.args.request.now.lines _ _ _ r next.self l c.loop-judging.judging c.loop-judging.readings c.loop-judging.number inv.0 given in (
-      reached_more c.args.catalogue.now c.args.request.now.lines _ _ _ r next.self l c.loop-judging.judging c.loop-judging.readings c.loop-judging.number inv.0 given c.take.new.judging c.take.new.readings
+    let head = is_no_head c.args.catalogue.now c.args.request.now.lines _ _ _ r next.self l c.loop-judging.judging c.loop-judging.clauses c.loop-judging.number inv.0 given in (
+      reached_more c.args.catalogue.now c.args.request.now.lines _ _ _ r next.self l c.loop-judging.judging c.loop-judging.clauses c.loop-judging.number inv.0 given c.take.new.judging c.take.new.clauses
           (sym (t.answer lines inv.0.stands) ∙ fine) (t.stands fine lines head (refusal_kept inv.0.report l) inv.0.stands) (t.later fine) (t.long fine) (t.count fine) (t.few fine) (t.named fine) (t.read fine),
       c.in_ok-line.ensures.failures ∙ inv.1,
     )
 
-pub returns-then-branch-clause-verdict : goal.returns-then-branch-clause-verdict
-returns-then-branch-clause-verdict g c = λ text e.
+pub returns-then-may_end-clause-verdict : goal.returns-then-may_end-clause-verdict
+returns-then-may_end-clause-verdict g c = λ text e.
     let inv = c.loop-judging.invariant in
     let r = c.loop-judging.reader in
     let end = subst (λ (o : Option ReportLine). IfNone o (IsAtEnd (left r (g.S.Source.left c.loop-judging.source)) × IsTrue (may_end r.part))) c.in_default-2.is c.in_ok-line.ensures.end in
-    let ends = subst (λ (b : Bool). EndsSo c.args.catalogue.now c.args.request.now.lines (report_lines inv.0.report) b) c.if-branch.true (c.in_ok-may_end.ensures inv.0.report inv.0.passed inv.0.stands) in
-    (inv.0.report, upheld _ _ _ _ r c.loop-judging.judging c.loop-judging.readings _ inv.0 end.0 end.1 ends text e)
+    let ends = subst (λ (b : Bool). EndsSo c.args.catalogue.now c.args.request.now.lines (report_lines inv.0.report) b) c.if-may_end.true (c.may_end.ensures inv.0.report inv.0.stands) in
+    (inv.0.report, upheld _ _ _ _ r c.loop-judging.judging c.loop-judging.clauses _ inv.0 end.0 end.1 ends text e)
 
-pub returns-then-branch-clause-counted : goal.returns-then-branch-clause-counted
-returns-then-branch-clause-counted g c = λ text e.
+pub returns-then-may_end-clause-counted : goal.returns-then-may_end-clause-counted
+returns-then-may_end-clause-counted g c = λ text e.
     let inv = c.loop-judging.invariant in
     let r = c.loop-judging.reader in
     let end = subst (λ (o : Option ReportLine). IfNone o (IsAtEnd (left r (g.S.Source.left c.loop-judging.source)) × IsTrue (may_end r.part))) c.in_default-2.is c.in_ok-line.ensures.end in
-    let ends = subst (λ (b : Bool). EndsSo c.args.catalogue.now c.args.request.now.lines (report_lines inv.0.report) b) c.if-branch.true (c.in_ok-may_end.ensures inv.0.report inv.0.passed inv.0.stands) in
-    let u = upheld _ _ _ _ r c.loop-judging.judging c.loop-judging.readings _ inv.0 end.0 end.1 ends text e in
+    let ends = subst (λ (b : Bool). EndsSo c.args.catalogue.now c.args.request.now.lines (report_lines inv.0.report) b) c.if-may_end.true (c.may_end.ensures inv.0.report inv.0.stands) in
+    let u = upheld _ _ _ _ r c.loop-judging.judging c.loop-judging.clauses _ inv.0 end.0 end.1 ends text e in
     (inv.0.report, u.report, u.is, inv.0.named, inv.0.counted)
 
 pub returns-clause-verdict : goal.returns-clause-verdict
@@ -99,6 +99,6 @@ returns-clause-verdict g c =
     let inv = c.loop-judging.invariant in
     let r = c.loop-judging.reader in
     let end = subst (λ (o : Option ReportLine). IfNone o (IsAtEnd (left r (g.S.Source.left c.loop-judging.source)) × IsTrue (may_end r.part))) c.in_default-2.is c.in_ok-line.ensures.end in
-    let ends = subst (λ (b : Bool). EndsSo c.args.catalogue.now c.args.request.now.lines (report_lines inv.0.report) b) c.if-branch.false (c.in_ok-may_end.ensures inv.0.report inv.0.passed inv.0.stands) in
+    let ends = subst (λ (b : Bool). EndsSo c.args.catalogue.now c.args.request.now.lines (report_lines inv.0.report) b) c.if-may_end.false (c.may_end.ensures inv.0.report inv.0.stands) in
     refused_here c.args.catalogue.now c.args.request.now.lines _ _ (report_lines inv.0.report) r.part r.number r.lines.room c.loop-judging.number inv.0.read inv.0.passed inv.0.next_line
     (end_refused c.args.catalogue.now c.args.request.now.lines (report_lines inv.0.report) r.part _ end.0 ends)

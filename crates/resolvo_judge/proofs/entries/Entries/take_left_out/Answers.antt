@@ -3,8 +3,6 @@ use Rattle.resolvo_text.specs.View.{version_of}
 use Rattle.resolvo_report.specs.View.{place_of}
 use Rattle.resolvo_report.specs.Value as said
 use Rattle.resolvo_judge.specs.Entries.{entries_of}
-use Rattle.resolvo_judge.specs.KeptAnswers.{barred_of}
-use Rattle.resolvo_judge.specs.declared.entries.Barred.{Barred}
 use Rattle.resolvo_judge.proofs.EntryLemmas.{left_out_kept, lines_more}
 use Rattle.resolvo_judge.proofs.entries.Entries.take_left_out.Goals as goal
 
@@ -12,11 +10,9 @@ pub returns-clause-kept : goal.returns-clause-kept
 returns-clause-kept c = λ before h _.
     let v = version_of c.args.version.now in
     let wish = sym (c.is_wish.ensures before h) ∙ c.if-not-is_wish.false in
-    let b : Barred = record { wish = c.in_ok-copy.field-0; step = c.args.step; above = c.count.result } in
-    let is : barred_of b ≡ record { wish = v; step = c.args.step; above = length (entries_of before) } = rw (c.in_ok-copy.ensures, c.count.ensures (entries_of before) h.chosen) refl in
-    left_out_kept c.args.self.now c.add.new.self _ b c.args.request.now.lines before v c.args.line c.args.step h wish c.in_ok-add.ensures c.in_ok-push.ensures.items is _ refl refl refl refl
+    left_out_kept c.args.self.now c.add.new.self c.add-2.new.self c.args.request.now.lines before v c.args.line c.args.step c.count-above.result h wish c.in_ok-add.ensures c.in_ok-add-2.ensures (c.count-above.ensures (entries_of before) h.chosen) _ refl refl refl refl
 
 pub returns-clause-lines : goal.returns-clause-lines
 returns-clause-lines c = λ before h lines _.
     let wish = sym (c.is_wish.ensures before h) ∙ c.if-not-is_wish.false in
-    lines_more c.args.request.now.lines c.args.self.now (record c.args.self.now { out = c.add.new.self; barred = c.push.new.self; lines = c.insert.new.self; last_wish = Some c.args.line }) before (version_of c.args.version.now) c.args.line c.args.step wish c.in_ok-insert.ensures.updates.0 lines
+    lines_more c.args.request.now.lines c.args.self.now (record c.args.self.now { out = c.add.new.self; barred = c.add-2.new.self; lines = c.insert.new.self; last_wish = Some c.args.line }) before (version_of c.args.version.now) c.args.line c.args.step wish c.in_ok-insert.ensures.updates.0 lines

@@ -1,6 +1,6 @@
 use Rattle.std.proofs.Common.{ap, length, arith}
 use Rattle.resolvo_checker.proofs.PieceLemmas.{length-pieces}
-use Rattle.resolvo_checker.proofs.clauses.Clauses.len.Goals as goal
+use Rattle.resolvo_checker.proofs.clauses.Flat.len.Goals as goal
 
 pub returns : goal.returns
 returns c = omega (arith, length-pieces c.self.inside.literals.items 0 c.self.inside.ends.items, ap length c.self.view_is)

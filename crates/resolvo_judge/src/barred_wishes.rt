@@ -1,0 +1,92 @@
+//! The wishes that an `install` report leaves out, by the steps that are to bar them.
+//! It stands for a list of wishes (`HoldsWishes` of specs/BarredWishes.antt). The judge asks for those of a step as it takes the step.
+
+ghost use Rattle.std.specs.Prelude.{◌≡◌, ◌++◌, ◌∷◌, [], OnOk, List, map, nat_eq};
+ghost use Rattle.std.specs.HashMap.{get};
+ghost use Rattle.resolvo_text.specs.View.{version_of};
+ghost use Rattle.resolvo_judge.specs.BarredWishes.{BarredWish, barred_of, wishes_kept, named_by, HoldsWishes, AddsWish};
+
+use resolvo_catalogue_core::Version;
+use std::alloc::{AllocError, Global};
+use std::collections::HashMap;
+
+/// A wish that is left out, the step that bars it, and how many entries stand above its line.
+#[derive(Drop)]
+pub struct Barred {
+    pub wish: Version,
+    pub step: u32,
+    pub above: usize,
+}
+
+/// The wishes by their steps, and the steps in the order of the wishes.
+#[derive(Drop)]
+pub struct BarredWishes {
+    by_step: HashMap<u32, Vec<Barred>>,
+    steps: Vec<u32>,
+}
+
+/// Puts a wish to those of its step.
+fn add_wish(
+    alloc: Global,
+    by_step: &mut HashMap<u32, Vec<Barred>>,
+    barred: Barred,
+) -> Result<(), AllocError>
+    ensures { OnOk result (AddsWish (get nat_eq by_step.old) (barred_of barred) (get nat_eq by_step.new)) }
+{
+    let step = barred.step;
+    if let Some(kept) = by_step.get_mut(&step) {
+        kept.push(barred)?;
+        return Ok(());
+    }
+    let mut kept = Vec::new(alloc);
+    kept.push(barred)?;
+    by_step.insert(step, kept)?;
+    Ok(())
+}
+
+impl BarredWishes {
+    pub fn new(alloc: Global) -> BarredWishes
+        ensures { HoldsWishes result [] }
+    {
+        BarredWishes {
+            by_step: HashMap::new(alloc),
+            steps: Vec::new(alloc),
+        }
+    }
+
+    pub fn add(
+        &mut self,
+        alloc: Global,
+        wish: &Version,
+        step: u32,
+        above: usize,
+    ) -> Result<(), AllocError>
+        ensures { OnOk result
+            ((wishes : List BarredWish)
+            → HoldsWishes self.old wishes
+            → HoldsWishes self.new
+            (wishes ++ record { wish = version_of wish.now; step = step; above = above }
+            ∷ [])) }
+    {
+        self.steps.push(step)?;
+        let wish = wish.copy()?;
+        add_wish(alloc, &mut self.by_step, Barred { wish, step, above })
+    }
+
+    /// The wishes that are to be barred by this step.
+    pub fn of(&self, step: u32) -> &[Barred]
+        ensures { map barred_of result.now ≡ wishes_kept (get nat_eq self.now.by_step step) }
+    {
+        match self.by_step.get(&step) {
+            Some(kept) => kept,
+            None => &[],
+        }
+    }
+
+    /// The steps that are to bar the wishes.
+    pub fn steps(&self) -> &[u32]
+        ensures { result.now ≡ self.now.steps.items }
+    {
+        &self.steps
+    }
+}
