@@ -22,7 +22,7 @@ HERE = os.path.dirname(os.path.abspath(__file__))
 TOP = os.path.dirname(HERE)
 sys.path[:0] = [os.path.join(TOP, "bindings/python")]
 
-from row_texts import all_rows  # noqa: E402
+from rows import all_rows  # noqa: E402
 import resolve  # noqa: E402
 
 ENDINGS = {b"cannot read\n": 3, b"too long\n": 4, b"no memory\n": 5, b"no ids\n": 6}

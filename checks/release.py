@@ -17,7 +17,7 @@ HERE = os.path.dirname(os.path.abspath(__file__))
 TOP = os.path.dirname(HERE)
 
 from embedding import must  # noqa: E402
-from row_texts import all_rows  # noqa: E402
+from rows import all_rows  # noqa: E402
 
 EXAMPLE = re.compile(r"^\$ resolve solve (\S+) (\S+)\n((?:[^$`].*\n)*)", re.M)
 

@@ -78,6 +78,12 @@ def read_all(folder=DATA):
     return [row for path in sorted(glob.glob(os.path.join(folder, "*.row"))) for row in read(path)]
 
 
+def all_rows():
+    """Each row by its name, with its texts: a catalogue, a request, and a report where the row is judged."""
+    for row in read_all():
+        yield str(row), tuple(row.text(name) for name in INPUTS if name != "report" or name in row.sections)
+
+
 def first_fault(row):
     """The first faulty line of the two texts, as the program prints it, or `none`."""
     try:
