@@ -9,7 +9,7 @@ use resolve_check::check::check;
 use resolve_check::endings::{check_ending, run_ending};
 use resolve_check::input::{INPUT_LIMIT, read_input, split_input};
 use resolve_check::outcome::{Checked, Outcome, RunFault};
-use resolve_run::run::run;
+use resolve_run::run;
 use resolvo_catalogue_core::Counted;
 use std::fs::File;
 use std::io;

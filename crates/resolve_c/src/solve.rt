@@ -9,7 +9,7 @@ use crate::lent::Lent;
 use crate::told::{Told, tell};
 use resolve_check::outcome::RunFault;
 use resolve_check::written::Written;
-use resolve_run::run::run;
+use resolve_run::run;
 use resolvo_text::GrowingSink;
 use std::alloc::Global;
 

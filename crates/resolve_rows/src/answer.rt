@@ -2,7 +2,7 @@
 
 use resolve_check::check::check;
 use resolve_check::endings::{check_ending, run_ending};
-use resolve_run::run::run;
+use resolve_run::run;
 use resolvo_catalogue_core::{MemorySink, MemorySource};
 use resolvo_report::{Report, ReportFault};
 use resolvo_text::GrowingSink;

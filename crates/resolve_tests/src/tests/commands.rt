@@ -8,7 +8,7 @@ mod plain;
 use resolve_check::check::check;
 use resolve_check::endings::{check_ending, run_ending};
 use resolve_check::outcome::{Outcome, RunFault};
-use resolve_run::run::run;
+use resolve_run::run;
 use resolvo_catalogue_core::{MemorySink, MemorySource};
 use std::alloc::{AllocError, Global};
 

@@ -2,7 +2,7 @@
 
 use crate::tests::full::Full;
 use resolve_check::outcome::{Outcome, RunFault};
-use resolve_run::run::run;
+use resolve_run::run;
 use resolvo_catalogue_core::{MemorySink, MemorySource};
 use resolvo_text::{Counted, Sink};
 use std::alloc::{AllocError, Global};

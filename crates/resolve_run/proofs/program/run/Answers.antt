@@ -2,7 +2,7 @@ use Rattle.std.proofs.Common.{refl, subst, List, ℕ}
 use Rattle.std.specs.Io.KnownBytes.{Appends}
 use Rattle.resolvo_text.specs.Device.{TakesFront}
 use Rattle.resolve_run.proofs.Reports.{nothing_written}
-use Rattle.resolve_run.proofs.run.run.Goals as goal
+use Rattle.resolve_run.proofs.program.run.Goals as goal
 
 pub returns-in-Ok-write_all-clause-written : goal.returns-in-Ok-write_all-clause-written
 returns-in-Ok-write_all-clause-written g c = (

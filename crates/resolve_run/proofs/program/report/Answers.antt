@@ -1,7 +1,7 @@
 use Rattle.resolvo_report.specs.View.{report_of}
 use Rattle.resolve_check.proofs.Results.{if_ok, if_err}
 use Rattle.resolve_run.proofs.Reports.{lack_of}
-use Rattle.resolve_run.proofs.run.report.Goals as goal
+use Rattle.resolve_run.proofs.program.report.Goals as goal
 
 pub returns-clause-ok : goal.returns-clause-ok
 returns-clause-ok c = if_ok c.written.result (λ a (ends, is, few) asks wishes. record { report = report_of c.in_ok-report.report; reported = c.in_ok-report.ensures asks wishes; ends = ends; is_text = is; bound = few }) c.written.ensures.ok

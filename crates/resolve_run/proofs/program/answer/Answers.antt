@@ -3,7 +3,7 @@ use Rattle.std.proofs.Common.{refl}
 use Rattle.resolve_check.proofs.CheckLemmas.{catalogue_good}
 use Rattle.resolve_check.proofs.Results.{if_ok, if_err}
 use Rattle.resolve_run.proofs.Reports.{of_texts, catalogue_told, request_told, told_err, lacked}
-use Rattle.resolve_run.proofs.run.answer.Goals as goal
+use Rattle.resolve_run.proofs.program.answer.Goals as goal
 
 pub returns-in-Err-clause-ok : goal.returns-in-Err-clause-ok
 returns-in-Err-clause-ok g c = catalogue_told _ _ _ _ c.in-Err.fault c.not_read.result c.in-Err.ensures.fault c.not_read.ensures
