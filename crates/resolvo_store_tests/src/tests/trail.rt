@@ -45,24 +45,12 @@ fn least_length(rt: HostRuntime) -> Result<(), Fail> {
     Ok(())
 }
 
-/// Whether these variables are true, in this order, and no others are decided.
-fn are_assigned(trail: &DecisionTracker, wanted: &[u32]) -> bool {
-    let mut rest = wanted.iter();
-    for (variable, value) in trail.assignments() {
-        if !value || rest.next() != Some(&variable.0) {
-            return false;
-        }
-    }
-    rest.next().is_none()
-}
-
 /// Four decisions come, and neither one that is there nor its opposite.
 fn takes_decisions(rt: &impl Abort, trail: &mut DecisionTracker) -> R<()> {
     assert_eq!(rt; undo(trail), None);
     for (variable, level) in &[(4u32, 1u32), (7, 2), (5, 3), (9, 3)] {
         assert_eq!(rt; decide(trail, *variable, *level)?, Set::New);
     }
-    assert!(rt; are_assigned(trail, &[4, 7, 5, 9]));
     assert_eq!(rt; decide(trail, 7, 3)?, Set::Already);
     let opposite = Decision {
         variable: VariableId(7),

@@ -7,7 +7,7 @@ use resolvo_pool_core::id::{ClauseId, VariableId};
 use resolvo_pool_core::want::R;
 use resolvo_store_core::literal::Literal;
 use resolvo_store_core::watch_map::WatchMap;
-use resolvo_store_core::watched_literals::{Watch, WatchedLiterals};
+use resolvo_store_core::watched_literals::WatchedLiterals;
 use std::alloc::Global;
 use std::test::Fail;
 
@@ -89,19 +89,8 @@ fn walks(alloc: Global, target: u16) -> R<(Vec<ClauseId>, Vec<ClauseId>)> {
     walk_both(alloc, &mut WatchMap::new(alloc), &mut clauses, target)
 }
 
-/// Which of its two watches a walk over the literal of variable 1 meets a clause by.
-fn met_by(alloc: Global, first: u16, second: u16) -> Watch {
-    let watched = WatchedLiterals {
-        first: yes(first),
-        second: yes(second),
-    };
-    WatchMap::new(alloc).cursor(yes(1)).watch_index(watched)
-}
-
 #[test]
 fn each_clause_once(rt: HostRuntime) -> Result<(), Fail> {
-    assert_eq!(rt; met_by(rt.alloc(), 1, 2), Watch::First);
-    assert_eq!(rt; met_by(rt.alloc(), 3, 1), Watch::Second);
     let (met, then) = walks(rt.alloc(), 7)?;
     assert_eq!(rt;
         met.as_slice(),
