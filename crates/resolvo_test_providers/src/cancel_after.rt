@@ -10,19 +10,15 @@ use std::alloc::Global;
 use std::cell::Cell;
 use std::fmt;
 
-/// A source that answers as another one, and cancels once: at the test before which so many others were let pass. It
-/// notes whose dependencies it is asked for.
+/// A source that answers as another one, and cancels once: at the test before which so many others were let pass.
 #[derive(Drop)]
-pub struct CancelAfter<P: Interner> {
+pub struct CancelAfter<P> {
     inner: P,
     left: Cell<u32>,
     value: u32,
-    pub asked: Cell<u32>,
-    pub first: Cell<Option<P::SolvableId>>,
-    pub last: Cell<Option<P::SolvableId>>,
 }
 
-impl<P: Interner> CancelAfter<P> {
+impl<P> CancelAfter<P> {
     /// A source that lets so many tests pass, and cancels at the next one with this value.
     pub fn new(inner: P, passed: u32, value: u32) -> CancelAfter<P>
         ensures inner { result.inner ≡ inner }
@@ -32,19 +28,7 @@ impl<P: Interner> CancelAfter<P> {
             inner,
             left: Cell::new(passed),
             value,
-            asked: Cell::new(0),
-            first: Cell::new(None),
-            last: Cell::new(None),
         }
-    }
-
-    /// Notes the first and the last solvable whose dependencies are asked for, and how many there were.
-    fn note(&self, solvable: P::SolvableId) {
-        if self.asked.get() == 0 {
-            self.first.set(Some(solvable));
-        }
-        self.last.set(Some(solvable));
-        self.asked.set(self.asked.get().saturating_add(1));
     }
 }
 
@@ -181,7 +165,6 @@ impl<P: DependencyProvider> DependencyProvider for CancelAfter<P> {
     }
 
     fn get_dependencies(&self, alloc: Global, solvable: P::SolvableId) -> R<Dependencies> {
-        self.note(solvable);
         self.inner.get_dependencies(alloc, solvable)
     }
 

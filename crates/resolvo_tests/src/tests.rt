@@ -1,6 +1,5 @@
 //! What no clause says: that a search comes to an answer where there is memory.
 
-mod conflicts;
 mod pairs;
 mod provider;
 mod sources;
@@ -220,20 +219,14 @@ fn waiting_over(
     waiting_for(alloc, catalogue, &request(alloc, request_text, catalogue)?)
 }
 
-fn waiting_after(
-    alloc: Global,
-    catalogue_text: &str,
-    request_text: &str,
-) -> Result<Option<usize>, Fail> {
-    waiting_over(alloc, &catalogue(alloc, catalogue_text)?, request_text)
+fn waiting_after(alloc: Global, request_text: &str) -> Result<Option<usize>, Fail> {
+    waiting_over(alloc, &catalogue(alloc, IF)?, request_text)
 }
 
 #[test]
 fn cases_that_fired_wait_no_more(rt: HostRuntime) -> Result<(), Fail> {
-    for listed in &[IF, "version a 1\nversion b 1\n"] {
-        let none = waiting_after(rt.alloc(), listed, "needs a\nneeds b if a\n")?;
-        let one = waiting_after(rt.alloc(), listed, "needs a\nneeds b if a 2\n")?;
-        assert_eq!(rt; (none, one), (Some(0), Some(1)), "{listed}");
-    }
+    let none = waiting_after(rt.alloc(), "needs a\nneeds b if a\n")?;
+    let one = waiting_after(rt.alloc(), "needs a\nneeds b if a 2\n")?;
+    assert_eq!(rt; (none, one), (Some(0), Some(1)));
     Ok(())
 }

@@ -54,12 +54,12 @@ fn numbers(alloc: Global, chosen: &[SolvableId]) -> R<Vec<u32>> {
     Ok(numbers)
 }
 
-/// Whether a solver that was cancelled with this value says this when it is asked again; none where it wasn't cancelled.
+/// Whether a solver that was cancelled with 7 says this when it is asked again; none where it wasn't cancelled.
 fn says_after_cancel(
     alloc: Global,
     solver: &mut Solver<CancelAfter<CatalogueProvider>>,
     root: &RequestIds,
-    (value, want): (u32, &Answer),
+    want: &Answer,
 ) -> Result<Option<bool>, Fail> {
     let first = asked(alloc, solver, root)?;
     if first == *want {
@@ -67,10 +67,10 @@ fn says_after_cancel(
     }
     let is_left = solver.proof().is_empty() && solver.turns().is_empty();
     let again = asked(alloc, solver, root)?;
-    Ok(Some(first == Answer::Cancelled(value) && is_left && again == *want))
+    Ok(Some(first == Answer::Cancelled(7) && is_left && again == *want))
 }
 
-/// The same over a provider, where so many tests are let pass, and their number is the value.
+/// The same over a provider, where so many tests are let pass.
 fn right_by(
     alloc: Global,
     provider: CatalogueProvider,
@@ -78,8 +78,8 @@ fn right_by(
     passed: u32,
     want: &Answer,
 ) -> Result<Option<bool>, Fail> {
-    let mut solver = Solver::new(alloc, CancelAfter::new(provider, passed, passed));
-    says_after_cancel(alloc, &mut solver, root, (passed, want))
+    let mut solver = Solver::new(alloc, CancelAfter::new(provider, passed, 7));
+    says_after_cancel(alloc, &mut solver, root, want)
 }
 
 /// The same of a catalogue and a request.
@@ -176,52 +176,6 @@ fn cancelled_at_each_test_of_wishes(rt: HostRuntime) -> Result<(), Fail> {
         )?
     );
     assert!(rt; chooses_after_cancels(rt.alloc(), IF, "needs b\nwish a 1\n", &[1, 0, 2])?);
-    Ok(())
-}
-
-/// Two versions of a package, of which the older one has a need that nothing meets.
-static LAZY: &str = "version a 1\nneeds b 9\nversion a 2\nversion b 1\n";
-
-/// How often the source of a solver was asked for dependencies, and whose they were at first and at last.
-type Questions = (u32, Option<u32>, Option<u32>);
-
-fn questions_by(
-    alloc: Global,
-    provider: CatalogueProvider,
-    root: &RequestIds,
-) -> Result<Questions, Fail> {
-    let mut solver = Solver::new(alloc, CancelAfter::new(provider, u32::MAX, 0));
-    asked(alloc, &mut solver, root)?;
-    let source = solver.provider();
-    let raw = |solvable: Option<SolvableId>| solvable.map(|one| one.into_raw());
-    Ok((
-        source.asked.get(),
-        raw(source.first.get()),
-        raw(source.last.get()),
-    ))
-}
-
-/// The questions for dependencies until a request is answered.
-fn questions(alloc: Global, catalogue: &Catalogue, hint: Hint) -> Result<Questions, Fail> {
-    let request = request(alloc, "needs a\n", catalogue)?;
-    let mut provider = CatalogueProvider::new(alloc, catalogue, hint)?;
-    let root = provider.intern_request(&request)?;
-    questions_by(alloc, provider, &root)
-}
-
-/// Dependencies that aren't at hand are asked for once a version is chosen, and those at hand for each candidate.
-#[test]
-fn dependencies_in_the_order_of_the_questions(rt: HostRuntime) -> Result<(), Fail> {
-    let catalogue = catalogue(rt.alloc(), LAZY)?;
-    let (newer, older) = (Some(1), Some(0));
-    assert_eq!(rt;
-        questions(rt.alloc(), &catalogue, Hint::None)?,
-        (1, newer, newer)
-    );
-    assert_eq!(rt;
-        questions(rt.alloc(), &catalogue, Hint::All)?,
-        (2, newer, older)
-    );
     Ok(())
 }
 

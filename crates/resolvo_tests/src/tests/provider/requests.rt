@@ -5,10 +5,9 @@ use super::{catalogue, provider, request};
 use resolvo_catalogue::provider::{CatalogueProvider, RequestIds};
 use resolvo_catalogue_core::{Catalogue, Span, Spec};
 use resolvo_pool::cache::SolverCache;
-use resolvo_pool_core::id::{SolvableId, VersionSetId};
+use resolvo_pool_core::id::SolvableId;
 use resolvo_pool_core::requirement::Requirement;
 use resolvo_pool_core::want::R;
-use resolvo_store_core::conditions::convert_conditions_to_dnf;
 use std::alloc::Global;
 use std::process::Abort;
 use std::test::Fail;
@@ -187,58 +186,5 @@ fn tries_text(alloc: Global, text: &str, want: &[u32]) -> Result<bool, Fail> {
 fn favoured_ones_are_tried_first(rt: HostRuntime) -> Result<(), Fail> {
     assert!(rt; tries_text(rt.alloc(), FAVOURED, &[0, 1])?);
     assert!(rt; tries_text(rt.alloc(), LISTED, &[1, 0])?);
-    Ok(())
-}
-
-/// The packages of each case, a case in one word.
-fn cases_as_words(
-    alloc: Global,
-    provider: &CatalogueProvider,
-    cases: &[Vec<VersionSetId>],
-) -> R<String> {
-    let mut words = String::new(alloc);
-    for case in cases {
-        for version_set in case {
-            words.push_str(provider.spec_of(*version_set)?.name.as_str())?;
-        }
-        words.push_str(" ")?;
-    }
-    Ok(words)
-}
-
-/// The cases of the condition of a request's only need.
-fn cases_of(
-    alloc: Global,
-    catalogue: &Catalogue,
-    provider: &mut CatalogueProvider,
-    text: &str,
-) -> Result<String, Fail> {
-    let asked = asked(alloc, catalogue, provider, text)?;
-    let conditions = match asked.requirements.as_slice() {
-        [only] => only.condition,
-        _ => None,
-    };
-    let Some(condition) = conditions else {
-        return Ok(String::new(alloc));
-    };
-    let cases = convert_conditions_to_dnf(alloc, condition, provider)?;
-    Ok(cases_as_words(alloc, provider, cases.as_slice())?)
-}
-
-fn cases_over(alloc: Global, catalogue: &Catalogue, text: &str) -> Result<String, Fail> {
-    cases_of(alloc, catalogue, &mut provider(alloc, catalogue)?, text)
-}
-
-/// `and` pairs each case of its left side with each of its right side; `or` lists the left side's first.
-#[test]
-fn cases_of_conditions(rt: HostRuntime) -> Result<(), Fail> {
-    let catalogue = catalogue(rt.alloc(), LISTED)?;
-    for (text, wanted) in &[
-        ("needs x if a or b and c\n", "a bc "),
-        ("needs x if ( a or b ) and ( c or d )\n", "ac ad bc bd "),
-    ] {
-        let cases = cases_over(rt.alloc(), &catalogue, text)?;
-        assert_eq!(rt; cases.as_str(), *wanted);
-    }
     Ok(())
 }
