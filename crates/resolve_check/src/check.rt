@@ -76,7 +76,8 @@ fn answer<C: Source, R: Source, P: Source>(
         (P.interruptions report.new)))) }
     ensures catalogue_faulty { IfCatalogueFaulty (C.left catalogue.old)
         ((request.new ≡ request.old) × (report.new ≡ report.old)) }
-    ensures request_faulty { IfRequestFaulty (C.left catalogue.old) (R.left request.old) (report.new ≡ report.old) }
+    ensures request_faulty { IfRequestFaulty (C.left catalogue.old) (R.left request.old)
+        (report.new ≡ report.old) }
 {
     let catalogue = match Catalogue::read(alloc, catalogue) {
         Ok(catalogue) => catalogue,
@@ -138,7 +139,8 @@ pub fn check<C: Source, R: Source, P: Source, W: Sink>(
         (W.empty_writes writer.new)))) }
     ensures catalogue_faulty { IfCatalogueFaulty (C.left catalogue.old)
         ((request.new ≡ request.old) × (report.new ≡ report.old)) }
-    ensures request_faulty { IfRequestFaulty (C.left catalogue.old) (R.left request.old) (report.new ≡ report.old) }
+    ensures request_faulty { IfRequestFaulty (C.left catalogue.old) (R.left request.old)
+        (report.new ≡ report.old) }
 {
     match answer(alloc, catalogue, request, report) {
         Ok(told) => match write_all(writer, told.text.as_slice()) {

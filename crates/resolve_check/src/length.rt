@@ -35,7 +35,8 @@ pub fn report_length(alloc: Global, report: &Report) -> Result<u64, AllocError>
 }
 
 fn count_answers(alloc: Global, above: u64, lines: &[AnswerLine]) -> Result<u64, AllocError>
-    ensures { IfOk result (CountsOn above (lines_text (map says.Answer (answer_lines_of lines.now)))) }
+    ensures { IfOk result (CountsOn above (lines_text (map says.Answer
+        (answer_lines_of lines.now)))) }
 {
     let mut count = above;
     for line in lines {

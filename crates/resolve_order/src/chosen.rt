@@ -158,7 +158,8 @@ impl Chosen {
         ensures unlisted { IfSome result (λ n. is_unlisted self.now.listed.items n.0 ≡ true) }
         ensures matched { (chosen entries : Set)
             → Holds (listed catalogue.now) self.now chosen entries
-            → IsFirstMatch (listed catalogue.now) chosen entries (specs_of alternatives.now) result }
+            → IsFirstMatch (listed catalogue.now) chosen entries (specs_of alternatives.now)
+            result }
     {
         for spec in alternatives {
             if let Some(version) = self.unlisted_match(catalogue, spec) {
@@ -234,8 +235,8 @@ impl Chosen {
     /// What the line of this rule gives. A rule that is no need gives nothing.
     fn look_at_rule(&self, catalogue: &Catalogue, rule: &Rule) -> Look
         ensures unlisted { IfGives result (λ n. is_unlisted self.now.listed.items n.0 ≡ true) }
-        ensures looked { (chosen entries : Set) (versions : List says.Version) (owner : Option says.Version)
-            (line : says.Line)
+        ensures looked { (chosen entries : Set) (versions : List says.Version)
+            (owner : Option says.Version) (line : says.Line)
             → Holds (listed catalogue.now) self.now chosen entries
             → States versions rule.now owner line
             → IsLook (listed catalogue.now) chosen entries (Some line) result }

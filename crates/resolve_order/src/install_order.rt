@@ -89,7 +89,8 @@ impl Listing {
         requires { is_unlisted self.old.chosen.listed.items entry.version.0 ≡ true }
         ensures fewer { OnOk result
             (unlisted self.new.chosen.listed.items + 1 ≡ unlisted self.old.chosen.listed.items) }
-        ensures answers { OnOk result (self.new.answers.items ≡ self.old.answers.items ++ answer.Entry entry ∷ []) }
+        ensures answers { OnOk result (self.new.answers.items ≡ self.old.answers.items
+            ++ answer.Entry entry ∷ []) }
         ensures lines { OnOk result
             ((more : List Reason) × (self.new.lines.items ≡ self.old.lines.items ++ more)) }
         ensures listing { OnOk result

@@ -33,7 +33,8 @@ impl Places {
     /// The next line to look at.
     pub fn take(&mut self, lines: &[Reason]) -> Option<Reason>
         ensures waiting { self.new.waiting ≡ self.old.waiting }
-        ensures taken { IfSome result (λ r. left_of self.old lines.now ≡ r ∷ left_of self.new lines.now) }
+        ensures taken { IfSome result (λ r. left_of self.old lines.now
+            ≡ r ∷ left_of self.new lines.now) }
         ensures none { result ≡ None → left_of self.old lines.now ≡ [] }
         ensures within { self.old.below ≤ length lines.now → self.new.below ≤ length lines.now }
     {
@@ -47,7 +48,8 @@ impl Places {
 
     /// Lets the line that was taken wait.
     pub fn wait(&mut self, reason: Reason) -> Result<(), AllocError>
-        ensures waiting { OnOk result (self.new.waiting.items ≡ self.old.waiting.items ++ reason ∷ []) }
+        ensures waiting { OnOk result (self.new.waiting.items ≡ self.old.waiting.items
+            ++ reason ∷ []) }
         ensures again { OnOk result (self.new.again ≡ self.old.again) }
         ensures below { OnOk result (self.new.below ≡ self.old.below) }
     {

@@ -29,7 +29,8 @@ pub(crate) fn sorted_literals(
         (λ v.
         HaveForm catalogue.now provider.now.ids literals.now
         → AreLiterals catalogue.now provider.now.ids literals.now (literals_of v.items)) }
-    ensures rising { IfOk result (λ v. IsTrue (are_rising (map literal_text (literals_of v.items)))) }
+    ensures rising { IfOk result (λ v. IsTrue (are_rising
+        (map literal_text (literals_of v.items)))) }
 {
     let mut by_text: BTreeMap<String, Literal> = BTreeMap::new(alloc);
     for literal in literals {

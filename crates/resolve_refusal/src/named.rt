@@ -43,8 +43,10 @@ fn flag_lines(alloc: Global, text: Text, count: u32, steps: &[Step]) -> R<Vec<bo
 fn flag(flags: &mut Vec<bool>, line: u32)
     ensures long { length flags.new.items ≡ length flags.old.items }
     ensures kept { (k : ℕ) → IsFlagged flags.old.items k → IsFlagged flags.new.items k }
-    ensures set { (k : ℕ) → line ≡ suc k → k < length flags.old.items → IsFlagged flags.new.items k }
-    ensures only { (k : ℕ) → IsFlagged flags.new.items k → IsFlagged flags.old.items k ⊎ (line ≡ suc k) }
+    ensures set { (k : ℕ) → line ≡ suc k → k < length flags.old.items
+        → IsFlagged flags.new.items k }
+    ensures only { (k : ℕ) → IsFlagged flags.new.items k
+        → IsFlagged flags.old.items k ⊎ (line ≡ suc k) }
 {
     if let Some(place) = (line as usize).checked_sub(1) {
         if place < flags.len() {

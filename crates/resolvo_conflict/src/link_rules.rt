@@ -40,9 +40,12 @@ pub(crate) fn shares_of<N: Copy + Exact + Hash + Debug, S: Copy + Exact + Hash +
     steps: &[ProofStep<N, S>],
     order: &[usize],
 ) -> R<Shares<S>>
-    ensures gates { IfOk result (λ h. h.gates.items ≡ filter_map gate_in (rules_at steps.now order.now)) }
-    ensures limits { IfOk result (λ h. h.limits.items ≡ filter_map limit_in (rules_at steps.now order.now)) }
-    ensures outsides { IfOk result (λ h. h.outsides.items ≡ filter_map outside_in (rules_at steps.now order.now)) }
+    ensures gates { IfOk result (λ h. h.gates.items ≡ filter_map gate_in
+        (rules_at steps.now order.now)) }
+    ensures limits { IfOk result (λ h. h.limits.items ≡ filter_map limit_in
+        (rules_at steps.now order.now)) }
+    ensures outsides { IfOk result (λ h. h.outsides.items ≡ filter_map outside_in
+        (rules_at steps.now order.now)) }
     ensures refusal { IsOkUnless result Memory }
 {
     let mut shares = Shares {

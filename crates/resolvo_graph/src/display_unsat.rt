@@ -54,8 +54,14 @@ impl<I: Interner> fmt::Display for DisplayUnsat<'_, I> {
     ghost output = { λ d.
         Some
         (text_of
-        (record
-        { name_of = I.name_of_version_set d.interner.now; members_of = I.members_of d.interner.now; name_text = I.name_text d.interner.now; version_set_text = I.version_set_text d.interner.now; versions_text = I.merged_text d.interner.now; word_text = I.string_text d.interner.now })
+        (record {
+          name_of = I.name_of_version_set d.interner.now;
+          members_of = I.members_of d.interner.now;
+          name_text = I.name_text d.interner.now;
+          version_set_text = I.version_set_text d.interner.now;
+          versions_text = I.merged_text d.interner.now;
+          word_text = I.string_text d.interner.now;
+        })
         d.lines.items) };
 
     fn fmt<W: fmt::Write>(&self, f: &mut fmt::Formatter<W>) -> fmt::Result {

@@ -201,8 +201,13 @@ impl<S: Copy + Exact + Hash> ConflictGraph<S> {
         ensures index { IfOk result (λ i. i.0 ≡ length self.old.edges) }
         ensures put { OnOk result
             (self.new
-            ≡ record self.old
-            { edges = self.old.edges ++ record { source = source; target = target; weight = weight } ∷ [] }) }
+            ≡ record self.old {
+              edges = self.old.edges ++ record {
+                source = source;
+                target = target;
+                weight = weight;
+              } ∷ [];
+            }) }
         ensures err { OnErr result (self.new ≡ self.old) }
         ensures refusal { IsOkUnless result Memory }
     {
@@ -288,7 +293,8 @@ impl<S: Copy + Exact + Hash> ConflictGraph<S> {
 
     /// The edges at a node on one side, the newest first.
     fn edges_at(&self, alloc: Global, node: NodeIndex, side: Side) -> R<Vec<Edge<S>>>
-        ensures edges { IfOk result (λ v. v.items ≡ reverse (filter (is_at side node) self.now.edges)) }
+        ensures edges { IfOk result (λ v. v.items ≡ reverse
+            (filter (is_at side node) self.now.edges)) }
         ensures refusal { IsOkUnless result Memory }
     {
         let mut found = Vec::new(alloc);

@@ -153,8 +153,14 @@ impl<I: Interner> fmt::Display for DisplayLine<'_, I> {
     ghost output = { λ d.
         Some
         (line_text
-        (record
-        { name_of = I.name_of_version_set d.interner.now; members_of = I.members_of d.interner.now; name_text = I.name_text d.interner.now; version_set_text = I.version_set_text d.interner.now; versions_text = I.merged_text d.interner.now; word_text = I.string_text d.interner.now })
+        (record {
+          name_of = I.name_of_version_set d.interner.now;
+          members_of = I.members_of d.interner.now;
+          name_text = I.name_text d.interner.now;
+          version_set_text = I.version_set_text d.interner.now;
+          versions_text = I.merged_text d.interner.now;
+          word_text = I.string_text d.interner.now;
+        })
         d.line.now) };
 
     fn fmt<W: fmt::Write>(&self, f: &mut fmt::Formatter<W>) -> fmt::Result {
@@ -170,8 +176,14 @@ impl<I: Interner> DisplayLine<'_, I> {
     fn write_sentence<W: fmt::Write>(&self, f: &mut fmt::Formatter<W>) -> fmt::Result
         ensures { WritesOnOk W.write_str_gives f.old result
             (sentence_words
-            (record
-            { name_of = I.name_of_version_set self.now.interner.now; members_of = I.members_of self.now.interner.now; name_text = I.name_text self.now.interner.now; version_set_text = I.version_set_text self.now.interner.now; versions_text = I.merged_text self.now.interner.now; word_text = I.string_text self.now.interner.now })
+            (record {
+              name_of = I.name_of_version_set self.now.interner.now;
+              members_of = I.members_of self.now.interner.now;
+              name_text = I.name_text self.now.interner.now;
+              version_set_text = I.version_set_text self.now.interner.now;
+              versions_text = I.merged_text self.now.interner.now;
+              word_text = I.string_text self.now.interner.now;
+            })
             (length self.now.line.now.indenter.levels == 1) self.now.line.now.sentence)
             f.new }
     {
@@ -194,8 +206,14 @@ impl<I: Interner> DisplayLine<'_, I> {
     ) -> fmt::Result
         ensures { WritesOnOk W.write_str_gives f.old result
             (admitted_words
-            (record
-            { name_of = I.name_of_version_set self.now.interner.now; members_of = I.members_of self.now.interner.now; name_text = I.name_text self.now.interner.now; version_set_text = I.version_set_text self.now.interner.now; versions_text = I.merged_text self.now.interner.now; word_text = I.string_text self.now.interner.now })
+            (record {
+              name_of = I.name_of_version_set self.now.interner.now;
+              members_of = I.members_of self.now.interner.now;
+              name_text = I.name_text self.now.interner.now;
+              version_set_text = I.version_set_text self.now.interner.now;
+              versions_text = I.merged_text self.now.interner.now;
+              word_text = I.string_text self.now.interner.now;
+            })
             version_set)
             f.new }
     {
@@ -211,8 +229,14 @@ impl<I: Interner> DisplayLine<'_, I> {
     ) -> fmt::Result
         ensures { WritesOnOk W.write_str_gives f.old result
             (constraint_words
-            (record
-            { name_of = I.name_of_version_set self.now.interner.now; members_of = I.members_of self.now.interner.now; name_text = I.name_text self.now.interner.now; version_set_text = I.version_set_text self.now.interner.now; versions_text = I.merged_text self.now.interner.now; word_text = I.string_text self.now.interner.now })
+            (record {
+              name_of = I.name_of_version_set self.now.interner.now;
+              members_of = I.members_of self.now.interner.now;
+              name_text = I.name_text self.now.interner.now;
+              version_set_text = I.version_set_text self.now.interner.now;
+              versions_text = I.merged_text self.now.interner.now;
+              word_text = I.string_text self.now.interner.now;
+            })
             version_set)
             f.new }
     {
@@ -230,8 +254,14 @@ impl<I: Interner> DisplayLine<'_, I> {
     ) -> fmt::Result
         ensures { WritesOnOk W.write_str_gives f.old result
             (requirement_words
-            (record
-            { name_of = I.name_of_version_set self.now.interner.now; members_of = I.members_of self.now.interner.now; name_text = I.name_text self.now.interner.now; version_set_text = I.version_set_text self.now.interner.now; versions_text = I.merged_text self.now.interner.now; word_text = I.string_text self.now.interner.now })
+            (record {
+              name_of = I.name_of_version_set self.now.interner.now;
+              members_of = I.members_of self.now.interner.now;
+              name_text = I.name_text self.now.interner.now;
+              version_set_text = I.version_set_text self.now.interner.now;
+              versions_text = I.merged_text self.now.interner.now;
+              word_text = I.string_text self.now.interner.now;
+            })
             (length self.now.line.now.indenter.levels == 1) requirement outlook)
             f.new }
     {
@@ -254,8 +284,14 @@ impl<I: Interner> DisplayLine<'_, I> {
     ) -> fmt::Result
         ensures { WritesOnOk W.write_str_gives f.old result
             (versions_words
-            (record
-            { name_of = I.name_of_version_set self.now.interner.now; members_of = I.members_of self.now.interner.now; name_text = I.name_text self.now.interner.now; version_set_text = I.version_set_text self.now.interner.now; versions_text = I.merged_text self.now.interner.now; word_text = I.string_text self.now.interner.now })
+            (record {
+              name_of = I.name_of_version_set self.now.interner.now;
+              members_of = I.members_of self.now.interner.now;
+              name_text = I.name_text self.now.interner.now;
+              version_set_text = I.version_set_text self.now.interner.now;
+              versions_text = I.merged_text self.now.interner.now;
+              word_text = I.string_text self.now.interner.now;
+            })
             versions.now verdict)
             f.new }
     {
@@ -275,8 +311,14 @@ impl<I: Interner> DisplayLine<'_, I> {
     ) -> fmt::Result
         ensures { WritesOnOk W.write_str_gives f.old result
             (set_words
-            (record
-            { name_of = I.name_of_version_set self.now.interner.now; members_of = I.members_of self.now.interner.now; name_text = I.name_text self.now.interner.now; version_set_text = I.version_set_text self.now.interner.now; versions_text = I.merged_text self.now.interner.now; word_text = I.string_text self.now.interner.now })
+            (record {
+              name_of = I.name_of_version_set self.now.interner.now;
+              members_of = I.members_of self.now.interner.now;
+              name_text = I.name_text self.now.interner.now;
+              version_set_text = I.version_set_text self.now.interner.now;
+              versions_text = I.merged_text self.now.interner.now;
+              word_text = I.string_text self.now.interner.now;
+            })
             version_set)
             f.new }
     {

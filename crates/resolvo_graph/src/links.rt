@@ -100,7 +100,8 @@ pub(crate) fn put_newest<S: Copy>(newest: &mut Vec<Links>, edge: Edge<S>, index:
 pub(crate) fn move_links(newest: &mut Vec<Links>, last: usize, place: usize)
     requires order { place ≤ last }
     requires none { links_of newest.old.items place ≡ no_links }
-    ensures { (n : ℕ) → links_of newest.new.items n ≡ links_of newest.old.items (exchanged place last n) }
+    ensures { (n : ℕ)
+        → links_of newest.new.items n ≡ links_of newest.old.items (exchanged place last n) }
 {
     if last < newest.len() {
         newest.swap(place, last);

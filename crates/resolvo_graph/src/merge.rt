@@ -48,8 +48,12 @@ impl<N, S> Model for Profile<N, S> {
     ghost Value = { Profile N S };
 
     ghost view = { λ p.
-        record
-        { solvable = p.solvable; name = p.likeness.name; before = p.likeness.before.items; after = p.likeness.after.items } };
+        record {
+          solvable = p.solvable;
+          name = p.likeness.name;
+          before = p.likeness.before.items;
+          after = p.likeness.after.items;
+        } };
 }
 
 /// A version, with the number of those that it is told with.
@@ -270,7 +274,8 @@ fn neighbours_after<S: Copy + Exact + Hash>(
 
 /// Where some edges come from, each with its requirement.
 fn sources<S: Copy>(alloc: Global, edges: &[Edge<S>]) -> R<Vec<(Option<Requirement>, NodeIndex)>>
-    ensures { IfOk result (λ v. v.items ≡ map (λ e. (requirement_of e.weight, e.source)) edges.now) }
+    ensures { IfOk result (λ v. v.items ≡ map (λ e. (requirement_of e.weight, e.source))
+        edges.now) }
 {
     let mut found = Vec::new(alloc);
     for edge in edges {
@@ -281,7 +286,8 @@ fn sources<S: Copy>(alloc: Global, edges: &[Edge<S>]) -> R<Vec<(Option<Requireme
 
 /// Where some edges lead, each with its requirement.
 fn targets<S: Copy>(alloc: Global, edges: &[Edge<S>]) -> R<Vec<(Option<Requirement>, NodeIndex)>>
-    ensures { IfOk result (λ v. v.items ≡ map (λ e. (requirement_of e.weight, e.target)) edges.now) }
+    ensures { IfOk result (λ v. v.items ≡ map (λ e. (requirement_of e.weight, e.target))
+        edges.now) }
 {
     let mut found = Vec::new(alloc);
     for edge in edges {

@@ -28,7 +28,10 @@ impl Model for Run {
 impl Run {
     /// A run of one edge.
     fn one(alloc: Global, requirement: Requirement, target: NodeIndex) -> R<Run>
-        ensures run { IfOk result (λ r. r ≡ record { requirement = requirement; targets = target ∷ [] }) }
+        ensures run { IfOk result (λ r. r ≡ record {
+          requirement = requirement;
+          targets = target ∷ [];
+        }) }
         ensures refusal { IsOkUnless result Memory }
     {
         let mut targets = Vec::new(alloc);

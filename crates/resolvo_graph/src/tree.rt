@@ -292,8 +292,11 @@ impl<S: Copy + Exact + Hash + Debug> Findings<'_, S> {
     ) -> R<()>
         ensures { OnOk result
             (lines.new.items
-            ≡ lines.old.items ++ record
-            { indenter = indenter; sentence = Says.Versions (unwrap_or (kept_with S.eq self.now.merged version) (version ∷ [])) (verdict_for (reason_in self.now.graph.now edges.now) edges.now) }
+            ≡ lines.old.items ++ record {
+              indenter = indenter;
+              sentence = Says.Versions (unwrap_or (kept_with S.eq self.now.merged version)
+                  (version ∷ [])) (verdict_for (reason_in self.now.graph.now edges.now) edges.now);
+            }
             ∷ further_lines (verdict_for (reason_in self.now.graph.now edges.now) edges.now)
             indenter edges.now) }
     {
@@ -355,7 +358,8 @@ impl<S: Copy + Exact + Hash + Debug> Findings<'_, S> {
 
     /// The targets of a run that can be installed.
     fn installable_targets(&self, alloc: Global, run: &Run) -> R<Vec<NodeIndex>>
-        ensures { IfOk result (λ v. v.items ≡ filter (is_among self.now.installable.keys) run.now.targets) }
+        ensures { IfOk result (λ v. v.items ≡ filter (is_among self.now.installable.keys)
+            run.now.targets) }
     {
         let mut found = Vec::new(alloc);
         for target in run.targets() {
@@ -457,7 +461,8 @@ impl<S: Copy + Exact + Hash + Debug> Findings<'_, S> {
 
     /// The versions that are told with one, or that one alone.
     fn told_as(&self, alloc: Global, version: S) -> R<Versions<S>>
-        ensures { IfOk result (λ v. v ≡ unwrap_or (kept_with S.eq self.now.merged version) (version ∷ [])) }
+        ensures { IfOk result (λ v. v ≡ unwrap_or (kept_with S.eq self.now.merged version)
+            (version ∷ [])) }
     {
         if let Some(group) = self.merged.get(&version) {
             return Ok(Versions::new(Vec::from_slice(alloc, group.ids.as_slice())?));

@@ -427,7 +427,8 @@ fn line_said(alloc: Global, keyword: &[u8], words: &[u8]) -> Result<ReportLine, 
 
 /// The message behind its sign, if the text begins with that.
 fn message_in(text: &[u8]) -> Option<&[u8]>
-    ensures { option_map (λ m. m.now) result ≡ (if is_message text.now then Some (drop 2 text.now) else None) }
+    ensures { option_map (λ m. m.now) result ≡ (if is_message text.now then Some (drop 2 text.now)
+        else None) }
 {
     text.strip_prefix(b"| ")
 }

@@ -105,15 +105,18 @@ impl ReportReader {
         alloc: Global,
         source: &mut S,
     ) -> Result<Option<ReportLine>, ReportFault>
-        ensures given { IfOk result (λ next. IfSome next (λ line. GivesLine (left self.old (S.left source.old)) self.old (report_line_of line)
+        ensures given { IfOk result (λ next. IfSome next (λ line. GivesLine
+            (left self.old (S.left source.old)) self.old (report_line_of line)
             (left self.new (S.left source.new)) self.new)) }
         ensures end { IfOk result
             (λ next.
             IfNone next
             (IsAtEnd (left self.old (S.left source.old)) × IsTrue (may_end self.old.part))) }
         ensures failures { OnOk result (S.failures source.new ≡ S.failures source.old) }
-        ensures fault { IfErr result (λ e. IsLineFault e self.old (left self.old (S.left source.old)) (S.left source.new)
-            (DeviceFailed (S.failures source.old) (S.failures source.new) (S.interruptions source.new))) }
+        ensures fault { IfErr result (λ e. IsLineFault e self.old
+            (left self.old (S.left source.old)) (S.left source.new)
+            (DeviceFailed (S.failures source.old) (S.failures source.new)
+            (S.interruptions source.new))) }
     {
         let more = match self.lines.next_line(source) {
             Ok(more) => more,
@@ -158,7 +161,8 @@ impl Report {
             (λ report.
             IfKnown (S.left source.old) (λ text. text ≡ report_text (report_of report))) }
         ensures fault { IfErr result (λ e. IsReportFault e (S.left source.old) (S.left source.new)
-            (DeviceFailed (S.failures source.old) (S.failures source.new) (S.interruptions source.new))) }
+            (DeviceFailed (S.failures source.old) (S.failures source.new)
+            (S.interruptions source.new))) }
     {
         let mut reader = ReportReader::new(alloc)?;
         let Some(first) = reader.next(alloc, source)? else {
@@ -175,7 +179,8 @@ impl Report {
     fn begun(alloc: Global, first: ReportLine) -> Report
         requires { (q : Part) × (next_part part.Start (report_line_of first) ≡ Some q) }
         ensures lines { report_lines (report_of result) ≡ report_line_of first ∷ [] }
-        ensures part { next_part part.Start (report_line_of first) ≡ Some (part_of (report_of result)) }
+        ensures part { next_part part.Start (report_line_of first) ≡ Some
+            (part_of (report_of result)) }
     {
         match first {
             ReportLine::Install => Report::Install {
@@ -194,8 +199,10 @@ impl Report {
 
     /// Puts the line below the others, where it may stand.
     fn push(&mut self, line: ReportLine) -> Result<(), AllocError>
-        requires { (q : Part) × (next_part (part_of (report_of self.old)) (report_line_of line) ≡ Some q) }
-        ensures { OnOk result (Grows (report_of self.old) (report_line_of line) (report_of self.new)) }
+        requires { (q : Part)
+            × (next_part (part_of (report_of self.old)) (report_line_of line) ≡ Some q) }
+        ensures { OnOk result (Grows (report_of self.old) (report_line_of line)
+            (report_of self.new)) }
     {
         match self {
             Report::Install { lines, steps } => match line {

@@ -189,7 +189,8 @@ impl<N: Copy + Drop, S: SolverId> VariableMap<N, S> {
     /// A new variable.
     fn alloc(&mut self, origin: VariableOrigin<N, S>) -> R<VariableId>
         requires { IsHelper origin }
-        ensures new { IfOk result (λ v. (v.0 ≡ length self.old) × (self.new ≡ self.old ++ origin ∷ [])) }
+        ensures new { IfOk result (λ v. (v.0 ≡ length self.old)
+            × (self.new ≡ self.old ++ origin ∷ [])) }
         ensures err { OnErr result (self.new ≡ self.old) }
         ensures ids { IsErrOf result Ids → length self.old ≡ 2147483647 }
     {
