@@ -18,7 +18,7 @@ struct Told {
     text: Vec<u8>,
 }
 
-/// The line that tells a verdict.
+/// The line of a verdict.
 fn verdict_told(alloc: Global, verdict: Verdict) -> Result<Told, RunFault>
     ensures ok { IfOk result (λ told. TellsVerdict verdict told.checked told.text.items) }
     ensures err { IfErr result (λ e. e ≡ RunFault.Memory) }
@@ -96,7 +96,7 @@ fn answer<C: Source, R: Source, P: Source>(
 }
 
 /// Reads the catalogue to its end, then the request, judges the report, and writes `yes`, or the line from which it
-/// doesn't hold, or the first faulty line of the texts before it. What comes behind a faulty text isn't read.
+/// doesn't hold, or the first faulty line of the texts before it. The texts behind a faulty one aren't read.
 pub fn check<C: Source, R: Source, P: Source, W: Sink>(
     alloc: Global,
     catalogue: &mut C,

@@ -1,5 +1,5 @@
 //! The chosen versions by their packages, and which of them are entries.
-//! It stands for two sets (`Holds` of specs/Kept.antt), and tells what a line gives. Kept by `listing`.
+//! It holds two sets (`Holds` of specs/Kept.antt), and answers what a line gives. `install_order` keeps it.
 
 ghost use Rattle.std.specs.Prelude.{◌≡◌, ◌++◌, ◌∷◌, [], ◌+◌, true, Contains, slice_get, Some, List, Option, IfOk, OnOk, IfSome};
 ghost use Rattle.std.specs.HashMap.{get_by_text};

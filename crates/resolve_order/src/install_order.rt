@@ -30,7 +30,7 @@ pub struct Listing {
     answers: Vec<Answer>,
 }
 
-/// The lines of a request with so many.
+/// The lines of a request with this number of them.
 fn request_lines(alloc: Global, count: u32) -> Result<Vec<Reason>, AllocError>
     ensures { IfOk result (λ lines. lines.items ≡ lines_to count) }
 {
@@ -208,7 +208,7 @@ impl Listing {
         Ok(())
     }
 
-    /// Tells that a wish is left out.
+    /// Lists a wish as left out.
     fn leave_out(&mut self, wish: (u32, VersionNo), step: u32) -> Result<(), AllocError>
         ensures { OnOk result
             ((catalogue request : List says.Line) (chosen : Set)

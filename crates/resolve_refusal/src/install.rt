@@ -18,7 +18,7 @@ use resolvo_proof::step::ProofStep;
 use resolvo_report::Step;
 use std::alloc::Global;
 
-/// The steps of a proof as they stand in an install report: each rule by the first line that states it, a need also by
+/// The steps of a proof as an install report has them: each rule by the first line that states it, a need also by
 /// the first of its cases. `Ids` where there are more steps, or more cases of a line, than numbers.
 pub fn install_steps(
     alloc: Global,

@@ -294,7 +294,7 @@ impl<'a> Texts<'a> {
             → slice_get (listed self.entry.catalogue.now) version.0 ≡ Some v
             → Decides result (ExcludesAt self.entry.catalogue.now v word.now line) }
     {
-        // No version is listed twice, so its number tells it.
+        // No version is listed twice, so its number identifies it.
         let _versions = self.catalogue.versions();
         match self.catalogue.rule(line) {
             Some(rule) => excludes(rule, version, word),

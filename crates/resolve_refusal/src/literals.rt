@@ -1,4 +1,4 @@
-//! Atoms by their texts, and the literals of a derived clause as they stand in a report: in the order of their texts,
+//! Atoms by their texts, and the literals of a derived clause as a report has them: in the order of their texts,
 //! each once.
 
 ghost use Rattle.std.specs.Prelude.{◌≡◌, IfOk, IsTrue, map};

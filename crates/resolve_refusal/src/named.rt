@@ -16,7 +16,7 @@ pub(crate) enum Text {
     Request,
 }
 
-/// The lines of a text of so many lines that the steps rest on: each once, rising.
+/// The lines of a text, of this number of lines, that the steps rest on: each once, rising.
 pub(crate) fn named_lines(alloc: Global, text: Text, count: u32, steps: &[Step]) -> R<Vec<u32>>
     ensures { IfOk result (λ v. AreAll v.items (IsNamedBy text count (steps_of steps.now))) }
 {

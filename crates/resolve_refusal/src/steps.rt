@@ -34,7 +34,7 @@ pub(crate) struct Writing<'a> {
 }
 
 impl Writing<'_> {
-    /// The step as it stands in a report.
+    /// The step as a report has it.
     pub fn step(self, step: &ProofStep<NameId, SolvableId>) -> R<Step>
         ensures tells { IfOk result
             (λ w.

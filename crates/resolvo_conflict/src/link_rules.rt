@@ -23,7 +23,7 @@ use std::collections::HashMap;
 use std::fmt::Debug;
 use std::hash::Hash;
 
-/// The rules that are drawn together with others, wherever these stand in the conflict.
+/// The rules that are drawn together with others, wherever these are in the conflict.
 #[derive(Drop)]
 pub(crate) struct Shares<S> {
     /// Who opens the gate of which requirement.
@@ -125,7 +125,7 @@ pub(crate) fn links_of<I: Interner>(
     Ok(links)
 }
 
-/// Notes the version of which a rule tells a digit as the last of its package, and answers the one before it.
+/// Notes the version whose digit a rule states as the last of its package, and answers the one before it.
 fn note_instance<I: Interner>(
     interner: &I,
     rule: &ProofRule<I::NameId, I::SolvableId>,

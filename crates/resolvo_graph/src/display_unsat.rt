@@ -90,7 +90,7 @@ fn message_lines<S: SolverId, I: Interner<SolvableId = S>>(
     lines_along(alloc, graph, &order, merged)
 }
 
-/// The lines of the message along a walk, where these versions are told as one.
+/// The lines of the message along a walk, where these versions are merged.
 fn lines_along<S: Copy + Exact + Hash + Debug>(
     alloc: Global,
     graph: &ConflictGraph<S>,
@@ -223,7 +223,7 @@ fn conflict_lines<S: Copy + Exact + Hash + Debug>(
     Ok(lines)
 }
 
-/// Tells a conflict of the problem itself: a constraint, or a lock.
+/// Writes a conflict of the problem itself: a constraint, or a lock.
 fn tell_conflict<S: Copy + Exact + Hash + Debug>(
     alloc: Global,
     weight: ConflictEdge<S>,

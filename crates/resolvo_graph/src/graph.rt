@@ -1,6 +1,6 @@
 //! The conflict graph: which versions, wishes and reasons made an answer impossible.
 //! The model is the list of its nodes and the list of its edges, each in the order in which they were
-//! added. The solver builds it from a conflict; the message is told over it. The edges are linked, so
+//! added. The solver builds it from a conflict; the message is written from it. The edges are linked, so
 //! that those at a node are found without a look at the others.
 ghost use Rattle.std.specs.Prelude.{◌≡◌, ◌<◌, ◌++◌, ◌∷◌, [], IfOk, OnOk, OnErr, IsOkUnless, length, map, filter, reverse, slice_get, Some, None, nat_lt};
 ghost use Rattle.std.specs.List.{position_or_len};
@@ -224,7 +224,7 @@ impl<S: Copy + Exact + Hash> ConflictGraph<S> {
         Ok(index)
     }
 
-    /// The node that stands for the problem itself.
+    /// The root: the node of the problem itself.
     pub fn root_node(&self) -> NodeIndex
         ensures { result.0 ≡ 0 }
     {

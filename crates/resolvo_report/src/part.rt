@@ -17,7 +17,7 @@ use resolvo_text::{
 };
 use std::alloc::Global;
 
-/// The words behind this one, which must come next.
+/// The words behind this one, which must be the next one.
 #[tactic(auto, unfolding(crate::specs::Parse::behind))]
 pub(crate) fn behind<'a>(words: &'a [u8], word: &[u8]) -> Result<&'a [u8], LineFault>
     ensures { Gives (λ r. words_in r.now) result (behind word.now (words_in words.now)) }

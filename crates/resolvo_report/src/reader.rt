@@ -1,6 +1,6 @@
 //! Reading a report, line by line or whole.
 //!
-//! `ReportReader` holds one line at most, and tells each line's place by the part that the lines above lead to.
+//! `ReportReader` holds one line at most, and finds each line's place by the part to which the lines above lead.
 //! The judge takes one line after the other; `Report::read` keeps them all.
 
 ghost use Rattle.std.specs.Prelude.{◌≡◌, ℕ, ◌+◌, ◌≤◌, ◌++◌, ◌∷◌, [], Option, Some, None, IfOk, IfSome, IfNone, IfErr, OnOk, IsTrue};
@@ -54,7 +54,7 @@ impl<T: Drop> From<AllocFailed<T>> for ReportFault {
     }
 }
 
-/// A report has at most so many bytes.
+/// The most bytes of a report.
 const MOST_BYTES: u32 = 1 << 30;
 
 /// Takes one line of a report after the other.
@@ -98,7 +98,7 @@ impl ReportReader {
 
     /// Takes the next line. None at the end of a report.
     ///
-    /// All whole lines that have come are judged before the device is asked again. After a fault the reader is
+    /// All whole lines that were read are judged before the device is asked again. After a fault the reader is
     /// of no more use.
     pub fn next<S: Source>(
         &mut self,
@@ -197,7 +197,7 @@ impl Report {
         }
     }
 
-    /// Puts the line below the others, where it may stand.
+    /// Puts the line below the others, where it is allowed.
     fn push(&mut self, line: ReportLine) -> Result<(), AllocError>
         requires { (q : Part)
             × (next_part (part_of (report_of self.old)) (report_line_of line) ≡ Some q) }

@@ -1,6 +1,6 @@
 //! Writing a report to a device, line by line.
 //!
-//! What the device took is told as the front of the report's text. The program writes its answer so.
+//! The contract says which front of the report's text the device took. The program writes its answer so.
 
 ghost use Rattle.std.specs.Prelude.{◌≡◌, ◌++◌, ◌∷◌, [], ⊤, map, OnOk, OnErr, IfErr, codes};
 ghost use Rattle.resolvo_text.specs.Device.{WriterFailed, TakesFront};

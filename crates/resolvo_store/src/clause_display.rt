@@ -1,4 +1,4 @@
-//! Clauses and variables as texts, with the names of what the variables stand for.
+//! Clauses and variables as texts, with the names of the variables' origins.
 //! The texts are for those who follow a search. A variable has its number too, since helpers share
 //! names.
 ghost use Rattle.std.specs.Prelude.{◌≡◌, ◌++◌, Some, codes};

@@ -1,6 +1,6 @@
 //! A store of clauses: the lists that clauses name, the clauses with what they watch, the trail, the
 //! registered need clauses and the packages' scores.
-//! Its model is plain lists and functions (`plain`). Each call is told as what becomes of them, up to
+//! Its model is plain lists and functions (`plain`). Each call's contract says how it changes them, up to
 //! `Like`, which calls functions the same where they agree everywhere. `run` takes a list of calls.
 ghost use Rattle.std.specs.Prelude.{◌≡◌, ◌++◌, ◌∷◌, [], List, Option, Some, false, OnOk, OnErr, IfOk, IsErrOf, IsOkUnless, length, true, None};
 ghost use Rattle.std.specs.List.{list_all};
@@ -249,7 +249,7 @@ impl<N: SolverId + Drop> ClauseStore<N> {
         clause.to_index() < self.clauses.len()
     }
 
-    /// Whether a decision can come from a clause at a level: the clause is there, and the level isn't
+    /// Whether a decision can have a clause as its reason at a level: the clause is there, and the level isn't
     /// below that of the last decision.
     pub fn can_assign(&self, clause: ClauseId, level: u32) -> bool
         ensures { result ≡ can_assign (plain N.Scores.score_of self.now) clause level }
@@ -297,7 +297,7 @@ impl<N: SolverId + Drop> ClauseStore<N> {
         )
     }
 
-    /// Tells whether scores are raised at all. No answer rests on it.
+    /// Says whether scores are raised at all. No answer rests on it.
     pub fn set_standard_activity_params(&mut self, is_standard: bool)
         ensures { Like (plain N.Scores.score_of self.new) (plain N.Scores.score_of self.old) }
     {
@@ -321,7 +321,7 @@ impl<N: SolverId + Drop> ClauseStore<N> {
         }
     }
 
-    /// Scales each score by so many millionths, rounding down.
+    /// Scales each score by this number of millionths, rounding down.
     pub fn decay(&mut self, per_million: u64)
         requires { can_decay per_million ≡ true }
         ensures { Like (plain N.Scores.score_of self.new)
