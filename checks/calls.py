@@ -1,0 +1,37 @@
+#!/usr/bin/env python3
+"""Runs calls of the libraries that no row and no test of the gate makes, without proofs: the tests of checks/calls.
+
+Usage: checks/calls.py [RT]     (default: `rt`)
+It makes a copy of the repository with the folder as one more crate, and runs `rt try --test` in it. Status 1 where a test fails.
+"""
+import os
+import shutil
+import subprocess
+import sys
+import tempfile
+
+TOP = os.path.dirname(os.path.dirname(os.path.abspath(__file__)))
+LIBRARIES = ("resolvo_pool_core resolvo_pool resolvo_store_core resolvo_store resolvo_packages resolvo_turn resolvo "
+             "resolvo_catalogue_core resolvo_catalogue")
+
+
+def copy_with(folder, name, source, libraries):
+    """A copy of the repository in the folder, with the source as one more crate; the crate's folder."""
+    shutil.copytree(TOP, folder, dirs_exist_ok=True, ignore=shutil.ignore_patterns(".git", "out", "target"))
+    subprocess.run(["git", "init", "-q", folder], check=True)
+    crate = os.path.join(folder, "crates", name)
+    shutil.copytree(source, os.path.join(crate, "src"))
+    with open(os.path.join(folder, "crates.txt"), "a", encoding="utf-8") as file:
+        file.write(f"{name}: {libraries}\n")
+    return crate
+
+
+def main():
+    rt = sys.argv[1] if len(sys.argv) > 1 else "rt"
+    with tempfile.TemporaryDirectory() as folder:
+        crate = copy_with(folder, "calls", os.path.join(TOP, "checks", "calls"), LIBRARIES)
+        sys.exit(subprocess.run([rt, "try", "--test", "--seconds", "600"], cwd=crate, check=False).returncode != 0)
+
+
+if __name__ == "__main__":
+    main()
