@@ -89,6 +89,7 @@ impl SatState {
         requires in_range { AreInRange (count_of self.old) clause.literals.items }
         ensures added { IfOk result (λ id. Adds clause id self.old self.new) }
         ensures ids { IsErrOf result Ids → length self.old.clauses ≡ 4294967295 }
+        ensures full { IsErrOf result Ids → length self.new.clauses ≡ 4294967295 }
     {
         let id = self.clauses.alloc(clause)?;
         Ok(id)

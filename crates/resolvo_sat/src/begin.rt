@@ -72,6 +72,7 @@ impl SatState {
         requires { IsState self.old }
         ensures added { IfOk result (λ v. AddsVariable kind v self.old self.new) }
         ensures ids { IsErrOf result Ids → count_of self.old ≡ 2147483647 }
+        ensures full { IsErrOf result Ids → count_of self.new ≡ 2147483647 }
     {
         let number = self.variables.len();
         if number >= 2147483647 {
