@@ -1,26 +1,14 @@
-//! What no clause says: that each call succeeds where there is memory; and rule-keeping by the provider's answers
-//! beside rule-keeping by the lines.
+//! What no clause says: that each call of the provider of a catalogue succeeds where there is memory.
 
 mod answers;
-mod conditions;
-mod keeping;
-mod pairs;
 mod requests;
 
+use super::catalogue;
 use resolvo_catalogue::provider::{CatalogueProvider, Hint};
-use resolvo_catalogue_core::{Catalogue, MemorySource, Request};
+use resolvo_catalogue_core::Catalogue;
 use resolvo_pool_core::want::R;
 use std::alloc::Global;
 use std::test::Fail;
-
-fn catalogue(alloc: Global, text: &str) -> Result<Catalogue, Fail> {
-    Ok(Catalogue::read(alloc, &mut MemorySource::new(text.as_bytes(), 4096))?)
-}
-
-fn request(alloc: Global, text: &str, catalogue: &Catalogue) -> Result<Request, Fail> {
-    let mut source = MemorySource::new(text.as_bytes(), 4096);
-    Ok(Request::read(alloc, &mut source, catalogue)?)
-}
 
 /// The provider of a catalogue.
 fn provider(alloc: Global, catalogue: &Catalogue) -> R<CatalogueProvider> {

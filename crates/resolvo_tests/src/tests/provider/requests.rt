@@ -1,7 +1,8 @@
 //! Requests over a small catalogue: which SPECs have one id, how requirements are written, and in which order
 //! their candidates are tried.
 
-use super::{catalogue, provider, request};
+use super::provider;
+use crate::tests::{catalogue, request};
 use resolvo_catalogue::provider::{CatalogueProvider, RequestIds};
 use resolvo_catalogue_core::{Catalogue, Span, Spec};
 use resolvo_pool::cache::SolverCache;
