@@ -1,9 +1,8 @@
 //! Requests over a small catalogue: which SPECs have one id, how requirements are written, and in which order
 //! their candidates are tried.
 
-use super::provider;
 use crate::tests::{catalogue, request};
-use resolvo_catalogue::provider::{CatalogueProvider, RequestIds};
+use resolvo_catalogue::provider::{CatalogueProvider, Hint, RequestIds};
 use resolvo_catalogue_core::{Catalogue, Span, Spec};
 use resolvo_pool::cache::SolverCache;
 use resolvo_pool_core::id::SolvableId;
@@ -18,6 +17,11 @@ const LISTED: &str =
 
 const FAVOURED: &str =
     "version a 1\nneeds c 1\nversion a 2\nversion b 1\nneeds c 1\nversion b 2\nneeds c 2\nversion c 1\nversion c 2\nfavour a 1\nfavour b 1\nfavour c 1\n";
+
+/// The provider of a catalogue.
+fn provider(alloc: Global, catalogue: &Catalogue) -> R<CatalogueProvider> {
+    CatalogueProvider::new(alloc, catalogue, Hint::All)
+}
 
 /// The ids of a request's text.
 fn asked(
