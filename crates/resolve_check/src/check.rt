@@ -18,7 +18,7 @@ struct Told {
     text: Vec<u8>,
 }
 
-/// The line that tells a verdict.
+/// The line of a verdict.
 fn verdict_told(alloc: Global, verdict: Verdict) -> Result<Told, RunFault>
     ensures ok { IfOk result (λ told. TellsVerdict verdict told.checked told.text.items) }
     ensures err { IfErr result (λ e. e ≡ RunFault.Memory) }
@@ -76,7 +76,8 @@ fn answer<C: Source, R: Source, P: Source>(
         (P.interruptions report.new)))) }
     ensures catalogue_faulty { IfCatalogueFaulty (C.left catalogue.old)
         ((request.new ≡ request.old) × (report.new ≡ report.old)) }
-    ensures request_faulty { IfRequestFaulty (C.left catalogue.old) (R.left request.old) (report.new ≡ report.old) }
+    ensures request_faulty { IfRequestFaulty (C.left catalogue.old) (R.left request.old)
+        (report.new ≡ report.old) }
 {
     let catalogue = match Catalogue::read(alloc, catalogue) {
         Ok(catalogue) => catalogue,
@@ -95,7 +96,7 @@ fn answer<C: Source, R: Source, P: Source>(
 }
 
 /// Reads the catalogue to its end, then the request, judges the report, and writes `yes`, or the line from which it
-/// doesn't hold, or the first faulty line of the texts before it. What comes behind a faulty text isn't read.
+/// doesn't hold, or the first faulty line of the texts before it. The texts behind a faulty one aren't read.
 pub fn check<C: Source, R: Source, P: Source, W: Sink>(
     alloc: Global,
     catalogue: &mut C,
@@ -138,7 +139,8 @@ pub fn check<C: Source, R: Source, P: Source, W: Sink>(
         (W.empty_writes writer.new)))) }
     ensures catalogue_faulty { IfCatalogueFaulty (C.left catalogue.old)
         ((request.new ≡ request.old) × (report.new ≡ report.old)) }
-    ensures request_faulty { IfRequestFaulty (C.left catalogue.old) (R.left request.old) (report.new ≡ report.old) }
+    ensures request_faulty { IfRequestFaulty (C.left catalogue.old) (R.left request.old)
+        (report.new ≡ report.old) }
 {
     match answer(alloc, catalogue, request, report) {
         Ok(told) => match write_all(writer, told.text.as_slice()) {

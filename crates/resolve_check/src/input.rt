@@ -14,7 +14,7 @@ use std::alloc::Global;
 /// The most bytes of standard input.
 pub const INPUT_LIMIT: usize = 33_554_432;
 
-/// So many interruptions in a row are gone through; the next is a failure.
+/// The most interruptions in a row; the next one is a failure.
 const MOST_INTERRUPTIONS: u32 = 1000;
 
 /// How many bytes the reader is asked for at once.
@@ -24,7 +24,8 @@ const PIECE: usize = 4_096;
 fn read_some<S: Source>(source: &mut S, buffer: &mut [u8]) -> Result<usize, RunFault>
     requires { 0 < length buffer.old }
     ensures within { IfOk result (λ n. n ≤ length buffer.new) }
-    ensures came { IfOk result (λ n. Consumes (S.left source.old) (S.left source.new) (take n buffer.new)) }
+    ensures came { IfOk result (λ n. Consumes (S.left source.old) (S.left source.new)
+        (take n buffer.new)) }
     ensures end { IfOk result (λ n. n ≡ 0 → IsAtEnd (S.left source.new)) }
     ensures counted { OnOk result (S.failures source.new ≡ S.failures source.old) }
     ensures fault { MatchResult result (λ _. ⊤)
@@ -80,7 +81,7 @@ fn newline_in(text: &[u8]) -> Option<usize>
     text.iter().position(|b| *b == b'\n')
 }
 
-/// The first line, and what stands below its newline, where it has one.
+/// The first line, and the text below its newline, where it has one.
 fn first_line(text: &[u8]) -> (&[u8], Option<&[u8]>)
     ensures { IsFirstLine text.now result.0.now (option_map (λ r. r.now) result.1) }
 {
@@ -98,7 +99,7 @@ fn is_parting(line: &[u8]) -> bool
     line == b"---".as_slice()
 }
 
-/// The catalogue, which stands above the first line `---`, and the request, which stands below it.
+/// The catalogue, above the first line `---`, and the request, below it.
 pub fn split_input(input: &[u8]) -> (&[u8], &[u8])
     ensures { IsSplit input.now result.0.now result.1.now }
 {

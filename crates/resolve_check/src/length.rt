@@ -35,7 +35,8 @@ pub fn report_length(alloc: Global, report: &Report) -> Result<u64, AllocError>
 }
 
 fn count_answers(alloc: Global, above: u64, lines: &[AnswerLine]) -> Result<u64, AllocError>
-    ensures { IfOk result (CountsOn above (lines_text (map says.Answer (answer_lines_of lines.now)))) }
+    ensures { IfOk result (CountsOn above (lines_text (map says.Answer
+        (answer_lines_of lines.now)))) }
 {
     let mut count = above;
     for line in lines {
@@ -45,7 +46,7 @@ fn count_answers(alloc: Global, above: u64, lines: &[AnswerLine]) -> Result<u64,
     Ok(count)
 }
 
-/// The lines that tell which lines of the catalogue are named.
+/// The lines that name lines of the catalogue.
 fn count_named(alloc: Global, above: u64, lines: &[u32]) -> Result<u64, AllocError>
     ensures { IfOk result (CountsOn above (lines_text (map says.CatalogueLine lines.now))) }
 {
@@ -57,7 +58,7 @@ fn count_named(alloc: Global, above: u64, lines: &[u32]) -> Result<u64, AllocErr
     Ok(count)
 }
 
-/// The lines that tell which lines of the request are named.
+/// The lines that name lines of the request.
 fn count_asked(alloc: Global, above: u64, lines: &[u32]) -> Result<u64, AllocError>
     ensures { IfOk result (CountsOn above (lines_text (map says.RequestLine lines.now))) }
 {

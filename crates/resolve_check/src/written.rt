@@ -15,7 +15,7 @@ pub struct Written {
     pub text: Vec<u8>,
 }
 
-/// The line that tells the first faulty line of a text, which is `catalogue` or `request`.
+/// The line that names the first faulty line of a text, which is `catalogue` or `request`.
 fn fault_text(alloc: Global, which: &str, line: u32) -> Result<Vec<u8>, AllocError>
     ensures { IfOk result (λ text. text.items ≡ fault_text which.now line) }
 {
@@ -23,7 +23,7 @@ fn fault_text(alloc: Global, which: &str, line: u32) -> Result<Vec<u8>, AllocErr
     Ok(Vec::from_slice(alloc, text.as_bytes())?)
 }
 
-/// A line of a text that is told as faulty.
+/// The faulty line of a text.
 pub fn faulty(alloc: Global, which: &str, line: u32) -> Result<Written, RunFault>
     ensures ok { IfOk result
         (λ answer.

@@ -1,6 +1,6 @@
 //! The report of the turns of a search: chosen versions with the lines that asked for them, and wishes that are left out.
 //!
-//! `list` of the crate below tells the order and the lines; here its answers become the lines of a report. Called by
+//! `list` of the crate below decides the order and the lines; here its answers become the lines of a report. Called by
 //! the program, with the turns of the solver over a catalogue's provider.
 
 ghost use Rattle.std.specs.Prelude.{◌≡◌, map, IfOk};
@@ -20,7 +20,7 @@ use resolvo_catalogue_core::{Catalogue, Request, Version, VersionNo};
 use resolvo_report::{AnswerLine, Place, Report, Step};
 use std::alloc::{AllocError, Global};
 
-/// The version of this number. One that no version has stands for a version without a name.
+/// The version of this number. A number of no version gives a version without a name.
 fn version_at(
     alloc: Global,
     catalogue: &Catalogue,

@@ -1,4 +1,4 @@
-//! The numbers of the versions that solvables stand for. Called by who has the solvables of a search's turns.
+//! The numbers of the versions of solvables. Called by who has the solvables of a search's turns.
 
 ghost use Rattle.std.specs.Prelude.{◌≡◌, IfOk};
 ghost use Rattle.resolve_install.specs.Numbers.{numbers_of};

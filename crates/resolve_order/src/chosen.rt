@@ -1,5 +1,5 @@
 //! The chosen versions by their packages, and which of them are entries.
-//! It stands for two sets (`Holds` of specs/Kept.antt), and tells what a line gives. Kept by `listing`.
+//! It holds two sets (`Holds` of specs/Kept.antt), and answers what a line gives. `install_order` keeps it.
 
 ghost use Rattle.std.specs.Prelude.{◌≡◌, ◌++◌, ◌∷◌, [], ◌+◌, true, Contains, slice_get, Some, List, Option, IfOk, OnOk, IfSome};
 ghost use Rattle.std.specs.HashMap.{get_by_text};
@@ -158,7 +158,8 @@ impl Chosen {
         ensures unlisted { IfSome result (λ n. is_unlisted self.now.listed.items n.0 ≡ true) }
         ensures matched { (chosen entries : Set)
             → Holds (listed catalogue.now) self.now chosen entries
-            → IsFirstMatch (listed catalogue.now) chosen entries (specs_of alternatives.now) result }
+            → IsFirstMatch (listed catalogue.now) chosen entries (specs_of alternatives.now)
+            result }
     {
         for spec in alternatives {
             if let Some(version) = self.unlisted_match(catalogue, spec) {
@@ -234,8 +235,8 @@ impl Chosen {
     /// What the line of this rule gives. A rule that is no need gives nothing.
     fn look_at_rule(&self, catalogue: &Catalogue, rule: &Rule) -> Look
         ensures unlisted { IfGives result (λ n. is_unlisted self.now.listed.items n.0 ≡ true) }
-        ensures looked { (chosen entries : Set) (versions : List says.Version) (owner : Option says.Version)
-            (line : says.Line)
+        ensures looked { (chosen entries : Set) (versions : List says.Version)
+            (owner : Option says.Version) (line : says.Line)
             → Holds (listed catalogue.now) self.now chosen entries
             → States versions rule.now owner line
             → IsLook (listed catalogue.now) chosen entries (Some line) result }

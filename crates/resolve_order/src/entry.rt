@@ -1,5 +1,5 @@
 //! Entries of a report, why they are listed, wishes that are left out, and the turns of a search.
-//! Turns come from who ran the search; answers are made by `listing`.
+//! The search's caller makes turns; `install_order` makes the answers.
 
 use resolvo_catalogue_core::VersionNo;
 
@@ -32,7 +32,7 @@ pub enum Answer {
     },
 }
 
-/// A turn of a search. Wishes are told by their lines of the request.
+/// A turn of a search. A wish is named by its line of the request.
 #[derive(Clone, Copy, Debug)]
 pub enum Turn<'a> {
     /// The needs of the request, or an accepted wish: the versions that were chosen besides those of the turns before.

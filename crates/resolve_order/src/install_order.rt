@@ -30,7 +30,7 @@ pub struct Listing {
     answers: Vec<Answer>,
 }
 
-/// The lines of a request with so many.
+/// The lines of a request with this number of them.
 fn request_lines(alloc: Global, count: u32) -> Result<Vec<Reason>, AllocError>
     ensures { IfOk result (λ lines. lines.items ≡ lines_to count) }
 {
@@ -89,7 +89,8 @@ impl Listing {
         requires { is_unlisted self.old.chosen.listed.items entry.version.0 ≡ true }
         ensures fewer { OnOk result
             (unlisted self.new.chosen.listed.items + 1 ≡ unlisted self.old.chosen.listed.items) }
-        ensures answers { OnOk result (self.new.answers.items ≡ self.old.answers.items ++ answer.Entry entry ∷ []) }
+        ensures answers { OnOk result (self.new.answers.items ≡ self.old.answers.items
+            ++ answer.Entry entry ∷ []) }
         ensures lines { OnOk result
             ((more : List Reason) × (self.new.lines.items ≡ self.old.lines.items ++ more)) }
         ensures listing { OnOk result
@@ -207,7 +208,7 @@ impl Listing {
         Ok(())
     }
 
-    /// Tells that a wish is left out.
+    /// Lists a wish as left out.
     fn leave_out(&mut self, wish: (u32, VersionNo), step: u32) -> Result<(), AllocError>
         ensures { OnOk result
             ((catalogue request : List says.Line) (chosen : Set)

@@ -1,5 +1,5 @@
-//! Which lines are left to look at. All lines stand in one list; those that wait for their condition are looked at again
-//! after each entry. Used by `listing`.
+//! Which lines are left to look at. All lines are in one list; those that wait for their condition are looked at again
+//! after each entry. Used by `install_order`.
 
 ghost use Rattle.std.specs.Prelude.{◌≡◌, ◌++◌, ◌∷◌, [], ◌≤◌, length, OnOk, IfSome, None, List};
 ghost use Rattle.resolve_order.specs.Kept.{left_of};
@@ -33,7 +33,8 @@ impl Places {
     /// The next line to look at.
     pub fn take(&mut self, lines: &[Reason]) -> Option<Reason>
         ensures waiting { self.new.waiting ≡ self.old.waiting }
-        ensures taken { IfSome result (λ r. left_of self.old lines.now ≡ r ∷ left_of self.new lines.now) }
+        ensures taken { IfSome result (λ r. left_of self.old lines.now
+            ≡ r ∷ left_of self.new lines.now) }
         ensures none { result ≡ None → left_of self.old lines.now ≡ [] }
         ensures within { self.old.below ≤ length lines.now → self.new.below ≤ length lines.now }
     {
@@ -47,7 +48,8 @@ impl Places {
 
     /// Lets the line that was taken wait.
     pub fn wait(&mut self, reason: Reason) -> Result<(), AllocError>
-        ensures waiting { OnOk result (self.new.waiting.items ≡ self.old.waiting.items ++ reason ∷ []) }
+        ensures waiting { OnOk result (self.new.waiting.items ≡ self.old.waiting.items
+            ++ reason ∷ []) }
         ensures again { OnOk result (self.new.again ≡ self.old.again) }
         ensures below { OnOk result (self.new.below ≡ self.old.below) }
     {

@@ -18,7 +18,7 @@ use resolvo_proof::step::ProofStep;
 use resolvo_report::Step;
 use std::alloc::Global;
 
-/// The steps of a proof as they stand in an install report: each rule by the first line that states it, a need also by
+/// The steps of a proof as an install report has them: each rule by the first line that states it, a need also by
 /// the first of its cases. `Ids` where there are more steps, or more cases of a line, than numbers.
 pub fn install_steps(
     alloc: Global,
@@ -46,7 +46,8 @@ pub fn install_steps(
 /// The step by which a version is barred before a search: by the lock of another version of its package, else by its
 /// exclusion. None where neither is there.
 pub fn barring_step(alloc: Global, catalogue: &Catalogue, version: VersionNo) -> R<Option<Step>>
-    ensures { IfOk result (λ found. IsBarringStepOf catalogue.now version.0 (option_map step_of found)) }
+    ensures { IfOk result (λ found. IsBarringStepOf catalogue.now version.0
+        (option_map step_of found)) }
 {
     // What holds of each catalogue: its versions have texts, and its lines are counted in 32 bits.
     catalogue.lines_are_in_place();

@@ -97,7 +97,8 @@ impl<'a> Texts<'a> {
 
     /// The lines of a place.
     fn lines_of(self, place: Option<VersionNo>) -> PlaceLines<'a>
-        ensures { AreLines result (IsLineOf self.entry.catalogue.now self.entry.request.now.lines place) }
+        ensures { AreLines result (IsLineOf self.entry.catalogue.now self.entry.request.now.lines
+            place) }
     {
         match place {
             None => PlaceLines::UpTo(self.request.line_count()),
@@ -260,7 +261,8 @@ impl<'a> Texts<'a> {
 
     /// The line that excludes the version, if it does so with this word.
     fn this_exclusion(self, line: u32, version: VersionNo, word: &str) -> Option<u32>
-        ensures { IsBarredLineOf self.entry.catalogue.now version.0 (Some (BarringLine.Exclude line))
+        ensures { IsBarredLineOf self.entry.catalogue.now version.0
+            (Some (BarringLine.Exclude line))
             → (v : says.Version)
             → slice_get (listed self.entry.catalogue.now) version.0 ≡ Some v
             → IsLeast result (ExcludesAt self.entry.catalogue.now v word.now) }
@@ -292,7 +294,7 @@ impl<'a> Texts<'a> {
             → slice_get (listed self.entry.catalogue.now) version.0 ≡ Some v
             → Decides result (ExcludesAt self.entry.catalogue.now v word.now line) }
     {
-        // No version is listed twice, so its number tells it.
+        // No version is listed twice, so its number identifies it.
         let _versions = self.catalogue.versions();
         match self.catalogue.rule(line) {
             Some(rule) => excludes(rule, version, word),

@@ -1,4 +1,4 @@
-//! Atoms by their texts, and the literals of a derived clause as they stand in a report: in the order of their texts,
+//! Atoms by their texts, and the literals of a derived clause as a report has them: in the order of their texts,
 //! each once.
 
 ghost use Rattle.std.specs.Prelude.{◌≡◌, IfOk, IsTrue, map};
@@ -29,7 +29,8 @@ pub(crate) fn sorted_literals(
         (λ v.
         HaveForm catalogue.now provider.now.ids literals.now
         → AreLiterals catalogue.now provider.now.ids literals.now (literals_of v.items)) }
-    ensures rising { IfOk result (λ v. IsTrue (are_rising (map literal_text (literals_of v.items)))) }
+    ensures rising { IfOk result (λ v. IsTrue (are_rising
+        (map literal_text (literals_of v.items)))) }
 {
     let mut by_text: BTreeMap<String, Literal> = BTreeMap::new(alloc);
     for literal in literals {

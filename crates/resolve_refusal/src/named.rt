@@ -16,7 +16,7 @@ pub(crate) enum Text {
     Request,
 }
 
-/// The lines of a text of so many lines that the steps rest on: each once, rising.
+/// The lines of a text, of this number of lines, that the steps rest on: each once, rising.
 pub(crate) fn named_lines(alloc: Global, text: Text, count: u32, steps: &[Step]) -> R<Vec<u32>>
     ensures { IfOk result (λ v. AreAll v.items (IsNamedBy text count (steps_of steps.now))) }
 {
@@ -43,8 +43,10 @@ fn flag_lines(alloc: Global, text: Text, count: u32, steps: &[Step]) -> R<Vec<bo
 fn flag(flags: &mut Vec<bool>, line: u32)
     ensures long { length flags.new.items ≡ length flags.old.items }
     ensures kept { (k : ℕ) → IsFlagged flags.old.items k → IsFlagged flags.new.items k }
-    ensures set { (k : ℕ) → line ≡ suc k → k < length flags.old.items → IsFlagged flags.new.items k }
-    ensures only { (k : ℕ) → IsFlagged flags.new.items k → IsFlagged flags.old.items k ⊎ (line ≡ suc k) }
+    ensures set { (k : ℕ) → line ≡ suc k → k < length flags.old.items
+        → IsFlagged flags.new.items k }
+    ensures only { (k : ℕ) → IsFlagged flags.new.items k
+        → IsFlagged flags.old.items k ⊎ (line ≡ suc k) }
 {
     if let Some(place) = (line as usize).checked_sub(1) {
         if place < flags.len() {

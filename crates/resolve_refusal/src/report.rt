@@ -60,7 +60,7 @@ pub fn refused_report(
     })
 }
 
-/// The steps as they stand in a report.
+/// The steps of the report.
 pub(crate) fn write_steps(
     alloc: Global,
     texts: Texts,

@@ -34,7 +34,7 @@ pub(crate) struct Writing<'a> {
 }
 
 impl Writing<'_> {
-    /// The step as it stands in a report.
+    /// The step as a report has it.
     pub fn step(self, step: &ProofStep<NameId, SolvableId>) -> R<Step>
         ensures tells { IfOk result
             (λ w.
@@ -252,7 +252,8 @@ impl Writing<'_> {
 
     /// The step that bars a version by the line that locks another version of its package.
     fn lock(self, solvable: SolvableId) -> R<Step>
-        ensures tells { IfOk result (λ w. TellsLock self.entry.texts.catalogue.now solvable (step_of w)) }
+        ensures tells { IfOk result (λ w. TellsLock self.entry.texts.catalogue.now solvable
+            (step_of w)) }
         ensures written { IfOk result
             (λ w.
             (line : ℕ)
@@ -268,8 +269,8 @@ impl Writing<'_> {
     /// The step that bars a version with the word of a reason, by the first line that does: one that excludes it, or one that
     /// says that its needs are unknown.
     fn exclusion(self, solvable: SolvableId, reason: StringId) -> Step
-        ensures tells { TellsWord self.entry.texts.catalogue.now self.entry.provider.now.ids solvable reason
-            (step_of result) }
+        ensures tells { TellsWord self.entry.texts.catalogue.now self.entry.provider.now.ids
+            solvable reason (step_of result) }
         ensures written { HasWord (step_of result) }
     {
         let number = self.provider.version_of(solvable);
@@ -300,7 +301,8 @@ impl Writing<'_> {
     }
 
     fn version(self, solvable: SolvableId) -> R<Version>
-        ensures { IfOk result (λ v. version_of v ≡ version_at self.entry.texts.catalogue.now solvable) }
+        ensures { IfOk result (λ v. version_of v ≡ version_at self.entry.texts.catalogue.now
+            solvable) }
     {
         version_of(self.alloc, self.texts.catalogue, solvable)
     }

@@ -65,8 +65,10 @@ fn drawn<S: Copy + Exact + Hash + Debug>(alloc: Global, links: &[Link<S>]) -> R<
 
 /// Adds a link's nodes, as far as they aren't there, and its edge.
 fn draw<S: Copy + Exact + Hash + Debug>(graph: &mut ConflictGraph<S>, link: Link<S>) -> R<()>
-    ensures nodes { OnOk result (graph.new.nodes ≡ insert_all (same_node S.eq) graph.old.nodes (ends_of link)) }
-    ensures edges { OnOk result (graph.new.edges ≡ graph.old.edges ++ edges_in S.eq graph.new.nodes link) }
+    ensures nodes { OnOk result (graph.new.nodes ≡ insert_all (same_node S.eq) graph.old.nodes
+        (ends_of link)) }
+    ensures edges { OnOk result (graph.new.edges ≡ graph.old.edges
+        ++ edges_in S.eq graph.new.nodes link) }
     ensures refusal { IsOkUnless result Memory }
 {
     match link.source() {
@@ -92,7 +94,8 @@ fn put_node<S: Copy + Exact + Hash + Debug>(
     ensures put { OnOk result
         (graph.new
         ≡ record graph.old { nodes = insert_key (same_node S.eq) graph.old.nodes node }) }
-    ensures agrees { (m n : ConflictNode S) → ⟦<ConflictNode<S> as PartialEq>⟧.eq m n ≡ same_node S.eq m n }
+    ensures agrees { (m n : ConflictNode S)
+        → ⟦<ConflictNode<S> as PartialEq>⟧.eq m n ≡ same_node S.eq m n }
     ensures refusal { IsOkUnless result Memory }
 {
     let index = graph.add_node(node)?;

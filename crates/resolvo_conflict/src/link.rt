@@ -8,7 +8,7 @@ use resolvo_pool_core::id::{StringId, VersionSetId};
 use resolvo_pool_core::requirement::Requirement;
 use std::alloc::AllocError;
 
-/// An edge, by what stands at its ends. A parent is a solvable, or none for the root.
+/// An edge, by its ends. A parent is a solvable, or none for the root.
 #[derive(Debug)]
 pub enum Link<S> {
     /// The solvable is excluded for this reason.
@@ -27,7 +27,7 @@ pub enum Link<S> {
         locked: S,
         barred: S,
     },
-    /// A version of a package, behind the one that came before it, if there was one.
+    /// A version of a package, behind the one before it, if there is one.
     Instance {
         before: Option<S>,
         solvable: S,

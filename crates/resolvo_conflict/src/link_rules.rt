@@ -23,7 +23,7 @@ use std::collections::HashMap;
 use std::fmt::Debug;
 use std::hash::Hash;
 
-/// The rules that are drawn together with others, wherever these stand in the conflict.
+/// The rules that are drawn together with others, wherever these are in the conflict.
 #[derive(Drop)]
 pub(crate) struct Shares<S> {
     /// Who opens the gate of which requirement.
@@ -40,9 +40,12 @@ pub(crate) fn shares_of<N: Copy + Exact + Hash + Debug, S: Copy + Exact + Hash +
     steps: &[ProofStep<N, S>],
     order: &[usize],
 ) -> R<Shares<S>>
-    ensures gates { IfOk result (λ h. h.gates.items ≡ filter_map gate_in (rules_at steps.now order.now)) }
-    ensures limits { IfOk result (λ h. h.limits.items ≡ filter_map limit_in (rules_at steps.now order.now)) }
-    ensures outsides { IfOk result (λ h. h.outsides.items ≡ filter_map outside_in (rules_at steps.now order.now)) }
+    ensures gates { IfOk result (λ h. h.gates.items ≡ filter_map gate_in
+        (rules_at steps.now order.now)) }
+    ensures limits { IfOk result (λ h. h.limits.items ≡ filter_map limit_in
+        (rules_at steps.now order.now)) }
+    ensures outsides { IfOk result (λ h. h.outsides.items ≡ filter_map outside_in
+        (rules_at steps.now order.now)) }
     ensures refusal { IsOkUnless result Memory }
 {
     let mut shares = Shares {
@@ -122,7 +125,7 @@ pub(crate) fn links_of<I: Interner>(
     Ok(links)
 }
 
-/// Notes the version of which a rule tells a digit as the last of its package, and answers the one before it.
+/// Notes the version whose digit a rule states as the last of its package, and answers the one before it.
 fn note_instance<I: Interner>(
     interner: &I,
     rule: &ProofRule<I::NameId, I::SolvableId>,

@@ -46,9 +46,10 @@ pub fn conflict_rules<N: Copy + Exact + Hash + Debug, S: Copy + Exact + Hash + D
     Ok(order)
 }
 
-/// Puts the causes that stand before this place on top, the last one uppermost.
+/// Puts the causes before this place on top, the last one uppermost.
 fn stack_causes(causes: &[usize], place: usize, stack: &mut Vec<usize>) -> R<()>
-    ensures put { OnOk result (stack.new.items ≡ stack.old.items ++ filter (is_earlier place) causes.now) }
+    ensures put { OnOk result (stack.new.items ≡ stack.old.items ++ filter (is_earlier place)
+        causes.now) }
     ensures refusal { IsOkUnless result Memory }
 {
     for cause in causes {

@@ -54,8 +54,14 @@ impl<I: Interner> fmt::Display for DisplayUnsat<'_, I> {
     ghost output = { λ d.
         Some
         (text_of
-        (record
-        { name_of = I.name_of_version_set d.interner.now; members_of = I.members_of d.interner.now; name_text = I.name_text d.interner.now; version_set_text = I.version_set_text d.interner.now; versions_text = I.merged_text d.interner.now; word_text = I.string_text d.interner.now })
+        (record {
+          name_of = I.name_of_version_set d.interner.now;
+          members_of = I.members_of d.interner.now;
+          name_text = I.name_text d.interner.now;
+          version_set_text = I.version_set_text d.interner.now;
+          versions_text = I.merged_text d.interner.now;
+          word_text = I.string_text d.interner.now;
+        })
         d.lines.items) };
 
     fn fmt<W: fmt::Write>(&self, f: &mut fmt::Formatter<W>) -> fmt::Result {
@@ -84,7 +90,7 @@ fn message_lines<S: SolverId, I: Interner<SolvableId = S>>(
     lines_along(alloc, graph, &order, merged)
 }
 
-/// The lines of the message along a walk, where these versions are told as one.
+/// The lines of the message along a walk, where these versions are merged.
 fn lines_along<S: Copy + Exact + Hash + Debug>(
     alloc: Global,
     graph: &ConflictGraph<S>,
@@ -217,7 +223,7 @@ fn conflict_lines<S: Copy + Exact + Hash + Debug>(
     Ok(lines)
 }
 
-/// Tells a conflict of the problem itself: a constraint, or a lock.
+/// Writes a conflict of the problem itself: a constraint, or a lock.
 fn tell_conflict<S: Copy + Exact + Hash + Debug>(
     alloc: Global,
     weight: ConflictEdge<S>,

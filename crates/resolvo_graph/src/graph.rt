@@ -1,6 +1,6 @@
 //! The conflict graph: which versions, wishes and reasons made an answer impossible.
 //! The model is the list of its nodes and the list of its edges, each in the order in which they were
-//! added. The solver builds it from a conflict; the message is told over it. The edges are linked, so
+//! added. The solver builds it from a conflict; the message is written from it. The edges are linked, so
 //! that those at a node are found without a look at the others.
 ghost use Rattle.std.specs.Prelude.{◌≡◌, ◌<◌, ◌++◌, ◌∷◌, [], IfOk, OnOk, OnErr, IsOkUnless, length, map, filter, reverse, slice_get, Some, None, nat_lt};
 ghost use Rattle.std.specs.List.{position_or_len};
@@ -201,8 +201,13 @@ impl<S: Copy + Exact + Hash> ConflictGraph<S> {
         ensures index { IfOk result (λ i. i.0 ≡ length self.old.edges) }
         ensures put { OnOk result
             (self.new
-            ≡ record self.old
-            { edges = self.old.edges ++ record { source = source; target = target; weight = weight } ∷ [] }) }
+            ≡ record self.old {
+              edges = self.old.edges ++ record {
+                source = source;
+                target = target;
+                weight = weight;
+              } ∷ [];
+            }) }
         ensures err { OnErr result (self.new ≡ self.old) }
         ensures refusal { IsOkUnless result Memory }
     {
@@ -219,7 +224,7 @@ impl<S: Copy + Exact + Hash> ConflictGraph<S> {
         Ok(index)
     }
 
-    /// The node that stands for the problem itself.
+    /// The root: the node of the problem itself.
     pub fn root_node(&self) -> NodeIndex
         ensures { result.0 ≡ 0 }
     {
@@ -288,7 +293,8 @@ impl<S: Copy + Exact + Hash> ConflictGraph<S> {
 
     /// The edges at a node on one side, the newest first.
     fn edges_at(&self, alloc: Global, node: NodeIndex, side: Side) -> R<Vec<Edge<S>>>
-        ensures edges { IfOk result (λ v. v.items ≡ reverse (filter (is_at side node) self.now.edges)) }
+        ensures edges { IfOk result (λ v. v.items ≡ reverse
+            (filter (is_at side node) self.now.edges)) }
         ensures refusal { IsOkUnless result Memory }
     {
         let mut found = Vec::new(alloc);

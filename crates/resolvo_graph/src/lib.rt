@@ -1,4 +1,4 @@
-//! Why there is no answer: the conflict graph, versions that are told as one, and the message.
+//! Why there is no answer: the conflict graph, merged versions, and the message.
 #![tactic(auto)]
 
 pub mod display_unsat;

@@ -1,4 +1,4 @@
-//! The lines of the message: an indent, and a sentence on a requirement, on versions told as one, or
+//! The lines of the message: an indent, and a sentence on a requirement, on merged versions, or
 //! on a constraint. docs/MESSAGES.md explains the sentences to those who read them.
 ghost use Rattle.std.specs.Prelude.{◌≡◌, ◌==◌, Some, length};
 ghost use Rattle.std.specs.Fmt.{WritesOnOk};
@@ -11,7 +11,7 @@ use resolvo_pool_core::requirement::{DisplayRequirement, Requirement};
 use std::fmt;
 use std::marker::Model;
 
-/// What is told of a requirement.
+/// A sentence on a requirement.
 #[derive(Clone, Copy, Debug, PartialEq, Eq)]
 pub enum Outlook {
     /// No candidate matches.
@@ -22,25 +22,25 @@ pub enum Outlook {
     Hopeless,
 }
 
-/// What is told of versions.
+/// A sentence on versions.
 #[derive(Clone, Copy, Debug, PartialEq, Eq)]
 pub enum Verdict {
     /// They can be installed.
     Alone,
     /// They are excluded, for this reason.
     Excluded(StringId),
-    /// Another version of their package is told above.
+    /// Another version of their package is reported above.
     Conflicts,
-    /// They admit only some versions of other packages, told below.
+    /// They admit only some versions of other packages, listed below.
     Constrains,
-    /// They need what is told below.
+    /// They need what is listed below.
     Requires,
     /// They are locked, and another version is needed.
     Locked,
 }
 
 impl Outlook {
-    /// What stands before a requirement, at the top and below.
+    /// The words before a requirement, at the top and below.
     #[tactic(auto, unfolding(crate::specs::Words::words_before))]
     fn words_before(self, top: bool) -> &'static str
         ensures { result.now ≡ words_before top self }
@@ -51,7 +51,7 @@ impl Outlook {
         }
     }
 
-    /// What stands behind a requirement, at the top and below.
+    /// The words behind a requirement, at the top and below.
     #[tactic(auto, unfolding(crate::specs::Words::words_behind))]
     fn words_behind(self, top: bool) -> &'static str
         ensures { result.now ≡ words_behind top self }
@@ -76,7 +76,7 @@ impl Outlook {
 }
 
 impl Verdict {
-    /// What stands behind versions, before a reason.
+    /// The words behind versions, before a reason.
     #[tactic(auto, unfolding(crate::specs::Words::words_of))]
     fn words(self) -> &'static str
         ensures { result.now ≡ words_of self }
@@ -92,7 +92,7 @@ impl Verdict {
     }
 }
 
-/// Versions of one package that are told as one.
+/// Merged versions of one package.
 #[derive(Drop)]
 pub struct Versions<S> {
     ids: Vec<S>,
@@ -129,7 +129,7 @@ pub enum Sentence<S = SolvableId> {
     Incompatible,
     Requirement(Requirement, Outlook),
     Versions(Versions<S>, Verdict),
-    /// A version set that versions told above admit alone.
+    /// The only version set that the versions above admit.
     Admitted(VersionSetId),
     /// A constraint of the problem itself.
     Constraint(VersionSetId),
@@ -153,8 +153,14 @@ impl<I: Interner> fmt::Display for DisplayLine<'_, I> {
     ghost output = { λ d.
         Some
         (line_text
-        (record
-        { name_of = I.name_of_version_set d.interner.now; members_of = I.members_of d.interner.now; name_text = I.name_text d.interner.now; version_set_text = I.version_set_text d.interner.now; versions_text = I.merged_text d.interner.now; word_text = I.string_text d.interner.now })
+        (record {
+          name_of = I.name_of_version_set d.interner.now;
+          members_of = I.members_of d.interner.now;
+          name_text = I.name_text d.interner.now;
+          version_set_text = I.version_set_text d.interner.now;
+          versions_text = I.merged_text d.interner.now;
+          word_text = I.string_text d.interner.now;
+        })
         d.line.now) };
 
     fn fmt<W: fmt::Write>(&self, f: &mut fmt::Formatter<W>) -> fmt::Result {
@@ -170,8 +176,14 @@ impl<I: Interner> DisplayLine<'_, I> {
     fn write_sentence<W: fmt::Write>(&self, f: &mut fmt::Formatter<W>) -> fmt::Result
         ensures { WritesOnOk W.write_str_gives f.old result
             (sentence_words
-            (record
-            { name_of = I.name_of_version_set self.now.interner.now; members_of = I.members_of self.now.interner.now; name_text = I.name_text self.now.interner.now; version_set_text = I.version_set_text self.now.interner.now; versions_text = I.merged_text self.now.interner.now; word_text = I.string_text self.now.interner.now })
+            (record {
+              name_of = I.name_of_version_set self.now.interner.now;
+              members_of = I.members_of self.now.interner.now;
+              name_text = I.name_text self.now.interner.now;
+              version_set_text = I.version_set_text self.now.interner.now;
+              versions_text = I.merged_text self.now.interner.now;
+              word_text = I.string_text self.now.interner.now;
+            })
             (length self.now.line.now.indenter.levels == 1) self.now.line.now.sentence)
             f.new }
     {
@@ -186,7 +198,7 @@ impl<I: Interner> DisplayLine<'_, I> {
         }
     }
 
-    /// Writes a version set that versions told above admit alone.
+    /// Writes the only version set that the versions above admit.
     fn write_admitted<W: fmt::Write>(
         &self,
         version_set: VersionSetId,
@@ -194,8 +206,14 @@ impl<I: Interner> DisplayLine<'_, I> {
     ) -> fmt::Result
         ensures { WritesOnOk W.write_str_gives f.old result
             (admitted_words
-            (record
-            { name_of = I.name_of_version_set self.now.interner.now; members_of = I.members_of self.now.interner.now; name_text = I.name_text self.now.interner.now; version_set_text = I.version_set_text self.now.interner.now; versions_text = I.merged_text self.now.interner.now; word_text = I.string_text self.now.interner.now })
+            (record {
+              name_of = I.name_of_version_set self.now.interner.now;
+              members_of = I.members_of self.now.interner.now;
+              name_text = I.name_text self.now.interner.now;
+              version_set_text = I.version_set_text self.now.interner.now;
+              versions_text = I.merged_text self.now.interner.now;
+              word_text = I.string_text self.now.interner.now;
+            })
             version_set)
             f.new }
     {
@@ -211,8 +229,14 @@ impl<I: Interner> DisplayLine<'_, I> {
     ) -> fmt::Result
         ensures { WritesOnOk W.write_str_gives f.old result
             (constraint_words
-            (record
-            { name_of = I.name_of_version_set self.now.interner.now; members_of = I.members_of self.now.interner.now; name_text = I.name_text self.now.interner.now; version_set_text = I.version_set_text self.now.interner.now; versions_text = I.merged_text self.now.interner.now; word_text = I.string_text self.now.interner.now })
+            (record {
+              name_of = I.name_of_version_set self.now.interner.now;
+              members_of = I.members_of self.now.interner.now;
+              name_text = I.name_text self.now.interner.now;
+              version_set_text = I.version_set_text self.now.interner.now;
+              versions_text = I.merged_text self.now.interner.now;
+              word_text = I.string_text self.now.interner.now;
+            })
             version_set)
             f.new }
     {
@@ -221,7 +245,7 @@ impl<I: Interner> DisplayLine<'_, I> {
         f.write_str(" cannot be fulfilled")
     }
 
-    /// Writes what is told of a requirement: at the top in other words than below.
+    /// Writes the sentence on a requirement: at the top in other words than below.
     fn write_requirement<W: fmt::Write>(
         &self,
         requirement: Requirement,
@@ -230,8 +254,14 @@ impl<I: Interner> DisplayLine<'_, I> {
     ) -> fmt::Result
         ensures { WritesOnOk W.write_str_gives f.old result
             (requirement_words
-            (record
-            { name_of = I.name_of_version_set self.now.interner.now; members_of = I.members_of self.now.interner.now; name_text = I.name_text self.now.interner.now; version_set_text = I.version_set_text self.now.interner.now; versions_text = I.merged_text self.now.interner.now; word_text = I.string_text self.now.interner.now })
+            (record {
+              name_of = I.name_of_version_set self.now.interner.now;
+              members_of = I.members_of self.now.interner.now;
+              name_text = I.name_text self.now.interner.now;
+              version_set_text = I.version_set_text self.now.interner.now;
+              versions_text = I.merged_text self.now.interner.now;
+              word_text = I.string_text self.now.interner.now;
+            })
             (length self.now.line.now.indenter.levels == 1) requirement outlook)
             f.new }
     {
@@ -245,7 +275,7 @@ impl<I: Interner> DisplayLine<'_, I> {
         f.write_str(outlook.words_behind(top))
     }
 
-    /// Writes what is told of versions.
+    /// Writes the sentence on versions.
     fn write_versions<W: fmt::Write>(
         &self,
         versions: &Versions<I::SolvableId>,
@@ -254,8 +284,14 @@ impl<I: Interner> DisplayLine<'_, I> {
     ) -> fmt::Result
         ensures { WritesOnOk W.write_str_gives f.old result
             (versions_words
-            (record
-            { name_of = I.name_of_version_set self.now.interner.now; members_of = I.members_of self.now.interner.now; name_text = I.name_text self.now.interner.now; version_set_text = I.version_set_text self.now.interner.now; versions_text = I.merged_text self.now.interner.now; word_text = I.string_text self.now.interner.now })
+            (record {
+              name_of = I.name_of_version_set self.now.interner.now;
+              members_of = I.members_of self.now.interner.now;
+              name_text = I.name_text self.now.interner.now;
+              version_set_text = I.version_set_text self.now.interner.now;
+              versions_text = I.merged_text self.now.interner.now;
+              word_text = I.string_text self.now.interner.now;
+            })
             versions.now verdict)
             f.new }
     {
@@ -275,8 +311,14 @@ impl<I: Interner> DisplayLine<'_, I> {
     ) -> fmt::Result
         ensures { WritesOnOk W.write_str_gives f.old result
             (set_words
-            (record
-            { name_of = I.name_of_version_set self.now.interner.now; members_of = I.members_of self.now.interner.now; name_text = I.name_text self.now.interner.now; version_set_text = I.version_set_text self.now.interner.now; versions_text = I.merged_text self.now.interner.now; word_text = I.string_text self.now.interner.now })
+            (record {
+              name_of = I.name_of_version_set self.now.interner.now;
+              members_of = I.members_of self.now.interner.now;
+              name_text = I.name_text self.now.interner.now;
+              version_set_text = I.version_set_text self.now.interner.now;
+              versions_text = I.merged_text self.now.interner.now;
+              word_text = I.string_text self.now.interner.now;
+            })
             version_set)
             f.new }
     {

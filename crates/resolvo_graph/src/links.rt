@@ -45,7 +45,7 @@ impl Links {
     }
 }
 
-/// Gives each of so many nodes its links; a new one has none.
+/// Gives each node below this number its links; a new one has none.
 pub(crate) fn cover(newest: &mut Vec<Links>, count: usize) -> R<()>
     ensures same { (n : ℕ) → links_of newest.new.items n ≡ links_of newest.old.items n }
     ensures covered { OnOk result (count ≤ vec_len newest.new) }
@@ -70,7 +70,7 @@ pub(crate) fn newest_on(newest: &[Links], node: NodeIndex, side: Side) -> Option
     }
 }
 
-/// The newest edges at the ends of an edge that is to come.
+/// The newest edges at the ends of the next edge.
 pub(crate) fn newest_at_ends<S: Copy>(newest: &[Links], edge: Edge<S>) -> Links
     requires source { edge.source.0 < length newest.now }
     requires target { edge.target.0 < length newest.now }
@@ -100,7 +100,8 @@ pub(crate) fn put_newest<S: Copy>(newest: &mut Vec<Links>, edge: Edge<S>, index:
 pub(crate) fn move_links(newest: &mut Vec<Links>, last: usize, place: usize)
     requires order { place ≤ last }
     requires none { links_of newest.old.items place ≡ no_links }
-    ensures { (n : ℕ) → links_of newest.new.items n ≡ links_of newest.old.items (exchanged place last n) }
+    ensures { (n : ℕ)
+        → links_of newest.new.items n ≡ links_of newest.old.items (exchanged place last n) }
 {
     if last < newest.len() {
         newest.swap(place, last);

@@ -1,6 +1,6 @@
-//! Versions that are told as one: versions of one package with the same neighbours on both sides.
+//! Merged versions: versions of one package with the same neighbours on both sides.
 //! `simplify` numbers what versions have in common, the sorted lists of their neighbours among it, each
-//! neighbour with its requirement; versions of one number are told as one.
+//! neighbour with its requirement; versions of one number are merged.
 ghost use Rattle.std.specs.Prelude.{◌≡◌, ℕ, ◌<◌, ◌==◌, ◌++◌, ◌∷◌, [], IfOk, OnOk, Some, cond, length, map, nat_lt, ◌&&◌, vec_len};
 ghost use Rattle.resolvo_graph.specs.Merge.{before, after, IsInOrder, IsProfile, AreProfiles, AreMembers, numbered, told_together, solvable_of, IsMerged};
 ghost use Rattle.resolvo_graph.specs.Graph.{requirement_of};
@@ -21,13 +21,13 @@ use std::hash::Hash;
 use std::marker::Model;
 use std::rc::Rc;
 
-/// Versions of one package that are told as one, in the order of their nodes.
+/// Merged versions of one package, in the order of their nodes.
 #[derive(Drop)]
 pub struct MergedConflictNode<S = SolvableId> {
     pub ids: Vec<S>,
 }
 
-/// What versions that are told as one have in common.
+/// What merged versions have in common.
 #[derive(PartialEq, Eq, Hash, Drop)]
 struct Likeness<N> {
     name: N,
@@ -35,7 +35,7 @@ struct Likeness<N> {
     after: Vec<(Option<Requirement>, NodeIndex)>,
 }
 
-/// A version, with all that decides which others it is told with.
+/// A version, with all that decides with which others it is merged.
 #[derive(Drop)]
 struct Profile<N, S> {
     solvable: S,
@@ -48,11 +48,15 @@ impl<N, S> Model for Profile<N, S> {
     ghost Value = { Profile N S };
 
     ghost view = { λ p.
-        record
-        { solvable = p.solvable; name = p.likeness.name; before = p.likeness.before.items; after = p.likeness.after.items } };
+        record {
+          solvable = p.solvable;
+          name = p.likeness.name;
+          before = p.likeness.before.items;
+          after = p.likeness.after.items;
+        } };
 }
 
-/// A version, with the number of those that it is told with.
+/// A version, with the number of those with which it is merged.
 #[derive(Clone, Copy)]
 struct Member<S> {
     solvable: S,
@@ -60,7 +64,7 @@ struct Member<S> {
 }
 
 impl<S: Copy> ConflictNode<S> {
-    /// The version that this node stands for, if it stands for one.
+    /// The version of this node, if it has one.
     pub fn solvable(self) -> Option<S>
         ensures { result ≡ solvable_of self }
     {
@@ -73,7 +77,7 @@ impl<S: Copy> ConflictNode<S> {
 }
 
 impl<S: SolverId> ConflictGraph<S> {
-    /// The versions that are told as one, under each of them.
+    /// The merged versions, under each of them.
     pub fn simplify<I: Interner<SolvableId = S>>(
         &self,
         alloc: Global,
@@ -90,7 +94,7 @@ impl<S: SolverId> ConflictGraph<S> {
     }
 }
 
-/// The versions with their numbers. Those that are told as one have one number.
+/// The versions with their numbers. Merged ones have one number.
 fn members<N: Copy + Exact + Hash + Debug, S: Copy + Exact + Hash + Debug>(
     alloc: Global,
     profiles: Vec<Profile<N, S>>,
@@ -224,7 +228,7 @@ fn profiles<S: SolverId, I: Interner<SolvableId = S>>(
     Ok(found)
 }
 
-/// What decides with which others a version is told.
+/// What decides with which others a version is merged.
 fn profile_of<S: SolverId, I: Interner<SolvableId = S>>(
     alloc: Global,
     graph: &ConflictGraph<S>,
@@ -244,7 +248,7 @@ fn profile_of<S: SolverId, I: Interner<SolvableId = S>>(
     })
 }
 
-/// Where the edges to a node come from, each with its requirement, in the order of neighbours.
+/// The sources of the edges to a node, each with its requirement, in the order of neighbours.
 fn neighbours_before<S: Copy + Exact + Hash>(
     alloc: Global,
     graph: &ConflictGraph<S>,
@@ -268,9 +272,10 @@ fn neighbours_after<S: Copy + Exact + Hash>(
     in_order(alloc, targets(alloc, &edges)?)
 }
 
-/// Where some edges come from, each with its requirement.
+/// The sources of some edges, each with its requirement.
 fn sources<S: Copy>(alloc: Global, edges: &[Edge<S>]) -> R<Vec<(Option<Requirement>, NodeIndex)>>
-    ensures { IfOk result (λ v. v.items ≡ map (λ e. (requirement_of e.weight, e.source)) edges.now) }
+    ensures { IfOk result (λ v. v.items ≡ map (λ e. (requirement_of e.weight, e.source))
+        edges.now) }
 {
     let mut found = Vec::new(alloc);
     for edge in edges {
@@ -281,7 +286,8 @@ fn sources<S: Copy>(alloc: Global, edges: &[Edge<S>]) -> R<Vec<(Option<Requireme
 
 /// Where some edges lead, each with its requirement.
 fn targets<S: Copy>(alloc: Global, edges: &[Edge<S>]) -> R<Vec<(Option<Requirement>, NodeIndex)>>
-    ensures { IfOk result (λ v. v.items ≡ map (λ e. (requirement_of e.weight, e.target)) edges.now) }
+    ensures { IfOk result (λ v. v.items ≡ map (λ e. (requirement_of e.weight, e.target))
+        edges.now) }
 {
     let mut found = Vec::new(alloc);
     for edge in edges {

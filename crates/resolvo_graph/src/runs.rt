@@ -1,4 +1,4 @@
-//! Runs: stretches of neighbouring edges with one requirement. The message tells a requirement and
+//! Runs: stretches of neighbouring edges with one requirement. The message writes a requirement and
 //! its candidates once for each run.
 ghost use Rattle.std.specs.Prelude.{◌≡◌, ◌++◌, ◌∷◌, [], IfOk, OnOk, IsOkUnless};
 ghost use Rattle.resolvo_pool_core.specs.declared.want.Want.TheVariants.{Memory};
@@ -28,7 +28,10 @@ impl Model for Run {
 impl Run {
     /// A run of one edge.
     fn one(alloc: Global, requirement: Requirement, target: NodeIndex) -> R<Run>
-        ensures run { IfOk result (λ r. r ≡ record { requirement = requirement; targets = target ∷ [] }) }
+        ensures run { IfOk result (λ r. r ≡ record {
+          requirement = requirement;
+          targets = target ∷ [];
+        }) }
         ensures refusal { IsOkUnless result Memory }
     {
         let mut targets = Vec::new(alloc);
@@ -80,7 +83,7 @@ impl Run {
     }
 }
 
-/// The runs of some edges, in order. Conflicts stand in no run.
+/// The runs of some edges, in order. Conflicts are in no run.
 pub(crate) fn runs<S: Copy>(alloc: Global, edges: &[Edge<S>]) -> R<Vec<Run>>
     ensures runs { IfOk result (λ v. v.items ≡ runs_of edges.now) }
     ensures refusal { IsOkUnless result Memory }

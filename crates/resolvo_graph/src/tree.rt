@@ -1,6 +1,6 @@
 //! The trees of the message: runs of a requirement, below these versions, below these what they need.
-//! What is left to tell is a stack of entries, taken from its end; an entry puts those one level below
-//! it on top. An entry knows the versions above it, and a version that stands below itself is passed
+//! What is left to write is a stack of entries, taken from its end; an entry puts those one level below
+//! it on top. An entry knows the versions above it, and a version that occurs below itself is passed
 //! over, so a tree ends on graphs with cycles.
 ghost use Rattle.std.specs.Prelude.{◌≡◌, ◌++◌, ◌∷◌, [], IfOk, OnOk, cond, filter, reverse, unwrap_or, slice_get};
 ghost use Rattle.std.specs.List.{list_any, dedup};
@@ -29,7 +29,7 @@ use std::hash::Hash;
 use std::marker::Model;
 use std::rc::Rc;
 
-/// What is told at a place of a tree.
+/// What is written at a place of a tree.
 #[derive(Drop)]
 pub(crate) enum DisplayOp<S = SolvableId> {
     /// A requirement, with the candidates to which its edges lead.
@@ -38,7 +38,7 @@ pub(crate) enum DisplayOp<S = SolvableId> {
     Candidate(NodeIndex, S),
 }
 
-/// A place of a tree: what is told there, its indent, and the versions that it stands below.
+/// A place of a tree: what is written there, its indent, and the versions above it.
 #[derive(Drop)]
 pub(crate) struct Entry<S = SolvableId> {
     op: DisplayOp<S>,
@@ -55,7 +55,7 @@ impl<S> Model for Entry<S> {
     ghost view = { λ e. record { op = e.op; indent = e.indenter; above = e.above.items } };
 }
 
-/// What a message is told of: the graph, which nodes can be installed, which versions are told as one.
+/// What a message is made from: the graph, which nodes can be installed, which versions are merged.
 #[derive(Drop)]
 pub(crate) struct Findings<'a, S: Copy + Exact + Hash + Debug> {
     pub(crate) graph: &'a ConflictGraph<S>,
@@ -63,12 +63,12 @@ pub(crate) struct Findings<'a, S: Copy + Exact + Hash + Debug> {
     pub(crate) merged: HashMap<S, Rc<MergedConflictNode<S>>>,
 }
 
-/// A tree that is being told.
+/// A tree while it is written.
 #[derive(Drop)]
 struct Telling<S: Copy + Exact + Hash + Debug> {
-    /// The versions that were told as parts of merged ones.
+    /// The versions that were written as parts of merged ones.
     told: IndexSet<S>,
-    /// What is left to tell, the next one at the end.
+    /// What is left to write, the next one at the end.
     stack: Vec<Entry<S>>,
     lines: Vec<MessageLine<S>>,
 }
@@ -98,7 +98,7 @@ impl<S: Copy + Exact + Hash + Debug> Findings<'_, S> {
         Ok(telling.lines)
     }
 
-    /// Puts the runs of some edges on the stack, which stand at the top of their tree.
+    /// Puts the runs of some edges, at the top of their tree, on the stack.
     fn place_top(
         &self,
         alloc: Global,
@@ -126,7 +126,7 @@ impl<S: Copy + Exact + Hash + Debug> Findings<'_, S> {
         )
     }
 
-    /// Tells an entry's own lines, and puts the entries below it on top of the stack.
+    /// Writes an entry's own lines, and puts the entries below it on top of the stack.
     fn tell(&self, alloc: Global, entry: Entry<S>, telling: &mut Telling<S>) -> R<()>
         ensures told { OnOk result
             (telling.new.told.keys
@@ -167,7 +167,7 @@ impl<S: Copy + Exact + Hash + Debug> Findings<'_, S> {
         }
     }
 
-    /// Whether a version was told as part of a merged one, or stands below itself.
+    /// Whether a version was written as part of a merged one, or is below itself.
     fn is_passed(
         &self,
         told: &IndexSet<S>,
@@ -182,7 +182,7 @@ impl<S: Copy + Exact + Hash + Debug> Findings<'_, S> {
         told.contains(&version) || above.contains(&node)
     }
 
-    /// Tells a run, and puts its candidates on top of the stack.
+    /// Writes a run, and puts its candidates on top of the stack.
     fn tell_run(
         &self,
         alloc: Global,
@@ -214,7 +214,7 @@ impl<S: Copy + Exact + Hash + Debug> Findings<'_, S> {
         Ok(())
     }
 
-    /// Tells a version with those that are merged with it, and puts what it needs on top of the stack.
+    /// Writes a version with those that are merged with it, and puts what it needs on top of the stack.
     fn tell_version(
         &self,
         alloc: Global,
@@ -292,8 +292,11 @@ impl<S: Copy + Exact + Hash + Debug> Findings<'_, S> {
     ) -> R<()>
         ensures { OnOk result
             (lines.new.items
-            ≡ lines.old.items ++ record
-            { indenter = indenter; sentence = Says.Versions (unwrap_or (kept_with S.eq self.now.merged version) (version ∷ [])) (verdict_for (reason_in self.now.graph.now edges.now) edges.now) }
+            ≡ lines.old.items ++ record {
+              indenter = indenter;
+              sentence = Says.Versions (unwrap_or (kept_with S.eq self.now.merged version)
+                  (version ∷ [])) (verdict_for (reason_in self.now.graph.now edges.now) edges.now);
+            }
             ∷ further_lines (verdict_for (reason_in self.now.graph.now edges.now) edges.now)
             indenter edges.now) }
     {
@@ -307,7 +310,7 @@ impl<S: Copy + Exact + Hash + Debug> Findings<'_, S> {
         Ok(())
     }
 
-    /// What is told of a run.
+    /// The sentence on a run.
     fn outlook(&self, run: &Run) -> Outlook
         ensures { result
             ≡ outlook_of
@@ -332,7 +335,7 @@ impl<S: Copy + Exact + Hash + Debug> Findings<'_, S> {
         }
     }
 
-    /// The versions that stand below a run.
+    /// The versions below a run.
     fn options(&self, alloc: Global, run: &Run, outlook: Outlook) -> R<Vec<DisplayOp<S>>>
         ensures { IfOk result
             (λ v.
@@ -355,7 +358,8 @@ impl<S: Copy + Exact + Hash + Debug> Findings<'_, S> {
 
     /// The targets of a run that can be installed.
     fn installable_targets(&self, alloc: Global, run: &Run) -> R<Vec<NodeIndex>>
-        ensures { IfOk result (λ v. v.items ≡ filter (is_among self.now.installable.keys) run.now.targets) }
+        ensures { IfOk result (λ v. v.items ≡ filter (is_among self.now.installable.keys)
+            run.now.targets) }
     {
         let mut found = Vec::new(alloc);
         for target in run.targets() {
@@ -379,7 +383,7 @@ impl<S: Copy + Exact + Hash + Debug> Findings<'_, S> {
         Ok(found)
     }
 
-    /// The version of a node, if it stands for one.
+    /// The version of a node, if it has one.
     fn version(&self, node: NodeIndex) -> Option<S>
         ensures { result ≡ solvable_at_node (slice_get self.now.graph.now.nodes node.0) }
     {
@@ -406,7 +410,7 @@ impl<S: Copy + Exact + Hash + Debug> Findings<'_, S> {
         Ok(found)
     }
 
-    /// Adds a version, unless it is told with one that was added.
+    /// Adds a version, unless it is merged with one that was added.
     fn add_first(
         &self,
         node: NodeIndex,
@@ -439,7 +443,7 @@ impl<S: Copy + Exact + Hash + Debug> Findings<'_, S> {
         Ok(())
     }
 
-    /// Puts the versions that are told with one among the told ones.
+    /// Puts the versions that are merged with one among the written ones.
     fn mark(&self, version: S, told: &mut IndexSet<S>) -> R<()>
         ensures { OnOk result
             (told.new.keys
@@ -455,9 +459,10 @@ impl<S: Copy + Exact + Hash + Debug> Findings<'_, S> {
         Ok(())
     }
 
-    /// The versions that are told with one, or that one alone.
+    /// The versions that are merged with one, or that one alone.
     fn told_as(&self, alloc: Global, version: S) -> R<Versions<S>>
-        ensures { IfOk result (λ v. v ≡ unwrap_or (kept_with S.eq self.now.merged version) (version ∷ [])) }
+        ensures { IfOk result (λ v. v ≡ unwrap_or (kept_with S.eq self.now.merged version)
+            (version ∷ [])) }
     {
         if let Some(group) = self.merged.get(&version) {
             return Ok(Versions::new(Vec::from_slice(alloc, group.ids.as_slice())?));
@@ -467,7 +472,7 @@ impl<S: Copy + Exact + Hash + Debug> Findings<'_, S> {
         Ok(Versions::new(ids))
     }
 
-    /// What is told of a version with these edges.
+    /// The verdict on a version with these edges.
     fn verdict(&self, edges: &[Edge<S>]) -> Verdict
         ensures { result ≡ verdict_for (reason_in self.now.graph.now edges.now) edges.now }
     {
@@ -498,7 +503,7 @@ impl<S: Copy + Exact + Hash + Debug> Findings<'_, S> {
         None
     }
 
-    /// The runs that stand below a version with this verdict and these edges.
+    /// The runs below a version with this verdict and these edges.
     fn needs(&self, alloc: Global, verdict: Verdict, edges: &[Edge<S>]) -> R<Vec<DisplayOp<S>>>
         ensures { IfOk result
             (λ v.
@@ -536,7 +541,7 @@ impl<S: Copy + Exact + Hash + Debug> Findings<'_, S> {
     }
 }
 
-/// Puts siblings one level below an indent on top of the stack, so that the first is told last.
+/// Puts siblings one level below an indent on top of the stack, so that the first is written last.
 fn place<S: Copy + Exact + Hash + Debug>(
     alloc: Global,
     ops: Vec<DisplayOp<S>>,
@@ -574,7 +579,7 @@ fn sibling<S: Copy + Exact + Hash + Debug>(
     })
 }
 
-/// What a version with this verdict and these edges tells on lines of its own.
+/// The lines of its own of a version with this verdict and these edges.
 fn further_lines<S: Copy + Exact + Hash + Debug>(
     alloc: Global,
     verdict: Verdict,

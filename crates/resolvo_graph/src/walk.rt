@@ -111,7 +111,8 @@ fn enter_neighbours<S: Copy + Exact + Hash>(
 
 /// Puts the nodes that some edges lead to on top, in their order.
 fn enter_targets<S: Copy>(edges: &[Edge<S>], stack: &mut Vec<Step>) -> R<()>
-    ensures put { OnOk result (stack.new.items ≡ stack.old.items ++ map (λ e. Enter e.target) edges.now) }
+    ensures put { OnOk result (stack.new.items ≡ stack.old.items ++ map (λ e. Enter e.target)
+        edges.now) }
     ensures refusal { IsOkUnless result Memory }
 {
     for edge in edges {

@@ -1,7 +1,7 @@
 //! Reports: what their lines say, and how they are written and read.
 //!
 //! A report says which versions to install, or that no set serves the request, with the steps of its proof. A
-//! report is seen as the value of specs/Value.antt; specs/View.antt tells which.
+//! report is seen as the value of specs/Value.antt; specs/View.antt says which.
 #![tactic(auto)]
 
 mod laws;

@@ -36,7 +36,7 @@ fn atom_part(text: &[u8]) -> &[u8]
     }
 }
 
-/// Whether each text stands before the next one in byte order.
+/// Whether each text precedes the next one in byte order.
 fn are_rising(texts: &[&[u8]]) -> bool
     ensures { result ≡ are_rising (texts_of texts.now) }
 {
@@ -55,7 +55,7 @@ fn are_rising(texts: &[&[u8]]) -> bool
     }
 }
 
-/// Whether no atom stands twice in these texts of literals.
+/// Whether these texts of literals name no atom twice.
 fn are_atoms_once(alloc: Global, texts: &[&[u8]]) -> Result<bool, AllocError>
     ensures { IfOk result (λ b. b ≡ are_once (map atom_part (texts_of texts.now))) }
 {
@@ -73,7 +73,7 @@ fn are_atoms_once(alloc: Global, texts: &[&[u8]]) -> Result<bool, AllocError>
     Ok(true)
 }
 
-/// Whether texts of literals stand in byte order, each atom once.
+/// Whether texts of literals are in byte order, each atom once.
 fn are_in_order(alloc: Global, texts: &[&[u8]]) -> Result<bool, AllocError>
     ensures { IfOk result (λ b. b ≡ are_in_order (texts_of texts.now)) }
 {
@@ -427,7 +427,8 @@ fn line_said(alloc: Global, keyword: &[u8], words: &[u8]) -> Result<ReportLine, 
 
 /// The message behind its sign, if the text begins with that.
 fn message_in(text: &[u8]) -> Option<&[u8]>
-    ensures { option_map (λ m. m.now) result ≡ (if is_message text.now then Some (drop 2 text.now) else None) }
+    ensures { option_map (λ m. m.now) result ≡ (if is_message text.now then Some (drop 2 text.now)
+        else None) }
 {
     text.strip_prefix(b"| ")
 }

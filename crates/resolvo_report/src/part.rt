@@ -17,7 +17,7 @@ use resolvo_text::{
 };
 use std::alloc::Global;
 
-/// The words behind this one, which must come next.
+/// The words behind this one, which must be the next one.
 #[tactic(auto, unfolding(crate::specs::Parse::behind))]
 pub(crate) fn behind<'a>(words: &'a [u8], word: &[u8]) -> Result<&'a [u8], LineFault>
     ensures { Gives (λ r. words_in r.now) result (behind word.now (words_in words.now)) }
@@ -51,7 +51,8 @@ pub(crate) fn version_in(alloc: Global, word: &[u8]) -> Result<Version, LineFaul
 
 #[tactic(auto, unfolding(crate::specs::Parse::version_at))]
 pub(crate) fn version_at(alloc: Global, words: &[u8]) -> Result<(Version, &[u8]), LineFault>
-    ensures { Gives (λ x. (version_of x.0, words_in x.1.now)) result (version_at (words_in words.now)) }
+    ensures { Gives (λ x. (version_of x.0, words_in x.1.now)) result
+        (version_at (words_in words.now)) }
 {
     let (word, rest) = word_at(words)?;
     Ok((version_in(alloc, word)?, rest))
@@ -123,7 +124,8 @@ pub(crate) fn line_in(words: &[u8]) -> Result<u32, LineFault>
 /// One alternative or more.
 #[tactic(auto, unfolding(crate::specs::Parse::specs_at))]
 pub(crate) fn specs_at(alloc: Global, words: &[u8]) -> Result<(Vec<Spec>, &[u8]), LineFault>
-    ensures { Gives (λ x. (specs_of x.0.items, words_in x.1.now)) result (specs_at (words_in words.now)) }
+    ensures { Gives (λ x. (specs_of x.0.items, words_in x.1.now)) result
+        (specs_at (words_in words.now)) }
 {
     alternatives_at(alloc, words)
 }

@@ -1,6 +1,6 @@
-//! Where a line of a report may stand.
+//! Which line of a report may follow which.
 //!
-//! The part of a report after some lines is all that the lines above tell of the next one, as specs/Grammar.antt
+//! The part of a report after some lines is all that the lines above decide about the next one, as specs/Grammar.antt
 //! has it. The reader of reports asks `next` for each line.
 
 ghost use Rattle.std.specs.Prelude.{◌≡◌, ◌==◌, ◌+◌};
@@ -72,7 +72,7 @@ fn request_from(last: u32, line: &ReportLine) -> Option<Part>
 }
 
 impl Part {
-    /// The part below the line, if it may stand in this one.
+    /// The part below the line, if it is allowed in this one.
     pub fn next(self, line: &ReportLine) -> Option<Part>
         ensures { result ≡ next_part self (report_line_of line.now) }
     {

@@ -1,6 +1,6 @@
 //! Reading a report, line by line or whole.
 //!
-//! `ReportReader` holds one line at most, and tells each line's place by the part that the lines above lead to.
+//! `ReportReader` holds one line at most, and finds each line's place by the part to which the lines above lead.
 //! The judge takes one line after the other; `Report::read` keeps them all.
 
 ghost use Rattle.std.specs.Prelude.{◌≡◌, ℕ, ◌+◌, ◌≤◌, ◌++◌, ◌∷◌, [], Option, Some, None, IfOk, IfSome, IfNone, IfErr, OnOk, IsTrue};
@@ -54,7 +54,7 @@ impl<T: Drop> From<AllocFailed<T>> for ReportFault {
     }
 }
 
-/// A report has at most so many bytes.
+/// The most bytes of a report.
 const MOST_BYTES: u32 = 1 << 30;
 
 /// Takes one line of a report after the other.
@@ -98,22 +98,25 @@ impl ReportReader {
 
     /// Takes the next line. None at the end of a report.
     ///
-    /// All whole lines that have come are judged before the device is asked again. After a fault the reader is
+    /// All whole lines that were read are judged before the device is asked again. After a fault the reader is
     /// of no more use.
     pub fn next<S: Source>(
         &mut self,
         alloc: Global,
         source: &mut S,
     ) -> Result<Option<ReportLine>, ReportFault>
-        ensures given { IfOk result (λ next. IfSome next (λ line. GivesLine (left self.old (S.left source.old)) self.old (report_line_of line)
+        ensures given { IfOk result (λ next. IfSome next (λ line. GivesLine
+            (left self.old (S.left source.old)) self.old (report_line_of line)
             (left self.new (S.left source.new)) self.new)) }
         ensures end { IfOk result
             (λ next.
             IfNone next
             (IsAtEnd (left self.old (S.left source.old)) × IsTrue (may_end self.old.part))) }
         ensures failures { OnOk result (S.failures source.new ≡ S.failures source.old) }
-        ensures fault { IfErr result (λ e. IsLineFault e self.old (left self.old (S.left source.old)) (S.left source.new)
-            (DeviceFailed (S.failures source.old) (S.failures source.new) (S.interruptions source.new))) }
+        ensures fault { IfErr result (λ e. IsLineFault e self.old
+            (left self.old (S.left source.old)) (S.left source.new)
+            (DeviceFailed (S.failures source.old) (S.failures source.new)
+            (S.interruptions source.new))) }
     {
         let more = match self.lines.next_line(source) {
             Ok(more) => more,
@@ -158,7 +161,8 @@ impl Report {
             (λ report.
             IfKnown (S.left source.old) (λ text. text ≡ report_text (report_of report))) }
         ensures fault { IfErr result (λ e. IsReportFault e (S.left source.old) (S.left source.new)
-            (DeviceFailed (S.failures source.old) (S.failures source.new) (S.interruptions source.new))) }
+            (DeviceFailed (S.failures source.old) (S.failures source.new)
+            (S.interruptions source.new))) }
     {
         let mut reader = ReportReader::new(alloc)?;
         let Some(first) = reader.next(alloc, source)? else {
@@ -175,7 +179,8 @@ impl Report {
     fn begun(alloc: Global, first: ReportLine) -> Report
         requires { (q : Part) × (next_part part.Start (report_line_of first) ≡ Some q) }
         ensures lines { report_lines (report_of result) ≡ report_line_of first ∷ [] }
-        ensures part { next_part part.Start (report_line_of first) ≡ Some (part_of (report_of result)) }
+        ensures part { next_part part.Start (report_line_of first) ≡ Some
+            (part_of (report_of result)) }
     {
         match first {
             ReportLine::Install => Report::Install {
@@ -192,10 +197,12 @@ impl Report {
         }
     }
 
-    /// Puts the line below the others, where it may stand.
+    /// Puts the line below the others, where it is allowed.
     fn push(&mut self, line: ReportLine) -> Result<(), AllocError>
-        requires { (q : Part) × (next_part (part_of (report_of self.old)) (report_line_of line) ≡ Some q) }
-        ensures { OnOk result (Grows (report_of self.old) (report_line_of line) (report_of self.new)) }
+        requires { (q : Part)
+            × (next_part (part_of (report_of self.old)) (report_line_of line) ≡ Some q) }
+        ensures { OnOk result (Grows (report_of self.old) (report_line_of line)
+            (report_of self.new)) }
     {
         match self {
             Report::Install { lines, steps } => match line {

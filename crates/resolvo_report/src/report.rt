@@ -37,7 +37,7 @@ pub enum Report {
         steps: Vec<Step>,
     },
     /// No set serves the request. These lines of the two texts contradict each other, as the steps show, and the
-    /// lines of the message tell people why.
+    /// lines of the message explain it to people.
     Refused {
         catalogue: Vec<u32>,
         request: Vec<u32>,

@@ -4,7 +4,7 @@
 
 use resolvo_text::{Spec, Version};
 
-/// What a step or an entry stands for.
+/// The owner of a step's or an entry's line.
 #[derive(Debug, Drop)]
 pub enum Place {
     Request,

@@ -1,4 +1,4 @@
-//! The texts of steps and their parts, as they stand in a report.
+//! The texts of steps and their parts, as a report writes them.
 //!
 //! Each text is the one that specs/Text.antt gives the value. The writer of reports calls these.
 

@@ -1,6 +1,6 @@
 //! Writing a report to a device, line by line.
 //!
-//! What the device took is told as the front of the report's text. The program writes its answer so.
+//! The contract says which front of the report's text the device took. The program writes its answer so.
 
 ghost use Rattle.std.specs.Prelude.{◌≡◌, ◌++◌, ◌∷◌, [], ⊤, map, OnOk, OnErr, IfErr, codes};
 ghost use Rattle.resolvo_text.specs.Device.{WriterFailed, TakesFront};
@@ -58,10 +58,13 @@ impl<T: Drop> From<AllocFailed<T>> for ReportWriteFault {
 impl Report {
     /// Writes the report.
     pub fn write<S: Sink>(&self, alloc: Global, sink: &mut S) -> Result<(), ReportWriteFault>
-        ensures whole { OnOk result (Wrote (S.contents sink.old) (S.contents sink.new) (S.failures sink.old) (S.failures sink.new)
-            (S.empty_writes sink.old) (S.empty_writes sink.new) (report_text (report_of self.now))) }
-        ensures fault { IfErr result (λ e. StopsWriting e (S.contents sink.old) (S.contents sink.new) (S.failures sink.old) (S.failures sink.new)
-            (S.interruptions sink.new) (S.empty_writes sink.old) (S.empty_writes sink.new) (report_text (report_of self.now))) }
+        ensures whole { OnOk result (Wrote (S.contents sink.old) (S.contents sink.new)
+            (S.failures sink.old) (S.failures sink.new) (S.empty_writes sink.old)
+            (S.empty_writes sink.new) (report_text (report_of self.now))) }
+        ensures fault { IfErr result (λ e. StopsWriting e (S.contents sink.old)
+            (S.contents sink.new) (S.failures sink.old) (S.failures sink.new)
+            (S.interruptions sink.new) (S.empty_writes sink.old) (S.empty_writes sink.new)
+            (report_text (report_of self.now))) }
     {
         match self {
             Report::Install { lines, steps } => write_install(alloc, sink, lines, steps),
@@ -81,10 +84,14 @@ fn write_install<S: Sink>(
     lines: &[AnswerLine],
     steps: &[Step],
 ) -> Result<(), ReportWriteFault>
-    ensures whole { OnOk result (Wrote (S.contents sink.old) (S.contents sink.new) (S.failures sink.old) (S.failures sink.new)
-        (S.empty_writes sink.old) (S.empty_writes sink.new) (report_text (says.Install (answer_lines_of lines.now) (steps_of steps.now)))) }
-    ensures fault { IfErr result (λ e. StopsWriting e (S.contents sink.old) (S.contents sink.new) (S.failures sink.old) (S.failures sink.new)
-        (S.interruptions sink.new) (S.empty_writes sink.old) (S.empty_writes sink.new) (report_text (says.Install (answer_lines_of lines.now) (steps_of steps.now)))) }
+    ensures whole { OnOk result (Wrote (S.contents sink.old) (S.contents sink.new)
+        (S.failures sink.old) (S.failures sink.new) (S.empty_writes sink.old)
+        (S.empty_writes sink.new) (report_text (says.Install (answer_lines_of lines.now)
+        (steps_of steps.now)))) }
+    ensures fault { IfErr result (λ e. StopsWriting e (S.contents sink.old) (S.contents sink.new)
+        (S.failures sink.old) (S.failures sink.new) (S.interruptions sink.new)
+        (S.empty_writes sink.old) (S.empty_writes sink.new)
+        (report_text (says.Install (answer_lines_of lines.now) (steps_of steps.now)))) }
 {
     write_line(sink, "install\n")?;
     write_answers(alloc, sink, lines)?;
@@ -99,10 +106,15 @@ fn write_refused<S: Sink>(
     steps: &[Step],
     message: &[Vec<u8>],
 ) -> Result<(), ReportWriteFault>
-    ensures whole { OnOk result (Wrote (S.contents sink.old) (S.contents sink.new) (S.failures sink.old) (S.failures sink.new) (S.empty_writes sink.old)
-        (S.empty_writes sink.new) (report_text (says.Refused catalogue.now request.now (steps_of steps.now) (messages_of message.now)))) }
-    ensures fault { IfErr result (λ e. StopsWriting e (S.contents sink.old) (S.contents sink.new) (S.failures sink.old) (S.failures sink.new) (S.interruptions sink.new)
-        (S.empty_writes sink.old) (S.empty_writes sink.new) (report_text (says.Refused catalogue.now request.now (steps_of steps.now) (messages_of message.now)))) }
+    ensures whole { OnOk result (Wrote (S.contents sink.old) (S.contents sink.new)
+        (S.failures sink.old) (S.failures sink.new) (S.empty_writes sink.old)
+        (S.empty_writes sink.new) (report_text (says.Refused catalogue.now request.now
+        (steps_of steps.now) (messages_of message.now)))) }
+    ensures fault { IfErr result (λ e. StopsWriting e (S.contents sink.old) (S.contents sink.new)
+        (S.failures sink.old) (S.failures sink.new) (S.interruptions sink.new)
+        (S.empty_writes sink.old) (S.empty_writes sink.new)
+        (report_text (says.Refused catalogue.now request.now (steps_of steps.now)
+        (messages_of message.now)))) }
 {
     write_line(sink, "refused\n")?;
     write_named(alloc, sink, catalogue)?;
@@ -112,10 +124,12 @@ fn write_refused<S: Sink>(
 }
 
 fn write_line<S: Sink>(sink: &mut S, line: &str) -> Result<(), ReportWriteFault>
-    ensures whole { OnOk result (Wrote (S.contents sink.old) (S.contents sink.new) (S.failures sink.old) (S.failures sink.new)
+    ensures whole { OnOk result (Wrote (S.contents sink.old) (S.contents sink.new)
+        (S.failures sink.old) (S.failures sink.new) (S.empty_writes sink.old)
+        (S.empty_writes sink.new) line.now) }
+    ensures fault { IfErr result (λ e. StopsWriting e (S.contents sink.old) (S.contents sink.new)
+        (S.failures sink.old) (S.failures sink.new) (S.interruptions sink.new)
         (S.empty_writes sink.old) (S.empty_writes sink.new) line.now) }
-    ensures fault { IfErr result (λ e. StopsWriting e (S.contents sink.old) (S.contents sink.new) (S.failures sink.old) (S.failures sink.new)
-        (S.interruptions sink.new) (S.empty_writes sink.old) (S.empty_writes sink.new) line.now) }
 {
     write_all(sink, line.as_bytes())?;
     Ok(())
@@ -126,10 +140,13 @@ fn write_answers<S: Sink>(
     sink: &mut S,
     lines: &[AnswerLine],
 ) -> Result<(), ReportWriteFault>
-    ensures whole { OnOk result (Wrote (S.contents sink.old) (S.contents sink.new) (S.failures sink.old) (S.failures sink.new)
-        (S.empty_writes sink.old) (S.empty_writes sink.new) (lines_text (map says.Answer (answer_lines_of lines.now)))) }
-    ensures fault { IfErr result (λ e. StopsWriting e (S.contents sink.old) (S.contents sink.new) (S.failures sink.old) (S.failures sink.new)
-        (S.interruptions sink.new) (S.empty_writes sink.old) (S.empty_writes sink.new) (lines_text (map says.Answer (answer_lines_of lines.now)))) }
+    ensures whole { OnOk result (Wrote (S.contents sink.old) (S.contents sink.new)
+        (S.failures sink.old) (S.failures sink.new) (S.empty_writes sink.old)
+        (S.empty_writes sink.new) (lines_text (map says.Answer (answer_lines_of lines.now)))) }
+    ensures fault { IfErr result (λ e. StopsWriting e (S.contents sink.old) (S.contents sink.new)
+        (S.failures sink.old) (S.failures sink.new) (S.interruptions sink.new)
+        (S.empty_writes sink.old) (S.empty_writes sink.new)
+        (lines_text (map says.Answer (answer_lines_of lines.now)))) }
 {
     for line in lines {
         let text = format!(in alloc; "{line}\n")?;
@@ -140,10 +157,13 @@ fn write_answers<S: Sink>(
 
 /// Writes which lines of the catalogue are named.
 fn write_named<S: Sink>(alloc: Global, sink: &mut S, lines: &[u32]) -> Result<(), ReportWriteFault>
-    ensures whole { OnOk result (Wrote (S.contents sink.old) (S.contents sink.new) (S.failures sink.old) (S.failures sink.new)
-        (S.empty_writes sink.old) (S.empty_writes sink.new) (lines_text (map says.CatalogueLine lines.now))) }
-    ensures fault { IfErr result (λ e. StopsWriting e (S.contents sink.old) (S.contents sink.new) (S.failures sink.old) (S.failures sink.new)
-        (S.interruptions sink.new) (S.empty_writes sink.old) (S.empty_writes sink.new) (lines_text (map says.CatalogueLine lines.now))) }
+    ensures whole { OnOk result (Wrote (S.contents sink.old) (S.contents sink.new)
+        (S.failures sink.old) (S.failures sink.new) (S.empty_writes sink.old)
+        (S.empty_writes sink.new) (lines_text (map says.CatalogueLine lines.now))) }
+    ensures fault { IfErr result (λ e. StopsWriting e (S.contents sink.old) (S.contents sink.new)
+        (S.failures sink.old) (S.failures sink.new) (S.interruptions sink.new)
+        (S.empty_writes sink.old) (S.empty_writes sink.new)
+        (lines_text (map says.CatalogueLine lines.now))) }
 {
     for number in lines {
         let text = format!(in alloc; "catalogue line {number}\n")?;
@@ -154,10 +174,13 @@ fn write_named<S: Sink>(alloc: Global, sink: &mut S, lines: &[u32]) -> Result<()
 
 /// Writes which lines of the request are named.
 fn write_asked<S: Sink>(alloc: Global, sink: &mut S, lines: &[u32]) -> Result<(), ReportWriteFault>
-    ensures whole { OnOk result (Wrote (S.contents sink.old) (S.contents sink.new) (S.failures sink.old) (S.failures sink.new)
-        (S.empty_writes sink.old) (S.empty_writes sink.new) (lines_text (map says.RequestLine lines.now))) }
-    ensures fault { IfErr result (λ e. StopsWriting e (S.contents sink.old) (S.contents sink.new) (S.failures sink.old) (S.failures sink.new)
-        (S.interruptions sink.new) (S.empty_writes sink.old) (S.empty_writes sink.new) (lines_text (map says.RequestLine lines.now))) }
+    ensures whole { OnOk result (Wrote (S.contents sink.old) (S.contents sink.new)
+        (S.failures sink.old) (S.failures sink.new) (S.empty_writes sink.old)
+        (S.empty_writes sink.new) (lines_text (map says.RequestLine lines.now))) }
+    ensures fault { IfErr result (λ e. StopsWriting e (S.contents sink.old) (S.contents sink.new)
+        (S.failures sink.old) (S.failures sink.new) (S.interruptions sink.new)
+        (S.empty_writes sink.old) (S.empty_writes sink.new)
+        (lines_text (map says.RequestLine lines.now))) }
 {
     for number in lines {
         let text = format!(in alloc; "request line {number}\n")?;
@@ -167,10 +190,13 @@ fn write_asked<S: Sink>(alloc: Global, sink: &mut S, lines: &[u32]) -> Result<()
 }
 
 fn write_steps<S: Sink>(alloc: Global, sink: &mut S, steps: &[Step]) -> Result<(), ReportWriteFault>
-    ensures whole { OnOk result (Wrote (S.contents sink.old) (S.contents sink.new) (S.failures sink.old) (S.failures sink.new)
-        (S.empty_writes sink.old) (S.empty_writes sink.new) (lines_text (numbered 1 (steps_of steps.now)))) }
-    ensures fault { IfErr result (λ e. StopsWriting e (S.contents sink.old) (S.contents sink.new) (S.failures sink.old) (S.failures sink.new)
-        (S.interruptions sink.new) (S.empty_writes sink.old) (S.empty_writes sink.new) (lines_text (numbered 1 (steps_of steps.now)))) }
+    ensures whole { OnOk result (Wrote (S.contents sink.old) (S.contents sink.new)
+        (S.failures sink.old) (S.failures sink.new) (S.empty_writes sink.old)
+        (S.empty_writes sink.new) (lines_text (numbered 1 (steps_of steps.now)))) }
+    ensures fault { IfErr result (λ e. StopsWriting e (S.contents sink.old) (S.contents sink.new)
+        (S.failures sink.old) (S.failures sink.new) (S.interruptions sink.new)
+        (S.empty_writes sink.old) (S.empty_writes sink.new)
+        (lines_text (numbered 1 (steps_of steps.now)))) }
 {
     for i in 0..steps.len() {
         let number = i + 1;
@@ -182,10 +208,13 @@ fn write_steps<S: Sink>(alloc: Global, sink: &mut S, steps: &[Step]) -> Result<(
 }
 
 fn write_message<S: Sink>(sink: &mut S, message: &[Vec<u8>]) -> Result<(), ReportWriteFault>
-    ensures whole { OnOk result (Wrote (S.contents sink.old) (S.contents sink.new) (S.failures sink.old) (S.failures sink.new)
-        (S.empty_writes sink.old) (S.empty_writes sink.new) (lines_text (map says.Message (messages_of message.now)))) }
-    ensures fault { IfErr result (λ e. StopsWriting e (S.contents sink.old) (S.contents sink.new) (S.failures sink.old) (S.failures sink.new)
-        (S.interruptions sink.new) (S.empty_writes sink.old) (S.empty_writes sink.new) (lines_text (map says.Message (messages_of message.now)))) }
+    ensures whole { OnOk result (Wrote (S.contents sink.old) (S.contents sink.new)
+        (S.failures sink.old) (S.failures sink.new) (S.empty_writes sink.old)
+        (S.empty_writes sink.new) (lines_text (map says.Message (messages_of message.now)))) }
+    ensures fault { IfErr result (λ e. StopsWriting e (S.contents sink.old) (S.contents sink.new)
+        (S.failures sink.old) (S.failures sink.new) (S.interruptions sink.new)
+        (S.empty_writes sink.old) (S.empty_writes sink.new)
+        (lines_text (map says.Message (messages_of message.now)))) }
 {
     for bytes in message {
         write_message_line(sink, bytes)?;

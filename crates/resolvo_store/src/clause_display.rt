@@ -1,4 +1,4 @@
-//! Clauses and variables as texts, with the names of what the variables stand for.
+//! Clauses and variables as texts, with the names of the variables' origins.
 //! The texts are for those who follow a search. A variable has its number too, since helpers share
 //! names.
 ghost use Rattle.std.specs.Prelude.{◌≡◌, ◌++◌, Some, codes};
@@ -35,8 +35,14 @@ impl<I: Interner> fmt::Display for ClauseDisplay<'_, I> {
     ghost output = { λ d.
         Some
         (clause_words
-        (record
-        { name_of = I.name_of_version_set d.interner.now; members_of = I.members_of d.interner.now; solvable_text = I.solvable_text d.interner.now; name_text = I.name_text d.interner.now; version_set_text = I.version_set_text d.interner.now; string_text = I.string_text d.interner.now })
+        (record {
+          name_of = I.name_of_version_set d.interner.now;
+          members_of = I.members_of d.interner.now;
+          solvable_text = I.solvable_text d.interner.now;
+          name_text = I.name_text d.interner.now;
+          version_set_text = I.version_set_text d.interner.now;
+          string_text = I.string_text d.interner.now;
+        })
         d.variable_map.now d.clause) };
 
     fn fmt<W: fmt::Write>(&self, f: &mut fmt::Formatter<W>) -> fmt::Result {
@@ -92,8 +98,14 @@ impl<I: Interner> ClauseDisplay<'_, I> {
     ) -> fmt::Result
         ensures { WritesOnOk W.write_str_gives f.old result
             (need_words
-            (record
-            { name_of = I.name_of_version_set self.now.interner.now; members_of = I.members_of self.now.interner.now; solvable_text = I.solvable_text self.now.interner.now; name_text = I.name_text self.now.interner.now; version_set_text = I.version_set_text self.now.interner.now; string_text = I.string_text self.now.interner.now })
+            (record {
+              name_of = I.name_of_version_set self.now.interner.now;
+              members_of = I.members_of self.now.interner.now;
+              solvable_text = I.solvable_text self.now.interner.now;
+              name_text = I.name_text self.now.interner.now;
+              version_set_text = I.version_set_text self.now.interner.now;
+              string_text = I.string_text self.now.interner.now;
+            })
             self.now.variable_map.now parent condition requirement)
             f.new }
     {
@@ -116,8 +128,14 @@ impl<I: Interner> ClauseDisplay<'_, I> {
     ) -> fmt::Result
         ensures { WritesOnOk W.write_str_gives f.old result
             (forbid_words
-            (record
-            { name_of = I.name_of_version_set self.now.interner.now; members_of = I.members_of self.now.interner.now; solvable_text = I.solvable_text self.now.interner.now; name_text = I.name_text self.now.interner.now; version_set_text = I.version_set_text self.now.interner.now; string_text = I.string_text self.now.interner.now })
+            (record {
+              name_of = I.name_of_version_set self.now.interner.now;
+              members_of = I.members_of self.now.interner.now;
+              solvable_text = I.solvable_text self.now.interner.now;
+              name_text = I.name_text self.now.interner.now;
+              version_set_text = I.version_set_text self.now.interner.now;
+              string_text = I.string_text self.now.interner.now;
+            })
             self.now.variable_map.now variable other name)
             f.new }
     {
@@ -145,8 +163,14 @@ impl<I: Interner> ClauseDisplay<'_, I> {
     ) -> fmt::Result
         ensures { WritesOnOk W.write_str_gives f.old result
             (kind.now ++ limit_words
-            (record
-            { name_of = I.name_of_version_set self.now.interner.now; members_of = I.members_of self.now.interner.now; solvable_text = I.solvable_text self.now.interner.now; name_text = I.name_text self.now.interner.now; version_set_text = I.version_set_text self.now.interner.now; string_text = I.string_text self.now.interner.now })
+            (record {
+              name_of = I.name_of_version_set self.now.interner.now;
+              members_of = I.members_of self.now.interner.now;
+              solvable_text = I.solvable_text self.now.interner.now;
+              name_text = I.name_text self.now.interner.now;
+              version_set_text = I.version_set_text self.now.interner.now;
+              string_text = I.string_text self.now.interner.now;
+            })
             self.now.variable_map.now first second via)
             f.new }
     {
@@ -169,8 +193,14 @@ impl<I: Interner> ClauseDisplay<'_, I> {
     ) -> fmt::Result
         ensures { WritesOnOk W.write_str_gives f.old result
             (kind.now ++ pair_words
-            (record
-            { name_of = I.name_of_version_set self.now.interner.now; members_of = I.members_of self.now.interner.now; solvable_text = I.solvable_text self.now.interner.now; name_text = I.name_text self.now.interner.now; version_set_text = I.version_set_text self.now.interner.now; string_text = I.string_text self.now.interner.now })
+            (record {
+              name_of = I.name_of_version_set self.now.interner.now;
+              members_of = I.members_of self.now.interner.now;
+              solvable_text = I.solvable_text self.now.interner.now;
+              name_text = I.name_text self.now.interner.now;
+              version_set_text = I.version_set_text self.now.interner.now;
+              string_text = I.string_text self.now.interner.now;
+            })
             self.now.variable_map.now first second)
             f.new }
     {
@@ -188,8 +218,14 @@ impl<I: Interner> ClauseDisplay<'_, I> {
     ) -> fmt::Result
         ensures { WritesOnOk W.write_str_gives f.old result
             (excluded_words
-            (record
-            { name_of = I.name_of_version_set self.now.interner.now; members_of = I.members_of self.now.interner.now; solvable_text = I.solvable_text self.now.interner.now; name_text = I.name_text self.now.interner.now; version_set_text = I.version_set_text self.now.interner.now; string_text = I.string_text self.now.interner.now })
+            (record {
+              name_of = I.name_of_version_set self.now.interner.now;
+              members_of = I.members_of self.now.interner.now;
+              solvable_text = I.solvable_text self.now.interner.now;
+              name_text = I.name_text self.now.interner.now;
+              version_set_text = I.version_set_text self.now.interner.now;
+              string_text = I.string_text self.now.interner.now;
+            })
             self.now.variable_map.now variable reason)
             f.new }
     {
@@ -206,8 +242,14 @@ impl<I: Interner> fmt::Display for VariableDisplay<'_, I> {
     ghost output = { λ d.
         Some
         (variable_words
-        (record
-        { name_of = I.name_of_version_set d.interner.now; members_of = I.members_of d.interner.now; solvable_text = I.solvable_text d.interner.now; name_text = I.name_text d.interner.now; version_set_text = I.version_set_text d.interner.now; string_text = I.string_text d.interner.now })
+        (record {
+          name_of = I.name_of_version_set d.interner.now;
+          members_of = I.members_of d.interner.now;
+          solvable_text = I.solvable_text d.interner.now;
+          name_text = I.name_text d.interner.now;
+          version_set_text = I.version_set_text d.interner.now;
+          string_text = I.string_text d.interner.now;
+        })
         d.variable_map.now d.variable) };
 
     fn fmt<W: fmt::Write>(&self, f: &mut fmt::Formatter<W>) -> fmt::Result {
@@ -231,8 +273,14 @@ impl<I: Interner> fmt::Display for OriginDisplay<'_, I> {
     ghost output = { λ d.
         Some
         (origin_words
-        (record
-        { name_of = I.name_of_version_set d.interner.now; members_of = I.members_of d.interner.now; solvable_text = I.solvable_text d.interner.now; name_text = I.name_text d.interner.now; version_set_text = I.version_set_text d.interner.now; string_text = I.string_text d.interner.now })
+        (record {
+          name_of = I.name_of_version_set d.interner.now;
+          members_of = I.members_of d.interner.now;
+          solvable_text = I.solvable_text d.interner.now;
+          name_text = I.name_text d.interner.now;
+          version_set_text = I.version_set_text d.interner.now;
+          string_text = I.string_text d.interner.now;
+        })
         d.origin) };
 
     fn fmt<W: fmt::Write>(&self, f: &mut fmt::Formatter<W>) -> fmt::Result {

@@ -1,6 +1,6 @@
 //! A store of clauses: the lists that clauses name, the clauses with what they watch, the trail, the
 //! registered need clauses and the packages' scores.
-//! Its model is plain lists and functions (`plain`). Each call is told as what becomes of them, up to
+//! Its model is plain lists and functions (`plain`). Each call's contract says how it changes them, up to
 //! `Like`, which calls functions the same where they agree everywhere. `run` takes a list of calls.
 ghost use Rattle.std.specs.Prelude.{◌≡◌, ◌++◌, ◌∷◌, [], List, Option, Some, false, OnOk, OnErr, IfOk, IsErrOf, IsOkUnless, length, true, None};
 ghost use Rattle.std.specs.List.{list_all};
@@ -71,8 +71,15 @@ impl<N: SolverId> Model for ClauseStore<N> {
     ghost Value = { Kept N N.Scores };
 
     ghost view = { λ s.
-        record
-        { lists = s.lists; clauses = s.clauses.items; watched = s.watched.items; watches = s.watches; trail = s.tracker.trail; needs = s.queue; scores = s.scores } };
+        record {
+          lists = s.lists;
+          clauses = s.clauses.items;
+          watched = s.watched.items;
+          watches = s.watches;
+          trail = s.tracker.trail;
+          needs = s.queue;
+          scores = s.scores;
+        } };
 
     ghost invariant = { λ s.
         IsWatched s.watched.items (watchers s.watches)
@@ -131,26 +138,30 @@ impl<N: SolverId + Drop> ClauseStore<N> {
 
     /// Adds the literals of a condition's case. The first has number 0.
     pub fn fix_disjunction(&mut self, literals: Vec<Literal>) -> R<DisjunctionId>
-        ensures number { IfOk result (λ id. id.raw ≡ length (plain N.Scores.score_of self.old).disjunctions) }
+        ensures number { IfOk result (λ id. id.raw ≡ length (plain N.Scores.score_of
+            self.old).disjunctions) }
         ensures store { OnOk result
             (Like (plain N.Scores.score_of self.new)
             (with_disjunction literals.items (plain N.Scores.score_of self.old))) }
         ensures err { OnErr result
             (Like (plain N.Scores.score_of self.new) (plain N.Scores.score_of self.old)) }
-        ensures ids { IsErrOf result Ids → length (plain N.Scores.score_of self.old).disjunctions ≡ 4294967295 }
+        ensures ids { IsErrOf result Ids
+            → length (plain N.Scores.score_of self.old).disjunctions ≡ 4294967295 }
     {
         self.lists.fix_disjunction(Disjunction { literals })
     }
 
     /// Adds the literals of a learnt clause. The first has number 0.
     pub fn fix_learnt(&mut self, literals: Vec<Literal>) -> R<LearntClauseId>
-        ensures number { IfOk result (λ id. id.raw ≡ length (plain N.Scores.score_of self.old).learnt) }
+        ensures number { IfOk result (λ id. id.raw ≡ length (plain N.Scores.score_of
+            self.old).learnt) }
         ensures store { OnOk result
             (Like (plain N.Scores.score_of self.new)
             (with_learnt literals.items (plain N.Scores.score_of self.old))) }
         ensures err { OnErr result
             (Like (plain N.Scores.score_of self.new) (plain N.Scores.score_of self.old)) }
-        ensures ids { IsErrOf result Ids → length (plain N.Scores.score_of self.old).learnt ≡ 4294967295 }
+        ensures ids { IsErrOf result Ids
+            → length (plain N.Scores.score_of self.old).learnt ≡ 4294967295 }
     {
         self.lists.fix_learnt(literals)
     }
@@ -171,13 +182,15 @@ impl<N: SolverId + Drop> ClauseStore<N> {
     /// Adds a clause with what it watches. Clause 0 is that of the root.
     pub fn add_clause(&mut self, clause: Clause<N>, watched: Option<WatchedLiterals>) -> R<ClauseId>
         requires { can_add (plain N.Scores.score_of self.old) clause watched ≡ true }
-        ensures number { IfOk result (λ id. id.0 ≡ length (plain N.Scores.score_of self.old).clauses) }
+        ensures number { IfOk result (λ id. id.0 ≡ length (plain N.Scores.score_of
+            self.old).clauses) }
         ensures store { OnOk result
             (Like (plain N.Scores.score_of self.new)
             (with_clause clause watched (plain N.Scores.score_of self.old))) }
         ensures err { OnErr result
             (Like (plain N.Scores.score_of self.new) (plain N.Scores.score_of self.old)) }
-        ensures ids { IsErrOf result Ids → length (plain N.Scores.score_of self.old).clauses ≡ 4294967295 }
+        ensures ids { IsErrOf result Ids
+            → length (plain N.Scores.score_of self.old).clauses ≡ 4294967295 }
     {
         if self.clauses.len() >= CLAUSES {
             return Err(Want::Ids);
@@ -216,7 +229,8 @@ impl<N: SolverId + Drop> ClauseStore<N> {
     /// Lets the clauses that watch a literal watch others: the i-th that is met watches the i-th of
     /// `moves` from then on, unless there is none or it watches that one already.
     pub fn walk(&mut self, literal: Literal, moves: &[Option<Literal>]) -> R<Vec<ClauseId>>
-        ensures met { IfOk result (λ v. v.items ≡ (plain N.Scores.score_of self.old).watchers literal) }
+        ensures met { IfOk result (λ v. v.items ≡ (plain N.Scores.score_of self.old).watchers
+            literal) }
         ensures store { OnOk result
             (Like (plain N.Scores.score_of self.new)
             (walked literal moves.now (plain N.Scores.score_of self.old))) }
@@ -235,7 +249,7 @@ impl<N: SolverId + Drop> ClauseStore<N> {
         clause.to_index() < self.clauses.len()
     }
 
-    /// Whether a decision can come from a clause at a level: the clause is there, and the level isn't
+    /// Whether a decision can have a clause as its reason at a level: the clause is there, and the level isn't
     /// below that of the last decision.
     pub fn can_assign(&self, clause: ClauseId, level: u32) -> bool
         ensures { result ≡ can_assign (plain N.Scores.score_of self.now) clause level }
@@ -245,7 +259,8 @@ impl<N: SolverId + Drop> ClauseStore<N> {
 
     /// Adds a decision at the end of the trail, unless its variable has a value.
     pub fn assign(&mut self, decision: Decision, level: u32) -> R<Set>
-        requires { can_assign (plain N.Scores.score_of self.old) decision.derived_from level ≡ true }
+        requires { can_assign (plain N.Scores.score_of self.old) decision.derived_from level
+            ≡ true }
         ensures answer { IfOk result
             (λ s.
             s
@@ -282,7 +297,7 @@ impl<N: SolverId + Drop> ClauseStore<N> {
         )
     }
 
-    /// Tells whether scores are raised at all. No answer rests on it.
+    /// Says whether scores are raised at all. No answer rests on it.
     pub fn set_standard_activity_params(&mut self, is_standard: bool)
         ensures { Like (plain N.Scores.score_of self.new) (plain N.Scores.score_of self.old) }
     {
@@ -306,7 +321,7 @@ impl<N: SolverId + Drop> ClauseStore<N> {
         }
     }
 
-    /// Scales each score by so many millionths, rounding down.
+    /// Scales each score by this number of millionths, rounding down.
     pub fn decay(&mut self, per_million: u64)
         requires { can_decay per_million ≡ true }
         ensures { Like (plain N.Scores.score_of self.new)
@@ -319,7 +334,8 @@ impl<N: SolverId + Drop> ClauseStore<N> {
     /// there is no decision.
     pub fn undo_last(&mut self) -> Option<(Decision, u32)>
         ensures answer { result ≡ last_undone (plain N.Scores.score_of self.old).trail }
-        ensures store { Like (plain N.Scores.score_of self.new) (undone (plain N.Scores.score_of self.old)) }
+        ensures store { Like (plain N.Scores.score_of self.new)
+            (undone (plain N.Scores.score_of self.old)) }
     {
         if self.tracker.stack().is_empty() {
             return None;
@@ -359,7 +375,8 @@ fn push_versions<N: Copy + Drop>(
     versions: &[VariableId],
 ) -> R<()>
     requires { list_all is_in_range versions.now ≡ true }
-    ensures pushed { OnOk result (candidates.new.items ≡ candidates.old.items ++ versions_of name versions.now) }
+    ensures pushed { OnOk result (candidates.new.items ≡ candidates.old.items
+        ++ versions_of name versions.now) }
     ensures refusal { IsOkUnless result Memory }
 {
     for version in versions {
@@ -406,7 +423,8 @@ fn is_watchable<N: Copy>(
 
 /// Lets a new clause watch its two literals, if it watches any.
 fn begin(watches: &mut WatchMap, watched: &Option<WatchedLiterals>, clause: ClauseId) -> R<()>
-    requires { (p : WatchedLiterals) → watched.now ≡ Some p → same_literal p.first p.second ≡ false }
+    requires { (p : WatchedLiterals) → watched.now ≡ Some p
+        → same_literal p.first p.second ≡ false }
     ensures lists { OnOk result
         ((l : Signed)
         → watchers watches.new l ≡ watching clause.0 watched.now (watchers watches.old) l) }

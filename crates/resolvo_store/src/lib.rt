@@ -1,4 +1,4 @@
-//! A store of clauses, with the calls that it takes, and which variable stands for what, and clauses as
+//! A store of clauses, with the calls that it takes, and the origin of each variable, and clauses as
 //! texts.
 #![tactic(auto)]
 

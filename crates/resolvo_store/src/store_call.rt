@@ -41,7 +41,7 @@ pub enum StoreCall<N> {
     UndoUntil(u32),
     /// Raises a package's score.
     BumpName(N, u64),
-    /// Scales each score by so many millionths.
+    /// Scales each score by this number of millionths.
     Decay(u64),
     /// Meets the clauses that watch a literal: the i-th watches the i-th of `moves` from then on.
     Walk {
@@ -57,7 +57,7 @@ pub enum StoreCall<N> {
 /// The answer of a clause store to a call.
 #[derive(Debug, Drop, PartialEq)]
 pub enum StoreAnswer {
-    /// The call had nothing to tell.
+    /// The call has no other answer.
     Done,
     /// A clause was added under this number.
     Added(ClauseId),

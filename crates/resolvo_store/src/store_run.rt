@@ -49,7 +49,8 @@ impl<N: SolverId + Drop> ClauseStore<N> {
 
     /// Does a call, and answers it.
     fn do_call(&mut self, alloc: Global, call: &StoreCall<N>) -> R<StoreAnswer>
-        ensures answer { IfOk result (λ a. told a ≡ answer_of (plain N.Scores.score_of self.old) call.now) }
+        ensures answer { IfOk result (λ a. told a ≡ answer_of (plain N.Scores.score_of self.old)
+            call.now) }
         ensures store { OnOk result
             (Like (plain N.Scores.score_of self.new)
             (step N.eq (plain N.Scores.score_of self.old) call.now)) }
@@ -140,7 +141,8 @@ impl<N: SolverId + Drop> ClauseStore<N> {
             (with_disjunction literals.now (plain N.Scores.score_of self.old))) }
         ensures err { OnErr result
             (Like (plain N.Scores.score_of self.new) (plain N.Scores.score_of self.old)) }
-        ensures ids { IsErrOf result Ids → length (plain N.Scores.score_of self.old).disjunctions ≡ 4294967295 }
+        ensures ids { IsErrOf result Ids
+            → length (plain N.Scores.score_of self.old).disjunctions ≡ 4294967295 }
     {
         self.fix_disjunction(Vec::from_slice(alloc, literals)?)?;
         Ok(StoreAnswer::Done)
@@ -154,7 +156,8 @@ impl<N: SolverId + Drop> ClauseStore<N> {
             (with_learnt literals.now (plain N.Scores.score_of self.old))) }
         ensures err { OnErr result
             (Like (plain N.Scores.score_of self.new) (plain N.Scores.score_of self.old)) }
-        ensures ids { IsErrOf result Ids → length (plain N.Scores.score_of self.old).learnt ≡ 4294967295 }
+        ensures ids { IsErrOf result Ids
+            → length (plain N.Scores.score_of self.old).learnt ≡ 4294967295 }
     {
         self.fix_learnt(Vec::from_slice(alloc, literals)?)?;
         Ok(StoreAnswer::Done)
@@ -174,7 +177,8 @@ impl<N: SolverId + Drop> ClauseStore<N> {
             (plain N.Scores.score_of self.old))) }
         ensures err { OnErr result
             (Like (plain N.Scores.score_of self.new) (plain N.Scores.score_of self.old)) }
-        ensures ids { IsErrOf result Ids → length (plain N.Scores.score_of self.old).clauses ≡ 4294967295 }
+        ensures ids { IsErrOf result Ids
+            → length (plain N.Scores.score_of self.old).clauses ≡ 4294967295 }
     {
         if !self.can_add(&clause, watched) {
             return Ok(StoreAnswer::Bad);

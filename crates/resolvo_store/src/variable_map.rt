@@ -1,4 +1,4 @@
-//! Which variable stands for what.
+//! The origin of each variable.
 //! Its model is the list of what each variable was made for, from the root on; a variable's place is
 //! its index. Solvables get theirs once, helpers get a new one each time.
 ghost use Rattle.std.specs.Prelude.{◌≡◌, ◌<◌, ◌++◌, ◌∷◌, [], ◌≤◌, ◌+◌, length, slice_get, Some, IfOk, OnErr, IsErrOf, IsOkUnless};
@@ -35,7 +35,7 @@ pub enum VariableOrigin<N, S> {
     RequiresGate(Requirement),
 }
 
-/// Which variable stands for what.
+/// The origin of each variable.
 #[derive(Drop)]
 pub struct VariableMap<N, S: SolverId> {
     origins: Vec<VariableOrigin<N, S>>,
@@ -171,7 +171,7 @@ impl<N: Copy + Drop, S: SolverId> VariableMap<N, S> {
         self.alloc(VariableOrigin::ConstrainsViolation(via))
     }
 
-    /// A new variable that stands between a requirement and its candidates.
+    /// A new variable between a requirement and its candidates.
     pub fn alloc_requires_gate_variable(&mut self, requirement: Requirement) -> R<VariableId>
         ensures new { IfOk result
             (λ v.
@@ -189,7 +189,8 @@ impl<N: Copy + Drop, S: SolverId> VariableMap<N, S> {
     /// A new variable.
     fn alloc(&mut self, origin: VariableOrigin<N, S>) -> R<VariableId>
         requires { IsHelper origin }
-        ensures new { IfOk result (λ v. (v.0 ≡ length self.old) × (self.new ≡ self.old ++ origin ∷ [])) }
+        ensures new { IfOk result (λ v. (v.0 ≡ length self.old)
+            × (self.new ≡ self.old ++ origin ∷ [])) }
         ensures err { OnErr result (self.new ≡ self.old) }
         ensures ids { IsErrOf result Ids → length self.old ≡ 2147483647 }
     {
@@ -199,7 +200,7 @@ impl<N: Copy + Drop, S: SolverId> VariableMap<N, S> {
     }
 }
 
-/// The variable that follows the root and so many others, unless all were given.
+/// The variable that follows the root and this number of others, unless all were given.
 fn next_variable(count: usize) -> R<VariableId>
     ensures next { IfOk result (λ v. (v.0 ≡ count + 1) × (count < 2147483646)) }
     ensures ids { IsErrOf result Ids → 2147483646 ≤ count }

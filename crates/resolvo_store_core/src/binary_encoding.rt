@@ -77,7 +77,8 @@ impl<V: Copy + Eq + Hash + Drop> AtMostOnceTracker<V> {
         requires { is_some helper ≡ needs_helper V.eq self.old variable }
         ensures answer { IfOk result (λ new. new ≡ not (among V.eq self.old variable)) }
         ensures tracker { OnOk result (self.new ≡ tracked V.eq self.old variable helper) }
-        ensures ties { OnOk result (out.new.items ≡ out.old.items ++ new_ties V.eq self.old variable helper) }
+        ensures ties { OnOk result (out.new.items ≡ out.old.items
+            ++ new_ties V.eq self.old variable helper) }
         ensures err { OnErr result (self.new ≡ self.old) }
         ensures err_out { OnErr result (out.new.items ≡ out.old.items) }
         ensures refusal { IsOkUnless result Memory }
@@ -117,7 +118,8 @@ impl<V: Copy + Eq + Hash + Drop> AtMostOnceTracker<V> {
     /// The law of the clauses: there are as many as variables times helpers, and some values of the
     /// helpers meet them exactly if at most one of the variables is true.
     pub fn say_at_most_one(&self)
-        ensures count { length (all_ties self.now) ≡ length self.now.variables * length self.now.helpers }
+        ensures count { length (all_ties self.now) ≡ length self.now.variables *
+            length self.now.helpers }
         ensures exact { (value : V → Bool)
             → ((w : ℕ → Bool) × IsMet value w self.now) ↔ IsAtMostOne value self.now.variables }
     {
@@ -163,7 +165,8 @@ fn tie<V: Copy + Drop>(
 /// The digit of each of these places at the new helper is 0.
 fn tie_to_helper<V: Copy + Drop>(variables: &[V], helper: V, out: &mut Vec<(V, V, bool)>) -> R<()>
     ensures front { IsFrontOf out.old.items out.new.items }
-    ensures ties { OnOk result (out.new.items ≡ out.old.items ++ map (λ x. (x, helper, false)) variables.now) }
+    ensures ties { OnOk result (out.new.items ≡ out.old.items ++ map (λ x. (x, helper, false))
+        variables.now) }
     ensures refusal { IsOkUnless result Memory }
 {
     for variable in variables {

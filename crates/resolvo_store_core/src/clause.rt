@@ -205,7 +205,8 @@ impl<N: Copy> Clause<N> {
     /// Its value: true where a literal is true, false where all are false, else none.
     pub fn literals_eval(&self, lists: &FixedLists<N>, values: &DecisionMap) -> Option<bool>
         requires { Fits lists.now self.now }
-        ensures { IsValueOf (value_under (value_at values.now)) (literals_of lists.now self.now) result }
+        ensures { IsValueOf (value_under (value_at values.now)) (literals_of lists.now self.now)
+            result }
     {
         let mut value = Some(false);
         for literal in self.iter(lists) {

@@ -101,7 +101,8 @@ impl DecideQueue {
     where
         N: Drop,
         ensures registered { self.new ≡ self.old }
-        ensures trail { OnOk result (trail.new ≡ record trail.old { floor = length trail.old.trail }) }
+        ensures trail { OnOk result (trail.new ≡ record trail.old
+            { floor = length trail.old.trail }) }
         ensures err { OnErr result (trail.new ≡ trail.old) }
         ensures refusal { IsOkUnless result Memory }
     {
@@ -132,7 +133,8 @@ impl DecideQueue {
     ) -> Option<NextDecision>
     where
         N: Drop,
-        ensures { result ≡ pick lists.now (value_at values.now) (N.Scores.score_of scores.now) self.now }
+        ensures { result ≡ pick lists.now (value_at values.now) (N.Scores.score_of scores.now)
+            self.now }
     {
         let mut best = None;
         for need in &self.registered {
@@ -272,7 +274,8 @@ fn first_undecided<N: Copy>(
     candidates: &[Candidate<N>],
     values: &DecisionMap,
 ) -> Option<Candidate<N>>
-    ensures { result ≡ find (λ c. is_open (value_under (value_at values.now) c.literal)) candidates.now }
+    ensures { result ≡ find (λ c. is_open (value_under (value_at values.now) c.literal))
+        candidates.now }
 {
     for candidate in candidates {
         if candidate.literal.is_undecided(values) {

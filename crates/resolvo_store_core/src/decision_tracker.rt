@@ -174,8 +174,12 @@ impl DecisionTracker {
 
     /// The next decision that was not propagated, which is then taken as propagated.
     pub fn next_unpropagated(&mut self) -> Option<Decision>
-        ensures decision { result ≡ option_map (λ e. e.decision) (slice_get self.old.trail self.old.front) }
-        ensures front { self.new ≡ record self.old { front = min (self.old.front + 1) (length self.old.trail) } }
+        ensures decision { result ≡ option_map (λ e. e.decision)
+            (slice_get self.old.trail self.old.front) }
+        ensures front { self.new ≡ record self.old {
+          front = min (self.old.front + 1)
+              (length self.old.trail);
+        } }
     {
         if self.front < self.stack.len() {
             let decision = self.stack[self.front].decision;

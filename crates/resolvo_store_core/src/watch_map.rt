@@ -55,7 +55,8 @@ impl WatchMap {
     /// Lets a new clause watch two different literals. It comes to the front of both lists.
     pub fn start_watching(&mut self, watched: WatchedLiterals, clause: ClauseId) -> R<()>
         requires { same_literal watched.first watched.second ≡ false }
-        ensures started { OnOk result (StartsIn clause watched (watchers self.old) (watchers self.new)) }
+        ensures started { OnOk result (StartsIn clause watched (watchers self.old)
+            (watchers self.new)) }
         ensures fits { OnOk result
             ((pairs : List (Option WatchedLiterals))
             → IsWatched pairs (watchers self.old)
@@ -93,7 +94,8 @@ impl WatchMap {
     ) -> R<Vec<ClauseId>>
         requires { IsWatched clauses.old (watchers self.old) }
         ensures met { IfOk result (λ v. v.items ≡ watchers self.old literal) }
-        ensures moved { IfOk result (λ v. clauses.new ≡ pairs_after literal clauses.old v.items moves.now) }
+        ensures moved { IfOk result (λ v. clauses.new ≡ pairs_after literal clauses.old v.items
+            moves.now) }
         ensures lists { IfOk result
             (λ v.
             (l : Signed)
@@ -199,7 +201,8 @@ impl WatchMap {
 
     /// Puts a clause to the front of a literal's list.
     fn put_first(&mut self, literal: Literal, clause: ClauseId) -> R<()>
-        ensures put { OnOk result (PutsFirst clause literal (watchers self.old) (watchers self.new)) }
+        ensures put { OnOk result (PutsFirst clause literal (watchers self.old)
+            (watchers self.new)) }
         ensures room { OnOk result ((l : Signed) → room self.old l ≤ room self.new l + 1) }
         ensures err { OnErr result (SameLists (watchers self.old) (watchers self.new)) }
         ensures succeeds { 1 ≤ room self.old literal → IsOk result }

@@ -256,8 +256,8 @@ impl WatchedLiterals {
         values: &DecisionMap,
     ) -> Option<Literal>
         requires { Fits lists.now clause.now }
-        ensures { IsNext (value_under (value_at values.now)) self.now (literals_of lists.now clause.now)
-            result }
+        ensures { IsNext (value_under (value_at values.now)) self.now
+            (literals_of lists.now clause.now) result }
     {
         for literal in clause.iter(lists) {
             let is_watched = self.watches(literal);
@@ -293,7 +293,8 @@ fn second_to_watch<N: Copy>(
     values: &DecisionMap,
 ) -> Option<Literal>
     requires { Fits lists.now clause.now }
-    ensures { IsSecond (value_under (value_at values.now)) first (literals_of lists.now clause.now) result }
+    ensures { IsSecond (value_under (value_at values.now)) first (literals_of lists.now clause.now)
+        result }
 {
     let mut second = None;
     for literal in clause.iter(lists) {
