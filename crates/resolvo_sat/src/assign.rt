@@ -67,17 +67,19 @@ impl SatState {
         Ok(())
     }
 
-    /// Takes the entries above a level away. Where there were such, propagation begins anew, since what
-    /// stood in the way of a false literal may be gone.
+    /// Takes the entries above a level away. Propagation goes on behind what is left; it begins anew
+    /// where a literal that guards a false one of a lower level may be gone.
     pub fn undo_until(&mut self, level: u32)
         requires state { IsState self.old }
         requires one { 1 ≤ level }
         ensures { Undoes level self.old self.new }
     {
-        let count = self.tracker.stack().len();
         self.tracker.undo_until(level);
-        if self.tracker.stack().len() < count {
-            self.tracker.again();
+        if level < self.guard_level {
+            self.front = 0;
+            self.guard_level = 0;
+        } else {
+            self.front = self.front.min(self.tracker.stack().len());
         }
     }
 

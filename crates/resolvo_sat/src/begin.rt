@@ -40,6 +40,8 @@ pub fn begin(alloc: Global) -> R<(SatState, WatchLists)>
         clauses: root_clause(alloc)?,
         tracker,
         base_level: 1,
+        front: 0,
+        guard_level: 0,
     };
     let watching = WatchLists {
         watched,
