@@ -6,7 +6,8 @@ ghost use Rattle.resolvo_pool_core.specs.declared.requirement.Requirement.{Requi
 ghost use Rattle.resolvo_store_core.specs.Signed.{Signed};
 ghost use Rattle.resolvo_decide.specs.Needs.{Fits, literals_in};
 
-use crate::tests::pick::{fix, no_scores, three_needs};
+use crate::tests::pick::{fix, three_needs};
+use resolvo_decide::scores::Scores;
 use resolvo_decide::undecided_clauses::UndecidedClauses;
 use resolvo_pool_core::id::{ClauseId, NameId, VariableId, VersionSetId};
 use resolvo_pool_core::requirement::Requirement;
@@ -48,7 +49,7 @@ struct Known {
     queue: DecideQueue,
     needs: UndecidedClauses,
     trail: DecisionTracker,
-    scores: Vec<u64>,
+    scores: Scores<NameId, Vec<u64>>,
 }
 
 /// Where nothing is known of these needs.
@@ -62,7 +63,7 @@ fn nothing_known(alloc: Global, needs: (FixedLists<NameId>, DecideQueue)) -> R<K
         queue,
         needs,
         trail: DecisionTracker::new(alloc),
-        scores: no_scores(alloc),
+        scores: Scores::new(alloc),
     })
 }
 
