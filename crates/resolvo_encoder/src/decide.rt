@@ -10,6 +10,7 @@ ghost use Rattle.resolvo_encoder.specs.Progress.{IsNext, GoesOn, IsStep, IsChoic
 ghost use Rattle.resolvo_encoder.specs.Base.{KeepsFirst, KeepsTurns};
 
 use crate::encoder::Encoder;
+use resolvo_decide::scores::Scores;
 use resolvo_decide::undecided_clauses::UndecidedClauses;
 use resolvo_pool_core::id::{ClauseId, Exact};
 use resolvo_pool_core::id_map::ScoreMap;
@@ -37,9 +38,9 @@ pub enum Step {
 
 impl<N: Copy + Exact + Hash + Debug + Drop, S: Copy + Exact + Hash + Debug> Encoder<N, S> {
     /// The candidate that is to be chosen next, if one is. What is found of need clauses is noted.
-    pub fn next_decision<C: ScoreMap<N>>(&mut self, scores: &C) -> R<Option<NextDecision>>
+    pub fn next_decision<C: ScoreMap<N>>(&mut self, scores: &Scores<N, C>) -> R<Option<NextDecision>>
         requires { IsBuilt self.old }
-        ensures next { IfOk result (IsNext (C.score_of scores.now) self.new) }
+        ensures next { IfOk result (IsNext (C.score_of scores.now.map) self.new) }
         ensures built { OnOk result (IsBuilt self.new) }
         ensures rest { OnOk result (self.new ≡ record self.old { needs = self.new.needs }) }
     {
@@ -51,7 +52,7 @@ impl<N: Copy + Exact + Hash + Debug + Drop, S: Copy + Exact + Hash + Debug> Enco
     }
 
     /// Chooses the next candidate, or tells that none is left to choose.
-    pub fn choose_next<C: ScoreMap<N>>(&mut self, scores: &C) -> R<bool>
+    pub fn choose_next<C: ScoreMap<N>>(&mut self, scores: &Scores<N, C>) -> R<bool>
         requires { IsBuilt self.old }
         ensures stays { OnOk result
             ((p : Packages N S) (root : Rules)
@@ -91,7 +92,7 @@ impl<N: Copy + Exact + Hash + Debug + Drop, S: Copy + Exact + Hash + Debug> Enco
     }
 
     /// Sets what follows; then learns where a clause is broken, and chooses where none is.
-    pub fn step<C: ScoreMap<N>>(&mut self, alloc: Global, scores: &C) -> R<Step>
+    pub fn step<C: ScoreMap<N>>(&mut self, alloc: Global, scores: &Scores<N, C>) -> R<Step>
         requires { IsBuilt self.old }
         ensures stays { OnOk result
             ((p : Packages N S) (root : Rules)
