@@ -1,9 +1,11 @@
 //! The search goes on over what was encoded: it sets what follows, learns and chooses.
-ghost use Rattle.std.specs.Prelude.{◌≡◌, ◌-◌, max, IfOk, OnOk};
+ghost use Rattle.std.specs.Prelude.{◌≡◌, ◌-◌, max, IfOk, OnOk, IsErrOf, IsOkUnless};
+ghost use Rattle.resolvo_pool_core.specs.declared.want.Want.TheVariants.{Memory, Ids};
 ghost use Rattle.resolvo_pool_core.specs.RuleKeeping.{Packages, Rules, IsLawful};
 ghost use Rattle.resolvo_store_core.specs.AtMostOne.{IsFrontOf};
 ghost use Rattle.resolvo_decide.specs.Needs.{KeepsFitting};
 ghost use Rattle.resolvo_sat.specs.Steps.{Undoes};
+ghost use Rattle.resolvo_state.specs.SolverState.{LacksNumber};
 ghost use Rattle.resolvo_encoder.specs.Encoded.{IsEncoding};
 ghost use Rattle.resolvo_encoder.specs.Steps.{IsBuilt};
 ghost use Rattle.resolvo_encoder.specs.Progress.{IsNext, GoesOn, IsStep, IsChoice};
@@ -43,6 +45,7 @@ impl<N: Copy + Exact + Hash + Debug + Drop, S: Copy + Exact + Hash + Debug> Enco
         ensures next { IfOk result (IsNext (C.score_of scores.now.map) self.new) }
         ensures built { OnOk result (IsBuilt self.new) }
         ensures rest { OnOk result (self.new ≡ record self.old { needs = self.new.needs }) }
+        ensures refusal { IsOkUnless result Memory }
     {
         let trail = &self.coding.search.tracker;
         let next = self
@@ -63,6 +66,7 @@ impl<N: Copy + Exact + Hash + Debug + Drop, S: Copy + Exact + Hash + Debug> Enco
         ensures built { OnOk result (IsBuilt self.new) }
         ensures first { OnOk result (KeepsFirst self.old self.new) }
         ensures chosen { IfOk result (IsChoice self.old self.new) }
+        ensures refusal { IsOkUnless result Memory }
     {
         match self.next_decision(scores)? {
             None => Ok(false),
@@ -103,6 +107,7 @@ impl<N: Copy + Exact + Hash + Debug + Drop, S: Copy + Exact + Hash + Debug> Enco
         ensures built { OnOk result (IsBuilt self.new) }
         ensures first { OnOk result (KeepsFirst self.old self.new) }
         ensures step { IfOk result (IsStep self.old self.new) }
+        ensures ids { IsErrOf result Ids → LacksNumber self.new.coding }
     {
         match self.coding.propagate_and_learn(alloc)? {
             StepResult::Refused(refusal) => Ok(Step::Refused(refusal)),
