@@ -14,6 +14,9 @@ use std::marker::Model;
 /// So many clauses beside one another have one mark.
 const BLOCK: usize = 64;
 
+/// So many clauses beside one another have one mark more, above those of their blocks.
+const GROUP: usize = 4096;
+
 /// What is known of a need clause.
 #[derive(Clone, Copy, Debug)]
 pub enum ClauseState {
@@ -54,6 +57,8 @@ pub struct ClauseStates {
     states: Vec<ClauseState>,
     /// Whether a block may have an open clause.
     marks: Vec<bool>,
+    /// Whether a group of blocks may have one.
+    groups: Vec<bool>,
     /// No clause of a block is met behind so many first entries. The highest number tells nothing.
     bounds: Vec<u32>,
 }
@@ -61,13 +66,13 @@ pub struct ClauseStates {
 impl Model for ClauseStates {
     ghost use Rattle.std.specs.Prelude.{List};
     ghost use Rattle.resolvo_decide.specs.declared.clause_states.ClauseState.{ClauseState};
-    ghost use Rattle.resolvo_decide.specs.States.{AreMarked, AreBounded};
+    ghost use Rattle.resolvo_decide.specs.States.{AreMarked, AreGrouped, AreBounded};
 
     ghost Value = { List ClauseState };
 
     ghost view = { λ s. s.states.items };
 
-    ghost invariant = { λ s. AreMarked s.states.items s.marks.items × AreBounded s.states.items s.bounds.items };
+    ghost invariant = { λ s. AreMarked s.states.items s.marks.items × AreGrouped s.states.items s.groups.items × AreBounded s.states.items s.bounds.items };
 }
 
 impl ClauseStates {
@@ -78,6 +83,7 @@ impl ClauseStates {
         ClauseStates {
             states: Vec::new(alloc),
             marks: Vec::new(alloc),
+            groups: Vec::new(alloc),
             bounds: Vec::new(alloc),
         }
     }
@@ -110,7 +116,9 @@ impl ClauseStates {
     {
         let mut position = from;
         while !self.state(position).is_open() {
-            position = self.pass(position);
+            let next = self.pass(position);
+            self.shut_group(from, position, next);
+            position = next;
         }
         position
     }
@@ -124,6 +132,9 @@ impl ClauseStates {
         ensures passed { (i : ℕ) → position ≤ i → i < result → is_open_state (state_at self.old i) ≡ false }
         ensures same { self.new ≡ self.old }
     {
+        if !is_marked(&self.groups, position / GROUP) {
+            return self.group_end(position);
+        }
         let block = position / BLOCK;
         let start = block * BLOCK;
         let end = start + BLOCK.min(self.states.len() - start);
@@ -137,6 +148,29 @@ impl ClauseStates {
         found
     }
 
+    /// The position behind the group of this one.
+    fn group_end(&self, position: usize) -> usize
+        requires { position < length self.now }
+        ensures behind { position < result }
+        ensures within { result ≤ length self.now }
+        ensures group { (i : ℕ) → position ≤ i → i < result → i / GROUP ≡ position / GROUP }
+        ensures whole { (i : ℕ) → i < length self.now → i / GROUP ≡ position / GROUP → i < result }
+    {
+        let start = position / GROUP * GROUP;
+        start + GROUP.min(self.len() - start)
+    }
+
+    /// Notes that no clause of the group of a position is open, where the group stands between two positions.
+    fn shut_group(&mut self, from: usize, position: usize, next: usize)
+        requires within { position < length self.old }
+        requires passed { (i : ℕ) → from ≤ i → i < next → is_open_state (state_at self.old i) ≡ false }
+        ensures { self.new ≡ self.old }
+    {
+        if from <= position / GROUP * GROUP && self.group_end(position) <= next {
+            note(&mut self.groups, position / GROUP, false);
+        }
+    }
+
     /// Notes a state, unless the position is behind all clauses.
     pub fn put(&mut self, position: usize, state: ClauseState)
         ensures { self.new ≡ slice_set self.old position state }
@@ -145,6 +179,7 @@ impl ClauseStates {
             self.states[position] = state;
             if state.is_open() {
                 note(&mut self.marks, position / BLOCK, true);
+                note(&mut self.groups, position / GROUP, true);
             }
             raise(&mut self.bounds, position / BLOCK, state.within());
         }
@@ -157,6 +192,7 @@ impl ClauseStates {
     {
         let block = self.states.len() / BLOCK;
         mark(&mut self.marks, block)?;
+        mark(&mut self.groups, self.states.len() / GROUP)?;
         make_bound(&mut self.bounds, block)?;
         self.states.push(ClauseState::Open)?;
         Ok(())
@@ -206,9 +242,20 @@ impl ClauseStates {
             self.put(position, state);
         }
         if start == first {
-            lower(&mut self.bounds, block, common);
+            self.lower_bound(block, common);
         }
         end
+    }
+
+    /// No clause of this block is met behind so many first entries.
+    fn lower_bound(&mut self, block: usize, common: usize)
+        requires { (i : ℕ)
+            → i < length self.old
+            → i / BLOCK ≡ block
+            → met_within (state_at self.old i) ≤ common }
+        ensures { self.new ≡ self.old }
+    {
+        lower(&mut self.bounds, block, common);
     }
 }
 
