@@ -40,7 +40,10 @@ pub enum Step {
 
 impl<N: Copy + Exact + Hash + Debug + Drop, S: Copy + Exact + Hash + Debug> Encoder<N, S> {
     /// The candidate that is to be chosen next, if one is. What is found of need clauses is noted.
-    pub fn next_decision<C: ScoreMap<N>>(&mut self, scores: &Scores<N, C>) -> R<Option<NextDecision>>
+    pub fn next_decision<C: ScoreMap<N>>(
+        &mut self,
+        scores: &Scores<N, C>,
+    ) -> R<Option<NextDecision>>
         requires { IsBuilt self.old }
         ensures next { IfOk result (IsNext (C.score_of scores.now.map) self.new) }
         ensures built { OnOk result (IsBuilt self.new) }
