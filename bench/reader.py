@@ -5,7 +5,7 @@ CRATES = """\
 resolvo_text: thiserror
 resolvo_pool_core: indexmap thiserror
 resolvo_catalogue_core: resolvo_text
-resolvo_catalogue: resolvo_text resolvo_pool_core resolvo_catalogue_core indexmap
+resolvo_catalogue: resolvo_text resolvo_pool_core resolvo_catalogue_core
 providing: resolvo_catalogue resolvo_text resolvo_pool_core resolvo_catalogue_core indexmap
 """
 

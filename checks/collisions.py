@@ -1,20 +1,23 @@
 #!/usr/bin/env python3
-"""Measures the program on catalogues of a stranger who picks names that collide in std's HashMap, beside names that don't.
+"""Measures the program on texts of a stranger who picks names, words and numbers that collide in std's HashMap, beside such that don't.
 
-Usage: checks/collisions.py [PATH OF THE PROGRAM] [SECONDS A RUN] [BYTES ..]
-Defaults: crates/resolve/out/resolve (which `rt run` leaves), 120, and 2^18, 2^20, 2^22 and 2^24 bytes.
+Usage: checks/collisions.py [PATH OF THE PROGRAM] [BYTES ..]
+Defaults: crates/resolve/out/resolve (which `rt run` leaves), and 2^18, 2^20, 2^22 and 2^24 bytes. The program is asked for one package.
+For each kind of text and each size: processor seconds of both, the least of three runs. The check fails where the colliding text takes
+more than twice as long as the other, and more than a tenth of a second longer.
+
 The kit's HashMap hashes by FoldHasher, whose seed is fixed: it multiplies sixteen bytes at a time, each half joined by xor with what
 is known. The first sixteen bytes of FRONT leave its last eight as the state, so the next factor is 0, whatever eight bytes follow:
-all names that begin so have one hash. Each catalogue is read, and its first package asked for.
+all names that begin so have one hash. A number has four bytes; those whose hashes agree in the bits that choose a place are tried out.
 """
 import itertools
 import os
 import random
+import resource
 import string
 import subprocess
 import sys
 import tempfile
-import time
 
 HERE = os.path.dirname(os.path.abspath(__file__))
 WORD = string.ascii_letters + string.digits + "_"
@@ -36,47 +39,90 @@ def hash_of_name(name):
     return folded_multiply(words[2] ^ state, words[3] ^ MULTIPLIER)
 
 
-def catalogue(most_bytes, collide):
-    """Lines of so many bytes in all, each a version of another package."""
+def hash_of_number(number):
+    """The half of FoldHasher's state that a table takes, behind the four bytes of a number."""
+    state = folded_multiply(SEED ^ (number | number << 32), MULTIPLIER ^ 8)
+    return (state ^ state >> 32) & 0xFFFFFFFF
+
+
+def texts(count, collide):
+    """So many names or words of 32 bytes, that have one hash or any."""
     rng = random.Random(1)
-    lines = []
-    for last in itertools.islice(itertools.product(WORD, repeat=8), most_bytes // 43):
+    for last in itertools.islice(itertools.product(WORD, repeat=8), count):
         front = FRONT if collide else "a" + "".join(rng.choices(WORD, k=23))
-        lines.append(f"version {front}{''.join(last)} 1\n")
-    return lines
+        yield front + "".join(last)
 
 
-def seconds(program, lines, limit):
-    """Seconds of a run; None where it didn't end within the limit."""
+def numbers(count, collide):
+    """So many numbers, falling, whose hashes agree in the bits that choose a place, or any."""
+    if not collide:
+        return sorted(random.Random(2).sample(range(1 << 32), count), reverse=True)
+    bits = max(1, (count // 12).bit_length())
+    same = (it for it in itertools.count(1) if hash_of_number(it) & (1 << bits) - 1 == 0)
+    return sorted(itertools.islice(same, count), reverse=True)
+
+
+def packages(size, collide):
+    """Each line a version of another package."""
+    names = list(texts(size // 43, collide))
+    return [f"version {name} 1\n" for name in names], f"needs {names[0]}\n"
+
+
+def specs(size, collide):
+    """Each line a need of another package, which isn't listed."""
+    return ["version a 1\n", *(f"needs {name} | a\n" for name in texts(size // 43, collide))], "needs a\n"
+
+
+def words(size, collide):
+    """Each version is barred for another reason."""
+    lines = [f"version a {at}\nexclude a {at} {word}\n" for at, word in enumerate(texts(size // 72, collide))]
+    return [*lines, "version b 1\n"], "needs b\n"
+
+
+def versions(size, collide):
+    """Versions of one package, whose numbers fall."""
+    return [f"version a {number}\n" for number in numbers(min(size // 21, 1 << 12), collide)], "needs a\n"
+
+
+def spans(size, collide):
+    """Needs of one package with other spans."""
+    found = numbers(min(size // 18, 1 << 12), collide)
+    return ["version a 1\n", *(f"needs a {number} | a\n" for number in found)], "needs a\n"
+
+
+KINDS = (packages, specs, words, versions, spans)
+
+
+def seconds(program, lines, request):
+    """Processor seconds, the least of three runs."""
     with tempfile.TemporaryDirectory() as folder:
         paths = [os.path.join(folder, part) for part in ("catalogue", "request")]
-        for path, text in zip(paths, ["".join(lines), f"needs {lines[0].split()[1]}\n"]):
+        for path, text in zip(paths, ["".join(lines), request]):
             with open(path, "w") as file:
                 file.write(text)
-        begin = time.time()
-        try:
-            ended = subprocess.run([program, "solve", *paths], capture_output=True, timeout=limit)
-        except subprocess.TimeoutExpired:
-            return None
-        if ended.returncode != 0:
-            sys.exit(f"status {ended.returncode}: {ended.stdout[:200]!r}")
-        return time.time() - begin
-
-
-def shown(found, limit):
-    return f"{found:.2f} s" if found is not None else f"more than {limit} s"
+        found = []
+        for _ in range(3):
+            before = resource.getrusage(resource.RUSAGE_CHILDREN)
+            ended = subprocess.run([program, "solve", *paths], capture_output=True)
+            after = resource.getrusage(resource.RUSAGE_CHILDREN)
+            if ended.returncode not in (0, 1):
+                sys.exit(f"status {ended.returncode}: {ended.stdout[:200]!r}")
+            found.append(after.ru_utime + after.ru_stime - before.ru_utime - before.ru_stime)
+        return min(found)
 
 
 def main():
     program = sys.argv[1] if len(sys.argv) > 1 else os.path.join(HERE, "../crates/resolve/out/resolve")
-    limit = int(sys.argv[2]) if len(sys.argv) > 2 else 120
-    for size in [int(size) for size in sys.argv[3:]] or [1 << 18, 1 << 20, 1 << 22, 1 << 24]:
-        plain, colliding = (catalogue(size, collide) for collide in (False, True))
-        assert len({hash_of_name(line.split()[1]) for line in colliding}) == 1
-        found = [seconds(program, lines, limit) for lines in (plain, colliding)]
-        ratio = f", {found[1] / found[0]:.0f} times as long" if all(found) else ""
-        print(f"{len(plain)} names: {shown(found[0], limit)}; colliding: {shown(found[1], limit)}{ratio}", flush=True)
+    failed = False
+    for size in [int(size) for size in sys.argv[2:]] or [1 << 18, 1 << 20, 1 << 22, 1 << 24]:
+        for kind in KINDS:
+            plain, other = (seconds(program, *kind(size, collide)) for collide in (False, True))
+            slow = other > 2 * plain and other > plain + 0.1
+            failed = failed or slow
+            print(f"{size} bytes, {kind.__name__}: {plain:.2f} s; colliding: {other:.2f} s, {other / max(plain, 0.001):.1f} times{'  FAILED' if slow else ''}", flush=True)
+    sys.exit(failed)
 
 
 if __name__ == "__main__":
+    assert len({hash_of_name(name) for name in texts(1000, True)}) == 1
     main()

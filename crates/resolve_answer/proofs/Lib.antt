@@ -16,3 +16,4 @@ pub mod Upheld
 pub mod JoinLemmas
 pub mod MessageLemmas
 pub mod Verdicts
+pub mod TrimRules

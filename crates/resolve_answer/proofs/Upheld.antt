@@ -1,5 +1,5 @@
 -- What the solver found, told as a report that the judge says yes to.
-use Rattle.std.proofs.Common.{◌≡◌, Bor, ℕ, Bool, List, [], ◌∷◌, map, length, None, Result, Ok, Err, Vec, Global, refl, sym, subst, arith}
+use Rattle.std.proofs.Common.{◌≡◌, Bor, ℕ, ◌<◌, Bool, List, [], ◌∷◌, map, length, None, Some, Result, Ok, Err, Vec, Global, refl, sym, subst, ◌∙◌, arith}
 use Rattle.std.specs.Prelude.{Contains, IfOk}
 use Rattle.std.specs.List.{AllByRecursion, AllZip}
 use Rattle.resolvo_text.specs.Line.{Line}
@@ -14,22 +14,25 @@ use Rattle.resolve_order.specs.View.{turns_of}
 use Rattle.resolvo_judge.specs.Refusal.{answer_of}
 use Rattle.resolve_order.specs.declared.entry.Turn.{Turn}
 use Rattle.resolve_order.specs.declared.entry.Turn.TheVariants.{Chose}
-use Rattle.resolvo_sat.specs.declared.analyze.FinalConflict.{FinalConflict}
-use Rattle.resolvo_pool_core.specs.declared.id.VersionSetId.{VersionSetId}
-use Rattle.resolvo_pool_core.specs.declared.requirement.ConditionalRequirement.{ConditionalRequirement}
+use Rattle.std.proofs.lemmas.Option.{same_Some}
+use Rattle.resolvo_pool_core.specs.declared.requirement.Requirement.{Requirement}
 use Rattle.resolvo_pool_core.specs.RuleKeeping.{Rules}
 use Rattle.resolvo_soundness.specs.Encoding.{IsExact}
 use Rattle.resolvo_catalogue.specs.Ids.{Ids, NameId, SolvableId}
 use Rattle.resolvo_catalogue.specs.KeptSets.{root_of}
+use Rattle.resolvo_catalogue.specs.Known.{name_of}
 use Rattle.resolvo_catalogue.specs.Provider.{Provider, packages_of}
 use Rattle.resolvo_catalogue.specs.Over.{IsOver, AreAsked}
 use Rattle.resolvo_catalogue.specs.declared.provider.RequestIds.{RequestIds}
 use Rattle.resolvo_proof.specs.Trimmed as trimming
 use Rattle.resolvo_proof.specs.Trimmed.{Names, IsLast, IsTrimmed, IsTrimmedTo, IsTrimmedWith, StaysProof}
-use Rattle.resolvo_proof.specs.Proof.{EndsEmpty}
+use Rattle.resolvo_proof.specs.Proof.{EndsEmpty, IsProof, IsStep}
 use Rattle.resolvo_proof.specs.Drawn.{HaveOneSigns}
 use Rattle.resolvo_proof.specs.Places.{HaveOnePlace}
+use Rattle.resolvo_proof.specs.declared.step.ProofRule.{ProofRule}
 use Rattle.resolvo_proof.specs.declared.step.ProofStep.{ProofStep}
+use Rattle.resolvo_proof.specs.declared.step.ProofStep.TheVariants.{Rule, Derived}
+use Rattle.resolvo_graph.specs.Message.{IsMessage}
 use Rattle.resolvo_report.specs.Value.{Step, Message, Refused, Report}
 use Rattle.resolvo_report.specs.Text.{HasText, report_lines, report_text}
 use Rattle.resolvo_report.specs.Grammar.{IsReport}
@@ -38,16 +41,17 @@ use Rattle.resolvo_judge.specs.Judgement.{IsUpheld, IsClaimTrue}
 use Rattle.resolvo_judge.proofs.MessageLaws.{upheld_with}
 use Rattle.resolvo_conflict.specs.Offered.{offered_by}
 use Rattle.resolvo_conflict.specs.declared.offers.Offers.{Offers}
-use Rattle.resolvo.specs.Conflicts.{AreOffers}
+use Rattle.resolvo_conflict.specs.Draw.{conflict_drawing}
+use Rattle.resolvo_conflict.specs.Order.{conflict_rules, requirements_in}
+use Rattle.resolve_answer.proofs.TrimRules.{AreEarlier, same_rules}
+use Rattle.resolvo.specs.Conflicts.{Left, AreOffers, IsRightOffer}
+use Rattle.resolvo.specs.Solver.{Kept, IsAnswer}
+use Rattle.resolvo.specs.declared.conflict.Conflict.{Conflict}
+use Rattle.resolvo.specs.declared.solver.UnsolvableOrCancelled.TheVariants.{Unsolvable}
 use Rattle.resolve_install.specs.Numbers.{numbers_of}
 use Rattle.resolve_install.specs.Install.{AreWishes, Serve, IsInstallOf}
 use Rattle.resolve_refusal.specs.Refusal.{IsProofOver, IsToldBy, Refutes, IsRefusalOf}
 use Rattle.resolve_refusal.specs.InstallSteps.{AreInstallSteps}
-use Rattle.resolvo.specs.declared.prove.Solved.{Solved}
-use Rattle.resolvo.specs.declared.search.SearchResult.{SearchResult}
-use Rattle.resolvo.specs.declared.search.SearchResult.TheVariants.{Chosen, Clash}
-use Rattle.resolvo_turn.specs.Encoder.{IsRoot}
-use Rattle.resolvo.specs.Solve.{HaveProofs, Holds, IsPreferred, IsSolved, EndsSo}
 use Rattle.resolvo.specs.Wished.{AreCandidates}
 use Rattle.resolvo.specs.declared.turns.Turn as Solver
 use Rattle.resolvo.proofs.Forward.{one_each}
@@ -57,8 +61,10 @@ use Rattle.resolve_answer.specs.ReportTurns.{AreTold, AreWanted, IsFirstTurn}
 use Rattle.resolve_answer.specs.declared.wishes.Wish.{Wish}
 use Rattle.resolve_answer.specs.First.{orders_of, AreFirstChosen}
 use Rattle.resolve_answer.specs.Message.{IsMessageOf, IsPlain, IsTextOf, with_message}
-use Rattle.resolve_answer.specs.Solved.{IsInstalledOver, IsRefutedOver, IsSolvedOver}
-use Rattle.resolve_answer.specs.Reported.{AreKept, AreNamed, AreUsed, AreWishTurns, IsAnswer, IsReportOf, TellTheirRules}
+use Rattle.resolve_answer.specs.Solved.{IsInstalledOver, IsRefutedOver}
+use Rattle.resolve_answer.specs.Verdict.{Verdict}
+use Rattle.resolve_answer.specs.Reported as reported
+use Rattle.resolve_answer.specs.Reported.{AreKept, AreNamed, AreUsed, AreWishTurns, IsReportOf, TellTheirRules}
 use Rattle.resolve_answer.proofs.Atoms.{same_atom, exact_atom}
 use Rattle.resolve_answer.proofs.KnowLemmas.{known_kept}
 use Rattle.resolve_answer.proofs.ServeLemmas.{AreSteps, first_entries, free_candidates, kept_is, known_wish, one_step_more, refused_bars, serve_is, steps_hold, written_steps}
@@ -76,7 +82,7 @@ pub install_reported : (catalogue request : List Line) (part : Bor (List Version
 install_reported catalogue request part rest steps r i wished kept first used = record {
   upheld = record { report = i.report; is = refl; accepted = i.accepted };
   claim = i.claim;
-  answer = subst (λ (x : Report). IsAnswer catalogue request x) (sym i.installs) (record { chosen = members (listed catalogue) part.now; later = turns_of (listed catalogue) rest; wished = wished; kept = kept; order = i.order; all = i.entries; first = first }, (used (map answer_of i.lines) i.order).0, (used (map answer_of i.lines) i.order).1);
+  answer = subst (λ (x : Report). reported.IsAnswer catalogue request x) (sym i.installs) (record { chosen = members (listed catalogue) part.now; later = turns_of (listed catalogue) rest; wished = wished; kept = kept; order = i.order; all = i.entries; first = first }, (used (map answer_of i.lines) i.order).0, (used (map answer_of i.lines) i.order).1);
 }
 
 -- ---- refusals
@@ -115,7 +121,7 @@ module _ (catalogue : List Line) (said : ReadRequest) (provider : Provider) (wis
     -- the steps that are kept of the proof are one
     kept_proof : (Wanted : ℕ → Type 0) (kept : List (ProofStep NameId SolvableId)) → IsTrimmedTo Wanted proof kept → StaysProof proof kept → (HaveOnePlace proof → HaveOnePlace kept) → (HaveOneSigns proof → HaveOneSigns kept) → IsProofOver catalogue said provider kept
     kept_proof Wanted kept trimmed stays places signs =
-        let proved = is.proved same_atom exact_atom in
+        let proved = is.steps.proof same_atom exact_atom in
         record {
           over = is.over;
           ids = is.ids;
@@ -125,9 +131,9 @@ module _ (catalogue : List Line) (said : ReadRequest) (provider : Provider) (wis
           same = is.same;
           exact = is.exact;
           proof = stays same_atom is.same (packages_of provider) (root_of is.ids) proved;
-          known = known_kept catalogue said provider is.over asks_rightly is.ids is.asked is.same is.exact same_atom proof proved is.drawn Wanted kept trimmed;
-          one_sign = signs is.signs;
-          one_place = places is.one_place;
+          known = known_kept catalogue said provider is.over asks_rightly is.ids is.asked is.same is.exact same_atom proof proved is.steps.drawn Wanted kept trimmed;
+          one_sign = signs is.steps.signs;
+          one_place = places is.steps.one_place;
         }
 
     -- the install report of what was chosen
@@ -153,105 +159,132 @@ module _ (catalogue : List Line) (said : ReadRequest) (provider : Provider) (wis
           steps_told_so catalogue said.lines provider.ids kept written install.each numbers turns places wishes listed_wishes (order.Chose None (members (listed catalogue) part.now)) (members (listed catalogue) part.now) refl rest after told answers are,
         ))
 
-  module _ (solved : Solved NameId SolvableId) (is : IsSolvedOver catalogue said provider wishes solved) where
-    -- what was chosen
-    pub solved_installed : (chosen : Vec SolvableId Global) (turns : Vec (Solver.Turn SolvableId) Global) → solved.found ≡ Chosen chosen turns → IsInstalledOver catalogue said provider wishes chosen.items turns.items solved.proof.items
-    solved_installed chosen turns found =
-        let all = is.solves in
-        record {
+-- ---- what the solver keeps of a clash
+
+-- a derived step of a proof has earlier causes
+earlier_causes : (same : SolvableId → SolvableId → Bool) (p : Provider) (root : Rules) (steps : List (ProofStep NameId SolvableId)) → IsProof same_atom same (packages_of p) root steps → AreEarlier steps
+earlier_causes same p root steps proof place step at cause = go step (proof place step at)
+  where
+    go : (step : ProofStep NameId SolvableId) → IsStep same_atom same (packages_of p) root steps place step → Names step cause → cause < place
+    go (Rule r) is names = absurd names
+    go (Derived literals causes) is names = is.earlier cause names
+
+module _ (catalogue : List Line) (said : ReadRequest) (same : SolvableId → SolvableId → Bool) (solver : Kept Provider NameId SolvableId) (asks_rightly : AreRequestLines catalogue said.lines) (is : IsRefutedOver same catalogue said solver) where
+  -- the steps that lead to the end of a proof that there is no solution are one
+  kept_refutes : (kept : List (ProofStep NameId SolvableId)) → IsTrimmed solver.proof kept → StaysProof solver.proof kept → (EndsEmpty solver.proof → EndsEmpty kept) → (HaveOnePlace solver.proof → HaveOnePlace kept) → (HaveOneSigns solver.proof → HaveOneSigns kept) → Refutes catalogue said solver.provider kept
+  kept_refutes kept trimmed stays ends places signs =
+      let proved = is.steps.proof same_atom exact_atom in
+      record {
+        proves = record {
           over = is.over;
           ids = is.ids;
           asked = is.asked;
-          same = is.same;
-          exact = is.exact;
-          are_wishes = is.are_wishes;
-          told = is.told;
-          wished = subst (λ (f : SearchResult SolvableId). Holds is.same (packages_of provider) (root_of is.ids) (free_of wishes) f) found all.found;
-          preferred = subst (λ (f : SearchResult SolvableId). IsPreferred is.same (packages_of provider) (orders_of is.same provider) (root_of is.ids) f) found all.preferred;
-          proved = all.proof;
-          drawn = all.drawn;
-          signs = all.signs;
-          one_place = all.one_place;
-          proofs = subst (λ (f : SearchResult SolvableId). HaveProofs solved.proof.items f) found all.proofs;
-        }
-
-    -- that there is no solution
-    pub solved_refuted : (clash : FinalConflict) → solved.found ≡ Clash clash → IsRefutedOver catalogue said provider solved.proof.items
-    solved_refuted clash found =
-        let all = is.solves in
-        record {
-          over = is.over;
-          ids = is.ids;
-          asked = is.asked;
-          same = is.same;
-          exact = is.exact;
-          proved = all.proof;
-          drawn = all.drawn;
-          signs = all.signs;
-          one_place = all.one_place;
-          ends = subst (λ (f : SearchResult SolvableId). EndsSo f solved.proof.items) found is.ends;
-        }
-
-  module _ (proof : List (ProofStep NameId SolvableId)) (is : IsRefutedOver catalogue said provider proof) where
-    -- the steps that lead to the end of a proof that there is no solution are one
-    kept_refutes : (kept : List (ProofStep NameId SolvableId)) → IsTrimmed proof kept → StaysProof proof kept → (EndsEmpty proof → EndsEmpty kept) → (HaveOnePlace proof → HaveOnePlace kept) → (HaveOneSigns proof → HaveOneSigns kept) → Refutes catalogue said provider kept
-    kept_refutes kept trimmed stays ends places signs =
-        let proved = is.proved same_atom exact_atom in
-        record {
-          proves = record {
-            over = is.over;
-            ids = is.ids;
-            asked = is.asked;
-            same_atom = same_atom;
-            exact_atom = exact_atom;
-            same = is.same;
-            exact = is.exact;
-            proof = stays same_atom is.same (packages_of provider) (root_of is.ids) proved;
-            known = known_kept catalogue said provider is.over asks_rightly is.ids is.asked is.same is.exact same_atom proof proved is.drawn (IsLast proof) kept trimmed;
-            one_sign = signs is.signs;
-            one_place = places is.one_place;
-          };
-          empty = ends is.ends;
-        }
-
-    -- its report, with the message of the conflict
-    pub clash_reported : (kept : List (ProofStep NameId SolvableId)) → IsTrimmed proof kept → trimming.AreNamed kept → StaysProof proof kept → (EndsEmpty proof → EndsEmpty kept)
-        → (HaveOnePlace proof → HaveOnePlace kept) → (HaveOneSigns proof → HaveOneSigns kept) → (r : Report) → (Refutes catalogue said provider kept → IsRefusalOf catalogue said.lines provider.ids kept r)
-        → (same_name : NameId → NameId → Bool) → IsExact same_name → (same : SolvableId → SolvableId → Bool) → IsExact same → (offers : Offers SolvableId) → AreOffers same (packages_of provider) (orders_of same provider) kept offers
-        → (message : List (List ℕ)) → IsTextOf same_name same provider (offered_by offers) kept message → IsReportOf catalogue said.lines (with_message message r)
-    clash_reported kept trimmed named stays ends places signs r reports same_name one_name same exact offers offered message text =
-        let refutes = kept_refutes kept trimmed stays ends places signs in
-        refusal_reported catalogue said.lines provider.ids kept r message (reports refutes) named text.plain (λ written told. record {
-          said = said;
-          asks = refl;
-          provider = provider;
-          proof = kept;
-          proves = refutes.proves;
-          told = told;
-          same_name = same_name;
-          one_name = one_name;
+          same_atom = same_atom;
+          exact_atom = exact_atom;
           same = same;
-          exact = exact;
-          offers = offers;
-          offered = offered;
-          text = text;
-        })
+          exact = is.exact;
+          proof = stays same_atom same (packages_of solver.provider) (root_of is.ids) proved;
+          known = known_kept catalogue said solver.provider is.over asks_rightly is.ids is.asked same is.exact same_atom solver.proof proved is.steps.drawn (IsLast solver.proof) kept trimmed;
+          one_sign = signs is.steps.signs;
+          one_place = places is.steps.one_place;
+        };
+        empty = ends is.ends;
+      }
 
--- a search over a provider of the catalogue, which interned the request
-pub solved_over : (catalogue : List Line) (said : ReadRequest) (wishes : List Wish) (kept provider : Provider) (ids : RequestIds) (requirements : List ConditionalRequirement) (constraints : List VersionSetId) (free : List SolvableId) (same : SolvableId → SolvableId → Bool) (solved : Solved NameId SolvableId)
-    → AreRequestLines catalogue said.lines → AreAll (map (λ f. f.0) said.wishes) (λ n. LineIs said.lines n IsWish) → AreWishesAt catalogue said → AreWishesOf catalogue said.wishes wishes → free ≡ free_of wishes → provider ≡ kept → IsOver catalogue kept → AreAsked kept.ids said ids → requirements ≡ ids.requirements.items → constraints ≡ ids.constraints.items → IsExact same
-    → ((root : Rules) → IsRoot requirements constraints root → AreCandidates same (packages_of kept) free → IsSolved same (packages_of kept) (orders_of same kept) root free solved) → EndsSo solved.found solved.proof.items → IsSolvedOver catalogue said provider wishes solved
-solved_over catalogue said wishes kept provider ids requirements constraints free same solved asks_rightly lines versions told free_is stays over asked needs limits exact solves ends =
-    let are_wishes : AreWishes catalogue said.lines said.wishes = record { lines = lines; versions = versions } in
-    let candidates = subst (λ (xs : List SolvableId). AreCandidates same (packages_of kept) xs) (sym free_is) (free_candidates catalogue said kept over ids asked asks_rightly same exact are_wishes wishes told) in
-    subst (λ (q : Provider). IsSolvedOver catalogue said q wishes solved) (sym stays) (record {
-      over = over;
-      ids = ids;
-      asked = asked;
-      same = same;
-      exact = exact;
-      solves = subst (λ (xs : List SolvableId). IsSolved same (packages_of kept) (orders_of same kept) (root_of ids) xs solved) free_is (solves (root_of ids) (sym needs, sym limits) candidates);
-      ends = ends;
-      are_wishes = are_wishes;
-      told = told;
-    })
+  -- they name the rules of the solver's conflict
+  rules_kept : (kept : List (ProofStep NameId SolvableId)) → IsTrimmed solver.proof kept → conflict_rules solver.proof ≡ conflict_rules kept
+  rules_kept kept trimmed = sym (same_rules solver.proof kept trimmed (earlier_causes same solver.provider (root_of is.ids) solver.proof (is.steps.proof same_atom exact_atom)) is.ends)
+
+  text_kept : (kept : List (ProofStep NameId SolvableId)) → IsTrimmed solver.proof kept → (same_name : NameId → NameId → Bool) (offered : Requirement → List SolvableId) (message : List (List ℕ)) → IsTextOf same_name same solver.provider offered solver.proof message → IsTextOf same_name same solver.provider offered kept message
+  text_kept kept trimmed same_name offered message text = record {
+    lines = text.lines;
+    tells = subst (λ (rules : List (ProofRule NameId SolvableId)). IsMessage same_name same (name_of solver.provider.ids) (conflict_drawing same_name same (name_of solver.provider.ids) offered rules) text.lines) (rules_kept kept trimmed) text.tells;
+    text = text.text;
+    plain = text.plain;
+  }
+
+  offers_kept : (kept : List (ProofStep NameId SolvableId)) → IsTrimmed solver.proof kept → (offers : Offers SolvableId) → AreOffers same (packages_of solver.provider) (orders_of same solver.provider) solver.proof offers → AreOffers same (packages_of solver.provider) (orders_of same solver.provider) kept offers
+  offers_kept kept trimmed offers are =
+      subst (λ (rules : List (ProofRule NameId SolvableId)). (r : Requirement) → Contains (requirements_in rules) r → IsRightOffer same (packages_of solver.provider) (orders_of same solver.provider) r (offered_by offers r)) (rules_kept kept trimmed) are
+
+  -- its report, with the message of the conflict
+  pub clash_reported : (kept : List (ProofStep NameId SolvableId)) → IsTrimmed solver.proof kept → trimming.AreNamed kept → StaysProof solver.proof kept → (EndsEmpty solver.proof → EndsEmpty kept)
+      → (HaveOnePlace solver.proof → HaveOnePlace kept) → (HaveOneSigns solver.proof → HaveOneSigns kept) → (r : Report) → (Refutes catalogue said solver.provider kept → IsRefusalOf catalogue said.lines solver.provider.ids kept r)
+      → (same_name : NameId → NameId → Bool) → IsExact same_name → (l : Left SolvableId) → solver.conflict ≡ Some l
+      → (message : List (List ℕ)) → IsTextOf same_name same solver.provider (offered_by l.offers) solver.proof message → IsReportOf catalogue said.lines (with_message message r)
+  clash_reported kept trimmed named stays ends places signs r reports same_name one_name l at message text =
+      let refutes = kept_refutes kept trimmed stays ends places signs in
+      refusal_reported catalogue said.lines solver.provider.ids kept r message (reports refutes) named text.plain (λ written told. record {
+        said = said;
+        asks = refl;
+        provider = solver.provider;
+        proof = kept;
+        proves = refutes.proves;
+        told = told;
+        same_name = same_name;
+        one_name = one_name;
+        same = same;
+        exact = is.exact;
+        offers = l.offers;
+        offered = offers_kept kept trimmed l.offers (is.offers l at);
+        text = text_kept kept trimmed same_name (offered_by l.offers) message text;
+      })
+
+  -- the same by a proof that was taken from the solver
+  pub taken_reported : (proof : List (ProofStep NameId SolvableId)) → proof ≡ solver.proof → (kept : List (ProofStep NameId SolvableId)) → IsTrimmed proof kept → trimming.AreNamed kept → StaysProof proof kept → (EndsEmpty proof → EndsEmpty kept)
+      → (HaveOnePlace proof → HaveOnePlace kept) → (HaveOneSigns proof → HaveOneSigns kept) → (r : Report) → (Refutes catalogue said solver.provider kept → IsRefusalOf catalogue said.lines solver.provider.ids kept r)
+      → (same_name : NameId → NameId → Bool) → IsExact same_name → (l : Left SolvableId) → solver.conflict ≡ Some l
+      → (message : List (List ℕ)) → IsTextOf same_name same solver.provider (offered_by l.offers) solver.proof message → IsReportOf catalogue said.lines (with_message message r)
+  taken_reported proof taken kept trimmed named stays ends places signs r reports same_name one_name l at message text =
+      subst (λ (xs : List (ProofStep NameId SolvableId)). IsTrimmed xs kept → StaysProof xs kept → (EndsEmpty xs → EndsEmpty kept) → (HaveOnePlace xs → HaveOnePlace kept) → (HaveOneSigns xs → HaveOneSigns kept) → IsReportOf catalogue said.lines (with_message message r)) (sym taken)
+      (λ t s e p o. clash_reported kept t named s e p o r reports same_name one_name l at message text) trimmed stays ends places signs
+
+-- ---- what the solver answers
+
+-- what it says of these wishes, over a provider
+abbrev pub Says : (SolvableId → SolvableId → Bool) → RequestIds → List SolvableId → Verdict → Kept Provider NameId SolvableId → Provider → Type 0
+Says same ids free verdict solver p = AreCandidates same (packages_of p) free → IsAnswer same (packages_of p) (root_of ids) (orders_of same p) free verdict solver
+
+module _ (catalogue : List Line) (said : ReadRequest) (wishes : List Wish) (ids : RequestIds) (same : SolvableId → SolvableId → Bool) (exact : IsExact same) (old : Provider) (solver : Kept Provider NameId SolvableId)
+    (asks_rightly : AreRequestLines catalogue said.lines) (lines : AreAll (map (λ f. f.0) said.wishes) (λ n. LineIs said.lines n IsWish)) (versions : AreWishesAt catalogue said) (told : AreWishesOf catalogue said.wishes wishes)
+    (stays : solver.provider ≡ old) (over : IsOver catalogue old) (asked : AreAsked old.ids said ids) where
+  are_wishes : AreWishes catalogue said.lines said.wishes
+  are_wishes = record { lines = lines; versions = versions }
+
+  -- the same of the wishes that no step bars, over the provider that is kept
+  said_so : (free : List SolvableId) → free ≡ free_of wishes → (verdict : Verdict) → Says same ids free verdict solver old → IsAnswer same (packages_of solver.provider) (root_of ids) (orders_of same solver.provider) (free_of wishes) verdict solver
+  said_so free free_is verdict says =
+      subst (λ (xs : List SolvableId). Says same ids xs verdict solver solver.provider) free_is (subst (Says same ids free verdict solver) (sym stays) says)
+      (subst (λ (q : Provider). AreCandidates same (packages_of q) (free_of wishes)) (sym stays) (free_candidates catalogue said old over ids asked asks_rightly same exact are_wishes wishes told))
+
+  -- what was chosen
+  pub answer_installed : (free : List SolvableId) → free ≡ free_of wishes → (chosen : Vec SolvableId Global) → Says same ids free (Ok chosen) solver old → IsInstalledOver catalogue said solver.provider wishes chosen.items solver.turns solver.proof
+  answer_installed free free_is chosen says =
+      let (wished, preferred, proofs, steps, counted) = said_so free free_is (Ok chosen) says in
+      record {
+        over = subst (IsOver catalogue) (sym stays) over;
+        ids = ids;
+        asked = subst (λ (q : Provider). AreAsked q.ids said ids) (sym stays) asked;
+        same = same;
+        exact = exact;
+        are_wishes = are_wishes;
+        told = told;
+        wished = wished;
+        preferred = preferred;
+        steps = steps;
+        proofs = proofs;
+      }
+
+  -- that there is no solution
+  pub answer_refuted : (free : List SolvableId) → free ≡ free_of wishes → (conflict : Conflict) → Says same ids free (Err (Unsolvable conflict)) solver old → EndsEmpty solver.proof → IsRefutedOver same catalogue said solver
+  answer_refuted free free_is conflict says ends =
+      let (none, steps, counted, (kept, there, offered)) = said_so free free_is (Err (Unsolvable conflict)) says in
+      record {
+        over = subst (IsOver catalogue) (sym stays) over;
+        ids = ids;
+        asked = subst (λ (q : Provider). AreAsked q.ids said ids) (sym stays) asked;
+        exact = exact;
+        steps = steps;
+        ends = ends;
+        offers = λ l at. subst (λ (k : Left SolvableId). AreOffers same (packages_of solver.provider) (orders_of same solver.provider) solver.proof k.offers) (same_Some kept l (sym there ∙ at)) offered;
+      }

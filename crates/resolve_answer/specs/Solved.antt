@@ -1,5 +1,5 @@
 -- What a search over the provider of a catalogue came to, for what a request asks.
-use Rattle.std.specs.Prelude.{Bool, List, take, Contains}
+use Rattle.std.specs.Prelude.{◌≡◌, ℕ, Bool, List, take, Some, Contains}
 use Rattle.resolvo_text.specs.Line.{Line}
 use Rattle.resolvo_catalogue_core.specs.Questions.{ReadRequest}
 use Rattle.resolvo_soundness.specs.Encoding.{IsExact}
@@ -10,45 +10,29 @@ use Rattle.resolvo_catalogue.specs.KeptSets.{root_of}
 use Rattle.resolvo_catalogue.specs.declared.provider.RequestIds.{RequestIds}
 use Rattle.resolvo_soundness.specs.First.{ArePreferred}
 use Rattle.resolve_install.specs.Install.{AreWishes}
-use Rattle.resolvo_proof.specs.Drawn.{AreDrawn, HaveOneSigns}
-use Rattle.resolvo_proof.specs.Places.{HaveOnePlace}
 use Rattle.resolvo_proof.specs.Proof.{EndsEmpty}
 use Rattle.resolvo_proof.specs.declared.step.ProofStep.{ProofStep}
-use Rattle.resolvo.specs.declared.prove.Solved.{Solved}
+use Rattle.resolvo_conflict.specs.Offered.{offered_by}
+use Rattle.resolvo.specs.Conflicts.{Left, AreOffers}
 use Rattle.resolvo.specs.declared.turns.Turn.{Turn}
-use Rattle.resolvo.specs.Solve.{AreProved, HasProof, IsSolved, EndsSo}
+use Rattle.resolvo.specs.Solve.{AreRightSteps, HasProof}
+use Rattle.resolvo.specs.Solver.{Kept}
 use Rattle.resolvo.specs.Turns.{AreWished, first_of}
 use Rattle.resolve_answer.specs.First.{orders_of}
+use Rattle.resolve_answer.specs.Message.{IsTextOf}
 use Rattle.resolve_answer.specs.Wishes.{AreWishesOf, free_of}
 use Rattle.resolve_answer.specs.declared.wishes.Wish.{Wish}
 
--- What was found and its proof are a solver's, for the wishes that no step bars.
-pub record IsSolvedOver (catalogue : List Line) (said : ReadRequest) (provider : Provider) (wishes : List Wish) (solved : Solved NameId SolvableId) : Type 0 where
-  pub over : IsOver catalogue provider
+-- A solver over the provider keeps a proof that there is no solution, for what a request asks; and of the conflict, if it keeps one,
+-- what was offered is right. The test tells solvables apart.
+pub record IsRefutedOver (same : SolvableId → SolvableId → Bool) (catalogue : List Line) (said : ReadRequest) (solver : Kept Provider NameId SolvableId) : Type 0 where
+  pub over : IsOver catalogue solver.provider
   pub ids : RequestIds
-  pub asked : AreAsked provider.ids said ids
-  -- an exact test of whether two solvables are the same
-  pub same : SolvableId → SolvableId → Bool
+  pub asked : AreAsked solver.provider.ids said ids
   pub exact : IsExact same
-  pub solves : IsSolved same (packages_of provider) (orders_of same provider) (root_of ids) (free_of wishes) solved
-  pub ends : EndsSo solved.found solved.proof.items
-  pub are_wishes : AreWishes catalogue said.lines said.wishes
-  -- each wish is told with the step that bars it, if one does
-  pub told : AreWishesOf catalogue said.wishes wishes
-
--- The proof is one that there is no solution, for what a request asks.
-pub record IsRefutedOver (catalogue : List Line) (said : ReadRequest) (provider : Provider) (proof : List (ProofStep NameId SolvableId)) : Type 0 where
-  pub over : IsOver catalogue provider
-  pub ids : RequestIds
-  pub asked : AreAsked provider.ids said ids
-  -- an exact test of whether two solvables are the same
-  pub same : SolvableId → SolvableId → Bool
-  pub exact : IsExact same
-  pub proved : AreProved same (packages_of provider) (root_of ids) proof
-  pub drawn : AreDrawn same (packages_of provider) proof
-  pub signs : HaveOneSigns proof
-  pub one_place : HaveOnePlace proof
-  pub ends : EndsEmpty proof
+  pub steps : AreRightSteps same (packages_of solver.provider) (root_of ids) solver.proof
+  pub ends : EndsEmpty solver.proof
+  pub offers : (l : Left SolvableId) → solver.conflict ≡ Some l → AreOffers same (packages_of solver.provider) (orders_of same solver.provider) solver.proof l.offers
 
 -- What a search over the provider chose in its turns, for the wishes that no step bars, is right and was preferred; and its proof is
 -- one, in which each refused wish has a step.
@@ -63,8 +47,9 @@ pub record IsInstalledOver (catalogue : List Line) (said : ReadRequest) (provide
   pub told : AreWishesOf catalogue said.wishes wishes
   pub wished : AreWished same (packages_of provider) (root_of ids) chosen (first_of chosen turns) (free_of wishes) turns
   pub preferred : ArePreferred same (packages_of provider) (orders_of same provider) (root_of ids) (take (first_of chosen turns) chosen)
-  pub proved : AreProved same (packages_of provider) (root_of ids) proof
-  pub drawn : AreDrawn same (packages_of provider) proof
-  pub signs : HaveOneSigns proof
-  pub one_place : HaveOnePlace proof
+  pub steps : AreRightSteps same (packages_of provider) (root_of ids) proof
   pub proofs : (t : Turn SolvableId) → Contains turns t → HasProof proof chosen t
+
+-- The lines are the text of the graph of the conflict that the solver keeps.
+abbrev pub IsTextKept : (NameId → NameId → Bool) → (SolvableId → SolvableId → Bool) → Kept Provider NameId SolvableId → List (List ℕ) → Type 0
+IsTextKept same_name same solver message = (l : Left SolvableId) → solver.conflict ≡ Some l → IsTextOf same_name same solver.provider (offered_by l.offers) solver.proof message

@@ -2,6 +2,7 @@
 use Rattle.std.specs.Prelude.{◌≡◌, ℕ, List, [], ◌∷◌, map, Option, Some, None, Contains, slice_get}
 use Rattle.std.specs.List.{flat_map}
 use Rattle.std.specs.Option.{option_map}
+use Rattle.std.specs.Iterator.Runs.{WholeRun}
 use Rattle.resolvo_text.specs.Line.{Line}
 use Rattle.resolvo_catalogue_core.specs.Listed.{listed}
 use Rattle.resolvo_catalogue_core.specs.Questions.{ReadRequest, WishesAt}
@@ -33,3 +34,7 @@ unless_barred (Some step) s = []
 -- the solvables of the wishes that no step bars
 abbrev pub free_of : List Wish → List SolvableId
 free_of items = flat_map (λ w. unless_barred w.bar (solvable_id w.version.0)) items
+
+-- A run of the iterator to its end gives these solvables.
+abbrev pub GivesAll : {I : Type 0} → (I → Option SolvableId → I → Type 0) → I → List SolvableId → Type 0
+GivesAll steps it solvables = (all : List SolvableId) → WholeRun steps it (λ p. all ≡ p.items) → all ≡ solvables

@@ -2,11 +2,13 @@
 
 ghost use Rattle.std.specs.Prelude.{◌≡◌, IfOk};
 ghost use Rattle.resolvo_catalogue_core.specs.Grammar.{AreRequestLines};
+ghost use Rattle.resolvo_catalogue.specs.KeptSets.{root_of as asked_of};
 ghost use Rattle.resolvo_catalogue.specs.Over.{IsOver, AreAsked};
 ghost use Rattle.resolvo_report.specs.View.{messages_of, report_of};
+ghost use Rattle.resolvo.specs.Solver.{HoldsConflict, root_of};
 ghost use Rattle.resolve_answer.specs.Message.{with_message};
-ghost use Rattle.resolve_answer.specs.Wishes.{AreWishesAt};
-ghost use Rattle.resolve_answer.specs.Solved.{IsInstalledOver, IsRefutedOver, IsSolvedOver};
+ghost use Rattle.resolve_answer.specs.Wishes.{AreWishesAt, GivesAll};
+ghost use Rattle.resolve_answer.specs.Solved.{IsInstalledOver, IsRefutedOver};
 ghost use Rattle.resolve_answer.specs.Reported.{IsReportOf};
 
 use crate::message::message_of;
@@ -14,22 +16,20 @@ use crate::turns::{Outcome, report_turns, wanted_steps};
 use crate::wishes::{Wish, free_wishes, wishes_of};
 use resolve_install::{install_report, numbers_of};
 use resolve_refusal::{install_steps, refused_report};
-use resolvo::conflict::offers_for;
-use resolvo::prove::{Solved, solve};
-use resolvo::search::SearchResult;
+use resolvo::conflict::Conflict;
+use resolvo::problem::Problem;
+use resolvo::solver::{Solver, UnsolvableOrCancelled};
 use resolvo::turns::Turn;
-use resolvo_catalogue::impls::Never;
 use resolvo_catalogue::provider::{CatalogueProvider, Hint, RequestIds};
 use resolvo_catalogue_core::{Catalogue, Request};
-use resolvo_packages::cached_packages::CachedPackages;
-use resolvo_pool::cache::CacheFault;
 use resolvo_pool_core::id::{NameId, SolvableId};
 use resolvo_pool_core::want::{R, Want};
 use resolvo_proof::step::ProofStep;
 use resolvo_proof::trim::{Trimmed, trim, trim_to};
 use resolvo_report::Report;
-use resolvo_turn::cdcl::Activity;
 use std::alloc::Global;
+use std::marker::PhantomData;
+use std::vec::IntoIter;
 
 /// What the solver chose over the provider of a catalogue, as a report.
 fn installed(
@@ -82,77 +82,78 @@ fn with_message(report: Report, lines: Vec<Vec<u8>>) -> Report
     }
 }
 
-/// The proof that there is no solution over the provider of a catalogue, as a report with its message.
-fn refused(
-    alloc: Global,
-    catalogue: &Catalogue,
-    request: &Request,
-    answers: &mut CachedPackages<CatalogueProvider>,
-    proof: Vec<ProofStep<NameId, SolvableId>>,
-) -> R<Report>
-    ensures { IfOk result
-        (λ r.
-        AreRequestLines catalogue.now request.now.lines
-        → IsRefutedOver catalogue.now request.now answers.old proof.items
-        → IsReportOf catalogue.now request.now.lines (report_of r)) }
-{
-    let steps = trim(alloc, proof)?;
-    let report = refused_report(
-        alloc,
-        catalogue,
-        request,
-        answers.provider(),
-        steps.as_slice(),
-    )?;
-    match offers_for(alloc, answers, steps.as_slice()) {
-        Ok(offers) => {
-            let lines = message_of(alloc, answers.provider(), &offers, steps.as_slice())?;
-            Ok(with_message(report, lines))
-        }
-        Err(fault) => Err(stopped(fault)),
-    }
-}
-
-/// What the solver found over the provider of a catalogue, as a report.
+/// What the solver chose over the provider of a catalogue, as a report. It takes the proof from the solver.
 fn told(
     alloc: Global,
     catalogue: &Catalogue,
     request: &Request,
-    answers: &mut CachedPackages<CatalogueProvider>,
+    solver: &mut Solver<CatalogueProvider>,
     wishes: Vec<Wish>,
-    solved: Solved<NameId, SolvableId>,
+    chosen: &[SolvableId],
 ) -> R<Report>
     ensures { IfOk result
         (λ r.
         AreRequestLines catalogue.now request.now.lines
-        → IsSolvedOver catalogue.now request.now answers.old wishes.items solved
+        → IsInstalledOver catalogue.now request.now solver.old.provider wishes.items chosen.now
+        solver.old.turns solver.old.proof
         → IsReportOf catalogue.now request.now.lines (report_of r)) }
 {
-    let Solved { found, proof, .. } = solved;
-    match found {
-        SearchResult::Chosen { solvables, turns } => installed(
-            alloc,
-            catalogue,
-            request,
-            answers.provider(),
-            wishes,
-            solvables.as_slice(),
-            turns.as_slice(),
-            proof,
-        ),
-        SearchResult::Clash(_) => refused(alloc, catalogue, request, answers, proof),
-    }
+    let proof = solver.take_proof();
+    installed(
+        alloc,
+        catalogue,
+        request,
+        solver.provider(),
+        wishes,
+        chosen,
+        solver.turns(),
+        proof,
+    )
 }
 
-/// Why a search over a catalogue's provider stopped: it never cancels.
-fn stopped(fault: CacheFault<Never>) -> Want
-    ensures memory { fault ≡ CacheFault.Memory → result ≡ Want.Memory }
-    ensures ids { fault ≡ CacheFault.Ids → result ≡ Want.Ids }
+/// The conflict that the solver keeps, as a report with its message. It takes the proof from the solver.
+fn refused(
+    alloc: Global,
+    catalogue: &Catalogue,
+    request: &Request,
+    solver: &mut Solver<CatalogueProvider>,
+    conflict: &Conflict,
+) -> R<Report>
+    requires { HoldsConflict solver.old conflict.now.clauses.items }
+    ensures { IfOk result
+        (λ r.
+        AreRequestLines catalogue.now request.now.lines
+        → IsRefutedOver ⟦<SolvableId as PartialEq>⟧.eq catalogue.now request.now solver.old
+        → IsReportOf catalogue.now request.now.lines (report_of r)) }
 {
-    match fault {
-        CacheFault::Memory => Want::Memory,
-        CacheFault::Ids => Want::Ids,
-        CacheFault::Cancelled(value) => match value {},
+    let lines = message_of(alloc, solver, conflict)?;
+    let steps = trim(alloc, solver.take_proof())?;
+    let report = refused_report(
+        alloc,
+        catalogue,
+        request,
+        solver.provider(),
+        steps.as_slice(),
+    )?;
+    Ok(with_message(report, lines))
+}
+
+/// What a request asks, with these wishes, as a problem.
+fn problem_of(asked: RequestIds, free: Vec<SolvableId>) -> Problem<SolvableId, IntoIter<SolvableId>>
+    ensures root { root_of result ≡ asked_of asked }
+    ensures wishes { GivesAll ⟦<IntoIter<SolvableId> as Iterator>⟧.next_gives result.soft_requirements
+        free.items }
+{
+    let RequestIds {
+        requirements,
+        constraints,
+        wishes: _,
+    } = asked;
+    Problem {
+        requirements,
+        constraints,
+        soft_requirements: free.into_iter(),
+        of: PhantomData,
     }
 }
 
@@ -162,30 +163,27 @@ fn answered(
     alloc: Global,
     catalogue: &Catalogue,
     request: &Request,
-    answers: &mut CachedPackages<CatalogueProvider>,
-    asked: &RequestIds,
+    solver: &mut Solver<CatalogueProvider>,
+    asked: RequestIds,
 ) -> R<Report>
     ensures { IfOk result
         (λ r.
         AreRequestLines catalogue.now request.now.lines
         → AreWishesAt catalogue.now request.now
-        → IsOver catalogue.now answers.old
-        → AreAsked answers.old.ids request.now asked.now
+        → IsOver catalogue.now solver.old.provider
+        → AreAsked solver.old.provider.ids request.now asked
         → IsReportOf catalogue.now request.now.lines (report_of r)) }
 {
     let wishes = wishes_of(alloc, catalogue, request)?;
     let free = free_wishes(alloc, wishes.as_slice())?;
-    let solved = solve::<CachedPackages<CatalogueProvider>, Vec<u64>>(
-        alloc,
-        answers,
-        Activity::standard(),
-        asked.requirements.as_slice(),
-        asked.constraints.as_slice(),
-        free.as_slice(),
-    );
-    match solved {
-        Ok(solved) => told(alloc, catalogue, request, answers, wishes, solved),
-        Err(fault) => Err(stopped(fault)),
+    match solver.solve(problem_of(asked, free)) {
+        Ok(chosen) => told(alloc, catalogue, request, solver, wishes, chosen.as_slice()),
+        Err(UnsolvableOrCancelled::Unsolvable(conflict)) => refused(
+            alloc, catalogue, request, solver, &conflict,
+        ),
+        Err(UnsolvableOrCancelled::Memory) => Err(Want::Memory),
+        Err(UnsolvableOrCancelled::Ids) => Err(Want::Ids),
+        Err(UnsolvableOrCancelled::Cancelled(value)) => match value {},
     }
 }
 
@@ -195,18 +193,18 @@ fn answered_by(
     catalogue: &Catalogue,
     request: &Request,
     provider: CatalogueProvider,
-    asked: &RequestIds,
+    asked: RequestIds,
 ) -> R<Report>
     ensures { IfOk result
         (λ r.
         AreRequestLines catalogue.now request.now.lines
         → AreWishesAt catalogue.now request.now
         → IsOver catalogue.now provider
-        → AreAsked provider.ids request.now asked.now
+        → AreAsked provider.ids request.now asked
         → IsReportOf catalogue.now request.now.lines (report_of r)) }
 {
-    let mut answers = CachedPackages::new(alloc, provider);
-    answered(alloc, catalogue, request, &mut answers, asked)
+    let mut solver = Solver::new(alloc, provider);
+    answered(alloc, catalogue, request, &mut solver, asked)
 }
 
 /// The report of a catalogue and a request over it: the solver's answer. `Memory` where it finds no room; `Ids` where there is more
@@ -220,5 +218,5 @@ pub fn report_for(alloc: Global, catalogue: &Catalogue, request: &Request) -> R<
 {
     let mut provider = CatalogueProvider::new(alloc, catalogue, Hint::All)?;
     let asked = provider.intern_request(request)?;
-    answered_by(alloc, catalogue, request, provider, &asked)
+    answered_by(alloc, catalogue, request, provider, asked)
 }

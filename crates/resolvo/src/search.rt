@@ -12,6 +12,7 @@ ghost use Rattle.resolvo.specs.Solve.{AskNothing, IsFound, IsFoundIn, IsListedIn
 
 use crate::soft_requirements::run_soft_requirements;
 use crate::turns::{Turn, Turns};
+use resolvo_decide::scores::Scores;
 use resolvo_encoder::encoder::Encoder;
 use resolvo_packages::package_source::PackageSource;
 use resolvo_pool::cache::CacheFault;
@@ -63,7 +64,7 @@ fn run_others<A: PackageSource, C: ScoreMap<A::NameId>>(
     alloc: Global,
     answers: &mut A,
     encoding: &mut Encoder<A::NameId, A::SolvableId>,
-    scores: &mut C,
+    scores: &mut Scores<A::NameId, C>,
     activity: Activity,
     requirements: &[ConditionalRequirement],
     constraints: &[VersionSetId],
@@ -112,7 +113,7 @@ fn run_turns<A: PackageSource, C: ScoreMap<A::NameId>>(
     alloc: Global,
     answers: &mut A,
     encoding: &mut Encoder<A::NameId, A::SolvableId>,
-    scores: &mut C,
+    scores: &mut Scores<A::NameId, C>,
     activity: Activity,
     requirements: &[ConditionalRequirement],
     constraints: &[VersionSetId],
@@ -240,7 +241,7 @@ pub fn search<A: PackageSource, C: ScoreMap<A::NameId> + Drop>(
         alloc,
         answers,
         encoding,
-        &mut <C as ScoreMap<A::NameId>>::new(alloc),
+        &mut Scores::<A::NameId, C>::new(alloc),
         activity,
         requirements,
         constraints,

@@ -19,6 +19,7 @@ ghost use Rattle.resolvo.specs.Wished.{AreCandidates, IsCandidate, IsOutcome, Is
 ghost use Rattle.resolvo.specs.declared.soft_requirements.SoftOutcome.TheVariants.{Refused};
 
 use crate::turns::Turns;
+use resolvo_decide::scores::Scores;
 use resolvo_encoder::encoder::Encoder;
 use resolvo_packages::package_source::{Offered, PackageSource};
 use resolvo_pool::cache::CacheFault;
@@ -52,7 +53,7 @@ fn run_open<A: PackageSource, C: ScoreMap<A::NameId>>(
     alloc: Global,
     answers: &mut A,
     encoding: &mut Encoder<A::NameId, A::SolvableId>,
-    scores: &mut C,
+    scores: &mut Scores<A::NameId, C>,
     activity: Activity,
     requirements: &[ConditionalRequirement],
     constraints: &[VersionSetId],
@@ -145,7 +146,7 @@ pub fn run_soft_requirement<A: PackageSource, C: ScoreMap<A::NameId>>(
     alloc: Global,
     answers: &mut A,
     encoding: &mut Encoder<A::NameId, A::SolvableId>,
-    scores: &mut C,
+    scores: &mut Scores<A::NameId, C>,
     activity: Activity,
     requirements: &[ConditionalRequirement],
     constraints: &[VersionSetId],
@@ -208,7 +209,7 @@ fn run_next<A: PackageSource, C: ScoreMap<A::NameId>>(
     alloc: Global,
     answers: &mut A,
     encoding: &mut Encoder<A::NameId, A::SolvableId>,
-    scores: &mut C,
+    scores: &mut Scores<A::NameId, C>,
     activity: Activity,
     requirements: &[ConditionalRequirement],
     constraints: &[VersionSetId],
@@ -272,7 +273,7 @@ pub fn run_soft_requirements<A: PackageSource, C: ScoreMap<A::NameId>>(
     alloc: Global,
     answers: &mut A,
     encoding: &mut Encoder<A::NameId, A::SolvableId>,
-    scores: &mut C,
+    scores: &mut Scores<A::NameId, C>,
     activity: Activity,
     requirements: &[ConditionalRequirement],
     constraints: &[VersionSetId],

@@ -26,6 +26,7 @@ use resolvo_proof::step::ProofStep;
 use resolvo_turn::cdcl::Activity;
 use std::alloc::Global;
 use std::marker::Model;
+use std::mem;
 use thiserror::Error;
 
 /// Why nothing was chosen.
@@ -175,6 +176,16 @@ impl<D: DependencyProvider> Solver<D> {
         ensures { result.now ≡ self.now.proof }
     {
         self.proof.as_slice()
+    }
+
+    /// Takes the steps of the last search's proof out of the solver. It keeps none afterwards, and so no conflict, whose graph is drawn
+    /// of them. Ask for a conflict's message first.
+    pub fn take_proof(&mut self) -> Vec<ProofStep<D::NameId, D::SolvableId>>
+        ensures steps { result.items ≡ self.old.proof }
+        ensures left { self.new ≡ record self.old { proof = []; conflict = None } }
+    {
+        self.conflict = None;
+        mem::replace(&mut self.proof, Vec::new(self.alloc))
     }
 
     /// Whether the solver keeps this conflict: the one that the last search came to. A new solver keeps none, and so does one whose

@@ -1,7 +1,5 @@
-pub mod Equal
-pub mod InternLemmas
+pub mod FoundLemmas
 pub mod StandLemmas
-pub mod Steps
 pub mod TellLemmas
 pub mod Places
 pub mod MarkLemmas

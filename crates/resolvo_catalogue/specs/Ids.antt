@@ -15,10 +15,8 @@ use Rattle.resolvo_pool_core.specs.declared.requirement.Requirement as needs
 use Rattle.resolvo_pool_core.specs.declared.requirement.Requirement.TheVariants.{Single, Union}
 use Rattle.resolvo_pool_core.specs.declared.requirement.ConditionalRequirement.{ConditionalRequirement}
 use Rattle.resolvo_catalogue.specs.declared.id_table.Numbers.{Numbers}
-use Rattle.resolvo_pool_core.specs.Intern.{Interned, AreBelow}
-use Rattle.std.specs.Global.{Global, Vec}
-use Rattle.std.specs.String.{string_bytes}
-use Rattle.std.specs.declared.string.String.{String}
+use Rattle.resolvo_pool_core.specs.Intern.{AreBelow}
+use Rattle.std.specs.Global.{Vec}
 
 abbrev pub NameId : Type 0
 NameId = DenseId NameTag ℕ
@@ -37,17 +35,6 @@ pub record Ids : Type 0 where
   pub version_sets : List (NameId × Numbers)
   pub unions : List (List VersionSetId)
   pub conditions : List Condition
-
--- the ids of a pool and of lists of version sets
-abbrev pub ids_of : Interned ℕ Numbers (String Global) → List (Vec VersionSetId) → Ids
-ids_of pool unions = record {
-  names = map string_bytes pool.names;
-  words = pool.strings;
-  solvables = pool.solvables;
-  version_sets = pool.version_sets;
-  unions = map (λ u. u.items) unions;
-  conditions = pool.conditions;
-}
 
 -- Two lists have the same length, and each element of the first stands for that of the second at its place.
 abbrev pub AreEach : {X Y : Type 0} → (X → Y → Type 0) → List X → List Y → Type 0

@@ -1,4 +1,5 @@
 pub mod Ids
+pub mod Found
 pub mod Told
 pub mod Marked
 pub mod Known

@@ -1,32 +1,29 @@
 //! The ids of packages, versions, SPECs, lists of alternatives, conditions and words.
 //! The model is one list of each, in the order of first interning; `specs/Ids.antt` says which text an id
-//! stands for. Filled by `versions`, `told` and `marks`, read by `provider`.
+//! stands for. What has an id is found through sorted maps, so no choice of names or numbers makes that slow. Filled by `versions`, `told` and `marks`, read by `provider`.
 
-ghost use Rattle.std.specs.Prelude.{◌≡◌, ◌≤◌, ◌<◌, ◌+◌, ◌++◌, ◌∷◌, [], IfOk, OnOk, OnErr, length, slice_get, Some, None};
-ghost use Rattle.std.specs.List.{position_or_len};
-ghost use Rattle.indexmap.specs.IndexSet.{insert_key};
+ghost use Rattle.std.specs.Prelude.{◌≡◌, ◌<◌, ◌+◌, ◌++◌, ◌∷◌, [], if◌then◌else◌, ℕ, List, bytes_eq, IfOk, OnOk, OnErr, length, slice_get, Some};
 ghost use Rattle.std.specs.Option.{option_copied};
 ghost use Rattle.resolvo_text.specs.View.{spec_of, specs_of, cond_of, condition_of};
 ghost use Rattle.resolvo_text.specs.Line.{Is};
 ghost use Rattle.resolvo_pool_core.specs.declared.condition.Condition.TheVariants.{Binary};
 ghost use Rattle.resolvo_pool_core.specs.Provider.{OperandsBelow};
 ghost use Rattle.resolvo_catalogue.specs.Ids.{Interns, Grows, IsPlaced, AreSound, IsPackage, IsWord, IsSpec, AreEach, AreAlternatives, IsCondition, IsConditionOf, IsNeed};
+ghost use Rattle.resolvo_catalogue.specs.Found.{number_in, set_key, union_key, condition_key};
 
-use indexmap::IndexSet;
+use crate::text_ids::TextIds;
 use resolvo_catalogue_core::{Cond, Span, Spec};
 use resolvo_pool_core::condition::{Condition, LogicalOperator};
 use resolvo_pool_core::id::{
     ConditionId, DenseIndex, NameId, SolvableId, StringId, VersionSetId, VersionSetUnionId,
+    next_index,
 };
-use resolvo_pool_core::pool::{Pool, VersionSet};
+use resolvo_pool_core::pool::{Solvable, VersionSet};
 use resolvo_pool_core::requirement::{ConditionalRequirement, Requirement};
-use resolvo_pool_core::want::{R, Want};
-use std::alloc::Global;
-use std::hash::Hash;
+use resolvo_pool_core::want::R;
+use std::alloc::{AllocError, Global};
+use std::collections::BTreeMap;
 use std::marker::Model;
-
-/// How many ids there are of one kind.
-const MOST_IDS: usize = 4_294_967_295;
 
 /// The numbers that a SPEC asks for, as a version set of its package.
 #[derive(Clone, Copy, Debug, Drop, PartialEq, Eq, Hash)]
@@ -38,9 +35,16 @@ impl VersionSet for Numbers {
 
 /// What was interned.
 pub struct IdTable {
-    pool: Pool<Numbers>,
+    names: TextIds,
+    words: TextIds,
+    solvables: Vec<Solvable<u32>>,
+    version_sets: Vec<(NameId, Numbers)>,
+    set_ids: BTreeMap<Vec<u32>, u32>,
     /// The lists of alternatives, each once.
-    unions: IndexSet<Vec<VersionSetId>>,
+    unions: Vec<Vec<VersionSetId>>,
+    union_ids: BTreeMap<Vec<u32>, u32>,
+    conditions: Vec<Condition>,
+    condition_ids: BTreeMap<Vec<u32>, u32>,
     alloc: Global,
 }
 
@@ -48,21 +52,33 @@ pub struct IdTable {
 impl Drop for IdTable {
     fn drop(self) {
         let IdTable {
-            pool: _,
+            names: _,
+            words: _,
+            solvables: _,
+            version_sets: _,
+            set_ids: _,
             unions: _,
+            union_ids: _,
+            conditions: _,
+            condition_ids: _,
             alloc: _,
         } = self;
     }
 }
 
 impl Model for IdTable {
-    ghost use Rattle.resolvo_catalogue.specs.Ids.{Ids, ids_of, AreSound};
+    ghost use Rattle.std.specs.Prelude.{map};
+    ghost use Rattle.resolvo_catalogue.specs.Ids.{Ids};
+    ghost use Rattle.resolvo_catalogue.specs.Found.{AreKept};
 
     ghost Value = { Ids };
 
-    ghost view = { λ t. ids_of t.pool t.unions.keys };
+    ghost view = { λ t.
+        record
+        { names = t.names; words = t.words; solvables = t.solvables.items; version_sets = t.version_sets.items; unions = map (λ u. u.items) t.unions.items; conditions = t.conditions.items } };
 
-    ghost invariant = { λ t. AreSound (ids_of t.pool t.unions.keys) };
+    ghost invariant = { λ t.
+        AreKept t.version_sets.items t.set_ids.entries (map (λ u. u.items) t.unions.items) t.union_ids.entries t.conditions.items t.condition_ids.entries };
 }
 
 impl IdTable {
@@ -73,8 +89,15 @@ impl IdTable {
             { names = []; words = []; solvables = []; version_sets = []; unions = []; conditions = [] } }
     {
         IdTable {
-            pool: Pool::new(alloc),
-            unions: IndexSet::new(alloc),
+            names: TextIds::new(alloc),
+            words: TextIds::new(alloc),
+            solvables: Vec::new(alloc),
+            version_sets: Vec::new(alloc),
+            set_ids: BTreeMap::new(alloc),
+            unions: Vec::new(alloc),
+            union_ids: BTreeMap::new(alloc),
+            conditions: Vec::new(alloc),
+            condition_ids: BTreeMap::new(alloc),
             alloc,
         }
     }
@@ -85,7 +108,7 @@ impl IdTable {
         ensures place { IfOk result (λ n. IsPlaced self.old.names self.new.names n.raw) }
         ensures interns { Interns self.old self.new }
     {
-        self.pool.intern_package_name(name)
+        Ok(NameId::from_raw(self.names.intern(self.alloc, name)?))
     }
 
     /// One version more: the id of its package, and its own.
@@ -100,8 +123,12 @@ impl IdTable {
         ensures grows { Grows self.old self.new }
     {
         let package = self.package(name)?;
-        let version = self.pool.intern_solvable(package, number)?;
-        Ok((package, version))
+        let index = next_index(self.solvables.len())?;
+        self.solvables.push(Solvable {
+            version: number,
+            name: package,
+        })?;
+        Ok((package, SolvableId::from_index(index)))
     }
 
     /// The id of a word of reason.
@@ -109,7 +136,7 @@ impl IdTable {
         ensures word { IfOk result (λ w. IsWord self.new w word.now) }
         ensures interns { Interns self.old self.new }
     {
-        self.pool.intern_string(word)
+        Ok(StringId(self.words.intern(self.alloc, word)?))
     }
 
     /// The id of a SPEC.
@@ -128,7 +155,17 @@ impl IdTable {
             (λ v. slice_get self.new.version_sets v.0 ≡ Some (name, record { 0 = span })) }
         ensures interns { Interns self.old self.new }
     {
-        self.pool.intern_version_set(name, Numbers(span))
+        let key = key_of_set(self.alloc, name, span)?;
+        if let Some(id) = self.set_ids.get(key.as_slice()) {
+            return Ok(VersionSetId(*id));
+        }
+        let id = add(
+            &mut self.version_sets,
+            &mut self.set_ids,
+            (name, Numbers(span)),
+            key,
+        )?;
+        Ok(VersionSetId(id))
     }
 
     /// The ids of SPECs, in order.
@@ -149,8 +186,12 @@ impl IdTable {
         ensures union { IfOk result (λ u. slice_get self.new.unions u.0 ≡ Some members.items) }
         ensures interns { Interns self.old self.new }
     {
-        let place = place_of(&mut self.unions, members)?;
-        Ok(VersionSetUnionId::from_index(place))
+        let key = key_of_union(self.alloc, &members)?;
+        if let Some(id) = self.union_ids.get(key.as_slice()) {
+            return Ok(VersionSetUnionId(*id));
+        }
+        let id = add(&mut self.unions, &mut self.union_ids, members, key)?;
+        Ok(VersionSetUnionId(id))
     }
 
     /// The requirement that one of the alternatives is matched.
@@ -181,7 +222,17 @@ impl IdTable {
         ensures condition { IfOk result (λ c. slice_get self.new.conditions c.0 ≡ Some condition) }
         ensures interns { Interns self.old self.new }
     {
-        self.pool.intern_condition(condition)
+        let key = key_of_condition(self.alloc, condition)?;
+        if let Some(id) = self.condition_ids.get(key.as_slice()) {
+            return Ok(ConditionId(*id));
+        }
+        let id = add(
+            &mut self.conditions,
+            &mut self.condition_ids,
+            condition,
+            key,
+        )?;
+        Ok(ConditionId(id))
     }
 
     /// The id of a condition, whose operands are interned first.
@@ -252,10 +303,9 @@ impl IdTable {
     pub fn package_of(&self, solvable: SolvableId) -> NameId
         ensures { result ≡ (solvable_at self.now solvable).name }
     {
-        if self.pool.has_solvable(solvable) {
-            self.pool.resolve_solvable(solvable).name
-        } else {
-            NameId::from_raw(0)
+        match self.solvables.get(solvable.to_index()) {
+            Some(solvable) => solvable.name,
+            None => NameId::from_raw(0),
         }
     }
 
@@ -263,10 +313,9 @@ impl IdTable {
     pub fn number_of(&self, solvable: SolvableId) -> u32
         ensures { result ≡ (solvable_at self.now solvable).version }
     {
-        if self.pool.has_solvable(solvable) {
-            self.pool.resolve_solvable(solvable).version
-        } else {
-            0
+        match self.solvables.get(solvable.to_index()) {
+            Some(solvable) => solvable.version,
+            None => 0,
         }
     }
 
@@ -274,10 +323,9 @@ impl IdTable {
     pub fn name(&self, name: NameId) -> &str
         ensures { result.now ≡ name_text self.now name }
     {
-        if self.pool.has_package_name(name) {
-            self.pool.resolve_package_name(name).as_str()
-        } else {
-            ""
+        match self.names.text(name.into_raw()) {
+            Some(name) => name,
+            None => "",
         }
     }
 
@@ -285,10 +333,9 @@ impl IdTable {
     pub fn text(&self, word: StringId) -> &str
         ensures { result.now ≡ word_text self.now word }
     {
-        if self.pool.has_string(word) {
-            self.pool.resolve_string(word)
-        } else {
-            ""
+        match self.words.text(word.0) {
+            Some(word) => word,
+            None => "",
         }
     }
 
@@ -296,10 +343,9 @@ impl IdTable {
     pub fn set_package(&self, version_set: VersionSetId) -> NameId
         ensures { result ≡ (set_at self.now version_set).0 }
     {
-        if self.pool.has_version_set(version_set) {
-            self.pool.resolve_version_set_package_name(version_set)
-        } else {
-            NameId::from_raw(0)
+        match self.version_sets.get(version_set.to_index()) {
+            Some(set) => set.0,
+            None => NameId::from_raw(0),
         }
     }
 
@@ -307,10 +353,9 @@ impl IdTable {
     pub fn span(&self, version_set: VersionSetId) -> Span
         ensures { result ≡ (set_at self.now version_set).1.0 }
     {
-        if self.pool.has_version_set(version_set) {
-            self.pool.resolve_version_set(version_set).0
-        } else {
-            Span::Any
+        match self.version_sets.get(version_set.to_index()) {
+            Some(set) => set.1.0,
+            None => Span::Any,
         }
     }
 
@@ -318,7 +363,7 @@ impl IdTable {
     pub fn members(&self, union: VersionSetUnionId) -> &[VersionSetId]
         ensures { result.now ≡ members_of self.now union }
     {
-        match self.unions.get_index(union.to_index()) {
+        match self.unions.get(union.to_index()) {
             Some(members) => members.as_slice(),
             None => &[],
         }
@@ -328,10 +373,9 @@ impl IdTable {
     pub fn meaning(&self, condition: ConditionId) -> Condition
         ensures { result ≡ condition_at self.now condition }
     {
-        if self.pool.has_condition(condition) {
-            self.pool.resolve_condition(condition)
-        } else {
-            Condition::Requirement(VersionSetId(0))
+        match condition_at(&self.conditions, condition.to_index()) {
+            Some(meaning) => meaning,
+            None => Condition::Requirement(VersionSetId(0)),
         }
     }
 
@@ -339,28 +383,71 @@ impl IdTable {
     pub fn ids_are_once(&self)
         ensures { AreSound self.now }
     {
-        let _pool = &self.pool;
+        self.names.texts_are_once();
     }
 }
 
-/// The place of the key that is equal to `key`, which goes to the end where there is none.
-fn place_of<K: Eq + Hash>(keys: &mut IndexSet<K>, key: K) -> R<usize>
-where
-    K: Drop,
-    ensures place { IfOk result (λ i. i ≡ position_or_len (K.eq key) keys.old.keys) }
-    ensures put { OnOk result (keys.new.keys ≡ insert_key K.eq keys.old.keys key) }
-    ensures bounded { IfOk result (λ i. i < 4294967295) }
-    ensures err { OnErr result (keys.new.keys ≡ keys.old.keys) }
+/// Puts a value that has no number behind the others, and its number to its key.
+fn add<T: Drop>(
+    values: &mut Vec<T>,
+    ids: &mut BTreeMap<Vec<u32>, u32>,
+    value: T,
+    key: Vec<u32>,
+) -> R<u32>
+    ensures id { IfOk result (λ i. i ≡ length values.old.items) }
+    ensures value { OnOk result (values.new.items ≡ values.old.items ++ value ∷ []) }
+    ensures key { OnOk result
+        ((other : List ℕ)
+        → number_in ids.new.entries other
+        ≡ (if bytes_eq key.items other then Some (length values.old.items) else number_in ids.old.entries other)) }
+    ensures kept { OnErr result (values.new.items ≡ values.old.items) }
+    ensures keys { OnErr result (ids.new.entries ≡ ids.old.entries) }
 {
-    if let Some(place) = keys.get_index_of(&key) {
-        if place >= MOST_IDS {
-            return Err(Want::Ids);
+    let index = next_index(values.len())?;
+    values.reserve(1)?;
+    ids.insert(key, index as u32)?;
+    values.push_reserved(value);
+    Ok(index as u32)
+}
+
+fn condition_at(conditions: &[Condition], place: usize) -> Option<Condition>
+    ensures { result ≡ slice_get conditions.now place }
+{
+    conditions.get(place).copied()
+}
+
+fn key_of_set(alloc: Global, name: NameId, span: Span) -> Result<Vec<u32>, AllocError>
+    ensures { IfOk result (λ key. key.items ≡ set_key (name, record { 0 = span })) }
+{
+    let key = match span {
+        Span::Any => Vec::from_array(alloc, [name.into_raw()])?,
+        Span::One(number) => Vec::from_array(alloc, [name.into_raw(), number])?,
+        Span::Range(low, high) => Vec::from_array(alloc, [name.into_raw(), low, high])?,
+    };
+    Ok(key)
+}
+
+fn key_of_union(alloc: Global, members: &[VersionSetId]) -> Result<Vec<u32>, AllocError>
+    ensures { IfOk result (λ key. key.items ≡ union_key members.now) }
+{
+    let mut key = Vec::with_capacity(alloc, members.len())?;
+    for member in members {
+        key.push(member.0)?;
+    }
+    Ok(key)
+}
+
+fn key_of_condition(alloc: Global, condition: Condition) -> Result<Vec<u32>, AllocError>
+    ensures { IfOk result (λ key. key.items ≡ condition_key condition) }
+{
+    let key = match condition {
+        Condition::Requirement(version_set) => Vec::from_array(alloc, [version_set.0])?,
+        Condition::Binary(LogicalOperator::And, left, right) => {
+            Vec::from_array(alloc, [0, left.0, right.0])?
         }
-        return Ok(place);
-    }
-    if keys.len() >= MOST_IDS {
-        return Err(Want::Ids);
-    }
-    let (place, _) = keys.insert_full(key)?;
-    Ok(place)
+        Condition::Binary(LogicalOperator::Or, left, right) => {
+            Vec::from_array(alloc, [1, left.0, right.0])?
+        }
+    };
+    Ok(key)
 }

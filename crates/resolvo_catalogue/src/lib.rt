@@ -6,6 +6,7 @@ pub mod dependencies;
 pub mod id_table;
 pub mod impls;
 pub mod provider;
+mod text_ids;
 pub mod versions;
 
 pub use provider::{CatalogueProvider, Hint, RequestIds};

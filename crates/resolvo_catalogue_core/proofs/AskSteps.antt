@@ -1,7 +1,8 @@
 -- A request's lines with one more, by the kind of the line.
 use Rattle.std.proofs.Common.{◌≡◌, inl, inr, is_some, ℕ, zero, suc, true, false, ◌+◌, List, [], ◌∷◌, ◌++◌, map, length, take, Option, Some, None, refl, sym, ap, subst, ◌∙◌, add-one, arith, option_map}
 use Rattle.std.specs.Prelude.{Contains, slice_get, nat_eq, option_and_then}
-use Rattle.std.specs.HashMap.{get}
+use Rattle.std.specs.BTreeMap.{get}
+use Rattle.std.specs.Ordering.{nat_cmp}
 use Rattle.std.specs.Map.{update}
 use Rattle.std.proofs.lemmas.Bool.Decides.{Decides-eqb}
 use Rattle.std.proofs.lemmas.List.{map_push, take-append-le}
@@ -52,16 +53,16 @@ plain vs a b x l keeps more is ok no_wish not_wish =
 
 -- ---- a wish
 
-pub wish : (vs : List Version) → AreDistinct vs → (a b : RequestLines) (line : ℕ) (k : VersionNo) (v : code.Version) → AreAsks vs a → line ≡ length (asked_lines a) + 1 → slice_get vs k.0 ≡ Some (version_of v) → is_some (get nat_eq a.wished k.0) ≡ false
-    → b.asks.items ≡ a.asks.items ++ ask.Wish v ∷ [] → b.wishes.items ≡ a.wishes.items ++ (line, k) ∷ [] → ((j : ℕ) → get nat_eq b.wished j ≡ update nat_eq (get nat_eq a.wished) k.0 (Some line) j) → AddsAsk vs a (Wish (version_of v)) b
+pub wish : (vs : List Version) → AreDistinct vs → (a b : RequestLines) (line : ℕ) (k : VersionNo) (v : code.Version) → AreAsks vs a → line ≡ length (asked_lines a) + 1 → slice_get vs k.0 ≡ Some (version_of v) → is_some (get nat_cmp a.wished k.0) ≡ false
+    → b.asks.items ≡ a.asks.items ++ ask.Wish v ∷ [] → b.wishes.items ≡ a.wishes.items ++ (line, k) ∷ [] → ((j : ℕ) → get nat_cmp b.wished j ≡ update nat_eq (get nat_cmp a.wished) k.0 (Some line) j) → AddsAsk vs a (Wish (version_of v)) b
 wish vs distinct a b line k v keeps number at untold more pushed marked =
     let lines = asked_lines a in
     let l : Line = Wish (version_of v) in
     let grows : Grows (λ n. LineIs lines n IsWish) (λ n. LineIs (lines ++ l ∷ []) n IsWish) line (IsWish (owner_below lines) l) = rw number (line_grows lines l IsWish) in
     adds_from vs a b (ask.Wish v) l more refl (record {
       asks = rw more (asks_push a.asks.items (ask.Wish v) keeps.asks tt);
-      wished = keyed_new nat_eq Decides-eqb (get nat_eq a.wished) (get nat_eq b.wished) k.0 line (λ j. SaysOf vs lines j Wishes) (λ j. SaysOf vs (lines ++ l ∷ []) j Wishes) (λ j. (w : Version) × (slice_get vs j ≡ Some w) × (version_of v ≡ w))
-          marked (none_from (get nat_eq a.wished k.0) untold) keeps.wished (λ j. rw number (says_grows vs lines l j Wishes)) (version_of v, at, refl) (λ j h. distinct (version_of v) k.0 j at (h.1 ∙ ap (λ (x : Version). Some x) (sym h.2)));
+      wished = keyed_new nat_eq Decides-eqb (get nat_cmp a.wished) (get nat_cmp b.wished) k.0 line (λ j. SaysOf vs lines j Wishes) (λ j. SaysOf vs (lines ++ l ∷ []) j Wishes) (λ j. (w : Version) × (slice_get vs j ≡ Some w) × (version_of v ≡ w))
+          marked (none_from (get nat_cmp a.wished k.0) untold) keeps.wished (λ j. rw number (says_grows vs lines l j Wishes)) (version_of v, at, refl) (λ j h. distinct (version_of v) k.0 j at (h.1 ∙ ap (λ (x : Version). Some x) (sym h.2)));
       wish_lines = subst (λ (xs : List ℕ). AreAll xs (λ n. LineIs (lines ++ l ∷ []) n IsWish)) (sym (ap (map (λ (f : ℕ × VersionNo). f.0)) pushed ∙ map_push (λ (f : ℕ × VersionNo). f.0) a.wishes.items (line, k)))
           (all_new keeps.wish_lines grows (λ n is. rw number (line_within lines IsWish n is)) tt);
       wish_versions = λ i f at_f.
@@ -71,9 +72,9 @@ wish vs distinct a b line k v keeps number at untold more pushed marked =
           ];
     })
 
-pub wish_placed : (catalogue : List Line) (a : RequestLines) → AreAsks (listed catalogue) a → (v : Version) (k : ℕ) → slice_get (listed catalogue) k ≡ Some v → is_some (get nat_eq a.wished k) ≡ false → MayFollowInRequest catalogue (asked_lines a) (Wish v)
+pub wish_placed : (catalogue : List Line) (a : RequestLines) → AreAsks (listed catalogue) a → (v : Version) (k : ℕ) → slice_get (listed catalogue) k ≡ Some v → is_some (get nat_cmp a.wished k) ≡ false → MayFollowInRequest catalogue (asked_lines a) (Wish v)
 wish_placed catalogue a keeps v k at untold =
-    let none = none_from (get nat_eq a.wished k) untold in (
+    let none = none_from (get nat_cmp a.wished k) untold in (
       listed_from catalogue v k at,
       λ has.
           let h = line_from_contains (asked_lines a) (Wish v) (Wishes v) has (λ owner. refl) in
@@ -83,9 +84,9 @@ wish_placed catalogue a keeps v k at untold =
     none_is_some : (n : ℕ) → ◌≡◌ {A = Option ℕ} None (Some n) → ⊥
     none_is_some n e = cc
 
-pub wished_twice : (catalogue : List Line) (a : RequestLines) → AreAsks (listed catalogue) a → (v : Version) (k : ℕ) → slice_get (listed catalogue) k ≡ Some v → is_some (get nat_eq a.wished k) ≡ true → MayFollowInRequest catalogue (asked_lines a) (Wish v) → ⊥
+pub wished_twice : (catalogue : List Line) (a : RequestLines) → AreAsks (listed catalogue) a → (v : Version) (k : ℕ) → slice_get (listed catalogue) k ≡ Some v → is_some (get nat_cmp a.wished k) ≡ true → MayFollowInRequest catalogue (asked_lines a) (Wish v) → ⊥
 wished_twice catalogue a keeps v k here told may =
-    let some = some_from (get nat_eq a.wished k) told in
+    let some = some_from (get nat_cmp a.wished k) told in
     of_version some.0 ((keeps.wished k some.0).0 some.1)
   where
     from_line : (n : ℕ) (w : Version) → w ≡ v → LineIs (asked_lines a) n (Wishes w) → ⊥

@@ -1,4 +1,5 @@
 pub mod Pushed
+pub mod Sorted
 pub mod BelongingLemmas
 pub mod HeldLemmas
 pub mod NumberedLemmas

@@ -1,7 +1,7 @@
 -- Versions beside their numbers: what is found by a number, and one more version.
-use Rattle.std.proofs.Common.{◌≡◌, ◌≢◌, ◌<◌, ◌≤◌, ◌+◌, ◌==◌, if◌then◌else◌, inl, inr, ℕ, zero, suc, Bool, true, false, List, [], ◌∷◌, ◌++◌, take, length, get_or, Option, Some, None, option_map, BuildHasherDefault, FoldHasher, Result, Ok, Err, refl, sym, ap, subst, ◌∙◌, arith}
+use Rattle.std.proofs.Common.{◌≡◌, ◌≢◌, ◌<◌, ◌≤◌, ◌+◌, ◌==◌, if◌then◌else◌, inl, inr, ℕ, zero, suc, Bool, true, false, List, [], ◌∷◌, ◌++◌, take, length, get_or, Option, Some, None, option_map, Result, Ok, Err, refl, sym, ap, subst, ◌∙◌, arith}
 use Rattle.std.specs.Prelude.{slice_get, nat_lt, nat_eq, MatchResult}
-use Rattle.std.specs.HashMap.{HashMap, get}
+use Rattle.std.specs.BTreeMap.{BTreeMap, get}
 use Rattle.std.specs.Map.{update}
 use Rattle.std.specs.List.Sorted.{IsBinarySearchResult}
 use Rattle.std.specs.Ordering.{nat_cmp}
@@ -130,12 +130,12 @@ beside_next ns vs i d w paired rising within k =
     omega (arith, there, here, rising j i low within) in
     rw (take_more ns i d within, take_more vs i w within_versions) (beside_push (take i ns) (take i vs) (get_or ns i d) (get_or vs i w) short (above_absent (take i ns) (take i vs) (get_or ns i d) above) k)
 
-pub mapped_next : {S : Type 0} (ns : List ℕ) (vs : List VersionNo) (i d : ℕ) (w : VersionNo) (m o : HashMap ℕ VersionNo S) → length ns ≡ length vs → AreRising ns → i < length ns → ((k : ℕ) → get nat_eq m k ≡ beside (take i ns) (take i vs) k)
-    → ((k : ℕ) → get nat_eq o k ≡ update nat_eq (get nat_eq m) (get_or ns i d) (Some (get_or vs i w)) k) → (k : ℕ) → get nat_eq o k ≡ beside (take (i + 1) ns) (take (i + 1) vs) k
+pub mapped_next : (ns : List ℕ) (vs : List VersionNo) (i d : ℕ) (w : VersionNo) (m o : BTreeMap ℕ VersionNo) → length ns ≡ length vs → AreRising ns → i < length ns → ((k : ℕ) → get nat_cmp m k ≡ beside (take i ns) (take i vs) k)
+    → ((k : ℕ) → get nat_cmp o k ≡ update nat_eq (get nat_cmp m) (get_or ns i d) (Some (get_or vs i w)) k) → (k : ℕ) → get nat_cmp o k ≡ beside (take (i + 1) ns) (take (i + 1) vs) k
 mapped_next ns vs i d w m o paired rising within so_far updated k = updated k ∙ rw (so_far k) (sym (beside_next ns vs i d w paired rising within k))
 
 -- one more version of a new number, which the map finds
-pub mapped : (p q : Package) (n : ℕ) (v : VersionNo) (m : HashMap ℕ VersionNo (BuildHasherDefault FoldHasher)) → IsNumbered p → beside p.numbers.items p.versions.items n ≡ None → ((k : ℕ) → get nat_eq m k ≡ update nat_eq (beside p.numbers.items p.versions.items) n (Some v) k)
+pub mapped : (p q : Package) (n : ℕ) (v : VersionNo) (m : BTreeMap ℕ VersionNo) → IsNumbered p → beside p.numbers.items p.versions.items n ≡ None → ((k : ℕ) → get nat_cmp m k ≡ update nat_eq (beside p.numbers.items p.versions.items) n (Some v) k)
     → q.numbers.items ≡ p.numbers.items ++ n ∷ [] → q.versions.items ≡ p.versions.items ++ v ∷ [] → q.by_number ≡ Some m → AddsNumber (Some p) n v q
 mapped p q n v m kept new updated numbers versions is =
     let ns = p.numbers.items in

@@ -1,7 +1,8 @@
 -- Whether a line may stand below those of a table, as its maps tell.
 use Rattle.std.proofs.Common.{◌≡◌, is_some, true, false, ℕ, zero, suc, ◌-◌, ◌<◌, ◌≤◌, List, length, get_or, take, Option, Some, None, refl, sym, ap, subst, ◌∙◌, arith, option_map}
-use Rattle.std.specs.Prelude.{Contains, slice_get, nat_eq, Result, Ok, Err, IfOk, OnErr, is_ok}
-use Rattle.std.specs.HashMap.{get, get_by_text}
+use Rattle.std.specs.Prelude.{Contains, slice_get, Result, Ok, Err, IfOk, OnErr, is_ok}
+use Rattle.std.specs.BTreeMap.{get, get_by_text}
+use Rattle.std.specs.Ordering.{nat_cmp}
 use Rattle.std.proofs.lemmas.Option.{get_or_from_slice_get, slice_get_within, slice_get-get_or, slice_get_past}
 use Rattle.std.proofs.lemmas.List.{length-map}
 use Rattle.resolvo_text.specs.Line.{Version, Line, Skipped, Listed, Needs, Limits, Unknown, Lock, Favour, Exclude, Wish}
@@ -135,17 +136,17 @@ favoured_twice t keeps v name same told may =
     from_line n (Exclude w r, at, is) = is
     from_line n (Wish w, at, is) = is
 
-pub exclude_placed : (t : Table) → IsTable t → (v : Version) (word : List ℕ) (k : ℕ) → slice_get (versions_in t) k ≡ Some v → is_some (get nat_eq t.excluded k) ≡ false → MayFollow (lines_in t) (Exclude v word)
+pub exclude_placed : (t : Table) → IsTable t → (v : Version) (word : List ℕ) (k : ℕ) → slice_get (versions_in t) k ≡ Some v → is_some (get nat_cmp t.excluded k) ≡ false → MayFollow (lines_in t) (Exclude v word)
 exclude_placed t keeps v word k at untold =
-    let none = none_from (get nat_eq t.excluded k) untold in (
+    let none = none_from (get nat_cmp t.excluded k) untold in (
       found_listed t keeps v k at,
       λ other has.
           let h = line_from_contains (lines_in t) (Exclude v other) (Excludes v) has (λ owner. refl) in
           none_is_some (sym none ∙ (keeps.excluded k h.0).1 (v, at, h.1)),
     )
 
-pub excluded_twice : (t : Table) → IsTable t → (v : Version) (word : List ℕ) (k : ℕ) → slice_get (versions_in t) k ≡ Some v → is_some (get nat_eq t.excluded k) ≡ true → MayFollow (lines_in t) (Exclude v word) → ⊥
-excluded_twice t keeps v word k here told may = let some = some_from (get nat_eq t.excluded k) told in of_version some.0 ((keeps.excluded k some.0).0 some.1)
+pub excluded_twice : (t : Table) → IsTable t → (v : Version) (word : List ℕ) (k : ℕ) → slice_get (versions_in t) k ≡ Some v → is_some (get nat_cmp t.excluded k) ≡ true → MayFollow (lines_in t) (Exclude v word) → ⊥
+excluded_twice t keeps v word k here told may = let some = some_from (get nat_cmp t.excluded k) told in of_version some.0 ((keeps.excluded k some.0).0 some.1)
   where
     from_line : (n : ℕ) (w : Version) → w ≡ v → LineIs (lines_in t) n (Excludes w) → ⊥
     from_line n w is (Exclude x r, at, same) = may.1 r (subst (λ (y : Version). Contains (lines_in t) (Exclude y r)) (same ∙ is) (contains_from_line (lines_in t) n (Exclude x r) at))
@@ -163,17 +164,17 @@ excluded_twice t keeps v word k here told may = let some = some_from (get nat_eq
 
 -- ---- unknown marks
 
-pub unknown_placed : (t : Table) → IsTable t → (v : Version) (word : List ℕ) (k : ℕ) → slice_get (versions_in t) k ≡ Some v → owner_below (lines_in t) ≡ Some v → is_some (get nat_eq t.unknown k) ≡ false → MayFollow (lines_in t) (Unknown word)
+pub unknown_placed : (t : Table) → IsTable t → (v : Version) (word : List ℕ) (k : ℕ) → slice_get (versions_in t) k ≡ Some v → owner_below (lines_in t) ≡ Some v → is_some (get nat_cmp t.unknown k) ≡ false → MayFollow (lines_in t) (Unknown word)
 unknown_placed t keeps v word k at owner untold =
-    let none = none_from (get nat_eq t.unknown k) untold in (
+    let none = none_from (get nat_cmp t.unknown k) untold in (
       v,
       owner,
       λ n marks.
           none_is_some (sym none ∙ (keeps.unknown k n).1 (v, at, (Unknown marks.0, marks.1, marks.2))),
     )
 
-pub unknown_twice : (t : Table) → IsTable t → (v : Version) (word : List ℕ) (k : ℕ) → slice_get (versions_in t) k ≡ Some v → owner_below (lines_in t) ≡ Some v → is_some (get nat_eq t.unknown k) ≡ true → MayFollow (lines_in t) (Unknown word) → ⊥
-unknown_twice t keeps v word k here owner told may = let some = some_from (get nat_eq t.unknown k) told in of_version some.0 ((keeps.unknown k some.0).0 some.1)
+pub unknown_twice : (t : Table) → IsTable t → (v : Version) (word : List ℕ) (k : ℕ) → slice_get (versions_in t) k ≡ Some v → owner_below (lines_in t) ≡ Some v → is_some (get nat_cmp t.unknown k) ≡ true → MayFollow (lines_in t) (Unknown word) → ⊥
+unknown_twice t keeps v word k here owner told may = let some = some_from (get nat_cmp t.unknown k) told in of_version some.0 ((keeps.unknown k some.0).0 some.1)
   where
     from_line : (n : ℕ) (w : Version) → w ≡ may.0 → LineIs (lines_in t) n (MarksUnknownOf w) → ⊥
     from_line n w is (Unknown r, at, same) = may.2 n (r, at, same ∙ ap (λ (x : Version). Some x) is)

@@ -4,7 +4,8 @@ use Rattle.std.specs.Prelude.{Contains, slice_get, string_bytes, nat_eq}
 use Rattle.resolvo_catalogue_core.specs.declared.package.Package.{Package}
 use Rattle.resolvo_catalogue_core.specs.Table.{AddsNumber, AddsVersion, numbers_in}
 use Rattle.resolvo_catalogue_core.specs.Questions.{IsOfPackage, number_of}
-use Rattle.std.specs.HashMap.{get, get_by_text}
+use Rattle.std.specs.BTreeMap.{get, get_by_text}
+use Rattle.std.specs.Ordering.{nat_cmp}
 use Rattle.std.specs.Map.{update}
 use Rattle.std.specs.Str.{bytes_eq}
 use Rattle.std.proofs.lemmas.Bool.{and_parts, and_from, cases_Bool}
@@ -153,9 +154,9 @@ limit t u line k v spec keeps number at owner more noted as_many =
     })
 
 pub mark_unknown : (t u : Table) (line : ℕ) (k : VersionNo) (v : Version) (word : String Global) → IsTable t → line ≡ length (lines_in t) + 1 → slice_get (versions_in t) k.0 ≡ Some v → owner_below (lines_in t) ≡ Some v
-    → is_some (get nat_eq t.unknown k.0) ≡ false → saids_in u ≡ saids_in t ++ said.Rule (rule.Unknown k word) ∷ []
+    → is_some (get nat_cmp t.unknown k.0) ≡ false → saids_in u ≡ saids_in t ++ said.Rule (rule.Unknown k word) ∷ []
     → ((j : ℕ) → kept_of u.belonging j ≡ (if k.0 == j then kept_of t.belonging j ++ line ∷ [] else kept_of t.belonging j)) → length u.belonging ≡ length t.belonging
-    → ((j : ℕ) → get nat_eq u.unknown j ≡ update nat_eq (get nat_eq t.unknown) k.0 (Some line) j)
+    → ((j : ℕ) → get nat_cmp u.unknown j ≡ update nat_eq (get nat_cmp t.unknown) k.0 (Some line) j)
     → Adds t (Unknown (string_bytes word)) (record t { said = u.said; belonging = u.belonging; unknown = u.unknown })
 mark_unknown t u line k v word keeps number at owner untold more noted as_many marked =
     let vs = versions_in t in
@@ -168,8 +169,8 @@ mark_unknown t u line k v word keeps number at owner untold more noted as_many m
       locks = λ name. only_other (keeps.locks name) (line_grows lines l (Locks name)) (λ x. x);
       favoured = λ name. only_other (keeps.favoured name) (line_grows lines l (Favours name)) (λ x. x);
       excluded = λ j. only_other (keeps.excluded j) (says_grows vs lines l j Excludes) (λ x. x.2);
-      unknown = keyed_new nat_eq Decides-eqb (get nat_eq t.unknown) (get nat_eq u.unknown) k.0 line (λ j. SaysOf vs lines j MarksUnknownOf) (λ j. SaysOf vs (lines ++ l ∷ []) j MarksUnknownOf) (λ j. (w : Version) × (slice_get vs j ≡ Some w) × (owner_below lines ≡ Some w))
-          marked (none_from (get nat_eq t.unknown k.0) untold) keeps.unknown (λ j. rw number (says_grows vs lines l j MarksUnknownOf)) (v, at, owner) (owner_only t keeps v k.0 at owner);
+      unknown = keyed_new nat_eq Decides-eqb (get nat_cmp t.unknown) (get nat_cmp u.unknown) k.0 line (λ j. SaysOf vs lines j MarksUnknownOf) (λ j. SaysOf vs (lines ++ l ∷ []) j MarksUnknownOf) (λ j. (w : Version) × (slice_get vs j ≡ Some w) × (owner_below lines ≡ Some w))
+          marked (none_from (get nat_cmp t.unknown k.0) untold) keeps.unknown (λ j. rw number (says_grows vs lines l j MarksUnknownOf)) (v, at, owner) (owner_only t keeps v k.0 at owner);
       belonging = keyed_more nat_eq Decides-eqb (kept_of t.belonging) (kept_of u.belonging) k.0 line (λ j. SaysOf vs lines j BelongsTo) (λ j. SaysOf vs (lines ++ l ∷ []) j BelongsTo) (λ j. (w : Version) × (slice_get vs j ≡ Some w) × (owner_below lines ≡ Some w))
           noted keeps.belonging (λ j. rw number (says_grows vs lines l j BelongsTo)) (λ j n says. rw number (says_within vs lines j BelongsTo n says)) (v, at, owner) (owner_only t keeps v k.0 at owner);
       as_many = as_many ∙ keeps.as_many;
@@ -179,8 +180,8 @@ mark_unknown t u line k v word keeps number at owner untold more noted as_many m
 
 -- ---- exclusions and favours
 
-pub exclude : (t u : Table) (line : ℕ) (k : VersionNo) (v : Version) (word : String Global) → IsTable t → line ≡ length (lines_in t) + 1 → slice_get (versions_in t) k.0 ≡ Some v → is_some (get nat_eq t.excluded k.0) ≡ false
-    → saids_in u ≡ saids_in t ++ said.Rule (rule.Exclude k word) ∷ [] → ((j : ℕ) → get nat_eq u.excluded j ≡ update nat_eq (get nat_eq t.excluded) k.0 (Some line) j) → Adds t (Exclude v (string_bytes word)) (record t { said = u.said; excluded = u.excluded })
+pub exclude : (t u : Table) (line : ℕ) (k : VersionNo) (v : Version) (word : String Global) → IsTable t → line ≡ length (lines_in t) + 1 → slice_get (versions_in t) k.0 ≡ Some v → is_some (get nat_cmp t.excluded k.0) ≡ false
+    → saids_in u ≡ saids_in t ++ said.Rule (rule.Exclude k word) ∷ [] → ((j : ℕ) → get nat_cmp u.excluded j ≡ update nat_eq (get nat_cmp t.excluded) k.0 (Some line) j) → Adds t (Exclude v (string_bytes word)) (record t { said = u.said; excluded = u.excluded })
 exclude t u line k v word keeps number at untold more marked =
     let vs = versions_in t in
     let lines = lines_in t in
@@ -191,8 +192,8 @@ exclude t u line k v word keeps number at untold more marked =
       packages = keeps.packages;
       locks = λ name. only_other (keeps.locks name) (line_grows lines l (Locks name)) (λ x. x);
       favoured = λ name. only_other (keeps.favoured name) (line_grows lines l (Favours name)) (λ x. x);
-      excluded = keyed_new nat_eq Decides-eqb (get nat_eq t.excluded) (get nat_eq u.excluded) k.0 line (λ j. SaysOf vs lines j Excludes) (λ j. SaysOf vs (lines ++ l ∷ []) j Excludes) (λ j. (w : Version) × (slice_get vs j ≡ Some w) × (v ≡ w))
-          marked (none_from (get nat_eq t.excluded k.0) untold) keeps.excluded (λ j. rw number (says_grows vs lines l j Excludes)) (v, at, refl) (λ j h. one_number t vs lines keeps v k.0 j at (h.1 ∙ ap (λ (x : Version). Some x) (sym h.2)));
+      excluded = keyed_new nat_eq Decides-eqb (get nat_cmp t.excluded) (get nat_cmp u.excluded) k.0 line (λ j. SaysOf vs lines j Excludes) (λ j. SaysOf vs (lines ++ l ∷ []) j Excludes) (λ j. (w : Version) × (slice_get vs j ≡ Some w) × (v ≡ w))
+          marked (none_from (get nat_cmp t.excluded k.0) untold) keeps.excluded (λ j. rw number (says_grows vs lines l j Excludes)) (v, at, refl) (λ j h. one_number t vs lines keeps v k.0 j at (h.1 ∙ ap (λ (x : Version). Some x) (sym h.2)));
       unknown = λ j. only_other (keeps.unknown j) (says_grows vs lines l j MarksUnknownOf) (λ x. x.2);
       belonging = λ j. all_other (keeps.belonging j) (says_grows vs lines l j BelongsTo) (λ x. x.2);
       as_many = keeps.as_many;

@@ -1,6 +1,7 @@
 -- Versions beside their numbers.
-use Rattle.std.specs.Prelude.{◌≡◌, ℕ, ◌<◌, ◌==◌, if◌then◌else◌, nat_eq, List, [], ◌∷◌, length, Option, Some, None, slice_index_or}
-use Rattle.std.specs.HashMap.{HashMap, get}
+use Rattle.std.specs.Prelude.{◌≡◌, ℕ, ◌<◌, ◌==◌, if◌then◌else◌, List, [], ◌∷◌, length, Option, Some, None, slice_index_or}
+use Rattle.std.specs.BTreeMap.{BTreeMap, get}
+use Rattle.std.specs.Ordering.{nat_cmp}
 use Rattle.resolvo_catalogue_core.specs.declared.rule.VersionNo.{VersionNo}
 use Rattle.resolvo_catalogue_core.specs.declared.package.Package.{Package}
 
@@ -19,9 +20,9 @@ abbrev pub IsAbove : ℕ → List ℕ → Type 0
 IsAbove n ns = (j : ℕ) → j < length ns → slice_index_or ns j 0 < n
 
 -- the numbers rise, or a map finds the versions by them
-abbrev pub IsSought : {S : Type 0} → Option (HashMap ℕ VersionNo S) → List ℕ → List VersionNo → Type 0
+abbrev pub IsSought : Option (BTreeMap ℕ VersionNo) → List ℕ → List VersionNo → Type 0
 IsSought None ns vs = AreRising ns
-IsSought (Some m) ns vs = (k : ℕ) → get nat_eq m k ≡ beside ns vs k
+IsSought (Some m) ns vs = (k : ℕ) → get nat_cmp m k ≡ beside ns vs k
 
 -- each version stands beside its number, and is found by it
 pub record IsNumbered (p : Package) : Type 0 where

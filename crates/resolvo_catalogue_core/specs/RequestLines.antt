@@ -1,6 +1,7 @@
 -- A request's lines as the code keeps them, and what its map and list of wishes must have.
-use Rattle.std.specs.Prelude.{◌≡◌, ℕ, zero, suc, ⊤, List, [], ◌++◌, ◌∷◌, map, Option, Some, None, slice_get, nat_eq}
-use Rattle.std.specs.HashMap.{get}
+use Rattle.std.specs.Prelude.{◌≡◌, ℕ, zero, suc, ⊤, List, [], ◌++◌, ◌∷◌, map, Option, Some, None, slice_get}
+use Rattle.std.specs.BTreeMap.{get}
+use Rattle.std.specs.Ordering.{nat_cmp}
 use Rattle.resolvo_text.specs.Line as says
 use Rattle.resolvo_text.specs.Line.{Version, Line}
 use Rattle.resolvo_text.specs.View.{version_of}
@@ -53,7 +54,7 @@ wish_asked (ask.Rule r) = None
 -- These lines are kept of a request over a catalogue that lists these versions.
 pub record KeepsAsks (a : RequestLines) (versions : List Version) (lines : List Line) : Type 0 where
   pub asks : (n : ℕ) (x : RequestLine) → slice_get a.asks.items n ≡ Some x → IsAsk x
-  pub wished : (k : ℕ) → IsOnly (get nat_eq a.wished k) (SaysOf versions lines k Wishes)
+  pub wished : (k : ℕ) → IsOnly (get nat_cmp a.wished k) (SaysOf versions lines k Wishes)
   pub wish_lines : AreAll (map (λ f. f.0) a.wishes.items) (λ n. LineIs lines n IsWish)
   pub wish_versions : (i : ℕ) (f : ℕ × VersionNo) → slice_get a.wishes.items i ≡ Some f → WishesAt versions lines f
 

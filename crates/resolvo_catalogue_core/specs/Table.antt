@@ -1,6 +1,7 @@
 -- A catalogue's lines as the code keeps them, and what its maps must have.
-use Rattle.std.specs.Prelude.{◌≡◌, ℕ, ◌<◌, ◌==◌, if◌then◌else◌, bytes_eq, Bool, false, not, ⊤, List, [], ◌++◌, ◌∷◌, map, length, take, Option, Some, None, slice_get, slice_index_or, string_bytes, option_map, nat_eq}
-use Rattle.std.specs.HashMap.{get, get_by_text}
+use Rattle.std.specs.Prelude.{◌≡◌, ℕ, ◌<◌, ◌==◌, if◌then◌else◌, bytes_eq, Bool, false, not, ⊤, List, [], ◌++◌, ◌∷◌, map, length, take, Option, Some, None, slice_get, slice_index_or, string_bytes, option_map}
+use Rattle.std.specs.BTreeMap.{get, get_by_text}
+use Rattle.std.specs.Ordering.{nat_cmp}
 use Rattle.resolvo_text.specs.Line as says
 use Rattle.resolvo_text.specs.Line.{Version, Line}
 use Rattle.resolvo_text.specs.View.{spec_of, specs_of, condition_of}
@@ -110,8 +111,8 @@ pub record Keeps (t : Table) (versions : List Version) (lines : List Line) : Typ
   pub packages : (name : List ℕ) → IsPackage versions name (get_by_text t.packages name)
   pub locks : (name : List ℕ) → IsOnly (get_by_text t.locks name) (λ n. LineIs lines n (Locks name))
   pub favoured : (name : List ℕ) → IsOnly (get_by_text t.favoured name) (λ n. LineIs lines n (Favours name))
-  pub excluded : (k : ℕ) → IsOnly (get nat_eq t.excluded k) (SaysOf versions lines k Excludes)
-  pub unknown : (k : ℕ) → IsOnly (get nat_eq t.unknown k) (SaysOf versions lines k MarksUnknownOf)
+  pub excluded : (k : ℕ) → IsOnly (get nat_cmp t.excluded k) (SaysOf versions lines k Excludes)
+  pub unknown : (k : ℕ) → IsOnly (get nat_cmp t.unknown k) (SaysOf versions lines k MarksUnknownOf)
   pub belonging : (k : ℕ) → AreAll (kept_of t.belonging k) (SaysOf versions lines k BelongsTo)
   pub as_many : length t.belonging ≡ length versions
   pub favour_lines : AreAll (map (λ f. f.0) t.favours.items) (λ n. LineIs lines n IsFavour)

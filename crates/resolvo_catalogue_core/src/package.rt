@@ -2,20 +2,21 @@
 //! Most catalogues list them from the least number on: as long as they rise, they are sought among themselves, and only where one
 //! comes that is not above the last is a map made. Used by `table`.
 
-ghost use Rattle.std.specs.Prelude.{◌≡◌, ℕ, [], None, Some, IsTrue, IfOk, OnOk, length, nat_eq, not, is_some, slice_get};
-ghost use Rattle.std.specs.HashMap.{get};
+ghost use Rattle.std.specs.Prelude.{◌≡◌, ℕ, [], None, Some, IsTrue, IfOk, OnOk, length, not, is_some, slice_get};
+ghost use Rattle.std.specs.BTreeMap.{get};
+ghost use Rattle.std.specs.Ordering.{nat_cmp};
 ghost use Rattle.resolvo_catalogue_core.specs.Numbered.{beside, AreRising, IsAbove, IsSought, IsNumbered};
 ghost use Rattle.resolvo_catalogue_core.specs.Table.{AddsNumber};
 
 use crate::rule::VersionNo;
 use std::alloc::{AllocError, Global};
-use std::collections::HashMap;
+use std::collections::BTreeMap;
 
 #[derive(Drop)]
 pub struct Package {
     numbers: Vec<u32>,
     versions: Vec<VersionNo>,
-    by_number: Option<HashMap<u32, VersionNo>>,
+    by_number: Option<BTreeMap<u32, VersionNo>>,
 }
 
 impl Package {
@@ -97,7 +98,7 @@ impl Package {
     }
 
     /// The map, which is made where there is none. It is to be put back with what comes to it.
-    fn take_map(&mut self) -> Result<HashMap<u32, VersionNo>, AllocError>
+    fn take_map(&mut self) -> Result<BTreeMap<u32, VersionNo>, AllocError>
         requires { IsNumbered self.old }
         ensures map { IfOk result (λ map. IsSought (Some map) self.old.numbers.items self.old.versions.items) }
         ensures numbers { self.new.numbers ≡ self.old.numbers }
@@ -150,12 +151,12 @@ fn map_of(
     alloc: Global,
     numbers: &[u32],
     versions: &[VersionNo],
-) -> Result<HashMap<u32, VersionNo>, AllocError>
+) -> Result<BTreeMap<u32, VersionNo>, AllocError>
     requires paired { length numbers.now ≡ length versions.now }
     requires rising { AreRising numbers.now }
-    ensures { IfOk result (λ map. (k : ℕ) → get nat_eq map k ≡ beside numbers.now versions.now k) }
+    ensures { IfOk result (λ map. (k : ℕ) → get nat_cmp map k ≡ beside numbers.now versions.now k) }
 {
-    let mut map = HashMap::new(alloc);
+    let mut map = BTreeMap::new(alloc);
     for place in 0..numbers.len() {
         map.insert(numbers[place], versions[place])?;
     }

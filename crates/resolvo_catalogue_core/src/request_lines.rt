@@ -1,8 +1,9 @@
 //! The lines of a request as they are kept, and its wishes.
 //! The model is the list of lines, `asked_lines`; `AreAsks` says that map and wishes fit it. Used by `request`.
 
-ghost use Rattle.std.specs.Prelude.{◌≡◌, ℕ, ◌+◌, ◌∷◌, ◌++◌, [], nat_eq, option_and_then, option_copied, length, is_some, slice_get, OnOk, IfOk, OnErr, Contains, Err, Some, List};
-ghost use Rattle.std.specs.HashMap.{get};
+ghost use Rattle.std.specs.Prelude.{◌≡◌, ℕ, ◌+◌, ◌∷◌, ◌++◌, [], option_and_then, option_copied, length, is_some, slice_get, OnOk, IfOk, OnErr, Contains, Err, Some, List};
+ghost use Rattle.std.specs.BTreeMap.{get};
+ghost use Rattle.std.specs.Ordering.{nat_cmp};
 ghost use Rattle.resolvo_text.specs.Line as says;
 ghost use Rattle.resolvo_text.specs.View.{version_of, spec_of, specs_of, condition_of, view};
 ghost use Rattle.resolvo_text.specs.declared.line.LineFault.TheVariants.{Fault};
@@ -13,7 +14,7 @@ use crate::catalogue::Catalogue;
 use crate::rule::{Rule, VersionNo};
 use resolvo_text::{Cond, Line, LineFault, Spec, Version, line_in};
 use std::alloc::Global;
-use std::collections::HashMap;
+use std::collections::BTreeMap;
 
 /// What one line asks.
 #[derive(Debug, Drop)]
@@ -27,7 +28,7 @@ pub struct RequestLines {
     pub asks: Vec<RequestLine>,
     pub wishes: Vec<(u32, VersionNo)>,
     /// The line that wishes the version.
-    pub wished: HashMap<u32, u32>,
+    pub wished: BTreeMap<u32, u32>,
 }
 
 // split for the prover: what owns one calls this drop, and doesn't drop each field at each exit
@@ -51,7 +52,7 @@ impl RequestLines {
         RequestLines {
             asks: Vec::new(alloc),
             wishes: Vec::new(alloc),
-            wished: HashMap::new(alloc),
+            wished: BTreeMap::new(alloc),
         }
     }
 
@@ -84,7 +85,7 @@ impl RequestLines {
     }
 
     fn is_wished(&self, version: VersionNo) -> bool
-        ensures { result ≡ is_some (get nat_eq self.now.wished version.0) }
+        ensures { result ≡ is_some (get nat_cmp self.now.wished version.0) }
     {
         self.wished.contains_key(&version.0)
     }

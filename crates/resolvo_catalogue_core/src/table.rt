@@ -1,8 +1,9 @@
 //! The lines of a catalogue as they are kept, and the maps by which questions are answered.
 //! The model is the list of lines, `lines_in`; `IsTable` says that the maps fit it. Used by `catalogue`.
 
-ghost use Rattle.std.specs.Prelude.{◌≡◌, ℕ, ◌+◌, ◌<◌, ◌==◌, ◌∷◌, ◌++◌, [], if◌then◌else◌, nat_eq, not, option_map, option_and_then, option_copied, map, is_some, length, slice_get, Contains, IsTrue, OnOk, OnErr, IfOk, Err, Some, None, List, true, false};
-ghost use Rattle.std.specs.HashMap.{get, get_by_text};
+ghost use Rattle.std.specs.Prelude.{◌≡◌, ℕ, ◌+◌, ◌<◌, ◌==◌, ◌∷◌, ◌++◌, [], if◌then◌else◌, not, option_map, option_and_then, option_copied, map, is_some, length, slice_get, Contains, IsTrue, OnOk, OnErr, IfOk, Err, Some, None, List, true, false};
+ghost use Rattle.std.specs.BTreeMap.{get, get_by_text};
+ghost use Rattle.std.specs.Ordering.{nat_cmp};
 ghost use Rattle.std.specs.Option.{option_map_or};
 ghost use Rattle.std.specs.String.{string_bytes};
 ghost use Rattle.resolvo_text.specs.Line as says;
@@ -21,20 +22,20 @@ use crate::package::Package;
 use crate::rule::{Rule, VersionNo};
 use resolvo_text::{Cond, Line, LineFault, Spec, Version, line_in};
 use std::alloc::{AllocError, Global};
-use std::collections::HashMap;
+use std::collections::BTreeMap;
 
 pub struct Table {
     pub versions: Vec<(String, u32)>,
     pub said: LineTable,
-    pub packages: HashMap<String, Package>,
+    pub packages: BTreeMap<String, Package>,
     /// The line that locks a version of the package.
-    pub locks: HashMap<String, u32>,
+    pub locks: BTreeMap<String, u32>,
     /// The line that favours a version of the package.
-    pub favoured: HashMap<String, u32>,
+    pub favoured: BTreeMap<String, u32>,
     /// The line that excludes the version.
-    pub excluded: HashMap<u32, u32>,
+    pub excluded: BTreeMap<u32, u32>,
     /// The line that marks the version as unknown.
-    pub unknown: HashMap<u32, u32>,
+    pub unknown: BTreeMap<u32, u32>,
     /// The lines that belong to each version.
     pub belonging: LinesByVersion,
     pub favours: Vec<(u32, VersionNo)>,
@@ -59,7 +60,7 @@ impl Drop for Table {
 
 /// Adds a version to those of its package, if it isn't listed; whether it was added.
 fn add_version(
-    packages: &mut HashMap<String, Package>,
+    packages: &mut BTreeMap<String, Package>,
     alloc: Global,
     version: &Version,
     number: VersionNo,
@@ -99,11 +100,11 @@ impl Table {
         Table {
             versions: Vec::new(alloc),
             said: LineTable::new(alloc),
-            packages: HashMap::new(alloc),
-            locks: HashMap::new(alloc),
-            favoured: HashMap::new(alloc),
-            excluded: HashMap::new(alloc),
-            unknown: HashMap::new(alloc),
+            packages: BTreeMap::new(alloc),
+            locks: BTreeMap::new(alloc),
+            favoured: BTreeMap::new(alloc),
+            excluded: BTreeMap::new(alloc),
+            unknown: BTreeMap::new(alloc),
             belonging: LinesByVersion::new(alloc),
             favours: Vec::new(alloc),
         }
@@ -145,7 +146,7 @@ impl Table {
     }
 
     fn excluded_by(&self, version: VersionNo) -> Option<u32>
-        ensures { result ≡ get nat_eq self.now.excluded version.0 }
+        ensures { result ≡ get nat_cmp self.now.excluded version.0 }
     {
         self.excluded.get(&version.0).copied()
     }
@@ -250,13 +251,13 @@ impl Table {
     }
 
     fn is_excluded(&self, version: VersionNo) -> bool
-        ensures { result ≡ is_some (get nat_eq self.now.excluded version.0) }
+        ensures { result ≡ is_some (get nat_cmp self.now.excluded version.0) }
     {
         self.excluded.contains_key(&version.0)
     }
 
     fn is_unknown(&self, version: VersionNo) -> bool
-        ensures { result ≡ is_some (get nat_eq self.now.unknown version.0) }
+        ensures { result ≡ is_some (get nat_cmp self.now.unknown version.0) }
     {
         self.unknown.contains_key(&version.0)
     }

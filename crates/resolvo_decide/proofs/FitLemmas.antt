@@ -179,6 +179,34 @@ module _ {N : Type 0} (lists : FixedLists N) (values : ℕ → Option Bool) (sco
     | inr high ↦ ap (pick_after lists values score best) (drop_all from qs high ∙ sym (drop_all to qs (omega arith)))
   ]
 
+-- no clause takes the place of a decision whose score none is above
+module _ {N : Type 0} (lists : FixedLists N) (values : ℕ → Option Bool) (score : N → ℕ) (most : ℕ) (bounded : (name : N) → score name ≤ most) where
+  offer_bounded : (q : NeedClause) (d : NextDecision) → offer lists values score q ≡ Some d → d.package_activity ≤ most
+  offer_bounded q d h = eligible (is_eligible lists values q) h
+    where
+      cs : List (Candidate N)
+      cs = candidates_in lists q.requirement
+
+      found : (o : Option (Candidate N)) → option_map (decision_for (named_by lists) values score q cs) o ≡ Some d → d.package_activity ≤ most
+      found None e = absurd cc
+      found (Some x) e = subst (λ (n : NextDecision). n.package_activity ≤ most) (some_one (decision_for (named_by lists) values score q cs x) d e) (bounded x.package)
+
+      none_true : (b : Bool) → cond b None (option_map (decision_for (named_by lists) values score q cs) (find (λ c. is_open (value_under values c.literal)) cs)) ≡ Some d → d.package_activity ≤ most
+      none_true true e = absurd cc
+      none_true false e = found (find (λ c. is_open (value_under values c.literal)) cs) e
+
+      eligible : (b : Bool) → cond b (offer_of (named_by lists) values score q cs) None ≡ Some d → d.package_activity ≤ most
+      eligible true e = none_true (list_any (λ c. is_true (value_under values c.literal)) cs) e
+      eligible false e = absurd cc
+
+  pub pick_final : (best : Option NextDecision) (qs : List NeedClause) → ((next : NextDecision) → next.package_activity ≤ most → later best (Some next) ≡ best) → pick_after lists values score best qs ≡ best
+  pick_final best [] final = refl
+  pick_final best (q ∷ qs) final = ap (λ b. pick_after lists values score b qs) (stays (offer lists values score q) refl) ∙ pick_final best qs final
+    where
+      stays : (o : Option NextDecision) → offer lists values score q ≡ o → later best o ≡ best
+      stays None is = later_none best
+      stays (Some next) is = final next (offer_bounded q next is)
+
 -- and behind clauses that are known to be shut
 pub pick_shut : {N : Type 0} (lists : FixedLists N) (values : ℕ → Option Bool) (score : N → ℕ) (needs : UndecidedClauses) (queue : List NeedClause) → Fits (literals_in lists) needs queue → ((v : ℕ) → values v ≡ value_in needs.seen.items v) → (best : Option NextDecision) (from to : ℕ) → from ≤ to
     → ((i : ℕ) → from ≤ i → i < to → is_open_state (state_at needs.states i) ≡ false) → pick_after lists values score best (drop from queue) ≡ pick_after lists values score best (drop to queue)

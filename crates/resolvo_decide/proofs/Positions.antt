@@ -1,6 +1,8 @@
 -- Lists of states, and of positions by parent.
-use Rattle.std.proofs.Common.{◌≡◌, ℕ, zero, suc, ◌+◌, ◌<◌, ◌≤◌, ◌⊎◌, inl, inr, List, [], ◌∷◌, ◌++◌, map, length, take, drop, get_or, Vec, Global, refl, sym, ◌∙◌, ap, subst, arith}
+use Rattle.std.proofs.Common.{◌≡◌, ℕ, zero, suc, ◌+◌, ◌<◌, ◌≤◌, ◌⊎◌, inl, inr, List, [], ◌∷◌, ◌++◌, map, length, get_or, Vec, Global, refl, sym, ◌∙◌, ap, subst, arith}
 use Rattle.std.specs.Prelude.{slice_set, Contains}
+use Rattle.std.proofs.lemmas.Bool.{cases_lt}
+use Rattle.std.proofs.lemmas.List.{ext_get_or, length-map}
 use Rattle.std.proofs.lemmas.List.Elements.{Contains-append_cases}
 use Rattle.resolvo_decide.specs.declared.clause_states.ClauseState.{ClauseState}
 use Rattle.resolvo_decide.specs.declared.clause_states.ClauseState.TheVariants.{Open}
@@ -73,23 +75,28 @@ places_set_other (x ∷ ps) zero p (suc j) = inl refl
 places_set_other (x ∷ ps) (suc i) p zero = inl refl
 places_set_other (x ∷ ps) (suc i) p (suc j) = elim (places_set_other ps i p j) [ inl same ↦ inl same | inr is ↦ inr (ap suc is) ]
 
--- states that are changed one after the other
+-- states that are changed one by one are the changed list
+pub all_reopened : (common : ℕ) (old new : List ClauseState) → length new ≡ length old → ((i : ℕ) → i < length old → state_at new i ≡ reopened common (state_at old i)) → new ≡ map (reopened common) old
+all_reopened common old new long each = ext_get_or Open new (map (reopened common) old) (long ∙ sym (length-map old (reopened common))) (λ i low. each i (subst (λ n. i < n) long low) ∙ sym (state_map common old i))
 
-set_step : {X : Type 0} (f : X → X) (xs : List X) (i : ℕ) (d : X) → i < length xs → slice_set (map f (take i xs) ++ drop i xs) i (f (get_or (map f (take i xs) ++ drop i xs) i d)) ≡ map f (take (i + 1) xs) ++ drop (i + 1) xs
-set_step f [] i d h = absurd (omega arith)
-set_step f (y ∷ xs) zero d h = refl
-set_step f (y ∷ xs) (suc i) d h = let more : suc i + 1 ≡ suc (i + 1) = omega arith in rw more (ap (λ zs. f y ∷ zs) (set_step f xs i d (omega arith)))
+-- one state more is changed
+module _ (common start p : ℕ) (first old new : List ClauseState) (s : ClauseState) (low : p < length old) (put : new ≡ slice_set old p s) (is : s ≡ reopened common (state_at old p)) where
+  other : (i : ℕ) → (i ≡ p → ⊥) → state_at new i ≡ state_at old i
+  other i far = ap (λ ss. state_at ss i) put ∙ elim (state_set_other old p s i) [ inl same ↦ same | inr here ↦ absurd (far here) ]
 
-pub length_changed : {X : Type 0} (f : X → X) (xs : List X) (i : ℕ) → length (map f (take i xs) ++ drop i xs) ≡ length xs
-length_changed f [] zero = refl
-length_changed f [] (suc i) = refl
-length_changed f (x ∷ xs) zero = refl
-length_changed f (x ∷ xs) (suc i) = ap suc (length_changed f xs i)
+  pub changed_one : ((i : ℕ) → start ≤ i → i < p → state_at old i ≡ reopened common (state_at first i)) → ((i : ℕ) → p ≤ i → state_at old i ≡ state_at first i)
+      → (i : ℕ) → start ≤ i → i < p + 1 → state_at new i ≡ reopened common (state_at first i)
+  changed_one changed after i above below = elim (cases_lt i p) [
+    | inl less ↦ other i (λ here. omega arith) ∙ changed i above less
+    | inr more ↦ (let here : i ≡ p = omega arith in
+        ap (state_at new) here ∙ ap (λ ss. state_at ss p) put ∙ state_set old p s low ∙ is ∙ ap (reopened common) (after p (omega arith)) ∙ ap (λ j. reopened common (state_at first j)) (sym here))
+  ]
 
-pub changed_more : {X : Type 0} (f : X → X) (xs ys : List X) (i : ℕ) (d y : X) → ys ≡ map f (take i xs) ++ drop i xs → i < length ys → y ≡ f (get_or ys i d) → slice_set ys i y ≡ map f (take (i + 1) xs) ++ drop (i + 1) xs
-changed_more f xs ys i d y so less is =
-    let long : length ys ≡ length xs = ap length so ∙ length_changed f xs i in
-    ap (slice_set ys i) is ∙ ap (λ zs. slice_set zs i (f (get_or zs i d))) so ∙ set_step f xs i d (omega arith)
+  pub before_one : start ≤ p → ((i : ℕ) → i < start → state_at old i ≡ state_at first i) → (i : ℕ) → i < start → state_at new i ≡ state_at first i
+  before_one order before i below = other i (λ here. omega arith) ∙ before i below
+
+  pub after_one : ((i : ℕ) → p ≤ i → state_at old i ≡ state_at first i) → (i : ℕ) → p + 1 ≤ i → state_at new i ≡ state_at first i
+  after_one after i above = other i (λ here. omega arith) ∙ after i (omega arith)
 
 -- states that are opened one after the other
 

@@ -1,10 +1,11 @@
-//! What is known of each need clause, by its position in the queue, and which blocks of positions may have
-//! an open one. The model is the list of what is known.
-//! The pick asks for one open clause after the other, and passes over the blocks in which there is none.
-ghost use Rattle.std.specs.Prelude.{◌≡◌, ℕ, ◌<◌, ◌≤◌, ◌/◌, ◌++◌, ◌∷◌, ◌⊎◌, [], List, Bool, map, length, false, true, slice_set, Contains, OnOk, IsOkUnless};
+//! What is known of each need clause, by its position in the queue, which blocks of positions may have
+//! an open one, and how far back on the trail the clauses of a block are met. The model is the list of what is known.
+//! The pick asks for one open clause after the other, and passes over the blocks in which there is none; where entries
+//! are taken away, the blocks whose clauses are all met by entries that stay are passed over.
+ghost use Rattle.std.specs.Prelude.{◌≡◌, ℕ, ◌<◌, ◌≤◌, ◌/◌, ◌++◌, ◌∷◌, ◌⊎◌, [], List, Bool, map, max, length, false, true, slice_set, Contains, OnOk, IsOkUnless};
 ghost use Rattle.resolvo_pool_core.specs.declared.want.Want.TheVariants.{Memory};
 ghost use Rattle.resolvo_decide.specs.declared.clause_states.ClauseState.TheVariants.{Open};
-ghost use Rattle.resolvo_decide.specs.States.{state_at, is_open_state, reopened, mark_at};
+ghost use Rattle.resolvo_decide.specs.States.{state_at, is_open_state, reopened, mark_at, met_within, bound_at};
 
 use resolvo_pool_core::want::R;
 use std::alloc::Global;
@@ -12,6 +13,9 @@ use std::marker::Model;
 
 /// So many clauses beside one another have one mark.
 const BLOCK: usize = 64;
+
+/// So many clauses beside one another have one mark more, above those of their blocks.
+const GROUP: usize = 4096;
 
 /// What is known of a need clause.
 #[derive(Clone, Copy, Debug)]
@@ -34,6 +38,16 @@ impl ClauseState {
             _ => false,
         }
     }
+
+    /// How many first entries of the trail hold the true candidate that is known; 0 where none is.
+    fn within(self) -> u32
+        ensures { result ≡ met_within self }
+    {
+        match self {
+            ClauseState::Met(within) => within,
+            _ => 0,
+        }
+    }
 }
 
 /// What is known of each need clause.
@@ -43,18 +57,22 @@ pub struct ClauseStates {
     states: Vec<ClauseState>,
     /// Whether a block may have an open clause.
     marks: Vec<bool>,
+    /// Whether a group of blocks may have one.
+    groups: Vec<bool>,
+    /// No clause of a block is met behind so many first entries. The highest number tells nothing.
+    bounds: Vec<u32>,
 }
 
 impl Model for ClauseStates {
     ghost use Rattle.std.specs.Prelude.{List};
     ghost use Rattle.resolvo_decide.specs.declared.clause_states.ClauseState.{ClauseState};
-    ghost use Rattle.resolvo_decide.specs.States.{AreMarked};
+    ghost use Rattle.resolvo_decide.specs.States.{AreMarked, AreGrouped, AreBounded};
 
     ghost Value = { List ClauseState };
 
     ghost view = { λ s. s.states.items };
 
-    ghost invariant = { λ s. AreMarked s.states.items s.marks.items };
+    ghost invariant = { λ s. AreMarked s.states.items s.marks.items × AreGrouped s.states.items s.groups.items × AreBounded s.states.items s.bounds.items };
 }
 
 impl ClauseStates {
@@ -65,6 +83,8 @@ impl ClauseStates {
         ClauseStates {
             states: Vec::new(alloc),
             marks: Vec::new(alloc),
+            groups: Vec::new(alloc),
+            bounds: Vec::new(alloc),
         }
     }
 
@@ -96,7 +116,9 @@ impl ClauseStates {
     {
         let mut position = from;
         while !self.state(position).is_open() {
-            position = self.pass(position);
+            let next = self.pass(position);
+            self.shut_group(from, position, next);
+            position = next;
         }
         position
     }
@@ -110,6 +132,9 @@ impl ClauseStates {
         ensures passed { (i : ℕ) → position ≤ i → i < result → is_open_state (state_at self.old i) ≡ false }
         ensures same { self.new ≡ self.old }
     {
+        if !is_marked(&self.groups, position / GROUP) {
+            return self.group_end(position);
+        }
         let block = position / BLOCK;
         let start = block * BLOCK;
         let end = start + BLOCK.min(self.states.len() - start);
@@ -123,6 +148,29 @@ impl ClauseStates {
         found
     }
 
+    /// The position behind the group of this one.
+    fn group_end(&self, position: usize) -> usize
+        requires { position < length self.now }
+        ensures behind { position < result }
+        ensures within { result ≤ length self.now }
+        ensures group { (i : ℕ) → position ≤ i → i < result → i / GROUP ≡ position / GROUP }
+        ensures whole { (i : ℕ) → i < length self.now → i / GROUP ≡ position / GROUP → i < result }
+    {
+        let start = position / GROUP * GROUP;
+        start + GROUP.min(self.len() - start)
+    }
+
+    /// Notes that no clause of the group of a position is open, where the group stands between two positions.
+    fn shut_group(&mut self, from: usize, position: usize, next: usize)
+        requires within { position < length self.old }
+        requires passed { (i : ℕ) → from ≤ i → i < next → is_open_state (state_at self.old i) ≡ false }
+        ensures { self.new ≡ self.old }
+    {
+        if from <= position / GROUP * GROUP && self.group_end(position) <= next {
+            note(&mut self.groups, position / GROUP, false);
+        }
+    }
+
     /// Notes a state, unless the position is behind all clauses.
     pub fn put(&mut self, position: usize, state: ClauseState)
         ensures { self.new ≡ slice_set self.old position state }
@@ -131,7 +179,9 @@ impl ClauseStates {
             self.states[position] = state;
             if state.is_open() {
                 note(&mut self.marks, position / BLOCK, true);
+                note(&mut self.groups, position / GROUP, true);
             }
+            raise(&mut self.bounds, position / BLOCK, state.within());
         }
     }
 
@@ -141,10 +191,9 @@ impl ClauseStates {
         ensures refusal { IsOkUnless result Memory }
     {
         let block = self.states.len() / BLOCK;
-        if self.marks.len() <= block {
-            self.marks.push(true)?;
-        }
-        note(&mut self.marks, block, true);
+        mark(&mut self.marks, block)?;
+        mark(&mut self.groups, self.states.len() / GROUP)?;
+        make_bound(&mut self.bounds, block)?;
         self.states.push(ClauseState::Open)?;
         Ok(())
     }
@@ -164,10 +213,49 @@ impl ClauseStates {
     pub fn reopen(&mut self, common: usize)
         ensures { self.new ≡ map (reopened common) self.old }
     {
-        for position in 0..self.len() {
+        let mut position = 0;
+        while position < self.len() {
+            position = self.reopen_block(position, common);
+        }
+    }
+
+    /// Opens those among the clauses of a block, from this position on. The answer is the position behind the block.
+    fn reopen_block(&mut self, start: usize, common: usize) -> usize
+        requires { start < length self.old }
+        ensures behind { start < result }
+        ensures changed { (i : ℕ)
+            → start ≤ i
+            → i < result
+            → state_at self.new i ≡ reopened common (state_at self.old i) }
+        ensures before { (i : ℕ) → i < start → state_at self.new i ≡ state_at self.old i }
+        ensures after { (i : ℕ) → result ≤ i → state_at self.new i ≡ state_at self.old i }
+        ensures len { length self.new ≡ length self.old }
+    {
+        let block = start / BLOCK;
+        let first = block * BLOCK;
+        let end = first + BLOCK.min(self.len() - first);
+        if does_stay(&self.bounds, block, common) {
+            return end;
+        }
+        for position in start..end {
             let state = reopened(self.state(position), common);
             self.put(position, state);
         }
+        if start == first {
+            self.lower_bound(block, common);
+        }
+        end
+    }
+
+    /// No clause of this block is met behind so many first entries.
+    fn lower_bound(&mut self, block: usize, common: usize)
+        requires { (i : ℕ)
+            → i < length self.old
+            → i / BLOCK ≡ block
+            → met_within (state_at self.old i) ≤ common }
+        ensures { self.new ≡ self.old }
+    {
+        lower(&mut self.bounds, block, common);
     }
 }
 
@@ -184,6 +272,63 @@ fn note(marks: &mut [bool], block: usize, mark: bool)
 {
     if block < marks.len() {
         marks[block] = mark;
+    }
+}
+
+/// Notes that a block may have an open clause, also where it is the next one.
+fn mark(marks: &mut Vec<bool>, block: usize) -> R<()>
+    ensures marked { OnOk result (mark_at marks.new.items block ≡ true) }
+    ensures kept { (k : ℕ) → mark_at marks.new.items k ≡ false → mark_at marks.old.items k ≡ false }
+    ensures refusal { IsOkUnless result Memory }
+{
+    if marks.len() <= block {
+        marks.push(true)?;
+    }
+    note(marks, block, true);
+    Ok(())
+}
+
+/// Makes room for the bound of a block, of which nothing is told.
+fn make_bound(bounds: &mut Vec<u32>, block: usize) -> R<()>
+    ensures kept { (k : ℕ) → bound_at bounds.new.items k ≡ bound_at bounds.old.items k }
+    ensures refusal { IsOkUnless result Memory }
+{
+    if bounds.len() <= block {
+        bounds.push(u32::MAX)?;
+    }
+    Ok(())
+}
+
+/// Whether no clause of a block is met behind so many first entries.
+fn does_stay(bounds: &[u32], block: usize, common: usize) -> bool
+    ensures bounded { result ≡ true → bound_at bounds.now block ≤ common }
+    ensures known { result ≡ true → bound_at bounds.now block < 4294967295 }
+{
+    if block < bounds.len() {
+        let bound = bounds[block];
+        bound < u32::MAX && bound as usize <= common
+    } else {
+        false
+    }
+}
+
+/// A clause of the block is met by so many first entries.
+fn raise(bounds: &mut [u32], block: usize, within: u32)
+    ensures { bounds.new ≡ slice_set bounds.old block (max (bound_at bounds.old block) within) }
+{
+    if block < bounds.len() {
+        bounds[block] = bounds[block].max(within);
+    }
+}
+
+/// No clause of the block is met behind so many first entries.
+fn lower(bounds: &mut [u32], block: usize, common: usize)
+    ensures { (bounds.new ≡ bounds.old) ⊎ (bounds.new ≡ slice_set bounds.old block common) }
+{
+    if block < bounds.len() {
+        if let Ok(bound) = u32::try_from(common) {
+            bounds[block] = bound;
+        }
     }
 }
 

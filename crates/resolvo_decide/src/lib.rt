@@ -4,4 +4,5 @@
 #![tactic(auto)]
 
 pub mod clause_states;
+pub mod scores;
 pub mod undecided_clauses;

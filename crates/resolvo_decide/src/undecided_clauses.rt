@@ -16,6 +16,7 @@ ghost use Rattle.resolvo_decide.specs.States.{state_at};
 ghost use Rattle.resolvo_decide.specs.Needs.{literals_in, places_at, IsMetNow, IsSo, Fits, KeepsFitting, IsPick, AddsNeed};
 
 use crate::clause_states::{ClauseState, ClauseStates};
+use crate::scores::Scores;
 use resolvo_pool_core::id::VariableId;
 use resolvo_pool_core::id_map::ScoreMap;
 use resolvo_pool_core::want::R;
@@ -70,19 +71,25 @@ impl UndecidedClauses {
         queue: &DecideQueue,
         lists: &FixedLists<N>,
         trail: &DecisionTracker,
-        scores: &C,
+        scores: &Scores<N, C>,
     ) -> R<Option<NextDecision>>
     where
         N: Drop,
         requires fits { Fits (literals_in lists.now) self.old queue.now }
         requires seen { IsFrontOf self.old.seen.items trail.now.trail }
-        ensures picked { IfOk result (IsPick lists.now trail.now.trail (C.score_of scores.now) queue.now) }
+        ensures picked { IfOk result (IsPick lists.now trail.now.trail (C.score_of scores.now.map) queue.now) }
         ensures fits { OnOk result (Fits (literals_in lists.now) self.new queue.now) }
         ensures seen { OnOk result (self.new.seen.items ≡ trail.now.trail) }
         ensures refusal { IsOkUnless result Memory }
     {
         self.go_on(trail.stack())?;
-        Ok(self.pick(queue.registered(), lists, trail.map(), scores))
+        Ok(self.pick(
+            queue.registered(),
+            lists,
+            trail.map(),
+            &scores.map,
+            scores.most(),
+        ))
     }
 
     /// Goes back to where the trail that was seen and this one part.
@@ -170,18 +177,20 @@ impl UndecidedClauses {
         }
     }
 
-    /// The pick, where the trail is the one that was seen.
+    /// The pick, where the trail is the one that was seen, and no score is above `most`.
     fn pick<N: Copy + Eq, C: ScoreMap<N>>(
         &mut self,
         queue: &[NeedClause],
         lists: &FixedLists<N>,
         values: &DecisionMap,
         scores: &C,
+        most: u64,
     ) -> Option<NextDecision>
     where
         N: Drop,
         requires fits { Fits (literals_in lists.now) self.old queue.now }
         requires values { (v : ℕ) → value_at values.now v ≡ value_in self.old.seen.items v }
+        requires bounded { (name : N) → C.score_of scores.now name ≤ most }
         ensures picked { result ≡ pick lists.now (value_at values.now) (C.score_of scores.now) queue.now }
         ensures fits { Fits (literals_in lists.now) self.new queue.now }
         ensures seen { self.new.seen ≡ self.old.seen }
@@ -191,6 +200,9 @@ impl UndecidedClauses {
         while position < queue.len() {
             if self.may_decide(position, queue, lists, values) {
                 best = or_offered(best, &queue[position], lists, values, scores);
+                if is_final(best, most) {
+                    return best;
+                }
             }
             position = self.states.next_open(position + 1);
         }
@@ -287,6 +299,19 @@ where
         best
     } else {
         or_later(best, offered(need, lists, values, scores))
+    }
+}
+
+/// Whether no decision takes the place of this one, where no score is above the other number.
+fn is_final(best: Option<NextDecision>, most: u64) -> bool
+    ensures { result ≡ true
+        → (next : NextDecision)
+        → next.package_activity ≤ most
+        → later best (Some next) ≡ best }
+{
+    match best {
+        Some(best) => most <= best.package_activity,
+        None => false,
     }
 }
 

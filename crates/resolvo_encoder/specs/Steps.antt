@@ -10,8 +10,8 @@ use Rattle.resolvo_store_core.specs.Clauses.{yes, no, candidate_literals}
 use Rattle.resolvo_store_core.specs.declared.decide_queue.NeedClause.{NeedClause}
 use Rattle.resolvo_store_core.specs.declared.lists.Candidate.{Candidate}
 use Rattle.resolvo_store_core.specs.declared.lists.FixedLists.{FixedLists}
-use Rattle.resolvo_store_core.specs.Lists.{has_candidates, candidates_in, condition_in, FixesCandidates, IsEmpty}
-use Rattle.resolvo_pool_core.specs.ByRequirement.{slot_of}
+use Rattle.resolvo_store_core.specs.Lists.{has_candidates, candidates_in, condition_in, disjunction_count, FixesCandidates, IsEmpty}
+use Rattle.resolvo_pool_core.specs.ByRequirement.{index_in, slot_of}
 use Rattle.resolvo_pool_core.specs.declared.solver_id.SolvableIdOrRoot.TheVariants.{Root}
 use Rattle.resolvo_packages.specs.declared.package_source.Offered.{Offered}
 use Rattle.resolvo_packages.specs.PackageSource.{offered_solvables}
@@ -32,7 +32,7 @@ use Rattle.resolvo_state.specs.declared.clause_kind.Stated.{Stated}
 use Rattle.resolvo_state.specs.declared.solver_state.SolverState.{SolverState}
 use Rattle.resolvo_state.specs.declared.registry.Registry.{Registry}
 use Rattle.resolvo_state.specs.Atoms.{StandsFor}
-use Rattle.resolvo_state.specs.SolverState.{IsCoding, IsBegun, Grows, SameTrail, States}
+use Rattle.resolvo_state.specs.SolverState.{IsCoding, IsBegun, Grows, LacksNumber, SameTrail, States}
 use Rattle.resolvo_state.specs.Registered.{AreTied, IsTracked, IsDigitClause, IsNothing, Registers}
 use Rattle.resolvo_encoder.specs.declared.encoder.Encoder.{Encoder}
 
@@ -47,6 +47,13 @@ pub record IsBuilt {N S : Type 0} (e : Encoder N S) : Type 0 where
   pub within : e.encoded ≤ length e.parents.keys
   pub needs : Fits (literals_in e.lists) e.needs e.queue
   pub seen : IsFrontOf e.needs.seen.items e.coding.search.tracker.trail
+
+-- No number is left for what a call would add for a requirement: a variable, a clause, or a disjunction. Or the requirement's own
+-- index is one beyond those that have a list of candidates.
+pub data LacksNumberFor {N S : Type 0} (r : Requirement) (e : Encoder N S) : Type 0 where
+  coding : LacksNumber e.coding → LacksNumberFor r e
+  disjunctions : disjunction_count e.lists ≡ 4294967295 → LacksNumberFor r e
+  requirement : index_in r ≡ 4294967295 → LacksNumberFor r e
 
 -- clauses and what they state came, and the trail, the wishes and the parents stay, and so do the cases that wait
 pub record Extends {N S : Type 0} (old new : Encoder N S) : Type 0 where

@@ -1,8 +1,10 @@
 //! The packages that cases name: a clause says of each of their registered solvables that one of them is there, so that the
 //! literals of a case, once it holds, are all false.
-ghost use Rattle.std.specs.Prelude.{◌≡◌, ◌<◌, ◌∷◌, [], OnOk, IfOk};
+ghost use Rattle.std.specs.Prelude.{◌≡◌, ◌<◌, ◌∷◌, [], OnOk, IfOk, IsErrOf, IsOkUnless};
+ghost use Rattle.resolvo_pool_core.specs.declared.want.Want.TheVariants.{Memory, Ids};
 ghost use Rattle.resolvo_store_core.specs.Clauses.{no, candidate_literals};
 ghost use Rattle.resolvo_soundness.specs.Encoding.{Rule};
+ghost use Rattle.resolvo_state.specs.SolverState.{LacksNumber};
 ghost use Rattle.resolvo_encoder.specs.Steps.{IsBuilt};
 ghost use Rattle.resolvo_encoder.specs.ClauseRules.{Tells};
 ghost use Rattle.resolvo_encoder.specs.Helped.{AreThose, SaysThere, HelpsPackage, Helps};
@@ -24,7 +26,8 @@ impl<N: Copy + Exact + Hash + Debug + Drop, S: Copy + Exact + Hash + Debug> Enco
     /// States of a solvable that one of its package is there, once.
     pub(crate) fn add_at_least_one(&mut self, alloc: Global, one: Offered<N, S>) -> R<()>
         requires { IsBuilt self.old }
-        ensures { OnOk result (SaysThere S.eq (one ∷ []) self.old self.new) }
+        ensures said { OnOk result (SaysThere S.eq (one ∷ []) self.old self.new) }
+        ensures ids { IsErrOf result Ids → LacksNumber self.new.coding }
     {
         if self.noted.there.contains(&one.solvable) {
             return Ok(());
@@ -37,7 +40,8 @@ impl<N: Copy + Exact + Hash + Debug + Drop, S: Copy + Exact + Hash + Debug> Enco
     /// The clause that one of a solvable's package is there.
     fn state_there(&mut self, alloc: Global, one: Offered<N, S>) -> R<()>
         requires { IsBuilt self.old }
-        ensures { OnOk result (Tells S.eq (Rule.is_there one.name one.solvable ∷ []) self.old self.new) }
+        ensures told { OnOk result (Tells S.eq (Rule.is_there one.name one.solvable ∷ []) self.old self.new) }
+        ensures ids { IsErrOf result Ids → LacksNumber self.new.coding }
     {
         let first = self.give(ProofAtom::Solvable(one.solvable))?;
         let second = self.give(ProofAtom::AtLeastOne(one.name))?;
@@ -52,7 +56,8 @@ impl<N: Copy + Exact + Hash + Debug + Drop, S: Copy + Exact + Hash + Debug> Enco
     /// States of each of these that one of its package is there.
     fn say_each_there(&mut self, alloc: Global, list: &[Offered<N, S>]) -> R<()>
         requires { IsBuilt self.old }
-        ensures { OnOk result (SaysThere S.eq list.now self.old self.new) }
+        ensures said { OnOk result (SaysThere S.eq list.now self.old self.new) }
+        ensures ids { IsErrOf result Ids → LacksNumber self.new.coding }
     {
         for one in list {
             self.add_at_least_one(alloc, *one)?;
@@ -63,7 +68,8 @@ impl<N: Copy + Exact + Hash + Debug + Drop, S: Copy + Exact + Hash + Debug> Enco
     /// The registered solvables of a package, with it.
     fn registered(&self, alloc: Global, name: N) -> R<Vec<Offered<N, S>>>
         requires { IsBuilt self.now }
-        ensures { IfOk result (λ v. AreThose self.now name v.items) }
+        ensures those { IfOk result (λ v. AreThose self.now name v.items) }
+        ensures refusal { IsOkUnless result Memory }
     {
         let variables = self.registry.variables(name);
         let mut registered = Vec::new(alloc);
@@ -78,7 +84,8 @@ impl<N: Copy + Exact + Hash + Debug + Drop, S: Copy + Exact + Hash + Debug> Enco
     /// Notes that a case names a package, and states of its registered solvables that one of it is there.
     fn help_package(&mut self, alloc: Global, name: N) -> R<()>
         requires { IsBuilt self.old }
-        ensures { OnOk result (HelpsPackage S.eq name self.old self.new) }
+        ensures helped { OnOk result (HelpsPackage S.eq name self.old self.new) }
+        ensures ids { IsErrOf result Ids → LacksNumber self.new.coding }
     {
         if self.noted.helped.contains(&name) {
             return Ok(());
@@ -93,7 +100,8 @@ impl<N: Copy + Exact + Hash + Debug + Drop, S: Copy + Exact + Hash + Debug> Enco
     /// version set has no chosen match.
     fn help(&mut self, alloc: Global, set: &ConditionSet<N, S>) -> R<Vec<Literal>>
         requires { IsBuilt self.old }
-        ensures { IfOk result (λ v. Helps S.eq (set.now ∷ []) v.items self.old self.new) }
+        ensures helped { IfOk result (λ v. Helps S.eq (set.now ∷ []) v.items self.old self.new) }
+        ensures ids { IsErrOf result Ids → LacksNumber self.new.coding }
     {
         self.help_package(alloc, set.name)?;
         let any = self.give(ProofAtom::AtLeastOne(set.name))?;
@@ -109,7 +117,8 @@ impl<N: Copy + Exact + Hash + Debug + Drop, S: Copy + Exact + Hash + Debug> Enco
         sets: &[ConditionSet<N, S>],
     ) -> R<Vec<Literal>>
         requires { IsBuilt self.old }
-        ensures { IfOk result (λ v. Helps S.eq sets.now v.items self.old self.new) }
+        ensures helped { IfOk result (λ v. Helps S.eq sets.now v.items self.old self.new) }
+        ensures ids { IsErrOf result Ids → LacksNumber self.new.coding }
     {
         let mut literals = Vec::new(alloc);
         for set in sets {
@@ -123,7 +132,8 @@ impl<N: Copy + Exact + Hash + Debug + Drop, S: Copy + Exact + Hash + Debug> Enco
 /// That none of a package is there, or that one of these is chosen.
 fn none_or_outside<N>(alloc: Global, any: VariableId, outside: &[Candidate<N>]) -> R<Vec<Literal>>
     requires { any.0 < 2147483648 }
-    ensures { IfOk result (λ v. v.items ≡ no any ∷ candidate_literals outside.now) }
+    ensures literals { IfOk result (λ v. v.items ≡ no any ∷ candidate_literals outside.now) }
+    ensures refusal { IsOkUnless result Memory }
 {
     let mut literals = Vec::new(alloc);
     literals.push(Literal::new(any, true))?;

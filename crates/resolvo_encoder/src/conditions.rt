@@ -1,6 +1,7 @@
 //! The cases of conditions. A case of a parent's need waits until each of its version sets has a chosen match, and then it becomes
 //! a clause. It keeps its place among those that wait; the places of those that became clauses are noted.
-ghost use Rattle.std.specs.Prelude.{◌≡◌, ◌<◌, true, false, length, slice_get, Some, OnOk, IfOk, Contains};
+ghost use Rattle.std.specs.Prelude.{◌≡◌, ◌<◌, true, false, length, slice_get, Some, OnOk, IfOk, Contains, IsErrOf, IsOkUnless};
+ghost use Rattle.resolvo_pool_core.specs.declared.want.Want.TheVariants.{Memory, Ids};
 ghost use Rattle.resolvo_pool_core.specs.RuleKeeping.{Packages, Rules, IsLawful, rules_for};
 ghost use Rattle.resolvo_store_core.specs.Deferred.{candidates_of};
 ghost use Rattle.resolvo_store_core.specs.declared.conditions.DeferredConjunct.{DeferredConjunct};
@@ -8,7 +9,7 @@ ghost use Rattle.resolvo_packages.specs.PackageSource.{AreOffered, offered_solva
 ghost use Rattle.resolvo_soundness.specs.Encoding.{cases_for};
 ghost use Rattle.resolvo_soundness.specs.SearchEnd.{IsNeedEncoded};
 ghost use Rattle.resolvo_encoder.specs.Encoded.{rules_of, IsGuarded, IsEncoding};
-ghost use Rattle.resolvo_encoder.specs.Steps.{IsBuilt, Extends, AddsCandidates};
+ghost use Rattle.resolvo_encoder.specs.Steps.{IsBuilt, Extends, AddsCandidates, LacksNumberFor};
 ghost use Rattle.resolvo_encoder.specs.Conditions.{case_of, sets_case, IsDeferred, AreConjuncts, AreSets, Defers, Fires, waiting_count, IsWaiting, IsTrueNow, IsOneChosen, IsMetNow, IsSpent};
 ghost use Rattle.resolvo_encoder.specs.declared.encoder.Deferred.{Deferred as Kept};
 ghost use Rattle.resolvo_encoder.specs.declared.conditions.ConditionSet.{ConditionSet as Set};
@@ -62,6 +63,7 @@ impl<N: Copy + Exact + Hash + Debug + Drop, S: Copy + Exact + Hash + Debug> Enco
             × IsDeferred self.new parent need (case_of conjuncts.items)) }
         ensures kept { OnOk result (Defers self.old self.new) }
         ensures built { OnOk result (IsBuilt self.new) }
+        ensures refusal { IsOkUnless result Memory }
     {
         self.deferred.push(Deferred {
             parent,
@@ -172,6 +174,7 @@ impl<N: Copy + Exact + Hash + Debug + Drop, S: Copy + Exact + Hash + Debug> Enco
         ensures candidates { OnOk result (AddsCandidates need.requirement offered.now self.old self.new) }
         ensures kept { OnOk result (Extends self.old self.new) }
         ensures built { OnOk result (IsBuilt self.new) }
+        ensures ids { IsErrOf result Ids → LacksNumberFor need.requirement self.new }
     {
         if keeps_out(sets, parent) {
             return Ok(());
@@ -199,6 +202,7 @@ impl<N: Copy + Exact + Hash + Debug + Drop, S: Copy + Exact + Hash + Debug> Enco
             (case_of d.conjuncts.items))
             → IsEncoding S.eq p root self.new) }
         ensures built { OnOk result (IsBuilt self.old → IsBuilt self.new) }
+        ensures refusal { IsOkUnless result Memory }
     {
         add_key(&mut self.fired, index)?;
         // A set has fewer than 2^64 values.
@@ -253,7 +257,8 @@ fn is_offered<N, S: Copy + Exact + Hash + Debug>(offered: &[Offered<N, S>], solv
 
 /// The version sets of a case that waits.
 fn version_sets_of<S>(alloc: Global, conjuncts: &[DeferredConjunct<S>]) -> R<Vec<VersionSetId>>
-    ensures { IfOk result (λ v. v.items ≡ case_of conjuncts.now) }
+    ensures case { IfOk result (λ v. v.items ≡ case_of conjuncts.now) }
+    ensures refusal { IsOkUnless result Memory }
 {
     let mut case = Vec::new(alloc);
     for conjunct in conjuncts {
@@ -264,7 +269,8 @@ fn version_sets_of<S>(alloc: Global, conjuncts: &[DeferredConjunct<S>]) -> R<Vec
 
 /// The version sets of a case that fires.
 fn names_of<N, S>(alloc: Global, sets: &[ConditionSet<N, S>]) -> R<Vec<VersionSetId>>
-    ensures { IfOk result (λ v. v.items ≡ sets_case sets.now) }
+    ensures case { IfOk result (λ v. v.items ≡ sets_case sets.now) }
+    ensures refusal { IsOkUnless result Memory }
 {
     let mut case = Vec::new(alloc);
     for set in sets {

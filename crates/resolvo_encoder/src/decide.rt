@@ -1,15 +1,18 @@
 //! The search goes on over what was encoded: it sets what follows, learns and chooses.
-ghost use Rattle.std.specs.Prelude.{◌≡◌, ◌-◌, max, IfOk, OnOk};
+ghost use Rattle.std.specs.Prelude.{◌≡◌, ◌-◌, max, IfOk, OnOk, IsErrOf, IsOkUnless};
+ghost use Rattle.resolvo_pool_core.specs.declared.want.Want.TheVariants.{Memory, Ids};
 ghost use Rattle.resolvo_pool_core.specs.RuleKeeping.{Packages, Rules, IsLawful};
 ghost use Rattle.resolvo_store_core.specs.AtMostOne.{IsFrontOf};
 ghost use Rattle.resolvo_decide.specs.Needs.{KeepsFitting};
 ghost use Rattle.resolvo_sat.specs.Steps.{Undoes};
+ghost use Rattle.resolvo_state.specs.SolverState.{LacksNumber};
 ghost use Rattle.resolvo_encoder.specs.Encoded.{IsEncoding};
 ghost use Rattle.resolvo_encoder.specs.Steps.{IsBuilt};
 ghost use Rattle.resolvo_encoder.specs.Progress.{IsNext, GoesOn, IsStep, IsChoice};
 ghost use Rattle.resolvo_encoder.specs.Base.{KeepsFirst, KeepsTurns};
 
 use crate::encoder::Encoder;
+use resolvo_decide::scores::Scores;
 use resolvo_decide::undecided_clauses::UndecidedClauses;
 use resolvo_pool_core::id::{ClauseId, Exact};
 use resolvo_pool_core::id_map::ScoreMap;
@@ -37,11 +40,15 @@ pub enum Step {
 
 impl<N: Copy + Exact + Hash + Debug + Drop, S: Copy + Exact + Hash + Debug> Encoder<N, S> {
     /// The candidate that is to be chosen next, if one is. What is found of need clauses is noted.
-    pub fn next_decision<C: ScoreMap<N>>(&mut self, scores: &C) -> R<Option<NextDecision>>
+    pub fn next_decision<C: ScoreMap<N>>(
+        &mut self,
+        scores: &Scores<N, C>,
+    ) -> R<Option<NextDecision>>
         requires { IsBuilt self.old }
-        ensures next { IfOk result (IsNext (C.score_of scores.now) self.new) }
+        ensures next { IfOk result (IsNext (C.score_of scores.now.map) self.new) }
         ensures built { OnOk result (IsBuilt self.new) }
         ensures rest { OnOk result (self.new ≡ record self.old { needs = self.new.needs }) }
+        ensures refusal { IsOkUnless result Memory }
     {
         let trail = &self.coding.search.tracker;
         let next = self
@@ -51,7 +58,7 @@ impl<N: Copy + Exact + Hash + Debug + Drop, S: Copy + Exact + Hash + Debug> Enco
     }
 
     /// Chooses the next candidate, or tells that none is left to choose.
-    pub fn choose_next<C: ScoreMap<N>>(&mut self, scores: &C) -> R<bool>
+    pub fn choose_next<C: ScoreMap<N>>(&mut self, scores: &Scores<N, C>) -> R<bool>
         requires { IsBuilt self.old }
         ensures stays { OnOk result
             ((p : Packages N S) (root : Rules)
@@ -62,6 +69,7 @@ impl<N: Copy + Exact + Hash + Debug + Drop, S: Copy + Exact + Hash + Debug> Enco
         ensures built { OnOk result (IsBuilt self.new) }
         ensures first { OnOk result (KeepsFirst self.old self.new) }
         ensures chosen { IfOk result (IsChoice self.old self.new) }
+        ensures refusal { IsOkUnless result Memory }
     {
         match self.next_decision(scores)? {
             None => Ok(false),
@@ -91,7 +99,7 @@ impl<N: Copy + Exact + Hash + Debug + Drop, S: Copy + Exact + Hash + Debug> Enco
     }
 
     /// Sets what follows; then learns where a clause is broken, and chooses where none is.
-    pub fn step<C: ScoreMap<N>>(&mut self, alloc: Global, scores: &C) -> R<Step>
+    pub fn step<C: ScoreMap<N>>(&mut self, alloc: Global, scores: &Scores<N, C>) -> R<Step>
         requires { IsBuilt self.old }
         ensures stays { OnOk result
             ((p : Packages N S) (root : Rules)
@@ -102,6 +110,7 @@ impl<N: Copy + Exact + Hash + Debug + Drop, S: Copy + Exact + Hash + Debug> Enco
         ensures built { OnOk result (IsBuilt self.new) }
         ensures first { OnOk result (KeepsFirst self.old self.new) }
         ensures step { IfOk result (IsStep self.old self.new) }
+        ensures ids { IsErrOf result Ids → LacksNumber self.new.coding }
     {
         match self.coding.propagate_and_learn(alloc)? {
             StepResult::Refused(refusal) => Ok(Step::Refused(refusal)),

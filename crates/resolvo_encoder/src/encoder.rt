@@ -1,7 +1,8 @@
 //! What was encoded: the clauses with what they state, the registered solvables, the candidates of
 //! requirements, the need clauses in their order, the parents whose needs are encoded in turn, and the
 //! cases of conditions that wait.
-ghost use Rattle.std.specs.Prelude.{◌≡◌, ◌⊎◌, ◌<◌, ◌∷◌, ◌++◌, [], true, Some, None, OnOk, IfOk, IsSome, Contains, slice_get, length, ◌+◌};
+ghost use Rattle.std.specs.Prelude.{◌≡◌, ◌⊎◌, ◌<◌, ◌∷◌, ◌++◌, [], true, Some, None, OnOk, IfOk, IsSome, Contains, slice_get, length, ◌+◌, IsErrOf, IsOkUnless};
+ghost use Rattle.resolvo_pool_core.specs.declared.want.Want.TheVariants.{Memory, Ids};
 ghost use Rattle.indexmap.specs.IndexSet.{insert_key};
 ghost use Rattle.resolvo_pool_core.specs.declared.solver_id.SolvableIdOrRoot.TheVariants.{Root, Solvable as Parent};
 ghost use Rattle.resolvo_pool_core.specs.ByRequirement.{slot_of};
@@ -18,8 +19,8 @@ ghost use Rattle.resolvo_state.specs.declared.atom.ProofAtom.TheVariants.{Gate};
 ghost use Rattle.resolvo_state.specs.Atoms.{StandsFor};
 ghost use Rattle.resolvo_encoder.specs.Encoded.{rules_of, IsGuarded, IsEncoding};
 ghost use Rattle.resolvo_state.specs.Statements.{rule_of};
-ghost use Rattle.resolvo_state.specs.SolverState.{IsBegun, IsCoding};
-ghost use Rattle.resolvo_encoder.specs.Steps.{Fixes, StatesNeed, IsBuilt, Needs, Extends, NeedsDirectly, Opens, AddsCandidates, IsBegunEncoding, AddsParent, IsNextEncoded};
+ghost use Rattle.resolvo_state.specs.SolverState.{IsBegun, IsCoding, LacksNumber};
+ghost use Rattle.resolvo_encoder.specs.Steps.{Fixes, StatesNeed, IsBuilt, Needs, Extends, NeedsDirectly, Opens, AddsCandidates, IsBegunEncoding, AddsParent, IsNextEncoded, LacksNumberFor};
 
 use indexmap::IndexSet;
 use resolvo_decide::undecided_clauses::UndecidedClauses;
@@ -163,6 +164,7 @@ impl<N: Copy + Exact + Hash + Debug + Drop, S: Copy + Exact + Hash + Debug> Enco
         ensures encoding { IfOk result
             (λ e. (p : Packages N S) (root : Rules) → IsLawful p → IsEncoding S.eq p root e) }
         ensures built { IfOk result IsBuilt }
+        ensures refusal { IsOkUnless result Memory }
     {
         let mut parents = IndexSet::new(alloc);
         parents.insert(SolvableIdOrRoot::Root)?;
@@ -194,6 +196,7 @@ impl<N: Copy + Exact + Hash + Debug + Drop, S: Copy + Exact + Hash + Debug> Enco
         ensures candidates { OnOk result (AddsCandidates need.requirement offered.now self.old self.new) }
         ensures kept { OnOk result (Extends self.old self.new) }
         ensures built { OnOk result (IsBuilt self.new) }
+        ensures ids { IsErrOf result Ids → LacksNumberFor need.requirement self.new }
     {
         self.fix_candidates(alloc, need.requirement, offered)?;
         match parent {
@@ -229,6 +232,7 @@ impl<N: Copy + Exact + Hash + Debug + Drop, S: Copy + Exact + Hash + Debug> Enco
         ensures lists { OnOk result (self.new.lists ≡ self.old.lists) }
         ensures kept { OnOk result (Extends self.old self.new) }
         ensures built { OnOk result (IsBuilt self.new) }
+        ensures ids { IsErrOf result Ids → LacksNumberFor need.requirement self.new }
     {
         let variable = self.coding.variable(ProofAtom::Solvable(solvable))?;
         if count < GATED {
@@ -248,7 +252,8 @@ impl<N: Copy + Exact + Hash + Debug + Drop, S: Copy + Exact + Hash + Debug> Enco
         offered: &[Offered<N, S>],
     ) -> R<()>
         requires { IsBuilt self.old }
-        ensures { OnOk result (Fixes S.eq requirement offered.now self.old self.new) }
+        ensures fixed { OnOk result (Fixes S.eq requirement offered.now self.old self.new) }
+        ensures ids { IsErrOf result Ids → LacksNumberFor requirement self.new }
     {
         if self.lists.candidates(requirement).is_some() {
             return Ok(());
@@ -269,6 +274,7 @@ impl<N: Copy + Exact + Hash + Debug + Drop, S: Copy + Exact + Hash + Debug> Enco
         requires built { IsBuilt self.old }
         requires in_range { variable.0 < count_of self.old.coding.search }
         ensures needed { OnOk result (NeedsDirectly parent need variable self.old self.new) }
+        ensures ids { IsErrOf result Ids → LacksNumber self.new.coding }
     {
         let stated = Stated::Needs {
             parent,
@@ -296,6 +302,7 @@ impl<N: Copy + Exact + Hash + Debug + Drop, S: Copy + Exact + Hash + Debug> Enco
             ∷ (condition_in self.old.lists condition ++ candidate_literals
             (candidates_in self.old.lists requirement))) }
         ensures stated { OnOk result (StatesNeed stated variable condition requirement self.old self.new) }
+        ensures ids { IsErrOf result Ids → LacksNumber self.new.coding }
     {
         let literals = self.literals_of(alloc, variable, condition, requirement)?;
         let clause = self.coding.state(stated, literals)?;
@@ -324,6 +331,7 @@ impl<N: Copy + Exact + Hash + Debug + Drop, S: Copy + Exact + Hash + Debug> Enco
         ensures lists { OnOk result (self.new.lists ≡ self.old.lists) }
         ensures kept { OnOk result (Extends self.old self.new) }
         ensures built { OnOk result (IsBuilt self.new) }
+        ensures ids { IsErrOf result Ids → LacksNumberFor requirement self.new }
     {
         if let Some(gate) = self.gates.get(requirement) {
             return Ok(*gate);
@@ -353,6 +361,7 @@ impl<N: Copy + Exact + Hash + Debug + Drop, S: Copy + Exact + Hash + Debug> Enco
         requires in_range { variable.0 < count_of self.old.coding.search }
         requires gate_in_range { gate.0 < count_of self.old.coding.search }
         ensures opened { OnOk result (Opens solvable variable gate requirement self.old self.new) }
+        ensures ids { IsErrOf result Ids → LacksNumber self.new.coding }
     {
         let mut literals = Vec::new(alloc);
         literals.push(Literal::new(variable, true))?;
@@ -380,6 +389,7 @@ impl<N: Copy + Exact + Hash + Debug + Drop, S: Copy + Exact + Hash + Debug> Enco
             v.items ≡ no variable
             ∷ (condition_in self.now.lists condition ++ candidate_literals
             (candidates_in self.now.lists requirement))) }
+        ensures refusal { IsOkUnless result Memory }
     {
         let mut literals = Vec::new(alloc);
         literals.push(Literal::new(variable, true))?;
@@ -409,6 +419,7 @@ impl<N: Copy + Exact + Hash + Debug + Drop, S: Copy + Exact + Hash + Debug> Enco
             → IsEncoding S.eq p root self.new) }
         ensures built { OnOk result (IsBuilt self.old → IsBuilt self.new) }
         ensures stands { OnOk result (Contains self.new.parents.keys (Parent solvable)) }
+        ensures refusal { IsOkUnless result Memory }
     {
         add_key(&mut self.parents, SolvableIdOrRoot::Solvable(solvable))?;
         Ok(())
@@ -433,7 +444,8 @@ impl<N: Copy + Exact + Hash + Debug + Drop, S: Copy + Exact + Hash + Debug> Enco
 
 /// Puts the literals of candidates behind the others.
 pub(crate) fn push_candidates<N>(candidates: &[Candidate<N>], literals: &mut Vec<Literal>) -> R<()>
-    ensures { OnOk result (literals.new.items ≡ literals.old.items ++ candidate_literals candidates.now) }
+    ensures pushed { OnOk result (literals.new.items ≡ literals.old.items ++ candidate_literals candidates.now) }
+    ensures refusal { IsOkUnless result Memory }
 {
     for candidate in candidates {
         literals.push(candidate.literal)?;
@@ -451,6 +463,7 @@ pub fn add_key<K: Copy + Eq + Hash + Drop>(keys: &mut IndexSet<K>, key: K) -> R<
         → Contains keys.new.keys other
         → Contains keys.old.keys other ⊎ (other ≡ key)) }
     ensures added { OnOk result (keys.new.keys ≡ insert_key K.eq keys.old.keys key) }
+    ensures refusal { IsOkUnless result Memory }
 {
     keys.insert(key)?;
     Ok(())

@@ -1,6 +1,7 @@
 //! What keeps solvables out becomes clauses: limits, locks, exclusions, and dependencies that are unknown. The encoder
 //! calls it for each parent, and for the packages that its needs and limits name.
-ghost use Rattle.std.specs.Prelude.{◌≡◌, ◌<◌, ◌∷◌, [], true, Option, Some, OnOk, IfOk, IsSome, Contains};
+ghost use Rattle.std.specs.Prelude.{◌≡◌, ◌<◌, ◌∷◌, [], true, Option, Some, OnOk, IfOk, IsSome, Contains, IsErrOf, IsOkUnless};
+ghost use Rattle.resolvo_pool_core.specs.declared.want.Want.TheVariants.{Memory, Ids};
 ghost use Rattle.std.specs.Bool.{Decides};
 ghost use Rattle.resolvo_pool_core.specs.RuleKeeping.{Packages, Rules, IsLawful, rules_for, is_outside};
 ghost use Rattle.resolvo_store_core.specs.Clauses.{no};
@@ -9,7 +10,7 @@ ghost use Rattle.resolvo_packages.specs.PackageSource.{AreOutside};
 ghost use Rattle.resolvo_packages.specs.Forbidden.{AreBarred};
 ghost use Rattle.resolvo_soundness.specs.Encoding.{Rule, Bar, IsBarredIn, HasBar};
 ghost use Rattle.resolvo_state.specs.Atoms.{StandsFor};
-ghost use Rattle.resolvo_state.specs.SolverState.{IsCoding};
+ghost use Rattle.resolvo_state.specs.SolverState.{IsCoding, LacksNumber};
 ghost use Rattle.resolvo_state.specs.Statements.{rule_of};
 ghost use Rattle.resolvo_encoder.specs.Encoded.{rules_of, IsEncoding, IsParentVariable, IsLimitEncoded};
 ghost use Rattle.resolvo_encoder.specs.Steps.{IsBuilt, Extends};
@@ -47,6 +48,7 @@ impl<N: Copy + Exact + Hash + Debug + Drop, S: Copy + Exact + Hash + Debug> Enco
         ensures lists { OnOk result (self.new.lists ≡ self.old.lists) }
         ensures kept { OnOk result (Extends self.old self.new) }
         ensures built { OnOk result (IsBuilt self.new) }
+        ensures ids { IsErrOf result Ids → LacksNumber self.new.coding }
     {
         self.bar_each(alloc, barred)?;
         add_key(&mut self.noted.packages, name)?;
@@ -83,6 +85,7 @@ impl<N: Copy + Exact + Hash + Debug + Drop, S: Copy + Exact + Hash + Debug> Enco
         ensures lists { OnOk result (self.new.lists ≡ self.old.lists) }
         ensures kept { OnOk result (Extends self.old self.new) }
         ensures built { OnOk result (IsBuilt self.new) }
+        ensures ids { IsErrOf result Ids → LacksNumber self.new.coding }
     {
         if outside.len() < GATED {
             self.limit_each(alloc, parent, version_set, outside)?;
@@ -115,6 +118,7 @@ impl<N: Copy + Exact + Hash + Debug + Drop, S: Copy + Exact + Hash + Debug> Enco
         ensures lists { OnOk result (self.new.lists ≡ self.old.lists) }
         ensures kept { OnOk result (Extends self.old self.new) }
         ensures built { OnOk result (IsBuilt self.new) }
+        ensures ids { IsErrOf result Ids → LacksNumber self.new.coding }
     {
         if self.noted.version_sets.contains(&version_set) {
             return Ok(());
@@ -127,7 +131,8 @@ impl<N: Copy + Exact + Hash + Debug + Drop, S: Copy + Exact + Hash + Debug> Enco
     /// States that each of these is kept out.
     fn bar_each(&mut self, alloc: Global, barred: &[Barred<S>]) -> R<()>
         requires { IsBuilt self.old }
-        ensures { OnOk result (Tells S.eq (bar_rules barred.now) self.old self.new) }
+        ensures told { OnOk result (Tells S.eq (bar_rules barred.now) self.old self.new) }
+        ensures ids { IsErrOf result Ids → LacksNumber self.new.coding }
     {
         for one in barred {
             self.deny(alloc, one.solvable, barred_by(*one))?;
@@ -144,7 +149,8 @@ impl<N: Copy + Exact + Hash + Debug + Drop, S: Copy + Exact + Hash + Debug> Enco
         outside: &[Offered<N, S>],
     ) -> R<()>
         requires { IsBuilt self.old }
-        ensures { OnOk result (Tells S.eq (limit_rules parent version_set outside.now) self.old self.new) }
+        ensures told { OnOk result (Tells S.eq (limit_rules parent version_set outside.now) self.old self.new) }
+        ensures ids { IsErrOf result Ids → LacksNumber self.new.coding }
     {
         for one in outside {
             self.limit_one(alloc, parent, version_set, one.solvable)?;
@@ -160,7 +166,8 @@ impl<N: Copy + Exact + Hash + Debug + Drop, S: Copy + Exact + Hash + Debug> Enco
         outside: &[Offered<N, S>],
     ) -> R<()>
         requires { IsBuilt self.old }
-        ensures { OnOk result (Tells S.eq (out_rules version_set outside.now) self.old self.new) }
+        ensures told { OnOk result (Tells S.eq (out_rules version_set outside.now) self.old self.new) }
+        ensures ids { IsErrOf result Ids → LacksNumber self.new.coding }
     {
         for one in outside {
             self.state_out(alloc, version_set, one.solvable)?;
@@ -172,10 +179,11 @@ impl<N: Copy + Exact + Hash + Debug + Drop, S: Copy + Exact + Hash + Debug> Enco
     fn deny(&mut self, alloc: Global, solvable: S, stated: Stated<N, S>) -> R<()>
         requires built { IsBuilt self.old }
         requires rule { IsSome (rule_of stated) }
-        ensures { OnOk result
+        ensures told { OnOk result
             ((w : Bar S)
             → rule_of stated ≡ Some (Rule.bars w solvable)
             → Tells S.eq (Rule.bars w solvable ∷ []) self.old self.new) }
+        ensures ids { IsErrOf result Ids → LacksNumber self.new.coding }
     {
         let variable = self.give(ProofAtom::Solvable(solvable))?;
         self.state_pair(alloc, stated, variable, Literal::new(variable, true))?;
@@ -191,7 +199,8 @@ impl<N: Copy + Exact + Hash + Debug + Drop, S: Copy + Exact + Hash + Debug> Enco
         barred: S,
     ) -> R<()>
         requires { IsBuilt self.old }
-        ensures { OnOk result (Tells S.eq (Rule.limits parent version_set barred ∷ []) self.old self.new) }
+        ensures told { OnOk result (Tells S.eq (Rule.limits parent version_set barred ∷ []) self.old self.new) }
+        ensures ids { IsErrOf result Ids → LacksNumber self.new.coding }
     {
         let first = self.parent_variable(parent)?;
         let second = self.give(ProofAtom::Solvable(barred))?;
@@ -212,7 +221,8 @@ impl<N: Copy + Exact + Hash + Debug + Drop, S: Copy + Exact + Hash + Debug> Enco
         version_set: VersionSetId,
     ) -> R<()>
         requires { IsBuilt self.old }
-        ensures { OnOk result (Tells S.eq (Rule.limits_outside parent version_set ∷ []) self.old self.new) }
+        ensures told { OnOk result (Tells S.eq (Rule.limits_outside parent version_set ∷ []) self.old self.new) }
+        ensures ids { IsErrOf result Ids → LacksNumber self.new.coding }
     {
         let first = self.parent_variable(parent)?;
         let second = self.give(ProofAtom::Outside(version_set))?;
@@ -227,7 +237,8 @@ impl<N: Copy + Exact + Hash + Debug + Drop, S: Copy + Exact + Hash + Debug> Enco
     /// States that a solvable is outside a version set.
     fn state_out(&mut self, alloc: Global, version_set: VersionSetId, solvable: S) -> R<()>
         requires { IsBuilt self.old }
-        ensures { OnOk result (Tells S.eq (Rule.is_out version_set solvable ∷ []) self.old self.new) }
+        ensures told { OnOk result (Tells S.eq (Rule.is_out version_set solvable ∷ []) self.old self.new) }
+        ensures ids { IsErrOf result Ids → LacksNumber self.new.coding }
     {
         let first = self.give(ProofAtom::Solvable(solvable))?;
         let second = self.give(ProofAtom::Outside(version_set))?;
@@ -244,6 +255,7 @@ impl<N: Copy + Exact + Hash + Debug + Drop, S: Copy + Exact + Hash + Debug> Enco
         requires { IsBuilt self.old }
         ensures told { OnOk result (Tells S.eq [] self.old self.new) }
         ensures stands { IfOk result (λ v. IsParentVariable self.new.coding.atoms.keys parent v) }
+        ensures ids { IsErrOf result Ids → LacksNumber self.new.coding }
     {
         match parent {
             None => Ok(VariableId::root()),
@@ -259,6 +271,7 @@ impl<N: Copy + Exact + Hash + Debug + Drop, S: Copy + Exact + Hash + Debug> Enco
         requires { IsBuilt self.old }
         ensures told { OnOk result (Tells S.eq [] self.old self.new) }
         ensures stands { IfOk result (λ v. StandsFor self.new.coding.atoms.keys v atom) }
+        ensures ids { IsErrOf result Ids → LacksNumber self.new.coding }
     {
         let variable = self.coding.variable(atom)?;
         Ok(variable)
@@ -276,7 +289,8 @@ impl<N: Copy + Exact + Hash + Debug + Drop, S: Copy + Exact + Hash + Debug> Enco
         requires rule { IsSome (rule_of stated) }
         requires first { first.0 < count_of self.old.coding.search }
         requires second { second.variable.0 < count_of self.old.coding.search }
-        ensures { OnOk result (StatesPair stated (no first) second self.old self.new) }
+        ensures stated { OnOk result (StatesPair stated (no first) second self.old self.new) }
+        ensures ids { IsErrOf result Ids → LacksNumber self.new.coding }
     {
         let literals = pair_of(alloc, first, second)?;
         self.coding.state(stated, literals)?;
@@ -287,7 +301,8 @@ impl<N: Copy + Exact + Hash + Debug + Drop, S: Copy + Exact + Hash + Debug> Enco
 /// That the first is false, and the second literal, unless it is the same.
 fn pair_of(alloc: Global, first: VariableId, second: Literal) -> R<Vec<Literal>>
     requires { first.0 < 2147483648 }
-    ensures { IfOk result (λ v. IsPair (no first) second v.items) }
+    ensures pair { IfOk result (λ v. IsPair (no first) second v.items) }
+    ensures refusal { IsOkUnless result Memory }
 {
     let denied = Literal::new(first, true);
     let mut literals = Vec::new(alloc);

@@ -1,7 +1,8 @@
 //! Solvables are registered, as the candidates of a requirement, since they are outside a case's version set, or as wishes. Where
 //! a case names their package, a clause says first that one of it is there.
-ghost use Rattle.std.specs.Prelude.{◌≡◌, ◌∷◌, [], OnOk, IfOk};
-ghost use Rattle.resolvo_state.specs.SolverState.{IsCoding};
+ghost use Rattle.std.specs.Prelude.{◌≡◌, ◌∷◌, [], OnOk, IfOk, IsErrOf};
+ghost use Rattle.resolvo_pool_core.specs.declared.want.Want.TheVariants.{Ids};
+ghost use Rattle.resolvo_state.specs.SolverState.{IsCoding, LacksNumber};
 ghost use Rattle.resolvo_state.specs.Registered.{AreTied};
 ghost use Rattle.resolvo_encoder.specs.Steps.{RegistersOne, RegistersAll, IsBuilt, Enrols};
 ghost use Rattle.resolvo_encoder.specs.Helped.{SaysThere, Admits};
@@ -27,7 +28,8 @@ impl<N: Copy + Exact + Hash + Debug + Drop, S: Copy + Exact + Hash + Debug> Enco
         offered: &[Offered<N, S>],
     ) -> R<Vec<Candidate<N>>>
         requires { IsBuilt self.old }
-        ensures { IfOk result (λ v. Enrols S.eq offered.now v.items self.old self.new) }
+        ensures enrolled { IfOk result (λ v. Enrols S.eq offered.now v.items self.old self.new) }
+        ensures ids { IsErrOf result Ids → LacksNumber self.new.coding }
     {
         self.admit(alloc, offered)?;
         let given = register_all(alloc, &mut self.registry, &mut self.coding, offered)?;
@@ -37,7 +39,8 @@ impl<N: Copy + Exact + Hash + Debug + Drop, S: Copy + Exact + Hash + Debug> Enco
     /// States of each of these whose package a case names that one of it is there.
     fn admit(&mut self, alloc: Global, offered: &[Offered<N, S>]) -> R<()>
         requires { IsBuilt self.old }
-        ensures { OnOk result (Admits S.eq offered.now self.old self.new) }
+        ensures admitted { OnOk result (Admits S.eq offered.now self.old self.new) }
+        ensures ids { IsErrOf result Ids → LacksNumber self.new.coding }
     {
         for one in offered {
             self.admit_one(alloc, *one)?;
@@ -48,7 +51,8 @@ impl<N: Copy + Exact + Hash + Debug + Drop, S: Copy + Exact + Hash + Debug> Enco
     /// States that one of its package is there, if a case names that.
     fn admit_one(&mut self, alloc: Global, one: Offered<N, S>) -> R<()>
         requires { IsBuilt self.old }
-        ensures { OnOk result (Admits S.eq (one ∷ []) self.old self.new) }
+        ensures admitted { OnOk result (Admits S.eq (one ∷ []) self.old self.new) }
+        ensures ids { IsErrOf result Ids → LacksNumber self.new.coding }
     {
         if self.noted.helped.contains(&one.name) {
             self.add_at_least_one(alloc, one)?;
@@ -59,7 +63,8 @@ impl<N: Copy + Exact + Hash + Debug + Drop, S: Copy + Exact + Hash + Debug> Enco
     /// Registers a wish, and gives its variable.
     pub(crate) fn register_soft(&mut self, alloc: Global, wish: Offered<N, S>) -> R<VariableId>
         requires { IsBuilt self.old }
-        ensures { IfOk result (λ v. RegistersWish S.eq wish v self.old self.new) }
+        ensures registered { IfOk result (λ v. RegistersWish S.eq wish v self.old self.new) }
+        ensures ids { IsErrOf result Ids → LacksNumber self.new.coding }
     {
         self.admit_one(alloc, wish)?;
         let variable = self
@@ -80,6 +85,7 @@ fn register_all<N: Copy + Exact + Hash + Debug, S: Copy + Exact + Hash + Debug>(
     requires tied { AreTied registry.old coding.old }
     ensures registered { IfOk result
         (λ v. RegistersAll offered.now v.items registry.old coding.old registry.new coding.new) }
+    ensures ids { IsErrOf result Ids → LacksNumber coding.new }
 {
     let mut candidates = Vec::new(alloc);
     for one in offered {
@@ -98,6 +104,7 @@ fn register_one<N: Copy + Exact + Hash + Debug, S: Copy + Exact + Hash + Debug>(
     requires coding { IsCoding coding.old }
     requires tied { AreTied registry.old coding.old }
     ensures registered { IfOk result (λ c. RegistersOne one c registry.old coding.old registry.new coding.new) }
+    ensures ids { IsErrOf result Ids → LacksNumber coding.new }
 {
     let variable = registry.register(coding, one.name, one.solvable)?;
     Ok(Candidate {

@@ -1,11 +1,12 @@
 //! The turn of a wish: it is chosen at the turn's first level, or barred by a clause that tells why it can't stand beside what
 //! was chosen before.
-ghost use Rattle.std.specs.Prelude.{◌≡◌, ◌<◌, length, Some, IfOk, OnOk};
+ghost use Rattle.std.specs.Prelude.{◌≡◌, ◌<◌, length, Some, IfOk, OnOk, IsErrOf, IsOkUnless};
+ghost use Rattle.resolvo_pool_core.specs.declared.want.Want.TheVariants.{Memory, Ids};
 ghost use Rattle.resolvo_pool_core.specs.RuleKeeping.{Packages, Rules, IsLawful};
 ghost use Rattle.resolvo_sat.specs.Analysis.{IsBar};
 ghost use Rattle.resolvo_sat.specs.Entries.{top_level};
 ghost use Rattle.resolvo_sat.specs.State.{history};
-ghost use Rattle.resolvo_state.specs.SolverState.{Bars};
+ghost use Rattle.resolvo_state.specs.SolverState.{Bars, LacksNumber};
 ghost use Rattle.resolvo_encoder.specs.Encoded.{IsEncoding};
 ghost use Rattle.resolvo_encoder.specs.Steps.{IsBuilt};
 ghost use Rattle.resolvo_encoder.specs.Progress.{GoesOn};
@@ -50,6 +51,7 @@ impl<N: Copy + Exact + Hash + Debug + Drop, S: Copy + Exact + Hash + Debug> Enco
         ensures built { OnOk result (IsBuilt self.new) }
         ensures turn { OnOk result (KeepsTurn (Some variable) self.old self.new) }
         ensures tried { IfOk result (IsTried self.new variable) }
+        ensures refusal { IsOkUnless result Memory }
     {
         if self.coding.search.is_true(Literal::new(variable, false)) {
             return Ok(None);
@@ -73,6 +75,7 @@ impl<N: Copy + Exact + Hash + Debug + Drop, S: Copy + Exact + Hash + Debug> Enco
         ensures built { OnOk result (IsBuilt self.new) }
         ensures turn { OnOk result (KeepsTurn (Some variable) self.old self.new) }
         ensures tried { IfOk result (IsTried self.new variable) }
+        ensures refusal { IsOkUnless result Memory }
     {
         if let Some(refusal) = self.coding.search.analyze_final(alloc, variable)? {
             return Ok(Some(refusal));
@@ -98,6 +101,7 @@ impl<N: Copy + Exact + Hash + Debug + Drop, S: Copy + Exact + Hash + Debug> Enco
             (λ id.
             Bars refusal.literals.items refusal.causes.items id self.old.coding
             self.new.coding) }
+        ensures ids { IsErrOf result Ids → LacksNumber self.new.coding }
     {
         let clause = self.coding.bar(refusal)?;
         Ok(clause)

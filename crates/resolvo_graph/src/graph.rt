@@ -43,7 +43,7 @@ pub enum ConflictNode<S = SolvableId> {
 }
 
 /// What an edge says of its ends.
-#[derive(Clone, Copy, Debug, PartialEq, Eq)]
+#[derive(Clone, Copy, Debug, PartialEq, Eq, PartialOrd, Ord, Hash)]
 pub enum ConflictEdge<S = SolvableId> {
     /// The source needs this; the target is a candidate, or the unresolved node.
     Requires(Requirement),
@@ -52,7 +52,7 @@ pub enum ConflictEdge<S = SolvableId> {
 }
 
 /// Why an edge's source is in the way of its target.
-#[derive(Clone, Copy, Debug, PartialEq, Eq)]
+#[derive(Clone, Copy, Debug, PartialEq, Eq, PartialOrd, Ord, Hash)]
 pub enum ConflictCause<S = SolvableId> {
     /// This other version is locked.
     Locked(S),

@@ -1,9 +1,6 @@
 //! What no clause says: that each call succeeds with ample memory, and graphs and messages worked out by hand.
 
-mod conflicts;
 mod graphs;
 mod indents;
 mod messages;
-mod numbers;
-mod orders;
 mod sample;

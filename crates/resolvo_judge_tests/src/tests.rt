@@ -4,6 +4,5 @@
 mod catalogue;
 mod entries;
 mod judge;
-mod listing;
 mod report;
 mod text;

@@ -18,10 +18,10 @@ use Rattle.resolvo_sat.specs.declared.state.SatState.{SatState}
 use Rattle.resolvo_sat.specs.declared.watch_lists.WatchLists.{WatchLists}
 use Rattle.resolvo_sat.specs.declared.watch_lists.UnitClause.{UnitClause}
 use Rattle.resolvo_sat.specs.Known.{clause_at}
-use Rattle.resolvo_sat.specs.Entries.{made_true, before}
-use Rattle.resolvo_sat.specs.State.{clauses_of, lists}
+use Rattle.resolvo_sat.specs.Entries.{before}
+use Rattle.resolvo_sat.specs.State.{clauses_of, history, lists}
 use Rattle.resolvo_sat.specs.Steps.{Adds}
-use Rattle.resolvo_sat.specs.Propagation.{IsReady, IsFit, HasTwo, Guards, IsNoted, Waits, AreCovered, IsOwnPair, IsOnly, AreSingles, HasSingle}
+use Rattle.resolvo_sat.specs.Propagation.{IsReady, IsFit, HasTwo, GuardsTo, IsNoted, Waits, AreCovered, IsOwnPair, IsOnly, AreSingles, HasSingle}
 use Rattle.resolvo_sat.specs.AddClause.{with_last, HasAnother, Begins, Comes}
 use Rattle.resolvo_sat.proofs.Literals.{has-cons, has_here, has_later}
 use Rattle.resolvo_sat.proofs.Trails.{clause_at_kept}
@@ -159,8 +159,15 @@ clause_comes c id literal is_long is_rule s t v w ready covers another adds begu
   ready = record {
     state = adds.state;
     fits = fits;
-    front = subst (λ (x : Tracked). x.front ≤ length x.trail) (sym adds.tracker) ready.front;
-    walked = λ n q is. subst (λ (x : Tracked). Guards (made_true (before x.trail x.front)) (made_true (reverse x.trail)) q) (sym adds.tracker) (ready.walked n q (sym (pair n) ∙ is));
+    front =
+        let low : s.front ≤ length s.tracker.trail = ready.front in
+        let front : t.front ≡ s.front = adds.front in
+        let long : length t.tracker.trail ≡ length s.tracker.trail = ap (λ (x : Tracked). length x.trail) adds.tracker in
+        omega arith;
+    walked = λ n q is.
+        subst (λ (x : Tracked). GuardsTo t.guard_level (before x.trail t.front) (reverse x.trail) q) (sym adds.tracker)
+        (subst (λ (g : ℕ). GuardsTo g (before s.tracker.trail t.front) (history s) q) (sym adds.guard)
+        (subst (λ (k : ℕ). GuardsTo s.guard_level (before s.tracker.trail k) (history s) q) (sym adds.front) (ready.walked n q (sym (pair n) ∙ is))));
   };
   covered = record {
     assertions = subst (AreSingles (clauses_of t)) (sym begun.assertions) (singles_with (clauses_of t) (not is_long && is_rule) x v.assertions.items (kept v.assertions.items covers.assertions) (only is_rule));

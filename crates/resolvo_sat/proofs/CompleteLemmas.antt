@@ -1,16 +1,12 @@
 -- Propagation that went to the trail's end is complete.
-use Rattle.std.proofs.Common.{◌≡◌, ℕ, zero, suc, ◌+◌, ◌-◌, ◌<◌, ◌≤◌, ◌^◌, ◌⊎◌, inl, inr, true, false, not, List, [], ◌∷◌, ◌++◌, reverse, take, length, get_or, Vec, Global, Option, Some, None, refl, sym, ◌∙◌, ap, subst, arith}
-use Rattle.std.specs.Prelude.{is_some, slice_get, min}
-use Rattle.std.specs.Option.{option_map}
+use Rattle.std.proofs.Common.{◌≡◌, ℕ, zero, suc, ◌+◌, ◌-◌, ◌<◌, ◌≤◌, ◌⊎◌, inl, inr, true, false, not, List, [], ◌∷◌, ◌++◌, take, length, get_or, Vec, Global, Option, Some, None, refl, sym, ◌∙◌, ap, subst, arith}
 use Rattle.std.proofs.lemmas.Bool.{both_ways, cases_Bool}
 use Rattle.std.proofs.lemmas.List.{take_more, length-append, length-reverse}
 use Rattle.resolvo_store_core.specs.Signed.{Signed, negation, same_literal, has}
 use Rattle.resolvo_store_core.specs.Clauses.{yes, root}
 use Rattle.resolvo_store_core.specs.Watches.{pair_at}
-use Rattle.resolvo_store_core.specs.Trail.{Tracked}
 use Rattle.resolvo_store_core.specs.declared.watched_literals.WatchedLiterals.{WatchedLiterals}
 use Rattle.resolvo_store_core.specs.declared.decision.Entry.{Entry}
-use Rattle.resolvo_store_core.specs.declared.decision.Decision.{Decision}
 use Rattle.resolvo_store_core.proofs.Watched.{not_same}
 use Rattle.resolvo_sat.specs.declared.state.SatState.{SatState}
 use Rattle.resolvo_sat.specs.declared.state.SatClause.{SatClause}
@@ -20,13 +16,14 @@ use Rattle.resolvo_sat.specs.declared.watch_lists.UnitClause.{UnitClause}
 use Rattle.resolvo_sat.specs.Known.{IsFalseUnder, Forces, clause_at}
 use Rattle.resolvo_sat.specs.Entries.{literal_of, made_true, before}
 use Rattle.resolvo_sat.specs.State.{count_of, history, clauses_of, IsState}
-use Rattle.resolvo_sat.specs.Propagation.{IsReady, IsNoted, Waits, SameWatching, last_taken, AreCovered, AreSingles, IsOnly, HasSingle, AllTrue, Guards, IsWalkedTo, Extends, Walked, Running, IsBroken, Conflicts, IsQuiet, IsComplete, IsSingleSet, IsTaken, SetsSingles}
+use Rattle.resolvo_sat.specs.Propagation.{IsReady, IsNoted, Waits, SameWatching, FellAt, AreCovered, AreSingles, IsOnly, HasSingle, AllTrue, Guards, GuardsTo, IsWalkedTo, Extends, Walked, Running, IsBroken, Conflicts, IsQuiet, IsComplete, IsSingleSet, SetsSingles}
 use Rattle.resolvo_sat.specs.Attach.{Settles}
 use Rattle.resolvo_sat.proofs.Literals.{negation-negation}
-use Rattle.resolvo_sat.proofs.Trails.{consistent, before_all, entry_read, entry_in_range, length_le, root_known}
+use Rattle.resolvo_sat.proofs.Trails.{consistent, before_all, length_le, root_known}
 use Rattle.resolvo_sat.proofs.Clauses.{length-lists}
 use Rattle.resolvo_sat.proofs.ExtendLemmas.{extends_more, still_true, same_clauses}
-use Rattle.resolvo_sat.proofs.Readiness.{fits_same, walked_same, ready_extends, front_extends, same_watching, watching_more}
+use Rattle.resolvo_sat.proofs.Guards.{guards_known}
+use Rattle.resolvo_sat.proofs.Readiness.{fits_same, ready_extends, front_extends, same_watching, watching_more}
 
 all_true_more : (s t : SatState) (xs : List UnitClause) → Extends s t → AllTrue (made_true (history s)) xs → AllTrue (made_true (history t)) xs
 all_true_more s t [] e a = tt
@@ -55,12 +52,12 @@ single_at cs xs i x a h is = subst (λ (y : UnitClause). (y.clause.0 < length cs
 pub single_alone : (o s : SatState) (x : UnitClause) → Extends o s → IsOnly (clause_at (clauses_of o) x.clause.0) x.literal → IsOnly (clause_at (clauses_of s) x.clause.0) x.literal
 single_alone o s x e only = subst (λ (cs : List (List Signed)). IsOnly (clause_at cs x.clause.0) x.literal) (sym (same_clauses o s e)) only
 
-pub single_breaks : (o s t : SatState) (x : UnitClause) → Extends o s → s.tracker.front ≡ o.tracker.front → x.clause.0 < length (clauses_of o) → IsOnly (clause_at (clauses_of o) x.clause.0) x.literal → IsSingleSet x s t false → Extends o t × (t.tracker.front ≡ o.tracker.front) × IsBroken x.clause.0 t
+pub single_breaks : (o s t : SatState) (x : UnitClause) → Extends o s → s.front ≡ o.front → x.clause.0 < length (clauses_of o) → IsOnly (clause_at (clauses_of o) x.clause.0) x.literal → IsSingleSet x s t false → Extends o t × (t.front ≡ o.front) × IsBroken x.clause.0 t
 single_breaks o s t x e front below only (same, f) =
     let count : length (clauses_of o) ≡ length o.clauses = length-lists o.clauses in
     let below' : x.clause.0 < length o.clauses = omega arith in
     let here = single_alone o s x e only in
-    subst (λ (u : SatState). Extends o u × (u.tracker.front ≡ o.tracker.front) × IsBroken x.clause.0 u) (sym same) (
+    subst (λ (u : SatState). Extends o u × (u.front ≡ o.front) × IsBroken x.clause.0 u) (sym same) (
       e,
       front,
       record {
@@ -93,34 +90,34 @@ running_starts o r s t v w rules learnt settles settled = record {
 pub singles_ready : (o r s : SatState) (w : WatchLists) (xs ys : List UnitClause) → IsReady o w → SetsSingles xs o r → SetsSingles ys r s → IsReady s w
 singles_ready o r s w xs ys ready rules learnt = ready_extends r s w (ready_extends o r w ready rules.extends rules.front) learnt.extends learnt.front
 
-pub running_goes_on : (o s u t : SatState) (v w x : WatchLists) (l : Signed) → Running o s v w → IsTaken s u (Some l) → Walked (last_taken u + 1) u t w x → Running o t v x
-running_goes_on o s u t v w x l run taken walked =
-    let within : s.tracker.front < length s.tracker.trail = taken.0.in_range in
-    let grown : length t.tracker.trail ≡ length u.tracker.trail + length walked.extends.more = ap length walked.extends.added ∙ length-append u.tracker.trail walked.extends.more in
-    let long : length u.tracker.trail ≡ length s.tracker.trail = ap length taken.2 in
-    let e : Extends s t = extends_more s u t taken.1 walked.extends in
-    let kept : t.tracker.front ≡ u.tracker.front = walked.front in
-    let moved : u.tracker.front ≡ s.tracker.front + 1 = taken.3 in
-    let here : last_taken u + 1 ≡ t.tracker.front = omega arith in
+-- the entry at the front was walked over, and is passed
+pub running_goes_on : (o s u t : SatState) (v w x : WatchLists) (l : Signed) → Running o s v w → FellAt l s.front s → Walked (s.front + 1) s u w x → t ≡ record u { front = u.front + 1 } → Running o t v x
+running_goes_on o s u t v w x l run fell walked passed =
+    subst (λ (y : SatState). Running o y v x) (sym passed)
+    (let within : s.front < length s.tracker.trail = fell.in_range in
+    let grown : length u.tracker.trail ≡ length s.tracker.trail + length walked.extends.more = ap length walked.extends.added ∙ length-append s.tracker.trail walked.extends.more in
+    let kept : u.front ≡ s.front = walked.front in
+    let here : s.front + 1 ≡ u.front + 1 = ap (λ (n : ℕ). n + 1) (sym kept) in
+    let e : Extends s (record u { front = u.front + 1 }) = front_extends s u (u.front + 1) walked.extends in
     record {
       watching = watching_more v w x run.watching walked.watching;
       settled = λ n waits. run.settled n (walked.watching.waited n waits);
-      fits = walked.fits;
-      extends = extends_more o s t run.extends e;
-      walked = subst (λ (k : ℕ). IsWalkedTo k t x) here walked.walked;
-      assertions = all_true_more s t v.assertions.items e run.assertions;
-      learnt = all_true_more s t v.learnt.items e run.learnt;
+      fits = fits_same u (record u { front = u.front + 1 }) x walked.fits refl;
+      extends = extends_more o s (record u { front = u.front + 1 }) run.extends e;
+      walked = subst (λ (k : ℕ). IsWalkedTo k u x) here walked.walked;
+      assertions = all_true_more s u v.assertions.items walked.extends run.assertions;
+      learnt = all_true_more s u v.learnt.items walked.extends run.learnt;
       in_range = omega arith;
-    }
+    })
 
 -- a step of the walk leaves fewer entries
-pub running_smaller : (o s u t : SatState) (v w x : WatchLists) (l : Signed) → Running o s v w → IsTaken s u (Some l) → Walked (last_taken u + 1) u t w x → count_of t - t.tracker.front < count_of s - s.tracker.front
-running_smaller o s u t v w x l run taken walked =
-    let within : s.tracker.front < length s.tracker.trail = taken.0.in_range in
+pub running_smaller : (o s u t : SatState) (v w x : WatchLists) (l : Signed) → Running o s v w → FellAt l s.front s → Walked (s.front + 1) s u w x → t ≡ record u { front = u.front + 1 } → count_of t - t.front < count_of s - s.front
+running_smaller o s u t v w x l run fell walked passed =
+    let within : s.front < length s.tracker.trail = fell.in_range in
     let bound : length s.tracker.trail ≤ count_of s = entries_bounded s run.extends.state in
-    let same : count_of t ≡ count_of s = ap (λ (xs : Vec VariableKind Global). length xs.items) (walked.extends.same.variables ∙ taken.1.same.variables) in
-    let kept : t.tracker.front ≡ u.tracker.front = walked.front in
-    let moved : u.tracker.front ≡ s.tracker.front + 1 = taken.3 in
+    let same : count_of t ≡ count_of s = ap count_of passed ∙ ap (λ (xs : Vec VariableKind Global). length xs.items) walked.extends.same.variables in
+    let kept : u.front ≡ s.front = walked.front in
+    let moved : t.front ≡ u.front + 1 = ap (λ (y : SatState). y.front) passed in
     omega arith
 
 -- a conflict after more of the trail
@@ -128,7 +125,7 @@ pub conflicts_later : (n : ℕ) (o s t : SatState) (v w x : WatchLists) → Same
 conflicts_later n o s t v w x same e c = record { watching = watching_more v w x same c.watching; ready = c.ready; extends = extends_more o s t e c.extends; broken = c.broken }
 
 -- a clause of one literal is broken
-pub singles_break : (n : ℕ) (o s : SatState) (w : WatchLists) → IsReady o w → Extends o s × (s.tracker.front ≡ o.tracker.front) × IsBroken n s → Conflicts n o s w w
+pub singles_break : (n : ℕ) (o s : SatState) (w : WatchLists) → IsReady o w → Extends o s × (s.front ≡ o.front) × IsBroken n s → Conflicts n o s w w
 singles_break n o s w ready (e, front, broken) = record { watching = same_watching w; ready = ready_extends o s w ready e front; extends = e; broken = broken }
 
 literal_set : (known : List Signed) (xs : List UnitClause) (x : UnitClause) → AllTrue known xs → HasSingle xs x → has known x.literal ≡ true
@@ -156,7 +153,7 @@ quiet_single o s v xs n x e alone set number stands =
     inl (x.literal, subst (λ (c : List Signed). has c x.literal ≡ true) (sym here) (clause_alone (clauses_of o) xs x alone stands), literal_set (made_true (history s)) xs x set stands)
 
 -- each clause is quiet where all of the trail was walked
-running_quiet : (o s : SatState) (v w : WatchLists) → Running o s v w → AreCovered o v → length s.tracker.trail ≤ s.tracker.front → (n : ℕ) → n < length s.clauses → IsQuiet (made_true (history s)) (clause_at (clauses_of s) n)
+running_quiet : (o s : SatState) (v w : WatchLists) → Running o s v w → AreCovered o v → length s.tracker.trail ≤ s.front → (n : ℕ) → n < length s.clauses → IsQuiet (made_true (history s)) (clause_at (clauses_of s) n)
 running_quiet o s v w run covers h n below = go (pair_at w.watched.items n) refl
   where
     known : List Signed
@@ -164,8 +161,8 @@ running_quiet o s v w run covers h n below = go (pair_at w.watched.items n) refl
 
     walked : IsWalkedTo (length s.tracker.trail) s w
     walked =
-        let low : s.tracker.front ≤ length s.tracker.trail = run.in_range in
-        let all : s.tracker.front ≡ length s.tracker.trail = omega arith in
+        let low : s.front ≤ length s.tracker.trail = run.in_range in
+        let all : s.front ≡ length s.tracker.trail = omega arith in
         subst (λ (k : ℕ). IsWalkedTo k s w) all run.walked
 
     covered : pair_at w.watched.items n ≡ None → (n ≡ 0) ⊎ (IsNoted n v ⊎ Waits n v) → IsQuiet known (clause_at (clauses_of s) n)
@@ -179,29 +176,19 @@ running_quiet o s v w run covers h n below = go (pair_at w.watched.items n) refl
     go : (p : Option WatchedLiterals) → pair_at w.watched.items n ≡ p → IsQuiet known (clause_at (clauses_of s) n)
     go (Some p) is =
         quiet_pair known (clause_at (clauses_of s) n) p (run.fits.own n p is).first (run.fits.own n p is).second (run.fits.fit.differ n p is)
-        (subst (λ (ds : List Entry). Guards (made_true ds) known p) (before_all s.tracker.trail) (walked n p is))
+        (guards_known s.guard_level (history s) (history s) p (subst (λ (ds : List Entry). GuardsTo s.guard_level ds (history s) p) (before_all s.tracker.trail) (walked n p is)))
     go None is = covered is (covers.covered n (subst (λ (cs : List SatClause). n < length cs) run.extends.same.clauses below) (run.watching.pairs n is))
 
-pub running_ends : (o s u : SatState) (v w : WatchLists) → Running o s v w → AreCovered o v → IsTaken s u None → IsComplete o u v w
-running_ends o s u v w run covers (end, e, same, front) =
-    let low : s.tracker.front ≤ length s.tracker.trail = run.in_range in
-    let long : length u.tracker.trail ≡ length s.tracker.trail = ap length same in
-    let here : s.tracker.front ≡ u.tracker.front = omega arith in
+pub running_ends : (o s : SatState) (v w : WatchLists) → Running o s v w → AreCovered o v → length s.tracker.trail ≤ s.front → IsComplete o s v w
+running_ends o s v w run covers end =
+    let low : s.front ≤ length s.tracker.trail = run.in_range in
     record {
       watching = run.watching;
-      ready = record {
-        state = e.state;
-        fits = fits_same s u w run.fits e.same.clauses;
-        front = omega arith;
-        walked = subst (λ (k : ℕ). IsWalkedTo k u w) here (walked_same s u s.tracker.front w same run.walked);
-      };
-      extends = extends_more o s u run.extends e;
+      ready = record { state = run.extends.state; fits = run.fits; front = run.in_range; walked = run.walked };
+      extends = run.extends;
       front = omega arith;
       settled = run.settled;
-      quiet = λ n below.
-          subst (λ (xs : List Entry). IsQuiet (made_true (reverse xs)) (clause_at (clauses_of u) n)) (sym same)
-          (subst (λ (cs : List (List Signed)). IsQuiet (made_true (history s)) (clause_at cs n)) (sym (same_clauses s u e))
-          (running_quiet o s v w run covers end n (subst (λ (cs : List SatClause). n < length cs) e.same.clauses below)));
+      quiet = running_quiet o s v w run covers end;
     }
 
 -- a quiet clause is not wholly false
@@ -220,49 +207,8 @@ quiet_not_forced s clause l state (inr q) f = elim (f.forced.others q.0 q.2) [
   | inr e ↦ both_ways _ q.5 e
 ]
 
-none_behind : (xs : List Entry) (k : ℕ) → None ≡ option_map (λ (e : Entry). e.decision) (slice_get xs k) → length xs ≤ k
-none_behind [] k e = omega arith
-none_behind (x ∷ xs) zero e = absurd (both_ways false refl (ap is_some e))
-none_behind (x ∷ xs) (suc k) e = let low : length xs ≤ k = none_behind xs k e in omega arith
-
--- the entry whose decision was read
-read_entry : (xs : List Entry) (k : ℕ) (d : Decision) → Some d ≡ option_map (λ (e : Entry). e.decision) (slice_get xs k) → (k < length xs) × (e : Entry) × (get_or xs k e ≡ e) × (e.decision ≡ d)
-read_entry [] k d e = absurd (both_ways true (ap is_some e) refl)
-read_entry (x ∷ xs) zero d e = (omega arith, x, refl, (let same : x.decision ≡ d = cc in same))
-read_entry (x ∷ xs) (suc k) d e = let (low, y, at, is) = read_entry xs k d e in (omega arith, y, at, is)
-
--- no entry stands behind the front
-pub taken_none : (s : SatState) (t : Tracked) → IsState s → None ≡ option_map (λ (e : Entry). e.decision) (slice_get s.tracker.trail s.tracker.front) → t ≡ record s.tracker { front = min (s.tracker.front + 1) (length s.tracker.trail) } → IsTaken s (record s { tracker = t }) None
-taken_none s t state read moved =
-    let trail : t.trail ≡ s.tracker.trail = ap (λ (x : Tracked). x.trail) moved in
-    let front : t.front ≡ min (s.tracker.front + 1) (length s.tracker.trail) = ap (λ (x : Tracked). x.front) moved in
-    let low : length s.tracker.trail ≤ s.tracker.front = none_behind s.tracker.trail s.tracker.front read in
-    (low, front_extends s t state trail, trail, omega arith)
-
--- a decision's variable is one of the variables
-pub decision_small : (s : SatState) (d : Decision) → IsState s → Some d ≡ option_map (λ (e : Entry). e.decision) (slice_get s.tracker.trail s.tracker.front) → d.variable.0 < 2147483648
-decision_small s d state read =
-    let (low, e, at, is) = read_entry s.tracker.trail s.tracker.front d read in
-    let bound : (get_or s.tracker.trail s.tracker.front e).decision.variable.0 < count_of s = entry_in_range (count_of s) (clauses_of s) s.tracker.trail s.tracker.trail s.tracker.front e state.trail low refl in
-    let same : (get_or s.tracker.trail s.tracker.front e).decision.variable.0 ≡ d.variable.0 = ap (λ (x : Entry). x.decision.variable.0) at ∙ ap (λ (x : Decision). x.variable.0) is in
-    let small : count_of s < 2 ^ 31 = state.small in
-    omega arith
-
--- the entry at the front was taken
-pub taken_some : (s : SatState) (t : Tracked) (d : Decision) (l : Signed) → IsState s → Some d ≡ option_map (λ (e : Entry). e.decision) (slice_get s.tracker.trail s.tracker.front) → t ≡ record s.tracker { front = min (s.tracker.front + 1) (length s.tracker.trail) }
-    → l ≡ record { variable = d.variable; positive = not d.value } → IsTaken s (record s { tracker = t }) (Some l)
-taken_some s t d l state read moved is =
-    let (low, e, at, same) = read_entry s.tracker.trail s.tracker.front d read in
-    let trail : t.trail ≡ s.tracker.trail = ap (λ (x : Tracked). x.trail) moved in
-    let front : t.front ≡ min (s.tracker.front + 1) (length s.tracker.trail) = ap (λ (x : Tracked). x.front) moved in
-    let next : before s.tracker.trail (s.tracker.front + 1) ≡ e ∷ before s.tracker.trail s.tracker.front = entry_read s.tracker.trail s.tracker.trail s.tracker.front e low refl ∙ ap (λ (x : Entry). x ∷ before s.tracker.trail s.tracker.front) at in
-    let made : of_decision d ≡ negation l = sym (negation-negation (of_decision d)) ∙ ap negation (sym is) in
-    let literal : literal_of e ≡ negation l = ap of_decision same ∙ made in (
-      record { in_range = low; entry = ap made_true next ∙ ap (λ (x : Signed). x ∷ made_true (before s.tracker.trail s.tracker.front)) literal },
-      front_extends s t state trail,
-      trail,
-      omega arith,
-    )
-  where
-    of_decision : Decision → Signed
-    of_decision x = record { variable = x.variable; positive = x.value }
+-- the literal that fell by the entry at the front
+pub next_fell : (s : SatState) (e : Entry) (l : Signed) → s.front < length s.tracker.trail → before s.tracker.trail (s.front + 1) ≡ e ∷ before s.tracker.trail s.front → l ≡ record { variable = e.decision.variable; positive = not e.decision.value } → FellAt l s.front s
+next_fell s e l within next is =
+    let literal : literal_of e ≡ negation l = sym (negation-negation (literal_of e)) ∙ ap negation (sym is) in
+    record { in_range = within; entry = ap made_true next ∙ ap (λ (x : Signed). x ∷ made_true (before s.tracker.trail s.front)) literal }

@@ -9,6 +9,7 @@ pub mod Clauses
 pub mod Values
 pub mod StepLemmas
 pub mod ExtendLemmas
+pub mod Guards
 pub mod Readiness
 pub mod VisitLemmas
 pub mod SettleLemmas

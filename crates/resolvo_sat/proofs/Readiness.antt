@@ -1,8 +1,6 @@
 -- The watches stay ready where the trail goes on, or begins anew; and they stay covered.
-use Rattle.std.proofs.Common.{◌≡◌, ℕ, ◌+◌, ◌<◌, ◌≤◌, inl, inr, true, false, List, [], ◌++◌, reverse, length, refl, sym, ◌∙◌, ap, subst, arith}
-use Rattle.std.specs.Prelude.{min}
-use Rattle.std.proofs.lemmas.Bool.{both_ways}
-use Rattle.std.proofs.lemmas.List.{append-nil, length-append, take-append-le}
+use Rattle.std.proofs.Common.{◌≡◌, ℕ, ◌+◌, ◌<◌, ◌≤◌, inl, inr, true, List, [], ◌++◌, take, reverse, length, refl, sym, ◌∙◌, ap, subst, arith}
+use Rattle.std.proofs.lemmas.List.{append-nil, length-append, take-append-le, take-take, reverse-append, reverse-reverse}
 use Rattle.resolvo_store_core.specs.Signed.{Signed, negation, has}
 use Rattle.resolvo_store_core.specs.Clauses.{yes, root}
 use Rattle.resolvo_store_core.specs.Trail.{Tracked}
@@ -11,11 +9,13 @@ use Rattle.resolvo_sat.specs.declared.state.SatClause.{SatClause}
 use Rattle.resolvo_sat.specs.declared.state.SatState.{SatState}
 use Rattle.resolvo_sat.specs.declared.watch_lists.WatchLists.{WatchLists}
 use Rattle.resolvo_sat.specs.Known.{clause_at}
-use Rattle.resolvo_sat.specs.Entries.{made_true, before, IsTrail, IsRooted, StandsOn}
+use Rattle.resolvo_sat.specs.Entries.{before, top_level, StandsAt}
 use Rattle.resolvo_sat.specs.State.{count_of, history, clauses_of, lists, IsState}
 use Rattle.resolvo_sat.specs.Steps.{Undoes}
-use Rattle.resolvo_sat.specs.Propagation.{IsReady, IsFit, HasTwo, IsOwnPair, AreCovered, AreSingles, SameWatching, Guards, IsWalkedTo, Extends}
-use Rattle.resolvo_sat.proofs.ExtendLemmas.{known_in_more}
+use Rattle.resolvo_sat.specs.Propagation.{IsReady, IsFit, HasTwo, IsOwnPair, AreCovered, AreSingles, SameWatching, IsGuard, GuardsTo, NotesGuard, IsWalkedTo, Extends}
+use Rattle.resolvo_sat.proofs.Trails.{kept, level_le_last, undone_older}
+use Rattle.resolvo_sat.proofs.ExtendLemmas.{stands_in_more, stands_by_now}
+use Rattle.resolvo_sat.proofs.Guards.{guards_more}
 
 -- watches that fit some clauses fit the same clauses
 pub fits_same : (s t : SatState) (w : WatchLists) → IsFit s w → t.clauses ≡ s.clauses → IsFit t w
@@ -30,43 +30,64 @@ fits_same s t w fits same = record {
 
 -- before the first entry nothing fell
 pub walked_none : (s : SatState) (w : WatchLists) → IsWalkedTo 0 s w
-walked_none s w n p is = record { first = λ f. absurd (both_ways false refl f); second = λ f. absurd (both_ways false refl f) }
+walked_none s w n p is = record { first = λ k f. absurd f; second = λ k f. absurd f }
 
 -- the same trail was walked as far
-pub walked_same : (s t : SatState) (k : ℕ) (w : WatchLists) → t.tracker.trail ≡ s.tracker.trail → IsWalkedTo k s w → IsWalkedTo k t w
-walked_same s t k w same walked n p is = subst (λ (xs : List Entry). Guards (made_true (before xs k)) (made_true (reverse xs)) p) (sym same) (walked n p is)
+pub walked_same : (s t : SatState) (k : ℕ) (w : WatchLists) → t.tracker.trail ≡ s.tracker.trail → s.guard_level ≤ t.guard_level → IsWalkedTo k s w → IsWalkedTo k t w
+walked_same s t k w same higher walked n p is =
+    subst (λ (xs : List Entry). GuardsTo t.guard_level (before xs k) (reverse xs) p) (sym same)
+    (guards_more s.guard_level t.guard_level (before s.tracker.trail k) (history s) (history s) p higher (λ l j h. h) (walked n p is))
 
 -- a trail that goes on was walked as far
-pub walked_more : (s t : SatState) (k : ℕ) (w : WatchLists) (more : List Entry) → t.tracker.trail ≡ s.tracker.trail ++ more → k ≤ length s.tracker.trail → IsWalkedTo k s w → IsWalkedTo k t w
-walked_more s t k w more added low walked n p is = record {
-  first = λ f. still p.second ((walked n p is).first (earlier p.first f));
-  second = λ f. still p.first ((walked n p is).second (earlier p.second f));
-}
-  where
-    still : (l : Signed) → has (made_true (history s)) l ≡ true → has (made_true (history t)) l ≡ true
-    still l h = subst (λ (xs : List Entry). has (made_true (reverse xs)) l ≡ true) (sym added) (known_in_more s.tracker.trail more l h)
-
-    earlier : (l : Signed) → has (made_true (before t.tracker.trail k)) (negation l) ≡ true → has (made_true (before s.tracker.trail k)) (negation l) ≡ true
-    earlier l f = subst (λ (h : List Entry). has (made_true h) (negation l) ≡ true) (ap (λ (xs : List Entry). before xs k) added ∙ ap reverse (take-append-le k s.tracker.trail more low)) f
+pub walked_more : (s t : SatState) (k : ℕ) (w : WatchLists) (more : List Entry) → t.tracker.trail ≡ s.tracker.trail ++ more → s.guard_level ≤ t.guard_level → k ≤ length s.tracker.trail → IsWalkedTo k s w → IsWalkedTo k t w
+walked_more s t k w more added higher low walked n p is =
+    subst (λ (xs : List Entry). GuardsTo t.guard_level (before xs k) (reverse xs) p) (sym added)
+    (subst (λ (h : List Entry). GuardsTo t.guard_level h (reverse (s.tracker.trail ++ more)) p) (sym (ap reverse (take-append-le k s.tracker.trail more low)))
+    (guards_more s.guard_level t.guard_level (before s.tracker.trail k) (history s) (reverse (s.tracker.trail ++ more)) p higher (λ l j h. stands_in_more s.tracker.trail more l j h) (walked n p is)))
 
 -- entries came, and the clauses are the same
-pub ready_more : (s t : SatState) (w : WatchLists) (more : List Entry) → IsReady s w → IsState t → t.clauses ≡ s.clauses → t.tracker.trail ≡ s.tracker.trail ++ more → t.tracker.front ≡ s.tracker.front → IsReady t w
-ready_more s t w more ready state clauses added front = record {
+pub ready_more : (s t : SatState) (w : WatchLists) (more : List Entry) → IsReady s w → IsState t → t.clauses ≡ s.clauses → t.tracker.trail ≡ s.tracker.trail ++ more → t.front ≡ s.front → s.guard_level ≤ t.guard_level → IsReady t w
+ready_more s t w more ready state clauses added front higher = record {
   state = state;
   fits = fits_same s t w ready.fits clauses;
   front =
-      let low : s.tracker.front ≤ length s.tracker.trail = ready.front in
+      let low : s.front ≤ length s.tracker.trail = ready.front in
       let long : length t.tracker.trail ≡ length s.tracker.trail + length more = ap length added ∙ length-append s.tracker.trail more in
       omega arith;
-  walked = subst (λ (k : ℕ). IsWalkedTo k t w) (sym front) (walked_more s t s.tracker.front w more added ready.front ready.walked);
+  walked = subst (λ (k : ℕ). IsWalkedTo k t w) (sym front) (walked_more s t s.front w more added higher ready.front ready.walked);
 }
 
-pub ready_extends : (s t : SatState) (w : WatchLists) → IsReady s w → Extends s t → t.tracker.front ≡ s.tracker.front → IsReady t w
-ready_extends s t w ready e front = ready_more s t w e.more ready e.state e.same.clauses e.added front
+pub ready_extends : (s t : SatState) (w : WatchLists) → IsReady s w → Extends s t → t.front ≡ s.front → IsReady t w
+ready_extends s t w ready e front = ready_more s t w e.more ready e.state e.same.clauses e.added front e.guard
 
 -- the trail is the same too
-pub ready_same : (s t : SatState) (w : WatchLists) → IsReady s w → IsState t → t.clauses ≡ s.clauses → t.tracker ≡ s.tracker → IsReady t w
-ready_same s t w ready state clauses tracker = ready_more s t w [] ready state clauses (ap (λ (x : Tracked). x.trail) tracker ∙ sym (append-nil s.tracker.trail)) (ap (λ (x : Tracked). x.front) tracker)
+pub ready_same : (s t : SatState) (w : WatchLists) → IsReady s w → IsState t → t.clauses ≡ s.clauses → t.tracker ≡ s.tracker → t.front ≡ s.front → t.guard_level ≡ s.guard_level → IsReady t w
+ready_same s t w ready state clauses tracker front guard = ready_more s t w [] ready state clauses (ap (λ (x : Tracked). x.trail) tracker ∙ sym (append-nil s.tracker.trail)) front (omega arith)
+
+-- entries above the level were taken away, and no guard stood above it that has to stay
+walked_undone : (s t : SatState) (w : WatchLists) (level : ℕ) → Undoes level s t → IsState s → s.guard_level ≤ level → t.guard_level ≡ s.guard_level → t.front ≤ s.front → t.front ≤ length t.tracker.trail → IsWalkedTo s.front s w → IsWalkedTo t.front t w
+walked_undone s t w level undoes state low same front within walked n p is =
+    let (gone, old) = undone_older level (history s) (history t) undoes.undone in
+    record {
+      first = λ k f. guard k p.second ((walked n p is).first k (earlier gone old (negation p.first) k f)) (not_above (negation p.first) k f);
+      second = λ k f. guard k p.first ((walked n p is).second k (earlier gone old (negation p.second) k f)) (not_above (negation p.second) k f);
+    }
+  where
+    not_above : (l : Signed) (k : ℕ) → StandsAt (before t.tracker.trail t.front) l k → k ≤ level
+    not_above l k f =
+        let a : k ≤ top_level (history t) = level_le_last (count_of t) (clauses_of t) (history t) l k undoes.state.trail (stands_by_now t.tracker.trail t.front l k f) in
+        let b : top_level (history t) ≤ level = undoes.low in
+        omega arith
+
+    earlier : (gone : List Entry) → history s ≡ gone ++ history t → (l : Signed) (k : ℕ) → StandsAt (before t.tracker.trail t.front) l k → StandsAt (before s.tracker.trail s.front) l k
+    earlier gone old l k f =
+        let trail : s.tracker.trail ≡ t.tracker.trail ++ reverse gone = sym (reverse-reverse s.tracker.trail) ∙ ap reverse old ∙ reverse-append gone (history t) ∙ ap (λ (xs : List Entry). xs ++ reverse gone) (reverse-reverse t.tracker.trail) in
+        let front_same : before s.tracker.trail t.front ≡ before t.tracker.trail t.front = ap (λ (xs : List Entry). before xs t.front) trail ∙ ap reverse (take-append-le t.front t.tracker.trail (reverse gone) within) in
+        let more : before (take s.front s.tracker.trail) t.front ≡ before s.tracker.trail t.front = ap reverse (take-take t.front s.front s.tracker.trail front) in
+        stands_by_now (take s.front s.tracker.trail) t.front l k (subst (λ (h : List Entry). StandsAt h l k) (sym (more ∙ front_same)) f)
+
+    guard : (k : ℕ) (l : Signed) → IsGuard s.guard_level k (history s) l → k ≤ level → IsGuard t.guard_level k (history t) l
+    guard k l (j, le, stands) below = (j, omega arith, kept level (history s) (history t) l j undoes.undone stands (omega arith))
 
 -- entries were taken away
 pub ready_undone : (s t : SatState) (w : WatchLists) (level : ℕ) → Undoes level s t → IsReady s w → IsReady t w
@@ -77,43 +98,36 @@ ready_undone s t w level undoes ready = elim undoes.front [
     front = omega arith;
     walked = subst (λ (k : ℕ). IsWalkedTo k t w) (sym anew) (walked_none t w);
   }
-  | inr same ↦
-      let low : s.tracker.front ≤ length s.tracker.trail = ready.front in
-      let is : t.tracker.front ≡ min s.tracker.front (length s.tracker.trail) = same.1 in
-      let front : t.tracker.front ≡ s.tracker.front = omega arith in
-      ready_more s t w [] ready undoes.state undoes.same.clauses (same.0 ∙ sym (append-nil s.tracker.trail)) front
+  | inr (low, same, front) ↦ record {
+    state = undoes.state;
+    fits = fits_same s t w ready.fits undoes.same.clauses;
+    front = omega arith;
+    walked = walked_undone s t w level undoes ready.state low same (omega arith) (omega arith) ready.walked;
+  }
 ]
 
 -- the front alone was set
-pub with_front : (s : SatState) (t : Tracked) → IsState s → t.trail ≡ s.tracker.trail → IsState (record s { tracker = t })
-with_front s t state same = record {
-  trail = subst (λ (xs : List Entry). IsTrail (count_of s) (clauses_of s) (reverse xs)) (sym same) state.trail;
-  derived = state.derived;
-  in_range = state.in_range;
-  small = state.small;
-  floor_low = state.floor_low;
-  rooted = subst (λ (xs : List Entry). IsRooted (reverse xs)) (sym same) state.rooted;
+pub front_extends : (s t : SatState) (front : ℕ) → Extends s t → Extends s (record t { front = front })
+front_extends s t front e = record {
+  state = record { trail = e.state.trail; derived = e.state.derived; in_range = e.state.in_range; small = e.state.small; floor_low = e.state.floor_low; rooted = e.state.rooted };
+  same = record { variables = e.same.variables; base_level = e.same.base_level; clauses = e.same.clauses };
+  more = e.more;
+  added = e.added;
+  choices = e.choices;
+  guard = e.guard;
 }
 
-pub front_extends : (s : SatState) (t : Tracked) → IsState s → t.trail ≡ s.tracker.trail → Extends s (record s { tracker = t })
-front_extends s t state same = record {
-  state = with_front s t state same;
-  same = record { variables = refl; base_level = refl; clauses = refl };
-  more = [];
-  added = same ∙ sym (append-nil s.tracker.trail);
-  choices = λ e older stands choice. subst (λ (xs : List Entry). StandsOn (reverse xs) e older) same stands;
-}
-
--- propagation begins anew
-pub ready_anew : (s : SatState) (t : Tracked) (w : WatchLists) → IsState s → IsFit s w → t ≡ record s.tracker { front = 0 } → IsReady (record s { tracker = t }) w
-ready_anew s t w state fits again =
-    let front : t.front ≡ 0 = ap (λ (x : Tracked). x.front) again in
-    record {
-      state = with_front s t state (ap (λ (x : Tracked). x.trail) again);
-      fits = fits_same s (record s { tracker = t }) w fits refl;
-      front = omega arith;
-      walked = subst (λ (k : ℕ). IsWalkedTo k (record s { tracker = t }) w) (sym front) (walked_none (record s { tracker = t }) w);
-    }
+-- the guards' level alone was set
+pub noted_extends : (o s t : SatState) (l m : Signed) → Extends o s → NotesGuard l m s t → Extends o t
+noted_extends o s t l m e noted =
+    subst (Extends o) (sym noted.same) (record {
+      state = record { trail = e.state.trail; derived = e.state.derived; in_range = e.state.in_range; small = e.state.small; floor_low = e.state.floor_low; rooted = e.state.rooted };
+      same = record { variables = e.same.variables; base_level = e.same.base_level; clauses = e.same.clauses };
+      more = e.more;
+      added = e.added;
+      choices = e.choices;
+      guard = let a : o.guard_level ≤ s.guard_level = e.guard in let b : s.guard_level ≤ t.guard_level = noted.higher in omega arith;
+    })
 
 -- what the clauses watch is the same
 pub same_watching : (w : WatchLists) → SameWatching w w

@@ -1,7 +1,7 @@
 -- A clause that waited begins to watch.
 use Rattle.std.proofs.Common.{◌≡◌, ℕ, suc, ◌+◌, ◌-◌, ◌<◌, ◌≤◌, ◌⊎◌, inl, inr, true, false, List, [], ◌∷◌, ◌++◌, take, length, reverse, set, Option, Some, None, refl, sym, ◌∙◌, ap, subst, arith, eqb}
 use Rattle.std.specs.Prelude.{slice_get}
-use Rattle.std.proofs.lemmas.Bool.{or_cases, cases_Bool}
+use Rattle.std.proofs.lemmas.Bool.{or_cases, both_ways, cases_Bool}
 use Rattle.std.proofs.lemmas.Bool.Decides.{eqb_tells}
 use Rattle.std.proofs.lemmas.List.{length-append, length-set}
 use Rattle.std.proofs.lemmas.Grind.{reverse_onto}
@@ -17,12 +17,13 @@ use Rattle.resolvo_sat.specs.declared.state.SatState.{SatState}
 use Rattle.resolvo_sat.specs.declared.watch_lists.WatchLists.{WatchLists}
 use Rattle.resolvo_sat.specs.Known.{clause_at}
 use Rattle.resolvo_sat.specs.Entries.{made_true, before}
-use Rattle.resolvo_sat.specs.State.{count_of, history, clauses_of, IsState}
-use Rattle.resolvo_sat.specs.Propagation.{IsReady, IsFit, IsOwnPair, Guards, Waits, SameWatching}
+use Rattle.resolvo_sat.specs.State.{history, clauses_of}
+use Rattle.resolvo_sat.specs.Propagation.{IsReady, IsFit, IsOwnPair, GuardsTo, NotesGuard, Waits, SameWatching, Extends}
 use Rattle.resolvo_sat.specs.Attach.{AreFalseBut, IsBestBeside, IsBestSoFar, IsBestPair, IsFirstSet, IsLast, Starts, Settles, IsSettling, IsWaitingEnd}
-use Rattle.resolvo_sat.proofs.Trails.{consistent}
-use Rattle.resolvo_sat.proofs.ExtendLemmas.{extends_nothing, true_by_now}
-use Rattle.resolvo_sat.proofs.Readiness.{fits_same, ready_extends, watching_more}
+use Rattle.resolvo_sat.proofs.Trails.{known_from_stands}
+use Rattle.resolvo_sat.proofs.ExtendLemmas.{extends_nothing, stands_by_now}
+use Rattle.resolvo_sat.proofs.Guards.{guards_first, guards_noted}
+use Rattle.resolvo_sat.proofs.Readiness.{fits_same, ready_extends, noted_extends, watching_more}
 use Rattle.resolvo_sat.proofs.ComeLemmas.{count_push, waits_below}
 
 -- all of the clause was looked at
@@ -30,12 +31,16 @@ pub best_found : (known clause part : List Signed) (l : Signed) (o : Option Sign
 best_found known clause part l None whole far = subst (λ (ms : List Signed). (m : Signed) → has ms m ≡ true → m ≡ l) whole far
 best_found known clause part l (Some k) whole far = (far.0, far.1, λ _. subst (AreFalseBut l known) whole far.2)
 
--- the first is true
-pub guards_true : (s : SatState) (p : WatchedLiterals) → IsState s → has (made_true (history s)) p.first ≡ true → Guards (made_true (history s)) (made_true (history s)) p
-guards_true s p state stands = record {
-  first = λ f. absurd (consistent (count_of s) (clauses_of s) (history s) p.first state.trail stands f);
-  second = λ f. stands;
+-- neither of the two fell
+pub guards_free : (s : SatState) (clause : List Signed) (p : WatchedLiterals) → IsBestPair (made_true (history s)) clause p → has (made_true (history s)) (negation p.second) ≡ false → GuardsTo s.guard_level (history s) (history s) p
+guards_free s clause p best free = record {
+  first = λ k f. absurd (both_ways _ free (best.first (known_from_stands (history s) (negation p.first) k f)));
+  second = λ k f. absurd (both_ways _ free (known_from_stands (history s) (negation p.second) k f));
 }
+
+-- the first is true, and its level was noted
+pub first_set : (n : ℕ) (p : WatchedLiterals) (s u t : SatState) → Extends s u → u.front ≡ s.front → has (made_true (history u)) p.first ≡ true → NotesGuard p.second p.first u t → IsFirstSet n p s t true
+first_set n p s u t e front known noted = (noted_extends s u t p.second p.first e noted, ap (λ (x : SatState). x.front) noted.same ∙ front, guards_noted u t p e.state known noted)
 
 -- the last clause was taken off
 pub last_taken_off : (c : ClauseId) (xs ys : List ClauseId) → IsLast c xs → ys ≡ take (length xs - 1) xs → xs ≡ ys ++ c ∷ []
@@ -199,14 +204,12 @@ settles_one s t v w c p ready last best (e, front, guards) starts = (
     still = ready_extends s t v ready e front
 
     walks : (n : ℕ) (q : WatchedLiterals) → pair_at w.watched.items n ≡ Some q → ((n ≡ c.0) × (pair_at w.watched.items n ≡ Some p)) ⊎ ((n ≡ c.0 → ⊥) × (eqb n c.0 ≡ false) × (pair_at w.watched.items n ≡ pair_at v.watched.items n))
-        → Guards (made_true (before t.tracker.trail t.tracker.front)) (made_true (history t)) q
+        → GuardsTo t.guard_level (before t.tracker.trail t.front) (history t) q
     walks n q is (inl here) =
         let both : Some p ≡ Some q = sym here.1 ∙ is in
         let same : p ≡ q = cc in
-        subst (Guards (made_true (before t.tracker.trail t.tracker.front)) (made_true (history t))) same (record {
-          first = λ f. guards.first (true_by_now t.tracker.trail t.tracker.front (negation p.first) f);
-          second = λ f. guards.second (true_by_now t.tracker.trail t.tracker.front (negation p.second) f);
-        })
+        subst (GuardsTo t.guard_level (before t.tracker.trail t.front) (history t)) same
+        (guards_first t.guard_level (history t) (before t.tracker.trail t.front) (history t) p (λ l j h. stands_by_now t.tracker.trail t.front l j h) guards)
     walks n q is (inr other) = still.walked n q (sym other.2 ∙ is)
 
 -- the clause that waits last is wholly false

@@ -1,8 +1,7 @@
 -- Lemmas on the steps of the search.
-use Rattle.std.proofs.Common.{◌≡◌, ℕ, zero, suc, ◌-◌, ◌<◌, ◌≤◌, ◌^◌, ◌+◌, ◌⊎◌, inl, inr, true, false, List, [], ◌∷◌, ◌++◌, reverse, length, get_or, None, refl, sym, ◌∙◌, ap, subst, arith}
-use Rattle.std.specs.Prelude.{min}
+use Rattle.std.proofs.Common.{◌≡◌, ℕ, zero, suc, ◌-◌, ◌<◌, ◌≤◌, ◌^◌, ◌⊎◌, inl, inr, true, false, List, [], ◌∷◌, ◌++◌, reverse, length, get_or, None, refl, sym, ◌∙◌, ap, subst, arith}
 use Rattle.std.proofs.lemmas.Bool.{both_ways}
-use Rattle.std.proofs.lemmas.List.{append-nil, length-append, reverse-append, reverse-reverse, length-reverse, get_or-reverse}
+use Rattle.std.proofs.lemmas.List.{reverse-append, reverse-reverse, length-reverse, get_or-reverse}
 use Rattle.resolvo_pool_core.specs.declared.id.ClauseId.{ClauseId}
 use Rattle.resolvo_pool_core.specs.declared.id.VariableId.{VariableId}
 use Rattle.resolvo_store_core.specs.Signed.{Signed, has}
@@ -17,7 +16,7 @@ use Rattle.resolvo_sat.specs.declared.state.SatState.{SatState}
 use Rattle.resolvo_sat.specs.Known.{IsUndecided, Forces, clause_at}
 use Rattle.resolvo_sat.specs.Entries.{made_true, top_level, Follows, IsTrail, IsUndone, IsRooted}
 use Rattle.resolvo_sat.specs.State.{count_of, history, lists, clauses_of, IsDerived, AreDerived, IsState}
-use Rattle.resolvo_sat.specs.Steps.{AreInRange, forced_entry, choice_entry, Sets, Chooses, IsFrontUndone, Undoes, Adds}
+use Rattle.resolvo_sat.specs.Steps.{AreInRange, forced_entry, choice_entry, SameBut, Sets, Chooses, IsFrontUndone, Undoes, Adds}
 use Rattle.resolvo_sat.proofs.Trails.{trail_more, undone_trail, undone_rooted, undone_all, length_le, level_le_length}
 use Rattle.resolvo_sat.proofs.Values.{undecided_none}
 
@@ -55,7 +54,8 @@ forced_added s u c l x e state forces is answer with =
       state = state_pushed s u (forced_entry c l (history s)) state (record { undecided = forces.undecided; in_range = state.in_range c.0 l forces.forced.stands; reasoned = inr (record { level = refl; forced = forces.forced }) }) pushed;
       same = record { variables = refl; base_level = refl; clauses = refl };
       pushed = pushed;
-      front = ap (λ (t : Store.Tracked). t.front) added;
+      front = refl;
+      guard = refl;
     }
 
 pub choice_added : (s : SatState) (u : Store.Tracked) (v : VariableId) (c : ClauseId) (x : Set) (e : Entry) → IsState s → v.0 < count_of s → IsUndecided (made_true (history s)) (yes v) → e ≡ choice_entry v c (history s)
@@ -68,7 +68,8 @@ choice_added s u v c x e state in_range free is answer with =
       state = state_pushed s u (choice_entry v c (history s)) state (record { undecided = free; in_range = in_range; reasoned = inl (record { opens = refl; positive = refl }) }) pushed;
       same = record { variables = refl; base_level = refl; clauses = refl };
       pushed = pushed;
-      front = ap (λ (t : Store.Tracked). t.front) added;
+      front = refl;
+      guard = refl;
     }
 
 -- levels are small numbers
@@ -100,35 +101,25 @@ undone_is level a b t =
     let within : i < length t.undone = omega arith in
     subst (λ (e : Entry). level < e.level) (sym (get_or-reverse t.undone i d within)) (t.above (length t.undone - 1 - i) d (omega arith))))
 
-empty : (es : List Entry) → length es ≤ 0 → es ≡ []
-empty [] low = refl
-empty (e ∷ es) low = absurd (omega arith)
-
--- where no entry was taken away, the front is where it was
-pub nothing_undone : (level : ℕ) (a b : Store.Tracked) → Store.TakesAway level a b → length a.trail ≤ length b.trail → IsFrontUndone a b
-nothing_undone level a b t long =
-    let whole : length a.trail ≡ length b.trail + length t.undone = ap length t.trail ∙ length-append b.trail t.undone in
-    let same : a.trail ≡ b.trail = t.trail ∙ ap (λ (es : List Entry). b.trail ++ es) (empty t.undone (omega arith)) ∙ append-nil b.trail in
-    inr (sym same, t.front ∙ ap (λ (es : List Entry). min a.front (length es)) (sym same))
-
 -- entries were taken away, and the front was set
-pub state_undone : (s : SatState) (t u : Store.Tracked) (level : ℕ) → IsState s → 1 ≤ level → Store.Undoes level s.tracker t → u.trail ≡ t.trail → IsFrontUndone s.tracker u → Undoes level s (record s { tracker = u })
-state_undone s t u level state one undoes same front =
-    let undone : IsUndone level (history s) (reverse u.trail) = subst (λ (es : List Entry). IsUndone level (history s) (reverse es)) (sym same) (undone_is level s.tracker t undoes.0) in
+pub state_undone : (s u : SatState) (level : ℕ) → IsState s → 1 ≤ level → Store.Undoes level s.tracker u.tracker → u ≡ record s { tracker = u.tracker; front = u.front; guard_level = u.guard_level } → IsFrontUndone level s u → Undoes level s u
+state_undone s u level state one undoes same front =
+    let undone : IsUndone level (history s) (history u) = undone_is level s.tracker u.tracker undoes.0 in
+    let here : IsState (record s { tracker = u.tracker; front = u.front; guard_level = u.guard_level }) = record {
+      trail = undone_trail level (count_of s) (clauses_of s) (history s) (history u) undone state.trail;
+      derived = state.derived;
+      in_range = state.in_range;
+      small = state.small;
+      floor_low = state.floor_low;
+      rooted = undone_rooted level (history s) (history u) one undone state.rooted;
+    } in
     record {
-      state = record {
-        trail = undone_trail level (count_of s) (clauses_of s) (history s) (reverse u.trail) undone state.trail;
-        derived = state.derived;
-        in_range = state.in_range;
-        small = state.small;
-        floor_low = state.floor_low;
-        rooted = undone_rooted level (history s) (reverse u.trail) one undone state.rooted;
-      };
-      same = record { variables = refl; base_level = refl; clauses = refl };
+      state = subst IsState (sym same) here;
+      same = subst (SameBut s) (sym same) (record { variables = refl; base_level = refl; clauses = refl });
       undone = undone;
       low = (
-          let low : Store.last_level u.trail ≤ level = subst (λ (es : List Entry). Store.last_level es ≤ level) (sym same) undoes.1 in
-          let is : Store.last_level u.trail ≡ top_level (reverse u.trail) = last_is_top u.trail in
+          let low : Store.last_level u.tracker.trail ≤ level = undoes.1 in
+          let is : Store.last_level u.tracker.trail ≡ top_level (history u) = last_is_top u.tracker.trail in
           omega arith);
       front = front;
     }
@@ -169,6 +160,8 @@ clause_held s more c id state follows in_range number pushed =
       variables = refl;
       base_level = refl;
       tracker = refl;
+      front = refl;
+      guard = refl;
       number = number;
       added = pushed;
     }

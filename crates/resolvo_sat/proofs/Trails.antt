@@ -101,6 +101,12 @@ undone_more j (e ∷ older) d new (inl u) h =
     inr (subst (λ (x : Entry). j < x.level) same h, subst (λ (x : List Entry). IsUndone j older x) (sym rest) (undone_all j older))
 undone_more j (e ∷ older) d new (inr u) h = inr (u.0, undone_more j older d new u.1 h)
 
+-- what is left is the older part
+pub undone_older : (j : ℕ) (old new : List Entry) → IsUndone j old new → EndsWith new old
+undone_older j [] new u = ([], sym u)
+undone_older j (d ∷ older) new (inl u) = ([], sym u)
+undone_older j (d ∷ older) new (inr u) = let (p, is) = undone_older j older new u.1 in (d ∷ p, ap (λ (h : List Entry). d ∷ h) is)
+
 false_unless : (b : Bool) → (b ≡ true → ⊥) → b ≡ false
 false_unless true h = absurd (h refl)
 false_unless false h = refl

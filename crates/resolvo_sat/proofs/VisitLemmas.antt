@@ -1,5 +1,5 @@
 -- A walk over the clauses that watch a literal.
-use Rattle.std.proofs.Common.{◌≡◌, ℕ, zero, suc, ◌+◌, ◌<◌, ◌≤◌, ◌⊎◌, inl, inr, Bool, true, false, cond, List, [], ◌∷◌, drop, reverse, length, Vec, Global, Option, Some, None, refl, sym, ◌∙◌, ap, subst, arith, eqb}
+use Rattle.std.proofs.Common.{◌≡◌, ℕ, zero, suc, ◌+◌, ◌<◌, ◌≤◌, ◌⊎◌, inl, inr, Bool, true, false, cond, List, [], ◌∷◌, drop, length, get_or, Vec, Global, Option, Some, None, refl, sym, ◌∙◌, ap, subst, arith, eqb}
 use Rattle.std.specs.Prelude.{slice_get}
 use Rattle.std.proofs.lemmas.Bool.{both_ways, or_cases, or_left, or_right}
 use Rattle.std.proofs.lemmas.Bool.Decides.{eqb_tells}
@@ -10,20 +10,20 @@ use Rattle.resolvo_store_core.specs.SignLaws.{same_literal_true, same_literal-se
 use Rattle.resolvo_store_core.specs.Pairs.{watches, other_of, moved_pair}
 use Rattle.resolvo_store_core.specs.Watches.{watchers, pair_at, count, one_if}
 use Rattle.resolvo_store_core.specs.declared.watched_literals.WatchedLiterals.{WatchedLiterals}
-use Rattle.resolvo_store_core.specs.Trail.{Tracked}
 use Rattle.resolvo_store_core.specs.declared.decision.Entry.{Entry}
 use Rattle.resolvo_store_core.proofs.Watched.{not_same, first_watched, pair_at-set_same, pair_at-set_other, pair_in_range, pair_of_watcher, moved_from}
 use Rattle.resolvo_store_core.proofs.ClauseLists.{drop_here, drop_taken, nothing_left}
 use Rattle.resolvo_sat.specs.declared.state.SatState.{SatState}
 use Rattle.resolvo_sat.specs.declared.watch_lists.WatchLists.{WatchLists}
 use Rattle.resolvo_sat.specs.Known.{IsFalseUnder, Forces, clause_at}
-use Rattle.resolvo_sat.specs.Entries.{made_true, before}
+use Rattle.resolvo_sat.specs.Entries.{literal_of, made_true, before, StandsAt}
 use Rattle.resolvo_sat.specs.State.{count_of, history, clauses_of, IsState}
-use Rattle.resolvo_sat.specs.Propagation.{IsFit, Waits, FellAt, IsOwnPair, IsFree, Guards, Passed, IsWalkedTo, Extends, IsVisiting, Keeps, Replaces, Breaks, Walked, Conflicts}
-use Rattle.resolvo_sat.proofs.Literals.{has-cons, has_here, negation-negation}
-use Rattle.resolvo_sat.proofs.Trails.{consistent}
-use Rattle.resolvo_sat.proofs.ExtendLemmas.{extends_more, extends_nothing, still_true, true_by_now, before_kept}
-use Rattle.resolvo_sat.proofs.Readiness.{fits_same, walked_more, ready_anew, front_extends, same_watching}
+use Rattle.resolvo_sat.specs.Propagation.{IsFit, Waits, FellAt, IsOwnPair, IsFree, IsGuard, GuardsTo, NotesGuard, Passed, IsWalkedTo, Extends, IsVisiting, Keeps, Replaces, Breaks, Walked, Conflicts}
+use Rattle.resolvo_sat.proofs.Literals.{has_here, negation-negation}
+use Rattle.resolvo_sat.proofs.Trails.{consistent, entry_read, known_from_stands, stands_from_known}
+use Rattle.resolvo_sat.proofs.ExtendLemmas.{extends_more, extends_nothing, true_by_now, still_stands, stands_by_now, before_kept}
+use Rattle.resolvo_sat.proofs.Guards.{guard_more, level_is}
+use Rattle.resolvo_sat.proofs.Readiness.{fits_same, walked_more, noted_extends, same_watching}
 
 pub pair_watches : (s : SatState) (w : WatchLists) (l : Signed) (place : ℕ) (n : ClauseId) (p : WatchedLiterals) → IsFit s w → slice_get (watchers w.watches l) place ≡ Some n → pair_at w.watched.items n.0 ≡ Some p → watches (Some p) l ≡ true
 pair_watches s w l place n p fits at is =
@@ -67,15 +67,24 @@ falls_whole known clause p l w fallen free f m h = elim (free m h) [
   | inr g ↦ g
 ]
 
-passed_kept : (p : WatchedLiterals) (l : Signed) (known : List Signed) → same_literal p.first p.second ≡ false → has known (other_of p l) ≡ true → Passed l known p
-passed_kept p l known differ stands = go (same_literal p.first l) refl stands
+passed_kept : (p : WatchedLiterals) (l : Signed) (g : ℕ) (all : List Entry) → same_literal p.first p.second ≡ false → ((k : ℕ) → StandsAt all (negation l) k → IsGuard g k all (other_of p l)) → Passed l g all p
+passed_kept p l g all differ guard = go (same_literal p.first l) refl guard
   where
-    go : (b : Bool) → same_literal p.first l ≡ b → has known (cond b p.second p.first) ≡ true → Passed l known p
+    go : (b : Bool) → same_literal p.first l ≡ b → ((k : ℕ) → StandsAt all (negation l) k → IsGuard g k all (cond b p.second p.first)) → Passed l g all p
     go true e h = record { first = λ _. h; second = λ is. absurd (not_same p.first p.second differ (same_literal_true _ _ e ∙ sym is)) }
     go false e h = record { first = λ is. absurd (not_same p.first l e is); second = λ _. h }
 
-passed_more : (p : WatchedLiterals) (l : Signed) (s t : SatState) → Extends s t → Passed l (made_true (history s)) p → Passed l (made_true (history t)) p
-passed_more p l s t e q = record { first = λ is. still_true s t p.second e (q.first is); second = λ is. still_true s t p.first e (q.second is) }
+passed_more : (p : WatchedLiterals) (l : Signed) (s t : SatState) (k : ℕ) → IsState t → StandsAt (history s) (negation l) k → Extends s t → Passed l s.guard_level (history s) p → Passed l t.guard_level (history t) p
+passed_more p l s t k state fell e q = record {
+  first = λ is j f. guard j p.second (same j f) (q.first is k fell);
+  second = λ is j f. guard j p.first (same j f) (q.second is k fell);
+}
+  where
+    same : (j : ℕ) → StandsAt (history t) (negation l) j → k ≡ j
+    same j f = sym (level_is t (negation l) k state (still_stands s t (negation l) k e fell)) ∙ level_is t (negation l) j state f
+
+    guard : (j : ℕ) (m : Signed) → k ≡ j → IsGuard s.guard_level k (history s) m → IsGuard t.guard_level j (history t) m
+    guard j m is x = subst (λ (n : ℕ). IsGuard t.guard_level n (history t) m) is (guard_more s.guard_level t.guard_level k (history s) (history t) m e.guard (λ n h. still_stands s t m n e h) x)
 
 same_pair : (ps : List (Option WatchedLiterals)) (n : ℕ) (p q : WatchedLiterals) → pair_at ps n ≡ Some p → pair_at ps n ≡ Some q → p ≡ q
 same_pair ps n p q a b = let both : Some p ≡ Some q = sym a ∙ b in cc
@@ -86,9 +95,15 @@ count_here xs place c n at ne none =
     let b : one_if (eqb n c.0) ≡ 0 = ap one_if ne in
     omega arith
 
+pub fallen_now : (k : ℕ) (l : Signed) (place : ℕ) (o s : SatState) (v w : WatchLists) → IsVisiting k l place o s v w → has (made_true (history s)) (negation l) ≡ true
+fallen_now k l place o s v w propagate_literal = true_by_now s.tracker.trail (k + 1) (negation l) (subst (λ (ls : List Signed). has ls (negation l) ≡ true) (sym propagate_literal.entry) (has_here (negation l) (made_true (before s.tracker.trail k)) (negation l) refl))
+
+fallen_at : (k : ℕ) (l : Signed) (place : ℕ) (o s : SatState) (v w : WatchLists) → IsVisiting k l place o s v w → (j : ℕ) × StandsAt (history s) (negation l) j
+fallen_at k l place o s v w propagate_literal = stands_from_known (history s) (negation l) (fallen_now k l place o s v w propagate_literal)
+
 keeps_here : (k : ℕ) (l : Signed) (place : ℕ) (c : ClauseId) (p : WatchedLiterals) (o s t : SatState) (v w : WatchLists) → IsVisiting k l place o s v w → slice_get (watchers w.watches l) place ≡ Some c → pair_at w.watched.items c.0 ≡ Some p
-    → Extends s t → t.tracker.front ≡ s.tracker.front → has (made_true (history t)) (other_of p l) ≡ true → IsVisiting k l (place + 1) o t v w
-keeps_here k l place c p o s t v w propagate_literal at is e front stands =
+    → Extends s t → t.front ≡ s.front → ((j : ℕ) → StandsAt (history t) (negation l) j → IsGuard t.guard_level j (history t) (other_of p l)) → IsVisiting k l (place + 1) o t v w
+keeps_here k l place c p o s t v w propagate_literal at is e front guard =
     let long : k < length s.tracker.trail = propagate_literal.long in
     let grown : length t.tracker.trail ≡ length s.tracker.trail + length e.more = ap length e.added ∙ length-append s.tracker.trail e.more in
     let next : place + 1 ≡ suc place = omega arith in
@@ -96,22 +111,35 @@ keeps_here k l place c p o s t v w propagate_literal at is e front stands =
       fits = fits_same s t w propagate_literal.fits e.same.clauses;
       extends = extends_more o s t propagate_literal.extends e;
       front = front ∙ propagate_literal.front;
-      walked = walked_more s t k w e.more e.added (omega arith) propagate_literal.walked;
+      walked = walked_more s t k w e.more e.added e.guard (omega arith) propagate_literal.walked;
       passed = λ n q h none. go n q h (subst (λ (m : ℕ). count n (drop m (watchers w.watches l)) ≡ 0) next none) (eqb_tells n c.0);
       entry = ap made_true (before_kept s t (k + 1) e (omega arith)) ∙ propagate_literal.entry ∙ ap (λ (ds : List Entry). negation l ∷ made_true ds) (sym (before_kept s t k e (omega arith)));
       long = omega arith;
       watching = propagate_literal.watching;
     }
   where
-    go : (n : ℕ) (q : WatchedLiterals) → pair_at w.watched.items n ≡ Some q → count n (drop (suc place) (watchers w.watches l)) ≡ 0 → ((eqb n c.0 ≡ true) × (n ≡ c.0)) ⊎ ((eqb n c.0 ≡ false) × (n ≡ c.0 → ⊥)) → Passed l (made_true (history t)) q
+    go : (n : ℕ) (q : WatchedLiterals) → pair_at w.watched.items n ≡ Some q → count n (drop (suc place) (watchers w.watches l)) ≡ 0 → ((eqb n c.0 ≡ true) × (n ≡ c.0)) ⊎ ((eqb n c.0 ≡ false) × (n ≡ c.0 → ⊥)) → Passed l t.guard_level (history t) q
     go n q h none (inl y) =
         let same : p ≡ q = same_pair w.watched.items c.0 p q is (subst (λ (m : ℕ). pair_at w.watched.items m ≡ Some q) y.1 h) in
-        subst (Passed l (made_true (history t))) same (passed_kept p l (made_true (history t)) (propagate_literal.fits.fit.differ c.0 p is) stands)
-    go n q h none (inr y) = passed_more q l s t e (propagate_literal.passed n q h (count_here (watchers w.watches l) place c n at y.0 none))
+        subst (Passed l t.guard_level (history t)) same (passed_kept p l t.guard_level (history t) (propagate_literal.fits.fit.differ c.0 p is) guard)
+    go n q h none (inr y) = let (j, fell) = fallen_at k l place o s v w propagate_literal in passed_more q l s t j e.state fell e (propagate_literal.passed n q h (count_here (watchers w.watches l) place c n at y.0 none))
 
 pub visiting_keeps : (k : ℕ) (l : Signed) (place : ℕ) (c : ClauseId) (p : WatchedLiterals) (o s t : SatState) (v w x : WatchLists) → IsVisiting k l place o s v w → slice_get (watchers w.watches l) place ≡ Some c → pair_at w.watched.items c.0 ≡ Some p
     → Keeps l p s t w x → IsVisiting k l (place + 1) o t v x
-visiting_keeps k l place c p o s t v w x propagate_literal at is keeps = subst (IsVisiting k l (place + 1) o t v) (sym keeps.same_watching) (keeps_here k l place c p o s t v w propagate_literal at is keeps.extends keeps.front keeps.stands)
+visiting_keeps k l place c p o s t v w x propagate_literal at is keeps = subst (IsVisiting k l (place + 1) o t v) (sym keeps.same_watching) (keeps_here k l place c p o s t v w propagate_literal at is keeps.extends keeps.front keeps.guard)
+
+-- the other one of the two is true, and its level was noted
+pub keeps_noted : (l m : Signed) (p : WatchedLiterals) (s u t : SatState) (w : WatchLists) → m ≡ other_of p l → Extends s u → u.front ≡ s.front → NotesGuard l m u t → Keeps l p s t w w
+keeps_noted l m p s u t w is e front noted =
+    let same : history t ≡ history u = ap history noted.same in
+    record {
+      extends = noted_extends s u t l m e noted;
+      front = ap (λ (x : SatState). x.front) noted.same ∙ front;
+      same_watching = refl;
+      guard = λ k f.
+          subst (λ (h : List Entry). IsGuard t.guard_level k h (other_of p l)) (sym same)
+          (subst (λ (x : Signed). IsGuard t.guard_level k (history u) x) is (noted.guard k (subst (λ (h : List Entry). StandsAt h (negation l) k) same f)));
+    }
 
 own_moved : (clause : List Signed) (p : WatchedLiterals) (from to : Signed) → IsOwnPair clause p → has clause to ≡ true → IsOwnPair clause (moved_pair p from to)
 own_moved clause p from to own h = go (same_literal p.first from)
@@ -120,28 +148,25 @@ own_moved clause p from to own h = go (same_literal p.first from)
     go true = record { first = h; second = own.second }
     go false = record { first = own.first; second = h }
 
-guards_moved : (fallen known : List Signed) (p : WatchedLiterals) (l to : Signed) → Guards fallen known p → watches (Some p) l ≡ true → ((m : Signed) → has fallen m ≡ true → has known m ≡ true)
-    → has known (negation to) ≡ false → (has known l ≡ true → ⊥) → Guards fallen known (moved_pair p l to)
-guards_moved fallen known p l to g w inside free untrue = go (same_literal p.first l) refl
+guards_moved : (g : ℕ) (fallen all : List Entry) (p : WatchedLiterals) (l to : Signed) → GuardsTo g fallen all p → watches (Some p) l ≡ true → ((m : Signed) (k : ℕ) → StandsAt fallen m k → StandsAt all m k)
+    → has (made_true all) (negation to) ≡ false → (has (made_true all) l ≡ true → ⊥) → GuardsTo g fallen all (moved_pair p l to)
+guards_moved g fallen all p l to x w inside free untrue = go (same_literal p.first l) refl
   where
-    go : (b : Bool) → same_literal p.first l ≡ b → Guards fallen known (cond b (record p { first = to }) (record p { second = to }))
-    go true e = record {
-      first = λ f. absurd (both_ways _ free (inside (negation to) f));
-      second = λ f. absurd (untrue (subst (λ (m : Signed). has known m ≡ true) (same_literal_true _ _ e) (g.second f)));
-    }
-    go false e = record {
-      first = λ f. absurd (untrue (subst (λ (m : Signed). has known m ≡ true) (first_watched p l w e) (g.first f)));
-      second = λ f. absurd (both_ways _ free (inside (negation to) f));
-    }
+    not_to : (k : ℕ) → StandsAt fallen (negation to) k → ⊥
+    not_to k f = both_ways _ free (known_from_stands all (negation to) k (inside (negation to) k f))
 
-passed_moved : (p : WatchedLiterals) (l : Signed) (known : List Signed) → watches (Some p) l ≡ false → Passed l known p
-passed_moved p l known n = record {
+    not_l : (m : Signed) (k : ℕ) → m ≡ l → IsGuard g k all m → ⊥
+    not_l m k is (j, low, stands) = untrue (subst (λ (y : Signed). has (made_true all) y ≡ true) is (known_from_stands all m j stands))
+
+    go : (b : Bool) → same_literal p.first l ≡ b → GuardsTo g fallen all (cond b (record p { first = to }) (record p { second = to }))
+    go true e = record { first = λ k f. absurd (not_to k f); second = λ k f. absurd (not_l p.first k (same_literal_true _ _ e) (x.second k f)) }
+    go false e = record { first = λ k f. absurd (not_l p.second k (first_watched p l w e) (x.first k f)); second = λ k f. absurd (not_to k f) }
+
+passed_moved : (p : WatchedLiterals) (l : Signed) (g : ℕ) (all : List Entry) → watches (Some p) l ≡ false → Passed l g all p
+passed_moved p l g all n = record {
   first = λ is. absurd (both_ways _ n (or_left _ _ (subst (λ (m : Signed). same_literal p.first m ≡ true) is (same_literal-self p.first))));
   second = λ is. absurd (both_ways _ n (or_right _ _ (subst (λ (m : Signed). same_literal p.second m ≡ true) is (same_literal-self p.second))));
 }
-
-pub fallen_now : (k : ℕ) (l : Signed) (place : ℕ) (o s : SatState) (v w : WatchLists) → IsVisiting k l place o s v w → has (made_true (history s)) (negation l) ≡ true
-fallen_now k l place o s v w propagate_literal = true_by_now s.tracker.trail (k + 1) (negation l) (subst (λ (ls : List Signed). has ls (negation l) ≡ true) (sym propagate_literal.entry) (has_here (negation l) (made_true (before s.tracker.trail k)) (negation l) refl))
 
 pub got_in_range : (xs : List ClauseId) (place : ℕ) (c : ClauseId) → slice_get xs place ≡ Some c → place < length xs
 got_in_range [] place c e = cc
@@ -212,17 +237,17 @@ moves_here k l place c o s t v w x propagate_literal at r named = record {
         (subst (λ (i : ℕ). IsOwnPair (clause_at (clauses_of s) i) r.moves.pair) (sym y.0) (propagate_literal.fits.own r.moves.clause.0 r.moves.pair r.moves.watched)) (subst (λ (i : ℕ). has (clause_at (clauses_of s) i) r.to ≡ true) (sym (y.0 ∙ ap (λ (i : ClauseId). i.0) named)) r.own))
     owns n q (inr y) = propagate_literal.fits.own n q y.1
 
-    walks : (n : ℕ) (q : WatchedLiterals) → ((n ≡ r.moves.clause.0) × (moved_pair r.moves.pair l r.to ≡ q)) ⊎ ((eqb n r.moves.clause.0 ≡ false) × (pair_at w.watched.items n ≡ Some q)) → Guards (made_true (before s.tracker.trail k)) (made_true (history s)) q
+    walks : (n : ℕ) (q : WatchedLiterals) → ((n ≡ r.moves.clause.0) × (moved_pair r.moves.pair l r.to ≡ q)) ⊎ ((eqb n r.moves.clause.0 ≡ false) × (pair_at w.watched.items n ≡ Some q)) → GuardsTo s.guard_level (before s.tracker.trail k) (history s) q
     walks n q (inl y) =
-        subst (Guards (made_true (before s.tracker.trail k)) (made_true (history s))) y.1
-        (guards_moved (made_true (before s.tracker.trail k)) (made_true (history s)) r.moves.pair l r.to (propagate_literal.walked r.moves.clause.0 r.moves.pair r.moves.watched) watching_l (λ l' h. true_by_now s.tracker.trail k l' h) r.free
+        subst (GuardsTo s.guard_level (before s.tracker.trail k) (history s)) y.1
+        (guards_moved s.guard_level (before s.tracker.trail k) (history s) r.moves.pair l r.to (propagate_literal.walked r.moves.clause.0 r.moves.pair r.moves.watched) watching_l (λ l' j h. stands_by_now s.tracker.trail k l' j h) r.free
         (λ h. consistent (count_of s) (clauses_of s) (history s) l propagate_literal.extends.state.trail h (fallen_now k l place o s v w propagate_literal)))
     walks n q (inr y) = propagate_literal.walked n q y.1
 
-    passes : (n : ℕ) (q : WatchedLiterals) → count n (drop place (watchers x.watches l)) ≡ 0 → ((n ≡ r.moves.clause.0) × (moved_pair r.moves.pair l r.to ≡ q)) ⊎ ((eqb n r.moves.clause.0 ≡ false) × (pair_at w.watched.items n ≡ Some q)) → Passed l (made_true (history s)) q
+    passes : (n : ℕ) (q : WatchedLiterals) → count n (drop place (watchers x.watches l)) ≡ 0 → ((n ≡ r.moves.clause.0) × (moved_pair r.moves.pair l r.to ≡ q)) ⊎ ((eqb n r.moves.clause.0 ≡ false) × (pair_at w.watched.items n ≡ Some q)) → Passed l s.guard_level (history s) q
     passes n q none (inl y) =
-        subst (Passed l (made_true (history s))) y.1
-        (passed_moved (moved_pair r.moves.pair l r.to) l (made_true (history s))
+        subst (Passed l s.guard_level (history s)) y.1
+        (passed_moved (moved_pair r.moves.pair l r.to) l s.guard_level (history s)
         (moved_from r.moves.pair l r.to (propagate_literal.fits.fit.differ r.moves.clause.0 r.moves.pair r.moves.watched) watching_l unwatched))
     passes n q none (inr y) =
         let rest : drop place (watchers x.watches l) ≡ drop (suc place) (watchers w.watches l) = ap (drop place) r.moves.lists.taken ∙ drop_taken (watchers w.watches l) place (got_in_range (watchers w.watches l) place r.moves.clause r.moves.lists.stood) in
@@ -242,7 +267,7 @@ visiting_starts k s w l state fits fell walked = record {
   extends = extends_nothing s state;
   front = refl;
   walked = walked;
-  passed = λ n q h none. passed_moved q l (made_true (history s)) (unwatched n q h none (watches (Some q) l) refl);
+  passed = λ n q h none. passed_moved q l s.guard_level (history s) (unwatched n q h none (watches (Some q) l) refl);
   entry = fell.entry;
   long = fell.in_range;
   watching = same_watching w;
@@ -264,36 +289,45 @@ visiting_ends k l place o s v w propagate_literal end = record {
   walked = λ n q h.
       let passed = propagate_literal.passed n q h (ap (count n) (nothing_left (watchers w.watches l) place end)) in
       record {
-        first = λ f. elim (has-cons (negation l) (made_true (before s.tracker.trail k)) (negation q.first) (subst (λ (ls : List Signed). has ls (negation q.first) ≡ true) propagate_literal.entry f)) [
-          | inl e ↦ passed.first (sym (negation-negation q.first) ∙ ap negation (sym e) ∙ negation-negation l)
-          | inr e ↦ (propagate_literal.walked n q h).first e
-        ];
-        second = λ f. elim (has-cons (negation l) (made_true (before s.tracker.trail k)) (negation q.second) (subst (λ (ls : List Signed). has ls (negation q.second) ≡ true) propagate_literal.entry f)) [
-          | inl e ↦ passed.second (sym (negation-negation q.second) ∙ ap negation (sym e) ∙ negation-negation l)
-          | inr e ↦ (propagate_literal.walked n q h).second e
-        ];
+        first = λ j f. elim (cases q.first j f) [ inl e ↦ passed.first e.0 j e.1 | inr e ↦ (propagate_literal.walked n q h).first j e ];
+        second = λ j f. elim (cases q.second j f) [ inl e ↦ passed.second e.0 j e.1 | inr e ↦ (propagate_literal.walked n q h).second j e ];
       };
 }
-
--- a clause is wholly false: propagation begins anew
-pub visiting_breaks : (k : ℕ) (l : Signed) (place n : ℕ) (p : WatchedLiterals) (o s t : SatState) (u : Tracked) (v w x : WatchLists) → IsVisiting k l place o s v w → pair_at w.watched.items n ≡ Some p → Breaks n s t w x → u ≡ record t.tracker { front = 0 } → Conflicts n o (record t { tracker = u }) v x
-visiting_breaks k l place n p o s t u v w x propagate_literal is b again =
-    subst (λ (m : SatState). Conflicts n o (record m { tracker = u }) v x) (sym b.same_state)
-    (subst (λ (y : WatchLists). Conflicts n o (record s { tracker = u }) v y) (sym b.same_watching) here)
   where
-    anew : u ≡ record s.tracker { front = 0 }
-    anew = subst (λ (m : SatState). u ≡ record m.tracker { front = 0 }) b.same_state again
+    no_entry : Entry
+    no_entry = record { decision = record { variable = record { 0 = 0 }; value = true; derived_from = record { 0 = 0 } }; level = 0 }
 
-    trail : u.trail ≡ s.tracker.trail
-    trail = ap (λ (y : Tracked). y.trail) anew
+    -- an entry of the first k + 1 is the last one, or one of those before it
+    newest : (xs : List Entry) → made_true xs ≡ negation l ∷ made_true (before s.tracker.trail k) → (d : Entry) → xs ≡ d ∷ before s.tracker.trail k → literal_of d ≡ negation l
+    newest xs e d is = let both : literal_of d ∷ made_true (before s.tracker.trail k) ≡ negation l ∷ made_true (before s.tracker.trail k) = sym (ap made_true is) ∙ e in cc
 
-    here : Conflicts n o (record s { tracker = u }) v w
+    cases : (m : Signed) (j : ℕ) → StandsAt (before s.tracker.trail (k + 1)) (negation m) j → ((m ≡ l) × StandsAt (history s) (negation l) j) ⊎ StandsAt (before s.tracker.trail k) (negation m) j
+    cases m j f =
+        let d : Entry = get_or s.tracker.trail k no_entry in
+        let is : before s.tracker.trail (k + 1) ≡ d ∷ before s.tracker.trail k = entry_read s.tracker.trail s.tracker.trail k no_entry propagate_literal.long refl in
+        elim (subst (λ (h : List Entry). StandsAt h (negation m) j) is f) [
+          | inl e ↦
+              let same : negation l ≡ negation m = sym (newest (before s.tracker.trail (k + 1)) propagate_literal.entry d is) ∙ e.0 in
+              let back : m ≡ l = sym (negation-negation m) ∙ ap negation (sym same) ∙ negation-negation l in
+              inl (back, subst (λ (x : Signed). StandsAt (history s) x j) (sym same) (stands_by_now s.tracker.trail (k + 1) (negation m) j f))
+          | inr e ↦ inr e
+        ]
+
+-- a clause is wholly false
+pub visiting_breaks : (l : Signed) (place n : ℕ) (p : WatchedLiterals) (o s t : SatState) (v w x : WatchLists) → IsVisiting o.front l place o s v w → pair_at w.watched.items n ≡ Some p → Breaks n s t w x → Conflicts n o t v x
+visiting_breaks l place n p o s t v w x propagate_literal is b =
+    subst (λ (m : SatState). Conflicts n o m v x) (sym b.same_state)
+    (subst (λ (y : WatchLists). Conflicts n o s v y) (sym b.same_watching) here)
+  where
+    here : Conflicts n o s v w
     here =
         let below : n < length w.watched.items = pair_in_range w.watched.items n p is in
         let each : length w.watched.items ≡ length s.clauses = propagate_literal.fits.each in
+        let front : s.front ≡ o.front = propagate_literal.front in
+        let long : o.front < length s.tracker.trail = propagate_literal.long in
         record {
           watching = propagate_literal.watching;
-          ready = ready_anew s u w propagate_literal.extends.state propagate_literal.fits anew;
-          extends = extends_more o s (record s { tracker = u }) propagate_literal.extends (front_extends s u propagate_literal.extends.state trail);
-          broken = record { in_range = omega arith; falls = subst (λ (xs : List Entry). IsFalseUnder (made_true (reverse xs)) (clause_at (clauses_of s) n)) (sym trail) b.falls };
+          ready = record { state = propagate_literal.extends.state; fits = propagate_literal.fits; front = omega arith; walked = subst (λ (k : ℕ). IsWalkedTo k s w) (sym front) propagate_literal.walked };
+          extends = propagate_literal.extends;
+          broken = record { in_range = omega arith; falls = b.falls };
         }

@@ -34,6 +34,11 @@ pub record IsMarkedLevel (seen : List Bool) (h : List Entry) (level : ℕ) : Typ
   pub bounds : (l : Signed) → has (denied seen h) l ≡ true → (k : ℕ) × (k ≤ level) × StandsAt h (negation l) k
   pub low : level ≤ top_level h
 
+-- the entry is the last marked one of its level, above the turn's first one, and the marked ones before it bound this level; or no choice is there above that one
+abbrev pub IsAssertion : SatState → List Bool → Entry → List Entry → Option ℕ → Type 0
+IsAssertion s seen e older None = s.base_level < e.level → top_level older < e.level → ⊥
+IsAssertion s seen e older (Some below) = (s.base_level < e.level) × (below < e.level) × IsMarkedLevel seen older below
+
 -- the variable stands for a solvable
 abbrev pub IsSolvable : SatState → ℕ → Type 0
 IsSolvable s v = slice_get s.variables.items v ≡ Some Solvable

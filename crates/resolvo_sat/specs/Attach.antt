@@ -9,7 +9,7 @@ use Rattle.resolvo_sat.specs.declared.watch_lists.WatchLists.{WatchLists}
 use Rattle.resolvo_sat.specs.Known.{IsFalseUnder, clause_at}
 use Rattle.resolvo_sat.specs.Entries.{made_true}
 use Rattle.resolvo_sat.specs.State.{history, clauses_of}
-use Rattle.resolvo_sat.specs.Propagation.{IsReady, IsOwnPair, Guards, Waits, SameWatching, Extends, IsBroken, Conflicts}
+use Rattle.resolvo_sat.specs.Propagation.{IsReady, IsOwnPair, GuardsTo, Waits, SameWatching, Extends, IsBroken, Conflicts}
 
 -- each literal of the clause is this one, or false
 abbrev pub AreFalseBut : Signed → List Signed → List Signed → Type 0
@@ -39,7 +39,7 @@ pub record IsBestPair (known clause : List Signed) (p : WatchedLiterals) : Type 
 
 -- where one of the two is false, the other one is true; or the clause is wholly false
 abbrev pub IsFirstSet : ℕ → WatchedLiterals → SatState → SatState → Bool → Type 0
-IsFirstSet n p old new true = Extends old new × (new.tracker.front ≡ old.tracker.front) × Guards (made_true (history new)) (made_true (history new)) p
+IsFirstSet n p old new true = Extends old new × (new.front ≡ old.front) × GuardsTo new.guard_level (history new) (history new) p
 IsFirstSet n p old new false = (new ≡ old) × IsFalseUnder (made_true (history old)) (clause_at (clauses_of old) n)
 
 -- the clause is the last one

@@ -1,5 +1,5 @@
 -- What follows from the trail: walks over the clauses that watch what fell.
-use Rattle.std.specs.Prelude.{◌≡◌, ℕ, ◌+◌, ◌-◌, ◌<◌, ◌≤◌, ◌⊎◌, Bool, true, false, List, [], ◌∷◌, ◌++◌, drop, length, Option, Some, None}
+use Rattle.std.specs.Prelude.{◌≡◌, ℕ, ◌+◌, ◌<◌, ◌≤◌, ◌⊎◌, Bool, true, false, List, [], ◌∷◌, ◌++◌, drop, length, max, Option, Some, None}
 use Rattle.resolvo_pool_core.specs.declared.id.ClauseId.{ClauseId}
 use Rattle.resolvo_store_core.specs.Signed.{Signed, negation, same_literal, has}
 use Rattle.resolvo_store_core.specs.Clauses.{yes, root}
@@ -12,7 +12,7 @@ use Rattle.resolvo_sat.specs.declared.watch_lists.WatchLists.{WatchLists}
 use Rattle.resolvo_sat.specs.declared.watch_lists.UnitClause.{UnitClause}
 use Rattle.resolvo_sat.specs.declared.propagate.WatchVisit.{WatchVisit}
 use Rattle.resolvo_sat.specs.Known.{IsFalseUnder, clause_at}
-use Rattle.resolvo_sat.specs.Entries.{made_true, before}
+use Rattle.resolvo_sat.specs.Entries.{made_true, before, StandsAt}
 use Rattle.resolvo_sat.specs.State.{history, clauses_of, IsState}
 use Rattle.resolvo_sat.specs.Steps.{SameBut, KeepsChoices}
 
@@ -58,17 +58,32 @@ pub record Guards (fallen known : List Signed) (p : WatchedLiterals) : Type 0 wh
   pub first : has fallen (negation p.first) ≡ true → has known p.second ≡ true
   pub second : has fallen (negation p.second) ≡ true → has known p.first ≡ true
 
+-- the literal stands among the entries, at this level or below, or else not above the guards' level
+abbrev pub IsGuard : ℕ → ℕ → List Entry → Signed → Type 0
+IsGuard g k all l = (j : ℕ) × (j ≤ max g k) × StandsAt all l j
+
+-- where one of the two fell among the first entries, the other one guards it
+pub record GuardsTo (g : ℕ) (fallen all : List Entry) (p : WatchedLiterals) : Type 0 where
+  pub first : (k : ℕ) → StandsAt fallen (negation p.first) k → IsGuard g k all p.second
+  pub second : (k : ℕ) → StandsAt fallen (negation p.second) k → IsGuard g k all p.first
+
 -- the first k entries of the trail were walked: in each clause where one of the two watched literals
--- fell by them, the other one is true
+-- fell by them, the other one is true and guards it
 abbrev pub IsWalkedTo : ℕ → SatState → WatchLists → Type 0
-IsWalkedTo k s w = (n : ℕ) (p : WatchedLiterals) → pair_at w.watched.items n ≡ Some p → Guards (made_true (before s.tracker.trail k)) (made_true (history s)) p
+IsWalkedTo k s w = (n : ℕ) (p : WatchedLiterals) → pair_at w.watched.items n ≡ Some p → GuardsTo s.guard_level (before s.tracker.trail k) (history s) p
+
+-- the level of a true literal beside one that fell is among the guards' levels now
+pub record NotesGuard (l m : Signed) (old new : SatState) : Type 0 where
+  pub same : new ≡ record old { guard_level = new.guard_level }
+  pub higher : old.guard_level ≤ new.guard_level
+  pub guard : (k : ℕ) → StandsAt (history old) (negation l) k → IsGuard new.guard_level k (history old) m
 
 -- what holds of the watches between calls: they fit the clauses, and the trail was walked up to its front
 pub record IsReady (s : SatState) (w : WatchLists) : Type 0 where
   pub state : IsState s
   pub fits : IsFit s w
-  pub front : s.tracker.front ≤ length s.tracker.trail
-  pub walked : IsWalkedTo s.tracker.front s w
+  pub front : s.front ≤ length s.tracker.trail
+  pub walked : IsWalkedTo s.front s w
 
 -- the clause is noted as one of one literal
 abbrev pub IsNoted : ℕ → WatchLists → Type 0
@@ -89,10 +104,10 @@ pub record SameWatching (v w : WatchLists) : Type 0 where
   pub waited : (n : ℕ) → Waits n w → Waits n v
   pub waits : (n : ℕ) → Waits n v → pair_at w.watched.items n ≡ None → Waits n w
 
--- where one of the two is this literal, the other one is true
-pub record Passed (l : Signed) (known : List Signed) (p : WatchedLiterals) : Type 0 where
-  pub first : p.first ≡ l → has known p.second ≡ true
-  pub second : p.second ≡ l → has known p.first ≡ true
+-- where one of the two is this literal, which fell, the other one guards it
+pub record Passed (l : Signed) (g : ℕ) (all : List Entry) (p : WatchedLiterals) : Type 0 where
+  pub first : p.first ≡ l → (k : ℕ) → StandsAt all (negation l) k → IsGuard g k all p.second
+  pub second : p.second ≡ l → (k : ℕ) → StandsAt all (negation l) k → IsGuard g k all p.first
 
 -- entries were added to the trail, none of them a choice
 pub record Extends (old new : SatState) : Type 0 where
@@ -101,14 +116,15 @@ pub record Extends (old new : SatState) : Type 0 where
   pub more : List Entry
   pub added : new.tracker.trail ≡ old.tracker.trail ++ more
   pub choices : KeepsChoices (history old) (history new)
+  pub guard : old.guard_level ≤ new.guard_level
 
 -- the walk over the literal, whose negation is entry k, has come to this place
 pub record IsVisiting (k : ℕ) (l : Signed) (place : ℕ) (old s : SatState) (v w : WatchLists) : Type 0 where
   pub fits : IsFit s w
   pub extends : Extends old s
-  pub front : s.tracker.front ≡ old.tracker.front
+  pub front : s.front ≡ old.front
   pub walked : IsWalkedTo k s w
-  pub passed : (n : ℕ) (p : WatchedLiterals) → pair_at w.watched.items n ≡ Some p → count n (drop place (watchers w.watches l)) ≡ 0 → Passed l (made_true (history s)) p
+  pub passed : (n : ℕ) (p : WatchedLiterals) → pair_at w.watched.items n ≡ Some p → count n (drop place (watchers w.watches l)) ≡ 0 → Passed l s.guard_level (history s) p
   pub entry : made_true (before s.tracker.trail (k + 1)) ≡ negation l ∷ made_true (before s.tracker.trail k)
   pub long : k < length s.tracker.trail
   pub watching : SameWatching v w
@@ -118,12 +134,12 @@ abbrev pub IsFree : List Signed → List Signed → WatchedLiterals → Option S
 IsFree known clause p None = (m : Signed) → has clause m ≡ true → (watches (Some p) m ≡ true) ⊎ (has known (negation m) ≡ true)
 IsFree known clause p (Some l) = (has clause l ≡ true) × (watches (Some p) l ≡ false) × (has known (negation l) ≡ false)
 
--- the clause's other watched literal is true
+-- the clause's other watched literal is true, and guards the one that fell
 pub record Keeps (l : Signed) (p : WatchedLiterals) (s t : SatState) (w x : WatchLists) : Type 0 where
   pub extends : Extends s t
-  pub front : t.tracker.front ≡ s.tracker.front
+  pub front : t.front ≡ s.front
   pub same_watching : x ≡ w
-  pub stands : has (made_true (history t)) (other_of p l) ≡ true
+  pub guard : (k : ℕ) → StandsAt (history t) (negation l) k → IsGuard t.guard_level k (history t) (other_of p l)
 
 -- the clause watches another literal, which is not false
 pub record Replaces (l : Signed) (place n : ℕ) (s t : SatState) (w x : WatchLists) : Type 0 where
@@ -159,7 +175,7 @@ pub record Walked (k : ℕ) (old new : SatState) (v w : WatchLists) : Type 0 whe
   pub watching : SameWatching v w
   pub fits : IsFit new w
   pub extends : Extends old new
-  pub front : new.tracker.front ≡ old.tracker.front
+  pub front : new.front ≡ old.front
   pub walked : IsWalkedTo k new w
 
 abbrev pub AllTrue : List Signed → List UnitClause → Type 0
@@ -176,7 +192,7 @@ pub record IsComplete (old new : SatState) (v w : WatchLists) : Type 0 where
   pub watching : SameWatching v w
   pub ready : IsReady new w
   pub extends : Extends old new
-  pub front : new.tracker.front ≡ length new.tracker.trail
+  pub front : new.front ≡ length new.tracker.trail
   pub settled : (n : ℕ) → Waits n w → ⊥
   pub quiet : (n : ℕ) → n < length new.clauses → IsQuiet (made_true (history new)) (clause_at (clauses_of new) n)
 
@@ -187,10 +203,10 @@ pub record Conflicts (n : ℕ) (old new : SatState) (v w : WatchLists) : Type 0 
   pub extends : Extends old new
   pub broken : IsBroken n new
 
--- a broken clause, or the entry's literal was walked over
-abbrev pub IsVisit : ℕ → SatState → SatState → WatchLists → WatchLists → Option ClauseId → Type 0
-IsVisit k old new v w None = Walked (k + 1) old new v w
-IsVisit k old new v w (Some n) = Conflicts n.0 old new v w
+-- a broken clause, or the literal of the entry at the front was walked over
+abbrev pub IsVisit : SatState → SatState → WatchLists → WatchLists → Option ClauseId → Type 0
+IsVisit old new v w None = Walked (old.front + 1) old new v w
+IsVisit old new v w (Some n) = Conflicts n.0 old new v w
 
 abbrev pub IsPropagation : SatState → SatState → WatchLists → WatchLists → Option ClauseId → Type 0
 IsPropagation old new v w None = IsComplete old new v w
@@ -198,32 +214,28 @@ IsPropagation old new v w (Some n) = Conflicts n.0 old new v w
 
 -- the literal is true, or false as it was
 abbrev pub IsSingleSet : UnitClause → SatState → SatState → Bool → Type 0
-IsSingleSet x old new true = Extends old new × (new.tracker.front ≡ old.tracker.front) × (has (made_true (history new)) x.literal ≡ true)
+IsSingleSet x old new true = Extends old new × (new.front ≡ old.front) × (has (made_true (history new)) x.literal ≡ true)
 IsSingleSet x old new false = (new ≡ old) × (has (made_true (history old)) (negation x.literal) ≡ true)
 
 -- the first singles' literals are true
 pub record SetsSingles (part : List UnitClause) (old new : SatState) : Type 0 where
   pub extends : Extends old new
-  pub front : new.tracker.front ≡ old.tracker.front
+  pub front : new.front ≡ old.front
   pub set : AllTrue (made_true (history new)) part
 
 abbrev pub IsSinglesEnd : List UnitClause → SatState → SatState → Option ClauseId → Type 0
 IsSinglesEnd singles old new None = SetsSingles singles old new
-IsSinglesEnd singles old new (Some n) = Extends old new × (new.tracker.front ≡ old.tracker.front) × IsBroken n.0 new
+IsSinglesEnd singles old new (Some n) = Extends old new × (new.front ≡ old.front) × IsBroken n.0 new
 
 -- the literal fell by the entry of this place
 pub record FellAt (l : Signed) (place : ℕ) (s : SatState) : Type 0 where
   pub in_range : place < length s.tracker.trail
   pub entry : made_true (before s.tracker.trail (place + 1)) ≡ negation l ∷ made_true (before s.tracker.trail place)
 
--- the place of the entry that was taken last
-abbrev pub last_taken : SatState → ℕ
-last_taken s = s.tracker.front - 1
-
--- the entry at the front was taken, by which the literal fell; or there is none behind it
-abbrev pub IsTaken : SatState → SatState → Option Signed → Type 0
-IsTaken old new None = (length old.tracker.trail ≤ old.tracker.front) × Extends old new × (new.tracker.trail ≡ old.tracker.trail) × (new.tracker.front ≡ length old.tracker.trail)
-IsTaken old new (Some l) = FellAt l old.tracker.front old × Extends old new × (new.tracker.trail ≡ old.tracker.trail) × (new.tracker.front ≡ old.tracker.front + 1)
+-- the literal that fell by the entry at the front; or there is no entry there
+abbrev pub IsNextFallen : SatState → Option Signed → Type 0
+IsNextFallen s None = length s.tracker.trail ≤ s.front
+IsNextFallen s (Some l) = FellAt l s.front s
 
 -- propagation has come to this entry of the trail, and no clause waits
 pub record Running (old s : SatState) (v w : WatchLists) : Type 0 where
@@ -231,7 +243,7 @@ pub record Running (old s : SatState) (v w : WatchLists) : Type 0 where
   pub settled : (n : ℕ) → Waits n w → ⊥
   pub fits : IsFit s w
   pub extends : Extends old s
-  pub walked : IsWalkedTo s.tracker.front s w
+  pub walked : IsWalkedTo s.front s w
   pub assertions : AllTrue (made_true (history s)) v.assertions.items
   pub learnt : AllTrue (made_true (history s)) v.learnt.items
-  pub in_range : s.tracker.front ≤ length s.tracker.trail
+  pub in_range : s.front ≤ length s.tracker.trail

@@ -3,7 +3,6 @@ use Rattle.std.specs.Prelude.{◌≡◌, ℕ, suc, ◌<◌, ◌≤◌, ◌⊎◌
 use Rattle.resolvo_pool_core.specs.declared.id.ClauseId.{ClauseId}
 use Rattle.resolvo_pool_core.specs.declared.id.VariableId.{VariableId}
 use Rattle.resolvo_store_core.specs.Signed.{Signed, has}
-use Rattle.resolvo_store_core.specs.Trail.{Tracked}
 use Rattle.resolvo_store_core.specs.declared.decision.Entry.{Entry}
 use Rattle.resolvo_sat.specs.declared.state.SatClause.{SatClause}
 use Rattle.resolvo_sat.specs.declared.state.SatState.{SatState}
@@ -37,18 +36,20 @@ pub record Sets (c : ClauseId) (l : Signed) (old new : SatState) : Type 0 where
   pub state : IsState new
   pub same : SameBut old new
   pub pushed : new.tracker.trail ≡ old.tracker.trail ++ forced_entry c l (history old) ∷ []
-  pub front : new.tracker.front ≡ old.tracker.front
+  pub front : new.front ≡ old.front
+  pub guard : new.guard_level ≡ old.guard_level
 
 -- the variable was chosen to be true, at the next level
 pub record Chooses (v : VariableId) (c : ClauseId) (old new : SatState) : Type 0 where
   pub state : IsState new
   pub same : SameBut old new
   pub pushed : new.tracker.trail ≡ old.tracker.trail ++ choice_entry v c (history old) ∷ []
-  pub front : new.tracker.front ≡ old.tracker.front
+  pub front : new.front ≡ old.front
+  pub guard : new.guard_level ≡ old.guard_level
 
--- propagation begins anew at the trail's first entry; or it goes on, as no entry was taken away
-abbrev pub IsFrontUndone : Tracked → Tracked → Type 0
-IsFrontUndone old new = (new.front ≡ 0) ⊎ ((new.trail ≡ old.trail) × (new.front ≡ min old.front (length old.trail)))
+-- propagation begins anew at the trail's first entry; or it goes on behind what is left, as no guard stood above the level
+abbrev pub IsFrontUndone : ℕ → SatState → SatState → Type 0
+IsFrontUndone level old new = (new.front ≡ 0) ⊎ ((old.guard_level ≤ level) × (new.guard_level ≡ old.guard_level) × (new.front ≡ min old.front (length new.tracker.trail)))
 
 -- the entries above the level are gone
 pub record Undoes (level : ℕ) (old new : SatState) : Type 0 where
@@ -56,7 +57,7 @@ pub record Undoes (level : ℕ) (old new : SatState) : Type 0 where
   pub same : SameBut old new
   pub undone : IsUndone level (history old) (history new)
   pub low : top_level (history new) ≤ level
-  pub front : IsFrontUndone old.tracker new.tracker
+  pub front : IsFrontUndone level old new
 
 -- the clause came behind the others
 pub record Adds (c : SatClause) (id : ClauseId) (old new : SatState) : Type 0 where
@@ -64,5 +65,7 @@ pub record Adds (c : SatClause) (id : ClauseId) (old new : SatState) : Type 0 wh
   pub variables : new.variables ≡ old.variables
   pub base_level : new.base_level ≡ old.base_level
   pub tracker : new.tracker ≡ old.tracker
+  pub front : new.front ≡ old.front
+  pub guard : new.guard_level ≡ old.guard_level
   pub number : id.0 ≡ length old.clauses
   pub added : new.clauses ≡ old.clauses ++ c ∷ []

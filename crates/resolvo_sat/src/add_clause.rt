@@ -25,6 +25,7 @@ impl SatState {
         requires some { 0 < length clause.literals.items }
         ensures added { IfOk result (λ id. Comes clause id self.old watching.old self.new watching.new) }
         ensures ids { IsErrOf result Ids → length self.old.clauses ≡ 4294967295 }
+        ensures full { IsErrOf result Ids → length self.new.clauses ≡ 4294967295 }
     {
         let literal = clause.literals[0];
         let is_long = has_another(clause.literals.as_slice(), literal);

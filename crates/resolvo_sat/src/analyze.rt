@@ -5,13 +5,14 @@ ghost use Rattle.resolvo_store_core.specs.Signed.{has};
 ghost use Rattle.resolvo_sat.specs.Known.{IsFalseUnder, clause_at};
 ghost use Rattle.resolvo_sat.specs.Entries.{made_true, before, literal_of};
 ghost use Rattle.resolvo_sat.specs.State.{IsState, history, clauses_of};
-ghost use Rattle.resolvo_sat.specs.Analysis.{Seen, denied, IsMarkedLevel, IsAnalysis, IsLearntOf, IsKeptOrForced};
+ghost use Rattle.resolvo_sat.specs.Analysis.{Seen, denied, IsMarkedLevel, IsAssertion, IsAnalysis, IsLearntOf, IsKeptOrForced};
 
 use crate::state::SatState;
 use resolvo_pool_core::id::{ClauseId, VariableId};
 use resolvo_pool_core::indexed_set::IndexedSet;
 use resolvo_pool_core::want::R;
 use resolvo_store_core::decision::Entry;
+use resolvo_store_core::decision_map::DecisionMap;
 use resolvo_store_core::literal::Literal;
 use std::alloc::Global;
 
@@ -41,18 +42,34 @@ pub struct Learnt {
     pub level: u32,
 }
 
-/// Marks the variables of the literals, but the root's.
-pub(crate) fn mark_seen(seen: &mut IndexedSet<VariableId>, literals: &[Literal]) -> R<()>
+/// Marks the variables of the literals, but the root's. Gives how many of this level weren't marked.
+pub(crate) fn mark_seen(
+    seen: &mut IndexedSet<VariableId>,
+    literals: &[Literal],
+    values: &DecisionMap,
+    level: u32,
+) -> R<usize>
     ensures marked { IfOk result (λ _. Seen literals.now seen.old seen.new) }
     ensures refusal { IsOkUnless result Memory }
 {
+    let mut count = 0;
     for literal in literals {
         let variable = literal.variable();
         if !variable.is_root() {
-            seen.insert(variable)?;
+            let is_new = seen.insert(variable)?;
+            count = counted(count, is_new, values.level(variable) == level);
         }
     }
-    Ok(())
+    Ok(count)
+}
+
+/// The count, and one more where both hold.
+fn counted(count: usize, is_new: bool, is_there: bool) -> usize {
+    if is_new && is_there {
+        count.saturating_add(1)
+    } else {
+        count
+    }
 }
 
 impl SatState {
@@ -67,7 +84,9 @@ impl SatState {
         ensures refusal { IsOkUnless result Memory }
     {
         let mut seen = IndexedSet::new(alloc);
-        mark_seen(&mut seen, self.literals(broken))?;
+        let values = self.tracker.map();
+        let level = self.top_level();
+        let mut pending = mark_seen(&mut seen, self.literals(broken), values, level)?;
         let mut causes = Vec::new(alloc);
         causes.push(broken)?;
         let mut kept = Vec::new(alloc);
@@ -76,16 +95,18 @@ impl SatState {
             place -= 1;
             let entry = self.entry(place);
             if seen.contains(entry.decision.variable) {
-                let below = self.backjump_level(place, &seen);
-                if self.base_level < entry.level && below < entry.level {
+                if let Some(below) = self.assertion_level(place, entry, pending, &seen) {
                     let literals = self.denied(alloc, place, &seen)?;
                     return self.learnt(literals, kept, causes, entry, below);
                 }
+                pending = pending.saturating_sub(1);
                 if self.is_kept(place, entry) {
                     kept.push(literal_made_true(entry).negate())?;
                 } else {
                     causes.push(entry.decision.derived_from)?;
-                    mark_seen(&mut seen, self.literals(entry.decision.derived_from))?;
+                    let reason = self.literals(entry.decision.derived_from);
+                    let more = mark_seen(&mut seen, reason, values, level)?;
+                    pending = pending.saturating_add(more);
                 }
             }
         }
@@ -94,6 +115,33 @@ impl SatState {
             literals: kept,
             causes,
         }))
+    }
+
+    /// The level of the last marked entry before a place, where the entry there is the last marked one
+    /// of its level, above the turn's first one. So many entries of the conflict's level are marked
+    /// from this one back: while there are others, no other is looked for.
+    fn assertion_level(
+        &self,
+        place: usize,
+        entry: Entry,
+        pending: usize,
+        seen: &IndexedSet<VariableId>,
+    ) -> Option<u32>
+        requires state { IsState self.now }
+        requires in_range { place ≤ length self.now.tracker.trail }
+        ensures { IsAssertion self.now seen.now entry (before self.now.tracker.trail place) result }
+    {
+        if entry.level <= self.base_level {
+            return None;
+        }
+        if pending > 1 && entry.level <= self.level_before(place) {
+            return None;
+        }
+        let below = self.backjump_level(place, seen);
+        if entry.level <= below {
+            return None;
+        }
+        Some(below)
     }
 
     /// What is learnt where an entry is the last of its level that is marked.

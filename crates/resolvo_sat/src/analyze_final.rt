@@ -46,7 +46,13 @@ impl SatState {
         ensures refusal { IsOkUnless result Memory }
     {
         let mut seen = IndexedSet::new(alloc);
-        mark_seen(&mut seen, self.literals(entry.decision.derived_from))?;
+        let values = self.tracker.map();
+        mark_seen(
+            &mut seen,
+            self.literals(entry.decision.derived_from),
+            values,
+            0,
+        )?;
         let mut causes = Vec::new(alloc);
         causes.push(entry.decision.derived_from)?;
         let mut kept = Vec::new(alloc);
@@ -60,7 +66,12 @@ impl SatState {
                     kept.push(literal_made_true(earlier).negate())?;
                 } else {
                     causes.push(earlier.decision.derived_from)?;
-                    mark_seen(&mut seen, self.literals(earlier.decision.derived_from))?;
+                    mark_seen(
+                        &mut seen,
+                        self.literals(earlier.decision.derived_from),
+                        values,
+                        0,
+                    )?;
                 }
             }
         }

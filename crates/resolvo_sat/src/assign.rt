@@ -67,17 +67,19 @@ impl SatState {
         Ok(())
     }
 
-    /// Takes the entries above a level away. Where there were such, propagation begins anew, since what
-    /// stood in the way of a false literal may be gone.
+    /// Takes the entries above a level away. Propagation goes on behind what is left; it begins anew
+    /// where a literal that guards a false one of a lower level may be gone.
     pub fn undo_until(&mut self, level: u32)
         requires state { IsState self.old }
         requires one { 1 ≤ level }
         ensures { Undoes level self.old self.new }
     {
-        let count = self.tracker.stack().len();
         self.tracker.undo_until(level);
-        if self.tracker.stack().len() < count {
-            self.tracker.again();
+        if level < self.guard_level {
+            self.front = 0;
+            self.guard_level = 0;
+        } else {
+            self.front = self.front.min(self.tracker.stack().len());
         }
     }
 
@@ -89,6 +91,7 @@ impl SatState {
         requires in_range { AreInRange (count_of self.old) clause.literals.items }
         ensures added { IfOk result (λ id. Adds clause id self.old self.new) }
         ensures ids { IsErrOf result Ids → length self.old.clauses ≡ 4294967295 }
+        ensures full { IsErrOf result Ids → length self.new.clauses ≡ 4294967295 }
     {
         let id = self.clauses.alloc(clause)?;
         Ok(id)

@@ -73,12 +73,14 @@ impl SatState {
             return Ok(true);
         }
         if self.is_true(watched.first) {
+            self.note_guard(watched.second, watched.first);
             return Ok(true);
         }
         if self.is_false(watched.first) {
             return Ok(false);
         }
         self.assign(clause, watched.first)?;
+        self.note_guard(watched.second, watched.first);
         Ok(true)
     }
 

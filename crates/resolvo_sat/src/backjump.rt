@@ -20,6 +20,7 @@ impl SatState {
         requires learnt { IsLearnt self.old learnt }
         ensures learns { IfOk result (λ id. Learns learnt id self.old self.new watching.new) }
         ensures ids { IsErrOf result Ids → length self.old.clauses ≡ 4294967295 }
+        ensures full { IsErrOf result Ids → length self.new.clauses ≡ 4294967295 }
     {
         let Learnt {
             literals,

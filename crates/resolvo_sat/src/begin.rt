@@ -40,6 +40,8 @@ pub fn begin(alloc: Global) -> R<(SatState, WatchLists)>
         clauses: root_clause(alloc)?,
         tracker,
         base_level: 1,
+        front: 0,
+        guard_level: 0,
     };
     let watching = WatchLists {
         watched,
@@ -72,6 +74,7 @@ impl SatState {
         requires { IsState self.old }
         ensures added { IfOk result (λ v. AddsVariable kind v self.old self.new) }
         ensures ids { IsErrOf result Ids → count_of self.old ≡ 2147483647 }
+        ensures full { IsErrOf result Ids → count_of self.new ≡ 2147483647 }
     {
         let number = self.variables.len();
         if number >= 2147483647 {

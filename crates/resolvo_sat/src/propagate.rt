@@ -1,13 +1,13 @@
 //! What follows from the trail. Propagation goes on at the trail's front: in each clause one of whose
 //! watched literals fell before it, the other one is true. Clauses that came since wait for it.
-ghost use Rattle.std.specs.Prelude.{◌≡◌, ◌<◌, slice_get, length, Some, true, IfOk, IsOkUnless};
+ghost use Rattle.std.specs.Prelude.{◌≡◌, ◌<◌, ◌+◌, slice_get, length, Some, true, IfOk, IsOkUnless};
 ghost use Rattle.resolvo_pool_core.specs.declared.want.Want.TheVariants.{Memory};
 ghost use Rattle.resolvo_store_core.specs.Signed.{negation, has};
 ghost use Rattle.resolvo_store_core.specs.Watches.{watchers, pair_at};
 ghost use Rattle.resolvo_sat.specs.Known.{clause_at};
 ghost use Rattle.resolvo_sat.specs.Entries.{made_true};
 ghost use Rattle.resolvo_sat.specs.State.{IsState, history, clauses_of};
-ghost use Rattle.resolvo_sat.specs.Propagation.{IsReady, IsFit, AreCovered, AreSingles, IsFree, FellAt, last_taken, IsMeeting, IsVisit, IsWalkedTo, IsOnly, IsSingleSet, IsSinglesEnd, IsTaken, IsPropagation};
+ghost use Rattle.resolvo_sat.specs.Propagation.{IsReady, IsFit, AreCovered, AreSingles, IsFree, FellAt, IsMeeting, IsVisit, IsWalkedTo, IsOnly, IsSingleSet, IsSinglesEnd, IsNextFallen, IsPropagation};
 
 use crate::state::SatState;
 use crate::watch_lists::{UnitClause, WatchLists};
@@ -65,6 +65,7 @@ impl SatState {
     {
         let other = watched.other(cursor.literal);
         if self.is_true(other) {
+            self.note_guard(cursor.literal, other);
             return Ok(WatchVisit::Kept);
         }
         match self.free_literal(clause, &watched) {
@@ -77,14 +78,15 @@ impl SatState {
                     Ok(WatchVisit::Broken)
                 } else {
                     self.assign(clause, other)?;
+                    self.note_guard(cursor.literal, other);
                     Ok(WatchVisit::Kept)
                 }
             }
         }
     }
 
-    /// Walks over the clauses that watch a literal, which fell by the entry that was taken last. Where
-    /// one of them is wholly false, its walk is left unfinished, and propagation is to begin anew.
+    /// Walks over the clauses that watch a literal, which fell by the entry at the trail's front. Where
+    /// one of them is wholly false, the walk is left unfinished.
     fn propagate_literal(
         &mut self,
         watching: &mut WatchLists,
@@ -92,9 +94,9 @@ impl SatState {
     ) -> R<Option<ClauseId>>
         requires state { IsState self.old }
         requires fits { IsFit self.old watching.old }
-        requires fell { FellAt literal (last_taken self.old) self.old }
-        requires walked { IsWalkedTo (last_taken self.old) self.old watching.old }
-        ensures propagate_literal { IfOk result (IsVisit (last_taken self.old) self.old self.new watching.old watching.new) }
+        requires fell { FellAt literal self.old.front self.old }
+        requires walked { IsWalkedTo self.old.front self.old watching.old }
+        ensures propagate_literal { IfOk result (IsVisit self.old self.new watching.old watching.new) }
         ensures refusal { IsOkUnless result Memory }
     {
         let mut cursor = watching.watches.cursor(literal);
@@ -103,10 +105,7 @@ impl SatState {
             match self.visit_clause(watching, cursor, clause, watched)? {
                 WatchVisit::Kept => cursor.next(),
                 WatchVisit::Moved => {}
-                WatchVisit::Broken => {
-                    self.tracker.again();
-                    return Ok(Some(clause));
-                }
+                WatchVisit::Broken => return Ok(Some(clause)),
             }
         }
         Ok(None)
@@ -144,15 +143,24 @@ impl SatState {
         Ok(None)
     }
 
-    /// Takes the entry at the trail's front, and gives the literal that fell by it; none behind the last.
-    fn take_next(&mut self) -> Option<Literal>
-        requires state { IsState self.old }
-        ensures { IsTaken self.old self.new result }
+    /// The literal that fell by the entry at the trail's front; none behind the last.
+    fn next_fallen(&self) -> Option<Literal>
+        requires state { IsState self.now }
+        ensures { IsNextFallen self.now result }
     {
-        match self.tracker.next_unpropagated() {
-            Some(decision) => Some(Literal::new(decision.variable, decision.value)),
-            None => None,
+        if self.front >= self.tracker.stack().len() {
+            return None;
         }
+        let decision = self.entry(self.front).decision;
+        Some(Literal::new(decision.variable, decision.value))
+    }
+
+    /// Goes behind the entry at the trail's front, which was propagated.
+    fn pass_entry(&mut self)
+        requires { self.old.front < usize.MAX }
+        ensures { self.new ≡ record self.old { front = self.old.front + 1 } }
+    {
+        self.front += 1;
     }
 
     /// Sets what the clauses force, from the trail's front on, or gives a clause that is wholly false.
@@ -171,10 +179,11 @@ impl SatState {
         if let Some(clause) = self.attach_pending(watching)? {
             return Ok(Some(clause));
         }
-        while let Some(literal) = self.take_next() {
+        while let Some(literal) = self.next_fallen() {
             if let Some(clause) = self.propagate_literal(watching, literal)? {
                 return Ok(Some(clause));
             }
+            self.pass_entry();
         }
         Ok(None)
     }

@@ -29,6 +29,7 @@ impl SatState {
         requires covered { AreCovered self.old watching.old }
         ensures progress { IfOk result (IsProgress self.old watching.old self.new watching.new) }
         ensures ids { IsErrOf result Ids → length self.old.clauses ≡ 4294967295 }
+        ensures full { IsErrOf result Ids → length self.new.clauses ≡ 4294967295 }
     {
         match self.propagate(watching)? {
             None => Ok(StepResult::Complete),

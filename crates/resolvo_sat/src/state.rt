@@ -32,12 +32,16 @@ pub struct SatClause {
 }
 
 /// The variables by their numbers, the clauses, the trail, and the first level of the turn: no jump
-/// goes below it.
+/// goes below it. The first `front` entries of the trail were propagated. Where a watched literal
+/// fell by them, the true one that guards it stands at its level or below, or else not above
+/// `guard_level`.
 pub struct SatState {
     pub variables: Vec<VariableKind>,
     pub clauses: Arena<ClauseId, SatClause>,
     pub tracker: DecisionTracker,
     pub base_level: u32,
+    pub front: usize,
+    pub guard_level: u32,
 }
 
 // split for the prover: what owns one calls this drop, and doesn't drop each field at each exit
@@ -48,6 +52,8 @@ impl Drop for SatState {
             clauses: _,
             tracker: _,
             base_level: _,
+            front: _,
+            guard_level: _,
         } = self;
     }
 }

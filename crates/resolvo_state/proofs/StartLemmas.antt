@@ -79,7 +79,7 @@ pub gives_added : {N S : Type 0} (a : ProofAtom N S) (v : VariableId) (old new :
     → AddsVariable (kind_of a) v old.search new.search → new.watching ≡ old.watching → new.atoms.keys ≡ old.atoms.keys ++ a ∷ [] → new.stated ≡ old.stated → Gives a v old new
 gives_added {N} {S} a v old new coding fresh adds watching pushed stated = record {
   coding = record {
-    ready = subst (λ (w : WatchLists). IsReady new.search w) (sym watching) (ready_same old.search new.search old.watching coding.ready adds.state adds.clauses adds.tracker);
+    ready = subst (λ (w : WatchLists). IsReady new.search w) (sym watching) (ready_same old.search new.search old.watching coding.ready adds.state adds.clauses adds.tracker adds.front adds.guard);
     covered = subst (λ (w : WatchLists). AreCovered new.search w) (sym watching) (covered_same old.search new.search old.watching coding.covered adds.clauses);
     kinds = adds.variables ∙ ap (λ (kinds : List VariableKind). kinds ++ kind_of a ∷ []) coding.kinds ∙ sym (ap (λ (atoms : List (ProofAtom N S)). Kinds.Root ∷ map kind_of atoms) pushed ∙ ap (λ (kinds : List VariableKind). Kinds.Root ∷ kinds) (map_push kind_of old.atoms.keys a));
     each = ap (λ (xs : Vec (Stated N S) Global). length xs.items) stated ∙ coding.each ∙ sym (ap length adds.clauses);

@@ -9,7 +9,7 @@ use Rattle.resolvo_sat.specs.declared.state.SatState.{SatState}
 use Rattle.resolvo_sat.specs.declared.state.VariableKind.TheVariants as Kinds
 use Rattle.resolvo_sat.specs.declared.propagate_and_learn.StepResult.{StepResult}
 use Rattle.resolvo_sat.specs.Known.{clause_at}
-use Rattle.resolvo_sat.specs.State.{IsState, AreApart, clauses_of}
+use Rattle.resolvo_sat.specs.State.{IsState, AreApart, clauses_of, count_of}
 use Rattle.resolvo_sat.specs.Propagation.{IsReady, AreCovered}
 use Rattle.resolvo_sat.specs.Begin.{IsRootClause, root_entry}
 use Rattle.resolvo_sat.specs.PropagateAndLearn.{IsProgress}
@@ -36,6 +36,11 @@ pub record IsCoding {N S : Type 0} (c : SolverState N S) : Type 0 where
   pub first : stated_at c.stated.items 0 ≡ Some Root
   pub rooted : (n : ℕ) → stated_at c.stated.items n ≡ Some Root → n ≡ 0
   pub alone : (l : Signed) → has (clause_at (clauses_of c.search) 0) l ≡ true → l.variable.0 ≡ 0
+
+-- No number is left for a variable, or none for a clause: the last one is given.
+pub data LacksNumber {N S : Type 0} (c : SolverState N S) : Type 0 where
+  variables : count_of c.search ≡ 2147483647 → LacksNumber c
+  clauses : length c.search.clauses ≡ 4294967295 → LacksNumber c
 
 -- Atoms, clauses and what these state came behind the others.
 pub record Grows {N S : Type 0} (old new : SolverState N S) : Type 0 where

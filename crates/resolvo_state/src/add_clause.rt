@@ -5,7 +5,7 @@ ghost use Rattle.resolvo_sat.specs.State.{count_of};
 ghost use Rattle.resolvo_sat.specs.Steps.{AreInRange};
 ghost use Rattle.resolvo_sat.specs.Analysis.{IsBar};
 ghost use Rattle.resolvo_state.specs.Statements.{rule_of};
-ghost use Rattle.resolvo_state.specs.SolverState.{IsCoding, States, Bars};
+ghost use Rattle.resolvo_state.specs.SolverState.{IsCoding, States, Bars, LacksNumber};
 
 use crate::clause_kind::Stated;
 use crate::solver_state::SolverState;
@@ -26,6 +26,7 @@ impl<N: Copy + Exact + Hash + Debug, S: Copy + Exact + Hash + Debug> SolverState
         requires in_range { AreInRange (count_of self.old.search) literals.items }
         ensures states { IfOk result (λ id. States stated literals.items id self.old self.new) }
         ensures ids { IsErrOf result Ids → length self.old.search.clauses ≡ 4294967295 }
+        ensures full { IsErrOf result Ids → LacksNumber self.new }
     {
         let causes = Vec::new(*literals.allocator());
         let clause = self
@@ -43,6 +44,7 @@ impl<N: Copy + Exact + Hash + Debug, S: Copy + Exact + Hash + Debug> SolverState
         ensures barred { IfOk result
             (λ id. Bars refusal.literals.items refusal.causes.items id self.old self.new) }
         ensures ids { IsErrOf result Ids → length self.old.search.clauses ≡ 4294967295 }
+        ensures full { IsErrOf result Ids → LacksNumber self.new }
     {
         let FinalConflict { literals, causes } = refusal;
         let clause = self

@@ -6,7 +6,7 @@ ghost use Rattle.resolvo_sat.specs.Known.{IsUndecided};
 ghost use Rattle.resolvo_sat.specs.Entries.{made_true};
 ghost use Rattle.resolvo_sat.specs.State.{count_of, history};
 ghost use Rattle.resolvo_sat.specs.Steps.{Chooses, Undoes};
-ghost use Rattle.resolvo_state.specs.SolverState.{IsCoding, Advances, KeepsCode, SetsFloor};
+ghost use Rattle.resolvo_state.specs.SolverState.{IsCoding, Advances, KeepsCode, SetsFloor, LacksNumber};
 
 use crate::clause_kind::Stated;
 use crate::solver_state::SolverState;
@@ -23,6 +23,7 @@ impl<N: Copy + Exact + Hash + Debug, S: Copy + Exact + Hash + Debug> SolverState
         requires { IsCoding self.old }
         ensures advanced { IfOk result (Advances self.old self.new) }
         ensures ids { IsErrOf result Ids → length self.old.search.clauses ≡ 4294967295 }
+        ensures full { IsErrOf result Ids → LacksNumber self.new }
     {
         let progress = self.search.propagate_and_learn(alloc, &mut self.watching)?;
         match progress {

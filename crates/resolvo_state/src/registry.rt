@@ -2,12 +2,13 @@
 //! Each package has a tracker of its solvables' variables, whose places are told by binary digits, each
 //! digit a variable of its own. A clause says of each registered solvable, with its place, and of each
 //! digit of its package which value the digit has where the solvable is true.
-ghost use Rattle.std.specs.Prelude.{◌≡◌, ℕ, ◌≤◌, ◌+◌, Bool, Some, min, length, slice_get, is_some, IfOk, OnOk, Contains};
+ghost use Rattle.std.specs.Prelude.{◌≡◌, ℕ, ◌≤◌, ◌+◌, Bool, Some, min, length, slice_get, is_some, IfOk, OnOk, IsErrOf, IsOkUnless, Contains};
+ghost use Rattle.resolvo_pool_core.specs.declared.want.Want.TheVariants.{Memory, Ids};
 ghost use Rattle.resolvo_pool_core.specs.declared.id.VariableId.{VariableId};
 ghost use Rattle.resolvo_store_core.specs.AtMostOne.{needs_helper};
 ghost use Rattle.resolvo_state.specs.declared.atom.ProofAtom.TheVariants.{Solvable, Bit};
 ghost use Rattle.resolvo_state.specs.Atoms.{StandsFor};
-ghost use Rattle.resolvo_state.specs.SolverState.{IsCoding};
+ghost use Rattle.resolvo_state.specs.SolverState.{IsCoding, LacksNumber};
 ghost use Rattle.resolvo_state.specs.Keys.{AreOnce};
 ghost use Rattle.resolvo_state.specs.Registered.{same_variable, IsNothing, AreTied, IsTracked, Registers, PlacesName, IsTied, Tracks, GivesDigit, IsTie, first_of, place_from, StatesOne, StatesAll};
 
@@ -66,6 +67,7 @@ impl<N: Copy + Exact + Hash + Debug> Registry<N> {
         requires coding { IsCoding coding.old }
         requires tied { AreTied self.old coding.old }
         ensures registered { IfOk result (λ v. Registers name solvable v self.old coding.old self.new coding.new) }
+        ensures ids { IsErrOf result Ids → LacksNumber coding.new }
     {
         let alloc = *self.trackers.allocator();
         let variable = coding.variable(ProofAtom::Solvable(solvable))?;
@@ -91,6 +93,7 @@ impl<N: Copy + Exact + Hash + Debug> Registry<N> {
     fn place_of(&mut self, alloc: Global, name: N) -> R<usize>
         requires { length self.old.names.keys ≡ length self.old.trackers.items }
         ensures place { IfOk result (λ place. PlacesName name place self.old self.new) }
+        ensures refusal { IsOkUnless result Memory }
     {
         if let Some(place) = place_in(&self.names, &name) {
             return Ok(place);
@@ -115,6 +118,7 @@ fn track<N: Copy + Exact + Hash + Debug, S: Copy + Exact + Hash + Debug>(
     requires tied { IsTied name tracker.old coding.old }
     requires solvable { (s : S) × StandsFor coding.old.atoms.keys variable (Solvable s) }
     ensures tracked { OnOk result (Tracks name variable tracker.old coding.old tracker.new coding.new) }
+    ensures ids { IsErrOf result Ids → LacksNumber coding.new }
 {
     let digit = next_digit(tracker, coding, name, variable)?;
     let last = tracker.variables().len() as u32;
@@ -147,6 +151,7 @@ fn next_digit<N: Copy + Exact + Hash + Debug, S: Copy + Exact + Hash + Debug>(
     ensures digit { IfOk result
         (λ digit. GivesDigit name (length tracker.now.helpers) digit coding.old coding.new) }
     ensures needed { IfOk result (λ digit. is_some digit ≡ needs_helper same_variable tracker.now variable) }
+    ensures ids { IsErrOf result Ids → LacksNumber coding.new }
 {
     if !tracker.needs_helper(variable) {
         return Ok(None);
@@ -174,6 +179,7 @@ fn state_ties<N: Copy + Exact + Hash + Debug, S: Copy + Exact + Hash + Debug>(
         → slice_get ties.now i ≡ Some tie
         → IsTie name coding.old.atoms.keys (place_from first last i) tie }
     ensures stated { OnOk result (StatesAll name ties.now first last coding.old coding.new) }
+    ensures ids { IsErrOf result Ids → LacksNumber coding.new }
 {
     let mut place = first;
     for tie in ties {
@@ -201,6 +207,7 @@ fn state_tie<N: Copy + Exact + Hash + Debug, S: Copy + Exact + Hash + Debug>(
     requires coding { IsCoding coding.old }
     requires tie { IsTie name coding.old.atoms.keys place tie }
     ensures stated { OnOk result (StatesOne name place tie coding.old coding.new) }
+    ensures ids { IsErrOf result Ids → LacksNumber coding.new }
 {
     let (variable, digit, value) = tie;
     let mut literals = Vec::new(alloc);

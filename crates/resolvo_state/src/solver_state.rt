@@ -5,7 +5,7 @@ ghost use Rattle.std.specs.Prelude.{◌≡◌, ◌<◌, IfOk, IfSome, IsErrOf, I
 ghost use Rattle.resolvo_pool_core.specs.declared.want.Want.TheVariants.{Memory, Ids};
 ghost use Rattle.resolvo_sat.specs.State.{count_of};
 ghost use Rattle.resolvo_state.specs.Atoms.{IsFound, solvable_of, bit_of};
-ghost use Rattle.resolvo_state.specs.SolverState.{IsCoding, IsBegun, Gives};
+ghost use Rattle.resolvo_state.specs.SolverState.{IsCoding, IsBegun, Gives, LacksNumber};
 
 use crate::atom::ProofAtom;
 use crate::clause_kind::Stated;
@@ -74,6 +74,7 @@ impl<N: Copy + Exact + Hash + Debug, S: Copy + Exact + Hash + Debug> SolverState
         requires { IsCoding self.old }
         ensures given { IfOk result (λ v. Gives atom v self.old self.new) }
         ensures ids { IsErrOf result Ids → count_of self.old.search ≡ 2147483647 }
+        ensures full { IsErrOf result Ids → LacksNumber self.new }
     {
         if let Some(variable) = self.find(atom) {
             return Ok(variable);

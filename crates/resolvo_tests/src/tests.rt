@@ -1,7 +1,7 @@
 //! What no clause says: that a search comes to an answer where there is memory.
 
 mod pairs;
-mod provider;
+mod requests;
 mod sources;
 
 use resolvo::problem::Problem;

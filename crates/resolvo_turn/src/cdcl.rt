@@ -8,6 +8,7 @@ ghost use Rattle.resolvo_encoder.specs.Steps.{IsBuilt};
 ghost use Rattle.resolvo_encoder.specs.Progress.{GoesOn, IsDecision};
 ghost use Rattle.resolvo_turn.specs.Encoder.{IsInOrder};
 
+use resolvo_decide::scores::Scores;
 use resolvo_encoder::decide::Step;
 use resolvo_encoder::encoder::Encoder;
 use resolvo_packages::package_source::PackageSource;
@@ -54,19 +55,17 @@ fn bump_activity<A: PackageSource, C: ScoreMap<A::NameId>>(
     answers: &A,
     coding: &SolverState<A::NameId, A::SolvableId>,
     clause: ClauseId,
-    scores: &mut C,
+    scores: &mut Scores<A::NameId, C>,
     activity: Activity,
 ) -> R<()>
     requires clause { clause.0 < length coding.now.search.clauses }
 {
     for literal in coding.search.literals(clause) {
         if let Some(solvable) = coding.solvable(literal.variable()) {
-            let name = answers.package(solvable);
-            let score = scores.get(name);
-            scores.set(name, score.saturating_add(activity.added))?;
+            scores.bump(answers.package(solvable), activity.added)?;
         }
     }
-    scores.scale(activity.decay);
+    scores.decay(activity.decay);
     Ok(())
 }
 
@@ -76,7 +75,7 @@ pub fn decide<A: PackageSource, C: ScoreMap<A::NameId>>(
     alloc: Global,
     answers: &A,
     encoding: &mut Encoder<A::NameId, A::SolvableId>,
-    scores: &mut C,
+    scores: &mut Scores<A::NameId, C>,
     activity: Activity,
 ) -> Result<Option<FinalConflict>, CacheFault<A::Cancel>>
     requires built { IsBuilt encoding.old }

@@ -14,6 +14,7 @@ ghost use Rattle.resolvo_turn.specs.Turn.{AddsChosen, FiresMore, IsBegunBy, IsDe
 use crate::cdcl::{Activity, decide};
 use crate::encode::encode_parents;
 use crate::fire::fire_cases;
+use resolvo_decide::scores::Scores;
 use resolvo_encoder::encoder::Encoder;
 use resolvo_packages::package_source::PackageSource;
 use resolvo_pool::cache::CacheFault;
@@ -159,7 +160,7 @@ fn choose_and_decide<A: PackageSource, C: ScoreMap<A::NameId>>(
     alloc: Global,
     answers: &A,
     encoding: &mut Encoder<A::NameId, A::SolvableId>,
-    scores: &mut C,
+    scores: &mut Scores<A::NameId, C>,
     activity: Activity,
     wish: Option<VariableId>,
 ) -> Result<Option<FinalConflict>, CacheFault<A::Cancel>>
@@ -189,7 +190,7 @@ fn encode_and_decide<A: PackageSource, C: ScoreMap<A::NameId>>(
     alloc: Global,
     answers: &mut A,
     encoding: &mut Encoder<A::NameId, A::SolvableId>,
-    scores: &mut C,
+    scores: &mut Scores<A::NameId, C>,
     activity: Activity,
     requirements: &[ConditionalRequirement],
     constraints: &[VersionSetId],
@@ -233,7 +234,7 @@ fn run_round<A: PackageSource, C: ScoreMap<A::NameId>>(
     alloc: Global,
     answers: &mut A,
     encoding: &mut Encoder<A::NameId, A::SolvableId>,
-    scores: &mut C,
+    scores: &mut Scores<A::NameId, C>,
     activity: Activity,
     requirements: &[ConditionalRequirement],
     constraints: &[VersionSetId],
@@ -285,7 +286,7 @@ pub fn run_turn<A: PackageSource, C: ScoreMap<A::NameId>>(
     alloc: Global,
     answers: &mut A,
     encoding: &mut Encoder<A::NameId, A::SolvableId>,
-    scores: &mut C,
+    scores: &mut Scores<A::NameId, C>,
     activity: Activity,
     requirements: &[ConditionalRequirement],
     constraints: &[VersionSetId],

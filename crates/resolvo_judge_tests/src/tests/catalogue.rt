@@ -3,10 +3,10 @@
 ghost use Rattle.std.specs.Prelude.{◌<◌};
 
 use resolvo_catalogue_core::{
-    Catalogue, MemorySource, ReadFault, Request, Rule, Span, Spec, VersionNo,
-    catalogue_has_no_fault, request_has_no_fault, text_is_one_catalogue, text_is_one_request,
+    Catalogue, MemorySource, ReadFault, Request, Rule, VersionNo, catalogue_has_no_fault,
+    request_has_no_fault, text_is_one_catalogue, text_is_one_request,
 };
-use std::alloc::{AllocError, Global};
+use std::alloc::Global;
 use std::process::Abort;
 use std::test::Fail;
 
@@ -65,30 +65,6 @@ fn failing_reads(rt: HostRuntime) {
     }
 }
 
-/// The fault of the request whose reader fails after so many calls.
-fn asked_fault_after(alloc: Global, market: &Catalogue, calls: u64) -> Option<ReadFault> {
-    let mut source = MemorySource::new(ASKED.as_bytes(), 5).failing_after(calls);
-    Request::read(alloc, &mut source, market).err()
-}
-
-/// The fault of the request whose reader is interrupted too often in a row.
-fn asked_fault_interrupted(alloc: Global, market: &Catalogue) -> Option<ReadFault> {
-    let mut source = MemorySource::new(ASKED.as_bytes(), 5).interrupted(1001);
-    Request::read(alloc, &mut source, market).err()
-}
-
-/// Whether the request is refused for its reader, wherever that fails.
-fn each_read_fails(alloc: Global, market: &Catalogue) -> bool {
-    (0..11u64).all(|calls| asked_fault_after(alloc, market, calls) == Some(ReadFault::Reader))
-        && asked_fault_interrupted(alloc, market) == Some(ReadFault::Reader)
-}
-
-#[test]
-fn failing_reads_of_a_request(rt: HostRuntime) -> Result<(), Fail> {
-    assert!(rt; each_read_fails(rt.alloc(), &catalogue_of(rt.alloc(), MARKET, 4096)?));
-    Ok(())
-}
-
 fn lists_versions(rt: &impl Abort, market: &Catalogue) {
     assert_eq!(rt; market.versions().len(), 4);
     assert_eq!(rt; market.line_count(), 12);
@@ -125,16 +101,6 @@ fn lists_lines_of_versions(rt: &impl Abort, market: &Catalogue) {
     }
 }
 
-fn finds_matches(rt: &impl Abort, market: &Catalogue, spec: &Spec) {
-    for (number, is_match) in &[(2u32, true), (3, false), (0, false)] {
-        assert_eq!(rt;
-            market.match_of(spec, VersionNo(*number)),
-            *is_match,
-            "{number}"
-        );
-    }
-}
-
 #[test]
 fn versions(rt: HostRuntime) -> Result<(), Fail> {
     let market = catalogue_of(rt.alloc(), MARKET, 7)?;
@@ -142,47 +108,6 @@ fn versions(rt: HostRuntime) -> Result<(), Fail> {
     lists_versions(&rt, &market);
     lists_versions_of_packages(&rt, &market);
     lists_lines_of_versions(&rt, &market);
-    Ok(())
-}
-
-/// Versions of one package that rise, fall and rise again.
-const SHUFFLED: &str =
-    "version a 2\nversion a 5\nversion a 9\nversion a 4\nversion a 0\nversion a 12\n";
-
-fn finds_shuffled(rt: &impl Abort, listed: &Catalogue) {
-    for (number, found) in &[
-        (0u32, Some(VersionNo(4))),
-        (1, None),
-        (2, Some(VersionNo(0))),
-        (3, None),
-        (4, Some(VersionNo(3))),
-        (5, Some(VersionNo(1))),
-        (9, Some(VersionNo(2))),
-        (10, None),
-        (12, Some(VersionNo(5))),
-        (13, None),
-    ] {
-        assert_eq!(rt; listed.find("a", *number), *found, "{number}");
-    }
-}
-
-#[test]
-fn versions_in_any_order(rt: HostRuntime) -> Result<(), Fail> {
-    finds_shuffled(&rt, &catalogue_of(rt.alloc(), SHUFFLED, 7)?);
-    Ok(())
-}
-
-fn below_two(alloc: Global) -> Result<Spec, AllocError> {
-    Ok(Spec {
-        name: String::from_str(alloc, "b")?,
-        span: Span::Range(0, 2),
-    })
-}
-
-#[test]
-fn matches_of_a_spec(rt: HostRuntime) -> Result<(), Fail> {
-    let spec = below_two(rt.alloc())?;
-    finds_matches(&rt, &catalogue_of(rt.alloc(), MARKET, 7)?, &spec);
     Ok(())
 }
 

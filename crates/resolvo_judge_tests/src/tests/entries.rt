@@ -1,4 +1,4 @@
-//! The report of turns that are chosen here: their order, and that of their steps, differs from the solver's.
+//! The report of turns that are chosen here, and not by the solver: the order of the lines, and that of the steps.
 
 use resolve_install::{install_report, numbers_of};
 use resolve_order::Turn;
@@ -56,6 +56,24 @@ static WISHES: Row = Row {
         },
     ],
     report: "install\na=1 for request line 2\nleft out a=2 line 1 by 2\nc=1 wished line 3\nb=2 for c=1 line 8\nleft out b=1 line 4 by 1\nstep 1 lock line 6 bars b=1\nstep 2 lock line 3 bars a=2\n",
+};
+
+/// A cycle of needs, an alternative that isn't chosen, and a line with two matches.
+static MARKET: Row = Row {
+    catalogue: "version a 1\nneeds c | b\nlimits b\nneeds d\nversion b 1\nneeds d | a\nneeds e 2 | c\nversion c 1\nversion d 1\nneeds a\nversion e 1\nversion e 2\nneeds f if c\nversion f 1\n",
+    request: "#\nneeds b\nneeds a 1\n",
+    turns: &[RowTurn::Chose(None, &[5, 3, 2, 1, 0, 6])],
+    steps: &[],
+    report: "install\nb=1 for request line 2\na=1 for request line 3\nd=1 for b=1 line 6\ne=2 for b=1 line 7\nc=1 for b=1 line 7\nf=1 for e=2 line 13\n",
+};
+
+/// Lines that wait for their conditions.
+static WAITING: Row = Row {
+    catalogue: "version a 1\nneeds b\nneeds e\nversion b 1\nversion c 1\nversion d 1\nversion e 1\n",
+    request: "needs c | d if b\nneeds e if c\nneeds a\n",
+    turns: &[RowTurn::Chose(None, &[0, 1, 2, 3, 4])],
+    steps: &[],
+    report: "install\na=1 for request line 3\nb=1 for a=1 line 2\nc=1 for request line 1\nd=1 for request line 1\ne=1 for request line 2\n",
 };
 
 fn solvables(alloc: Global, numbers: &[u32]) -> Result<Vec<SolvableId>, AllocError> {
@@ -206,5 +224,17 @@ fn told(alloc: Global, row: &Row) -> Result<(bool, Verdict), Fail> {
 #[test]
 fn steps_in_any_order(rt: HostRuntime) -> Result<(), Fail> {
     assert_eq!(rt; told(rt.alloc(), &WISHES)?, (true, Verdict::Yes));
+    Ok(())
+}
+
+#[test]
+fn lines_in_order(rt: HostRuntime) -> Result<(), Fail> {
+    assert_eq!(rt; told(rt.alloc(), &MARKET)?, (true, Verdict::Yes));
+    Ok(())
+}
+
+#[test]
+fn conditions_in_time(rt: HostRuntime) -> Result<(), Fail> {
+    assert_eq!(rt; told(rt.alloc(), &WAITING)?, (true, Verdict::Yes));
     Ok(())
 }

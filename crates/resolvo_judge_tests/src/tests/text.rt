@@ -210,25 +210,6 @@ fn cases(rt: HostRuntime) -> Result<(), Fail> {
     Ok(())
 }
 
-/// How many cases a condition and its copy have.
-fn case_counts(alloc: Global, condition: &Cond) -> Result<(usize, usize), AllocError> {
-    let copy = condition.copy(alloc)?;
-    Ok((
-        cases_in(alloc, condition)?.len(),
-        cases_in(alloc, &copy)?.len(),
-    ))
-}
-
-/// The largest number of cases of 16 SPECs.
-#[test]
-fn most_cases(rt: HostRuntime) -> Result<(), Fail> {
-    let text =
-        "( a or b or c ) and ( a or b or c ) and ( a or b or c ) and ( a or b or c ) and ( a or b or c or d )";
-    let condition = condition_of(rt.alloc(), text)?.ok_or("no condition")?;
-    assert_eq!(rt; case_counts(rt.alloc(), &condition)?, (324, 324));
-    Ok(())
-}
-
 /// Version 1 of each package that a letter names.
 fn versions(alloc: Global, names: &str) -> Result<Vec<Version>, Fail> {
     let mut all = Vec::new(alloc);

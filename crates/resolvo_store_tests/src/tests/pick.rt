@@ -13,7 +13,7 @@ use std::process::Abort;
 use std::test::Fail;
 
 /// Gives a version set the candidates of a package.
-pub(crate) fn fix(
+fn fix(
     lists: &mut FixedLists<NameId>,
     alloc: Global,
     set: u32,
@@ -30,7 +30,7 @@ pub(crate) fn fix(
 }
 
 /// Two needs of the root, and between them one of variable 6; their packages are 0, 1 and 2.
-pub(crate) fn three_needs(alloc: Global) -> R<(FixedLists<NameId>, DecideQueue)> {
+fn three_needs(alloc: Global) -> R<(FixedLists<NameId>, DecideQueue)> {
     let mut lists = FixedLists::new(alloc)?;
     fix(&mut lists, alloc, 0, 0, &[1, 2, 3])?;
     fix(&mut lists, alloc, 1, 1, &[4, 5])?;
@@ -60,7 +60,7 @@ fn next(
     }
 }
 
-pub(crate) fn no_scores(alloc: Global) -> Vec<u64> {
+fn no_scores(alloc: Global) -> Vec<u64> {
     <Vec<u64> as ScoreMap<NameId>>::new(alloc)
 }
 

@@ -1,4 +1,5 @@
-//! Generated catalogues and requests: what the solver chooses keeps all lines, and it refuses only where no set does.
+//! Generated catalogues and requests with lines of all forms but wishes: what the solver chooses keeps all lines, and it refuses only where no
+//! set does.
 
 use super::{catalogue, chosen, request};
 use resolvo_catalogue::provider::Hint;
@@ -14,7 +15,8 @@ fn keeps_by_lines(catalogue: &Catalogue, request: &Request, set: &[VersionNo]) -
         && (0..request.line_count()).all(|line| request.keeps(catalogue, line.wrapping_add(1), set))
 }
 
-static OWNED: [&str; 8] = [
+/// The lines that may follow a version, and those that may stand below all of them.
+static OWNED: [&str; 16] = [
     "needs a\n",
     "needs b 1..2 | c 3\n",
     "needs c 1\n",
@@ -23,17 +25,38 @@ static OWNED: [&str; 8] = [
     "needs a | b | c\n",
     "needs x | a 1\n",
     "needs c 2..3\n",
+    "needs c 1 if a 2\n",
+    "needs b if c or a 3 and b 2\n",
+    "needs x if b 1\n",
+    "needs a | b | c if ( a or b ) and c 2..4\n",
+    "limits a 2\n",
+    "limits b 1..3\n",
+    "limits x 4\n",
+    "unknown lost\n",
 ];
 
-static BELOW: [&str; 2] = ["favour a 1\n", "favour b 2\n"];
+static BELOW: [&str; 8] = [
+    "lock a 2\n",
+    "lock b 3\n",
+    "exclude a 1 old\n",
+    "exclude c 3 broken\n",
+    "favour a 1\n",
+    "favour b 2\n",
+    "lock c 1\n",
+    "exclude b 2 old\n",
+];
 
-static ASKED: [&str; 6] = [
+static ASKED: [&str; 10] = [
     "needs a\n",
     "needs b 2 | c\n",
     "needs c\n",
     "needs b 1..2\n",
     "needs a | c 2\n",
     "needs c 1..2\n",
+    "needs c if a 1\n",
+    "limits a 1..3\n",
+    "limits b 2\n",
+    "needs b if a or c 1\n",
 ];
 
 static VERSIONS: [&str; 9] = [
@@ -85,7 +108,7 @@ fn draw_versions(lines: &mut String, seed: u32) -> Result<u32, Fail> {
     let mut seed = seed;
     for version in &VERSIONS {
         lines.push_str(version)?;
-        seed = draw(lines, &OWNED, seed, 5)?;
+        seed = draw(lines, &OWNED, seed, 8)?;
     }
     Ok(seed)
 }
@@ -94,14 +117,14 @@ fn draw_versions(lines: &mut String, seed: u32) -> Result<u32, Fail> {
 fn generated(alloc: Global, seed: u32) -> Result<String, Fail> {
     let mut lines = String::new(alloc);
     let seed = draw_versions(&mut lines, seed)?;
-    draw(&mut lines, &BELOW, seed, 2)?;
+    draw(&mut lines, &BELOW, seed, 4)?;
     Ok(lines)
 }
 
 /// A generated request.
 fn wanted(alloc: Global, seed: u32) -> Result<String, Fail> {
     let mut lines = String::new(alloc);
-    draw(&mut lines, &ASKED, seed, 2)?;
+    draw(&mut lines, &ASKED, seed, 4)?;
     Ok(lines)
 }
 

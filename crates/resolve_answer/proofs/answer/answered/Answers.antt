@@ -1,14 +1,72 @@
-use Rattle.std.proofs.Common.{refl, ap, ◌∙◌}
+use Rattle.std.proofs.Common.{◌≡◌, Bool, true, ◌&&◌, List, Ok, Err, refl, ap, ◌∙◌, sym, subst}
+use Rattle.std.specs.Prelude.{◌==◌}
 use Rattle.std.proofs.lemmas.Bool.{and_parts, and_from, eqb-true, eq-eqb}
+use Rattle.resolvo_pool_core.specs.RuleKeeping.{Rules}
+use Rattle.resolvo_soundness.specs.Encoding.{IsExact}
+use Rattle.resolvo_catalogue.specs.Ids.{SolvableId, NameId}
+use Rattle.resolvo_catalogue.specs.Provider.{Provider, packages_of}
+use Rattle.resolvo_catalogue.specs.declared.impls.Never.{Never}
+use Rattle.resolvo.specs.Solver.{IsAnswer, IfEnded, Leaves, Kept, root_of as asked_of}
+use Rattle.resolvo.specs.declared.conflict.Conflict.{Conflict}
+use Rattle.resolvo.specs.declared.solver.UnsolvableOrCancelled.{UnsolvableOrCancelled}
+use Rattle.resolvo.specs.Wished.{AreCandidates}
+use Rattle.resolvo.specs.declared.solver.UnsolvableOrCancelled.TheVariants.{Unsolvable}
+use Rattle.resolve_answer.specs.First.{orders_of}
+use Rattle.resolve_answer.specs.Solved.{IsInstalledOver}
+use Rattle.resolve_answer.specs.Verdict.{Verdict}
 use Rattle.resolve_answer.specs.Wishes.{free_of}
-use Rattle.resolve_answer.proofs.Upheld.{if_ok, solved_over}
+use Rattle.resolve_answer.proofs.Upheld.{if_ok, answer_installed, answer_refuted}
 use Rattle.resolve_answer.proofs.answer.answered.Goals as goal
 
+-- the test of solvables that the solver runs, and that it is exact
+abbrev same : SolvableId → SolvableId → Bool
+same x y = (x.raw == y.raw) && true
+
+exact : IsExact same
+exact = record { one = λ x y h. ap (λ k. record { raw = k; tag = record {} }) (eqb-true x.raw y.raw (and_parts (x.raw == y.raw) true h).0); own = λ x. and_from (x.raw == x.raw) true (eq-eqb x.raw x.raw refl) refl }
+
+-- what is said of these wishes for a root of these rules
+abbrev SaysOf : Rules → List SolvableId → Verdict → Kept Provider NameId SolvableId → Provider → Type 0
+SaysOf root free verdict solver p = AreCandidates same (packages_of p) free → IsAnswer same (packages_of p) root (orders_of same p) free verdict solver
+
+abbrev IfGiven : Verdict → Type 0 → Type 0
+IfGiven verdict P = IfEnded verdict P
+
+abbrev IsLeftBy : Verdict → Kept Provider NameId SolvableId → Type 0
+IsLeftBy verdict solver = Leaves verdict solver
+
+-- a search that refuses has come to its end
+ended : {P : Type 0} {e : UnsolvableOrCancelled Never} {conflict : Conflict} → e ≡ Unsolvable conflict → IfGiven (Err e) P → P
+ended {P} is h = subst (λ (x : UnsolvableOrCancelled Never). IfGiven (Err x) P) is h
+
 pub returns-in-Ok : goal.returns-in-Ok
-returns-in-Ok c = if_ok c.told.result (λ r reports asks versions over asked. reports asks
-    (solved_over c.args.catalogue.now c.args.request.now c.in_ok-wishes.wishes.items c.args.answers.now _ c.args.asked.now _ _ _ _ c.in-Ok.solved asks c.in_ok-wishes.ensures.lines versions c.in_ok-wishes.ensures.wishes
-    (c.as_slice-4.ensures.value ∙ c.in_ok-free.ensures ∙ ap free_of c.as_slice.ensures.value)
-    c.solve-solved.ensures.same over asked c.as_slice-2.ensures.value c.as_slice-3.ensures.value
-    (record { one = λ x y h. ap (λ k. record { raw = k; tag = record {} }) (eqb-true _ _ (and_parts _ _ h).0); own = λ x. and_from _ _ (eq-eqb x.raw x.raw refl) refl })
-    c.in-Ok.ensures.solved c.in-Ok.ensures.ends))
+returns-in-Ok c =
+    let catalogue = c.args.catalogue.now in
+    let said = c.args.request.now in
+    let solver = c.solve.new.self in
+    let old = c.args.solver.now.provider in
+    let wishes = c.in_ok-wishes.wishes.items in
+    let (free, whole, answers, alone) = c.in-Ok.ensures.answer in
+    let free_is : free ≡ free_of wishes = c.problem_of.ensures.wishes free whole ∙ (c.in_ok-free.ensures ∙ ap free_of c.as_slice.ensures.value) in
+    if_ok c.told.result (λ r reports asks versions over asked. reports asks
+    (subst (λ (xs : List SolvableId). IsInstalledOver catalogue said solver.provider wishes xs solver.turns solver.proof) (sym c.as_slice-in-Ok.ensures.value)
+    (answer_installed catalogue said wishes c.args.asked same exact old solver asks c.in_ok-wishes.ensures.lines versions c.in_ok-wishes.ensures.wishes c.solve.ensures.provider over asked free free_is c.in-Ok.chosen
+    (subst (λ (root : Rules). SaysOf root free (Ok c.in-Ok.chosen) solver old) c.problem_of.ensures.root answers))))
     c.told.ensures
+
+pub returns-in-Err-Unsolvable : goal.returns-in-Err-Unsolvable
+returns-in-Err-Unsolvable c =
+    let catalogue = c.args.catalogue.now in
+    let said = c.args.request.now in
+    let solver = c.solve.new.self in
+    let old = c.args.solver.now.provider in
+    let wishes = c.in_ok-wishes.wishes.items in
+    let conflict = c.in-Err-Unsolvable.conflict in
+    let is = c.in-Err-Unsolvable.field-0-is in
+    let (free, whole, answers, alone) = ended is c.in-Err-Unsolvable.ensures.answer in
+    let (count, ends, turnless, holds, listed) = subst (λ (e : UnsolvableOrCancelled Never). IsLeftBy (Err e) solver) is c.in-Err-Unsolvable.ensures.leaves in
+    let free_is : free ≡ free_of wishes = c.problem_of.ensures.wishes free whole ∙ (c.in_ok-free.ensures ∙ ap free_of c.as_slice.ensures.value) in
+    if_ok c.refused.result (λ r reports asks versions over asked. reports asks
+    (answer_refuted catalogue said wishes c.args.asked same exact old solver asks c.in_ok-wishes.ensures.lines versions c.in_ok-wishes.ensures.wishes c.solve.ensures.provider over asked free free_is conflict
+    (subst (λ (root : Rules). SaysOf root free (Err (Unsolvable conflict)) solver old) c.problem_of.ensures.root (subst (λ (e : UnsolvableOrCancelled Never). SaysOf (asked_of c.problem_of.result) free (Err e) solver old) is answers)) ends))
+    c.refused.ensures

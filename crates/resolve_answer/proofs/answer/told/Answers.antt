@@ -1,14 +1,22 @@
-use Rattle.std.proofs.Common.{sym, subst}
+use Rattle.std.proofs.Common.{List, sym, ◌∙◌, ap, subst}
+use Rattle.resolvo_proof.specs.declared.step.ProofStep.{ProofStep}
+use Rattle.resolvo_catalogue.specs.Ids.{NameId, SolvableId}
 use Rattle.resolvo_catalogue.specs.Provider.{Provider}
-use Rattle.resolve_answer.specs.Solved.{IsSolvedOver}
-use Rattle.resolve_answer.proofs.Upheld.{if_ok, solved_installed, solved_refuted}
+use Rattle.resolvo.specs.Solver.{Kept}
+use Rattle.resolvo.specs.declared.turns.Turn.{Turn}
+use Rattle.resolve_answer.specs.Solved.{IsInstalledOver}
+use Rattle.resolve_answer.proofs.Upheld.{if_ok}
 use Rattle.resolve_answer.proofs.answer.told.Goals as goal
 
-pub returns-in-Chosen : goal.returns-in-Chosen
-returns-in-Chosen c = if_ok c.installed.result (λ r reports asks is.
-    (rw (c.as_slice.ensures.value, c.as_slice-in-Chosen.ensures.value) at reports) asks (solved_installed c.args.catalogue.now c.args.request.now c.provider.result.now c.args.wishes.items asks c.args.solved
-    (subst (λ (p : Provider). IsSolvedOver c.args.catalogue.now c.args.request.now p c.args.wishes.items c.args.solved) (sym c.provider.ensures) is) c.in-Chosen.solvables c.in-Chosen.turns c.in-Chosen.is))
+pub returns : goal.returns
+returns c =
+    let catalogue = c.args.catalogue.now in
+    let said = c.args.request.now in
+    let wishes = c.args.wishes.items in
+    let chosen = c.args.chosen.now in
+    let left = c.take_proof-proof.ensures.left in
+    if_ok c.installed.result (λ r reports asks is. reports asks
+    (subst (λ (q : Provider). IsInstalledOver catalogue said q wishes chosen c.turns.result.now c.take_proof-proof.result.items) (sym (c.provider.ensures ∙ ap (λ (k : Kept Provider NameId SolvableId). k.provider) left))
+    (subst (λ (ts : List (Turn SolvableId)). IsInstalledOver catalogue said c.args.solver.now.provider wishes chosen ts c.take_proof-proof.result.items) (sym (c.turns.ensures ∙ ap (λ (k : Kept Provider NameId SolvableId). k.turns) left))
+    (subst (λ (steps : List (ProofStep NameId SolvableId)). IsInstalledOver catalogue said c.args.solver.now.provider wishes chosen c.args.solver.now.turns steps) (sym c.take_proof-proof.ensures.steps) is))))
     c.installed.ensures
-
-pub returns-in-Clash : goal.returns-in-Clash
-returns-in-Clash c = if_ok c.refused.result (λ r reports asks is. reports asks (solved_refuted c.args.catalogue.now c.args.request.now c.args.answers.now c.args.wishes.items asks c.args.solved is c.in-Clash.field-0 c.in-Clash.is)) c.refused.ensures

@@ -8,6 +8,9 @@ use Rattle.resolve_answer.proofs.Upheld.{if_ok}
 use Rattle.resolve_answer.proofs.message.message_of.Goals as goal
 
 pub returns : goal.returns
-returns c = if_ok c.lines_of.result (λ v are. text_told _ _ c.args.provider.now (offered_by c.args.offers.now) c.args.steps.now c.in_ok-graph.graph c.in_ok-display.display.lines.items c.as_bytes.result.now (messages_of v.items)
-    c.in_ok-graph.ensures.graph c.in_ok-display.ensures.lines (c.as_bytes.ensures.value ∙ (c.in_ok-text.ensures.ok ∙ ap (λ p. text_of (meaning_of p) c.in_ok-display.display.lines.items) c.in_ok-display.ensures.interner)) are)
+returns c =
+    let solver = c.args.solver.now in
+    let (g, drawn, tells) = c.in_ok-display.ensures.lines in
+    if_ok c.lines_of.result (λ v are l there. text_told _ _ solver.provider (offered_by l.offers) solver.proof g c.in_ok-display.display.lines.items c.as_bytes.result.now (messages_of v.items)
+    (drawn l there) tells (c.as_bytes.ensures.value ∙ (c.in_ok-text.ensures.ok ∙ ap (λ p. text_of (meaning_of p) c.in_ok-display.display.lines.items) c.in_ok-display.ensures.interner)) are)
     c.lines_of.ensures

@@ -1,9 +1,9 @@
 use Rattle.std.proofs.Common.{◌≡◌, ◌∙◌, List, ℕ, Option, not, is_some, sym, ap, subst, rules, Some}
 use Rattle.std.specs.String.{string_bytes}
-use Rattle.std.specs.HashMap.{get_by_text}
+use Rattle.std.specs.BTreeMap.{get_by_text}
 use Rattle.std.specs.Map.{update}
 use Rattle.std.specs.Str.{bytes_eq}
-use Rattle.std.proofs.lemmas.Map.Text.{hash_map_updates_text}
+use Rattle.std.proofs.lemmas.Map.Text.{btree_map_updates_text}
 use Rattle.resolvo_text.specs.View.{version_of}
 use Rattle.resolvo_catalogue_core.specs.Table.{AddsNumber, number_in}
 use Rattle.resolvo_catalogue_core.specs.Numbered.{beside}
@@ -25,7 +25,7 @@ returns-in-Some-clause-put c =
     let packages = c.args.packages.now in
     let updates = (c.get_mut.follows.holds w).3 (search rules) in
     ok_map c.add.result c.add.ensures.put (λ added adds is. adds_version (λ name. get_by_text packages name) (λ name. get_by_text (c.get_mut.follows.lender w) name) (version_of c.args.version.now) c.args.number w bs c.as_str.ensures.value
-    (hash_map_updates_text bs packages (c.get_mut.follows.lender w) (Some w) updates) (subst (λ o. AddsNumber o c.args.version.now.number c.args.number w) c.in-Some.ensures.value (adds is)))
+    (btree_map_updates_text bs packages (c.get_mut.follows.lender w) (Some w) updates) (subst (λ o. AddsNumber o c.args.version.now.number c.args.number w) c.in-Some.ensures.value (adds is)))
 
 pub returns-clause-new : goal.returns-clause-new
 returns-clause-new c =
@@ -39,7 +39,7 @@ returns-clause-put c = λ _.
     let packages = c.args.packages.now in
     let p = c.add-2.new.self in
     let none = c.in_default.ensures.value in
-    let updated = hash_map_updates_text bs c.get_mut.follows.lender-at-none c.insert.new.self (Some p) c.in_ok-insert.ensures.updates in
+    let updated = btree_map_updates_text bs c.get_mut.follows.lender-at-none c.insert.new.self (Some p) c.in_ok-insert.ensures.updates in
     let added = c.in_ok-add.ensures.new ∙ ap (λ (ns : List ℕ). not (is_some (beside ns c.new-package.result.versions.items c.args.version.now.number))) c.new-package.ensures.numbers in
     let new = adds_to_new c.new-package.result p c.args.version.now.number c.args.number c.new-package.ensures.versions c.new-package.ensures.numbers (c.in_ok-add.ensures.put added) in
     let fresh = none ∙ ap (λ (x : List ℕ). get_by_text packages x) (c.as_str.ensures.value ∙ sym c.in_ok-clone.ensures.cases) in

@@ -5,16 +5,16 @@ use Rattle.std.specs.Prelude.{slice_index_or}
 use Rattle.resolvo_sat.specs.Analysis.{Seen}
 use Rattle.resolvo_sat.proofs.MarkLemmas.{marks_root, marks_more}
 use Rattle.resolvo_sat.proofs.analyze.mark_seen.Goals as goal
-use Rattle.resolvo_sat.proofs.analyze.mark_seen.Goals.{then-not-is_root+in_ok-insert, else-not-is_root}
+use Rattle.resolvo_sat.proofs.analyze.mark_seen.Goals.{then-not-is_root+in_ok-is_new, else-not-is_root}
 
 pub loop-literal-preserved : goal.loop-literal-preserved
 loop-literal-preserved c = elim c.if-not-is_root.branch [
-  | then-not-is_root+in_ok-insert w ↦
+  | then-not-is_root+in_ok-is_new w ↦
       let at : c.variable-variable.result ≡ c.literal-item.result.variable = c.variable-variable.ensures.variable in
       subst (λ (m : List Bool). Seen (take (c.loop-literal.literal-index + 1) c.args.literals.now) c.args.seen.now m) (sym w.seen-is)
       (marks_more c.args.literals.now c.loop-literal.literal-index c.literal-item.result c.args.seen.now c.loop-literal.seen w.insert.new.self c.loop-literal-test.true c.literal-item.is
       (λ z. both_ways (c.variable-variable.result.0 == 0) (sym c.is_root.ensures ∙ w.if-not-is_root.true) (eq-eqb _ _ (ap (λ (v : VariableId). v.0) at ∙ z)))
-      (subst (λ (v : VariableId). (q : VariableId) → slice_index_or w.insert.new.self q.0 false ≡ cond (v.0 == q.0) true (slice_index_or c.loop-literal.seen q.0 false)) at w.in_ok-insert.ensures.put)
+      (subst (λ (v : VariableId). (q : VariableId) → slice_index_or w.insert.new.self q.0 false ≡ cond (v.0 == q.0) true (slice_index_or c.loop-literal.seen q.0 false)) at w.in_ok-is_new.ensures.put)
       c.loop-literal.invariant)
   | else-not-is_root w ↦
       subst (λ (m : List Bool). Seen (take (c.loop-literal.literal-index + 1) c.args.literals.now) c.args.seen.now m) (sym w.seen-is)

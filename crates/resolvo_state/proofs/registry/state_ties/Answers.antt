@@ -22,5 +22,5 @@ loop-tie-preserved g c = record {
   place = next_from c.args.first c.args.last c.loop-tie.tie-index c.loop-tie.place _ c.loop-tie.invariant.place c.next_place-place.ensures;
 }
 
-pub returns : goal.returns
-returns g c = record { stated = all_done c.args.name c.args.ties.now c.args.first c.args.last c.loop-tie.tie-index c.args.coding.now c.loop-tie.coding c.loop-tie-test.false c.loop-tie.invariant.stated }
+pub returns-clause-stated : goal.returns-clause-stated
+returns-clause-stated g c = all_done c.args.name c.args.ties.now c.args.first c.args.last c.loop-tie.tie-index c.args.coding.now c.loop-tie.coding c.loop-tie-test.false c.loop-tie.invariant.stated

@@ -1,11 +1,33 @@
-use Rattle.resolvo_catalogue.proofs.Steps.{condition_step}
+use Rattle.std.proofs.Common.{◌≡◌, ◌∙◌, ℕ, List, Some, cond, map, length, refl, sym, ap, subst}
+use Rattle.std.specs.Prelude.{slice_get}
+use Rattle.std.specs.Str.{bytes_eq}
+use Rattle.resolvo_pool_core.specs.Provider.{OperandsBelow}
+use Rattle.resolvo_pool_core.specs.declared.condition.Condition.{Condition}
+use Rattle.resolvo_catalogue.specs.Ids.{Ids}
+use Rattle.resolvo_catalogue.specs.Found.{AreKept, number_in, condition_key}
+use Rattle.resolvo_catalogue.proofs.FoundLemmas.{conditions_more, last_there, extends_to}
 use Rattle.resolvo_catalogue.proofs.id_table.IdTable.intern_condition.Goals as goal
 
-pub invariant_of-self : goal.invariant_of-self
-invariant_of-self c = (condition_step c.self.inside.unions.keys c.self.inside.pool c.intern_condition.new.self c.intern_condition.result c.args.condition (rw (← c.self.view_is) at c.requires) c.intern_condition.ensures.id c.intern_condition.ensures.put c.intern_condition.ensures.err).once c.self.invariant
+pub returns-in-Some-clause-condition : goal.returns-in-Some-clause-condition
+returns-in-Some-clause-condition c =
+    let key : c.as_slice.result.now ≡ condition_key c.args.condition = c.as_slice.ensures.value ∙ c.in_ok-key.ensures in
+    let at = ap (λ (k : List ℕ). number_in c.self.inside.condition_ids.entries k) (sym key) ∙ sym c.in-Some.ensures.value in
+    subst (λ (ids : Ids). slice_get ids.conditions c.in-Some.id.now ≡ Some c.args.condition) c.self.view_is (c.self.invariant.conditions.found c.args.condition c.in-Some.id.now at)
+
+pub invariant_of-self-2 : goal.invariant_of-self-2
+invariant_of-self-2 c =
+    let key : c.as_slice.result.now ≡ condition_key c.args.condition = c.as_slice.ensures.value ∙ c.in_ok-key.ensures in
+    let none = ap (λ (k : List ℕ). number_in c.self.inside.condition_ids.entries k) (sym key) ∙ sym c.in_default.ensures.value in
+    let put = subst (λ (k : List ℕ). (other : List ℕ) → number_in c.add.new.ids.entries other ≡ cond (bytes_eq k other) (Some (length c.self.inside.conditions.items)) (number_in c.self.inside.condition_ids.entries other)) c.in_ok-key.ensures c.in_ok-id.ensures.key in
+    let under = subst (λ (ids : Ids). OperandsBelow c.args.condition (record { 0 = length ids.conditions })) (sym c.self.view_is) c.requires in
+    subst (λ (cs : List Condition). AreKept c.self.inside.version_sets.items c.self.inside.set_ids.entries (map (λ u. u.items) c.self.inside.unions.items) c.self.inside.union_ids.entries cs c.add.new.ids.entries) (sym c.in_ok-id.ensures.value)
+    (conditions_more c.self.inside.version_sets.items c.self.inside.set_ids.entries (map (λ u. u.items) c.self.inside.unions.items) c.self.inside.union_ids.entries c.self.inside.conditions.items c.self.inside.condition_ids.entries c.self.invariant c.args.condition c.add.new.ids.entries under none put)
 
 pub returns-clause-condition : goal.returns-clause-condition
-returns-clause-condition c = (condition_step c.self.inside.unions.keys c.self.inside.pool c.intern_condition.new.self c.intern_condition.result c.args.condition (rw (← c.self.view_is) at c.requires) c.intern_condition.ensures.id c.intern_condition.ensures.put c.intern_condition.ensures.err).answer
+returns-clause-condition c = last_there c.self.inside.conditions.items c.add.new.values.items c.args.condition c.in_ok-id.ensures.value c.in_ok-id.id c.in_ok-id.ensures.id
 
 pub returns-clause-interns : goal.returns-clause-interns
-returns-clause-interns c = rw (← c.self.view_is) ((condition_step c.self.inside.unions.keys c.self.inside.pool c.intern_condition.new.self c.intern_condition.result c.args.condition (rw (← c.self.view_is) at c.requires) c.intern_condition.ensures.id c.intern_condition.ensures.put c.intern_condition.ensures.err).interns)
+returns-clause-interns c = rw (← c.self.view_is) (record {
+  grows = record { names = λ k x e. e; words = λ k x e. e; solvables = λ k x e. e; version_sets = λ k x e. e; unions = λ k x e. e; conditions = extends_to c.self.inside.conditions.items c.add.new.values.items c.args.condition c.in_ok-id.ensures.value };
+  same = refl;
+})

@@ -1,31 +1,46 @@
-use Rattle.std.proofs.Common.{◌∙◌, sym, ap, map}
+use Rattle.std.proofs.Common.{◌≡◌, ◌∙◌, ◌∷◌, ◌++◌, [], ℕ, List, Some, cond, map, length, refl, sym, ap, subst}
+use Rattle.std.specs.Prelude.{slice_get}
 use Rattle.std.specs.Global.{Vec}
+use Rattle.std.specs.Str.{bytes_eq}
+use Rattle.std.proofs.lemmas.List.{length-map, map_push}
 use Rattle.resolvo_pool_core.specs.declared.id.VersionSetId.{VersionSetId}
-use Rattle.resolvo_pool_core.proofs.Interned.{map-insert_key, position_or_len-map}
-use Rattle.resolvo_catalogue.proofs.Equal.{lists_eq}
-use Rattle.resolvo_catalogue.proofs.Steps.{union_step}
+use Rattle.resolvo_catalogue.specs.Ids.{Ids}
+use Rattle.resolvo_catalogue.specs.Found.{AreKept, number_in, union_key}
+use Rattle.resolvo_catalogue.proofs.FoundLemmas.{unions_more, last_there, extends_to}
 use Rattle.resolvo_catalogue.proofs.id_table.IdTable.union.Goals as goal
+
+abbrev items : Vec VersionSetId → List VersionSetId
+items u = u.items
+
+pub returns-in-Some-clause-union : goal.returns-in-Some-clause-union
+returns-in-Some-clause-union c =
+    let key : c.as_slice.result.now ≡ union_key c.args.members.items = c.as_slice.ensures.value ∙ (c.in_ok-key.ensures ∙ ap union_key c.deref.ensures.value) in
+    let at = ap (λ (k : List ℕ). number_in c.self.inside.union_ids.entries k) (sym key) ∙ sym c.in-Some.ensures.value in
+    subst (λ (ids : Ids). slice_get ids.unions c.in-Some.id.now ≡ Some c.args.members.items) c.self.view_is (c.self.invariant.unions.found c.args.members.items c.in-Some.id.now at)
 
 pub invariant_of-self-2 : goal.invariant_of-self-2
 invariant_of-self-2 c =
-    let us = c.self.inside.unions.keys in
-    let key = c.args.members.items in
-    let place = c.in_ok-place.ensures.place ∙ sym (position_or_len-map (λ (u : Vec VersionSetId). u.items) (lists_eq key) us) in
-    let put = ap (map (λ (u : Vec VersionSetId). u.items)) c.in_ok-place.ensures.put ∙ map-insert_key (λ (u : Vec VersionSetId). u.items) lists_eq us c.args.members in
-    (union_step us c.self.inside.pool c.self.inside.pool c.place_of.new.keys.keys key c.in_ok-place.place c.requires.several put place).1 c.self.invariant
+    let us : List (Vec VersionSetId) = c.self.inside.unions.items in
+    let is_key : c.in_ok-key.key.items ≡ union_key c.args.members.items = c.in_ok-key.ensures ∙ ap union_key c.deref.ensures.value in
+    let key : c.as_slice.result.now ≡ union_key c.args.members.items = c.as_slice.ensures.value ∙ is_key in
+    let none = ap (λ (k : List ℕ). number_in c.self.inside.union_ids.entries k) (sym key) ∙ sym c.in_default.ensures.value in
+    let all : map items c.add.new.values.items ≡ map items us ++ c.args.members.items ∷ [] = ap (λ (xs : List (Vec VersionSetId)). map items xs) c.in_ok-id.ensures.value ∙ map_push items us c.args.members in
+    let keyed = subst (λ (k : List ℕ). (other : List ℕ) → number_in c.add.new.ids.entries other ≡ cond (bytes_eq k other) (Some (length us)) (number_in c.self.inside.union_ids.entries other)) is_key c.in_ok-id.ensures.key in
+    let put = subst (λ (n : ℕ). (other : List ℕ) → number_in c.add.new.ids.entries other ≡ cond (bytes_eq (union_key c.args.members.items) other) (Some n) (number_in c.self.inside.union_ids.entries other)) (sym (length-map us items)) keyed in
+    subst (λ (xs : List (List VersionSetId)). AreKept c.self.inside.version_sets.items c.self.inside.set_ids.entries xs c.add.new.ids.entries c.self.inside.conditions.items c.self.inside.condition_ids.entries) (sym all)
+    (unions_more c.self.inside.version_sets.items c.self.inside.set_ids.entries (map items us) c.self.inside.union_ids.entries c.self.inside.conditions.items c.self.inside.condition_ids.entries c.self.invariant c.args.members.items c.add.new.ids.entries c.requires.several none put)
 
 pub returns-clause-union : goal.returns-clause-union
 returns-clause-union c =
-    let us = c.self.inside.unions.keys in
-    let key = c.args.members.items in
-    let place = c.in_ok-place.ensures.place ∙ sym (position_or_len-map (λ (u : Vec VersionSetId). u.items) (lists_eq key) us) in
-    let put = ap (map (λ (u : Vec VersionSetId). u.items)) c.in_ok-place.ensures.put ∙ map-insert_key (λ (u : Vec VersionSetId). u.items) lists_eq us c.args.members in
-    rw c.from_index.ensures ((union_step us c.self.inside.pool c.self.inside.pool c.place_of.new.keys.keys key c.in_ok-place.place c.requires.several put place).2)
+    let us : List (Vec VersionSetId) = c.self.inside.unions.items in
+    let all : map items c.add.new.values.items ≡ map items us ++ c.args.members.items ∷ [] = ap (λ (xs : List (Vec VersionSetId)). map items xs) c.in_ok-id.ensures.value ∙ map_push items us c.args.members in
+    last_there (map items us) (map items c.add.new.values.items) c.args.members.items all c.in_ok-id.id (c.in_ok-id.ensures.id ∙ sym (length-map us items))
 
 pub returns-clause-interns : goal.returns-clause-interns
 returns-clause-interns c =
-    let us = c.self.inside.unions.keys in
-    let key = c.args.members.items in
-    let place = c.in_ok-place.ensures.place ∙ sym (position_or_len-map (λ (u : Vec VersionSetId). u.items) (lists_eq key) us) in
-    let put = ap (map (λ (u : Vec VersionSetId). u.items)) c.in_ok-place.ensures.put ∙ map-insert_key (λ (u : Vec VersionSetId). u.items) lists_eq us c.args.members in
-    rw (← c.self.view_is) ((union_step us c.self.inside.pool c.self.inside.pool c.place_of.new.keys.keys key c.in_ok-place.place c.requires.several put place).0)
+    let us : List (Vec VersionSetId) = c.self.inside.unions.items in
+    let all : map items c.add.new.values.items ≡ map items us ++ c.args.members.items ∷ [] = ap (λ (xs : List (Vec VersionSetId)). map items xs) c.in_ok-id.ensures.value ∙ map_push items us c.args.members in
+    rw (← c.self.view_is) (record {
+      grows = record { names = λ k x e. e; words = λ k x e. e; solvables = λ k x e. e; version_sets = λ k x e. e; unions = extends_to (map items us) (map items c.add.new.values.items) c.args.members.items all; conditions = λ k x e. e };
+      same = refl;
+    })

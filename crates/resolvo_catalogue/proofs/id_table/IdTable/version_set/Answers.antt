@@ -1,11 +1,33 @@
-use Rattle.resolvo_catalogue.proofs.Steps.{set_step}
+use Rattle.std.proofs.Common.{◌≡◌, ◌∙◌, ℕ, List, Some, cond, map, length, refl, sym, ap, subst}
+use Rattle.std.specs.Prelude.{slice_get}
+use Rattle.std.specs.Str.{bytes_eq}
+use Rattle.resolvo_catalogue.specs.declared.id_table.Numbers.{Numbers}
+use Rattle.resolvo_catalogue.specs.Ids.{Ids, NameId}
+use Rattle.resolvo_catalogue.specs.Found.{AreKept, number_in, set_key}
+use Rattle.resolvo_catalogue.proofs.FoundLemmas.{sets_more, last_there, extends_to}
 use Rattle.resolvo_catalogue.proofs.id_table.IdTable.version_set.Goals as goal
 
-pub invariant_of-self : goal.invariant_of-self
-invariant_of-self c = (set_step c.self.inside.unions.keys c.self.inside.pool c.intern_version_set.new.self c.intern_version_set.result _ c.intern_version_set.ensures.id c.intern_version_set.ensures.put c.intern_version_set.ensures.err).once c.self.invariant
+pub returns-in-Some-clause-version_set : goal.returns-in-Some-clause-version_set
+returns-in-Some-clause-version_set c =
+    let s : NameId × Numbers = (c.args.name, record { 0 = c.args.span }) in
+    let key : c.as_slice.result.now ≡ set_key (c.args.name, record { 0 = c.args.span }) = c.as_slice.ensures.value ∙ c.in_ok-key.ensures in
+    let at = ap (λ (k : List ℕ). number_in c.self.inside.set_ids.entries k) (sym key) ∙ sym c.in-Some.ensures.value in
+    subst (λ (ids : Ids). slice_get ids.version_sets c.in-Some.id.now ≡ Some s) c.self.view_is (c.self.invariant.sets.found s c.in-Some.id.now at)
+
+pub invariant_of-self-2 : goal.invariant_of-self-2
+invariant_of-self-2 c =
+    let s : NameId × Numbers = (c.args.name, record { 0 = c.args.span }) in
+    let key : c.as_slice.result.now ≡ set_key (c.args.name, record { 0 = c.args.span }) = c.as_slice.ensures.value ∙ c.in_ok-key.ensures in
+    let none = ap (λ (k : List ℕ). number_in c.self.inside.set_ids.entries k) (sym key) ∙ sym c.in_default.ensures.value in
+    let put = subst (λ (k : List ℕ). (other : List ℕ) → number_in c.add.new.ids.entries other ≡ cond (bytes_eq k other) (Some (length c.self.inside.version_sets.items)) (number_in c.self.inside.set_ids.entries other)) c.in_ok-key.ensures c.in_ok-id.ensures.key in
+    subst (λ (ss : List (NameId × Numbers)). AreKept ss c.add.new.ids.entries (map (λ u. u.items) c.self.inside.unions.items) c.self.inside.union_ids.entries c.self.inside.conditions.items c.self.inside.condition_ids.entries) (sym c.in_ok-id.ensures.value)
+    (sets_more c.self.inside.version_sets.items c.self.inside.set_ids.entries (map (λ u. u.items) c.self.inside.unions.items) c.self.inside.union_ids.entries c.self.inside.conditions.items c.self.inside.condition_ids.entries c.self.invariant s c.add.new.ids.entries none put)
 
 pub returns-clause-version_set : goal.returns-clause-version_set
-returns-clause-version_set c = (set_step c.self.inside.unions.keys c.self.inside.pool c.intern_version_set.new.self c.intern_version_set.result _ c.intern_version_set.ensures.id c.intern_version_set.ensures.put c.intern_version_set.ensures.err).answer
+returns-clause-version_set c = last_there c.self.inside.version_sets.items c.add.new.values.items (c.args.name, record { 0 = c.args.span }) c.in_ok-id.ensures.value c.in_ok-id.id c.in_ok-id.ensures.id
 
 pub returns-clause-interns : goal.returns-clause-interns
-returns-clause-interns c = rw (← c.self.view_is) ((set_step c.self.inside.unions.keys c.self.inside.pool c.intern_version_set.new.self c.intern_version_set.result _ c.intern_version_set.ensures.id c.intern_version_set.ensures.put c.intern_version_set.ensures.err).interns)
+returns-clause-interns c = rw (← c.self.view_is) (record {
+  grows = record { names = λ k x e. e; words = λ k x e. e; solvables = λ k x e. e; version_sets = extends_to c.self.inside.version_sets.items c.add.new.values.items (c.args.name, record { 0 = c.args.span }) c.in_ok-id.ensures.value; unions = λ k x e. e; conditions = λ k x e. e };
+  same = refl;
+})

@@ -1,7 +1,14 @@
-use Rattle.std.proofs.Common.{◌≡◌, ◌++◌, map, take, drop}
-use Rattle.resolvo_decide.specs.States.{reopened}
+use Rattle.std.proofs.Common.{◌≡◌, ℕ, ◌-◌, ◌<◌, ◌≤◌, length}
+use Rattle.resolvo_decide.specs.States.{state_at, reopened}
 use Rattle.resolvo_decide.proofs.clause_states.ClauseStates.reopen.Given as goal
 
--- the states so far are changed
+-- the states so far are changed, and the others are as they were
 abbrev pub invariant-loop-position : goal.invariant-loop-position
-invariant-loop-position l = l.self ≡ map (reopened l.common) (take l.position l.initial.self) ++ drop l.position l.initial.self
+invariant-loop-position l = record {
+  changed : (i : ℕ) → i < l.position → state_at l.self i ≡ reopened l.common (state_at l.initial.self i);
+  after : (i : ℕ) → l.position ≤ i → state_at l.self i ≡ state_at l.initial.self i;
+  len : length l.self ≡ length l.initial.self;
+}
+
+abbrev pub decreases-loop-position : goal.decreases-loop-position
+decreases-loop-position l = length l.self - l.position

@@ -13,7 +13,7 @@ pub returns-clause-picked : goal.returns-clause-picked
 returns-clause-picked g c = record {
   values = c.map.result.now;
   agree = c.map.ensures;
-  picked = ap (pick c.args.lists.now (value_at c.map.result.now) (g.C.ScoreMap.score_of c.args.scores.now)) (sym c.registered.ensures) ∙ sym c.pick.ensures.picked;
+  picked = ap (pick c.args.lists.now (value_at c.map.result.now) (g.C.ScoreMap.score_of c.args.scores.now.map)) (sym c.registered.ensures) ∙ sym c.pick.ensures.picked;
 }
 
 pub returns-clause-seen : goal.returns-clause-seen

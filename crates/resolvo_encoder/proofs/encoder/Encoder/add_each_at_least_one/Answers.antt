@@ -22,7 +22,7 @@ loop-set-preserved g c =
     take_more c.args.sets.now c.loop-set.set-index c.set-item.result c.loop-set-test.true ∙ ap (λ (x : ConditionSet _ _). take c.loop-set.set-index c.args.sets.now ++ x ∷ []) (sym c.set-item.is) in
     subst (λ (ls : List Signed). Helps g.S.PartialEq.eq (take (c.loop-set.set-index + 1) c.args.sets.now) ls c.args.self.now c.help.new.self) (sym c.in_ok-append.ensures.items)
     (subst (λ (xs : List (ConditionSet _ _)). Helps g.S.PartialEq.eq xs (c.loop-set.literals.items ++ c.in_ok-more.more.items) c.args.self.now c.help.new.self) (sym more)
-    (helps_more g.S.PartialEq.eq exact (take c.loop-set.set-index c.args.sets.now) c.set-item.result c.loop-set.literals.items c.in_ok-more.more.items c.args.self.now c.loop-set.self c.help.new.self c.loop-set.invariant c.in_ok-more.ensures))
+    (helps_more g.S.PartialEq.eq exact (take c.loop-set.set-index c.args.sets.now) c.set-item.result c.loop-set.literals.items c.in_ok-more.more.items c.args.self.now c.loop-set.self c.help.new.self c.loop-set.invariant c.in_ok-more.ensures.helped))
 
-pub returns : goal.returns
-returns g c = subst (λ (xs : List (ConditionSet _ _)). Helps g.S.PartialEq.eq xs c.loop-set.literals.items c.args.self.now c.loop-set.self) (take_all c.loop-set.set-index c.args.sets.now c.loop-set-test.false) c.loop-set.invariant
+pub returns-clause-helped : goal.returns-clause-helped
+returns-clause-helped g c = subst (λ (xs : List (ConditionSet _ _)). Helps g.S.PartialEq.eq xs c.loop-set.literals.items c.args.self.now c.loop-set.self) (take_all c.loop-set.set-index c.args.sets.now c.loop-set-test.false) c.loop-set.invariant

@@ -20,7 +20,7 @@ loop-one-preserved g c =
     let more : take (c.loop-one.one-index + 1) c.args.offered.now ≡ take c.loop-one.one-index c.args.offered.now ++ c.one-item.result ∷ [] =
     take_more c.args.offered.now c.loop-one.one-index c.one-item.result c.loop-one-test.true ∙ ap (λ (x : Offered _ _). take c.loop-one.one-index c.args.offered.now ++ x ∷ []) (sym c.one-item.is) in
     subst (λ (xs : List (Offered _ _)). Admits g.S.PartialEq.eq xs c.args.self.now c.admit_one.new.self) (sym more)
-    (admits_then g.S.PartialEq.eq exact (take c.loop-one.one-index c.args.offered.now) (c.one-item.result ∷ []) c.args.self.now c.loop-one.self c.admit_one.new.self c.loop-one.invariant c.in_ok-admit_one.ensures)
+    (admits_then g.S.PartialEq.eq exact (take c.loop-one.one-index c.args.offered.now) (c.one-item.result ∷ []) c.args.self.now c.loop-one.self c.admit_one.new.self c.loop-one.invariant c.in_ok-admit_one.ensures.admitted)
 
-pub returns : goal.returns
-returns g c = subst (λ (xs : List (Offered _ _)). Admits g.S.PartialEq.eq xs c.args.self.now c.loop-one.self) (take_all c.loop-one.one-index c.args.offered.now c.loop-one-test.false) c.loop-one.invariant
+pub returns-clause-admitted : goal.returns-clause-admitted
+returns-clause-admitted g c = subst (λ (xs : List (Offered _ _)). Admits g.S.PartialEq.eq xs c.args.self.now c.loop-one.self) (take_all c.loop-one.one-index c.args.offered.now c.loop-one-test.false) c.loop-one.invariant

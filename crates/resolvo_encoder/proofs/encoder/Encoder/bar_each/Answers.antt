@@ -17,7 +17,7 @@ loop-one-preserved g c =
     let more : take (c.loop-one.one-index + 1) c.args.barred.now ≡ take c.loop-one.one-index c.args.barred.now ++ c.one-item.result ∷ [] =
     take_more c.args.barred.now c.loop-one.one-index c.one-item.result c.loop-one-test.true ∙ ap (λ (x : Barred _). take c.loop-one.one-index c.args.barred.now ++ x ∷ []) (sym c.one-item.is) in
     subst (λ (xs : List (Barred _)). Tells g.S.PartialEq.eq (bar_rules xs) c.args.self.now c.deny.new.self) (sym more)
-    (tells_more g.S.PartialEq.eq exact (λ (x : Barred _). Rule.bars (bar_of x.why) x.solvable) (take c.loop-one.one-index c.args.barred.now) c.one-item.result c.args.self.now c.loop-one.self c.deny.new.self c.loop-one.invariant (c.in_ok-deny.ensures (bar_of c.one-item.result.why) c.barred_by.ensures))
+    (tells_more g.S.PartialEq.eq exact (λ (x : Barred _). Rule.bars (bar_of x.why) x.solvable) (take c.loop-one.one-index c.args.barred.now) c.one-item.result c.args.self.now c.loop-one.self c.deny.new.self c.loop-one.invariant (c.in_ok-deny.ensures.told (bar_of c.one-item.result.why) c.barred_by.ensures))
 
-pub returns : goal.returns
-returns g c = subst (λ (xs : List (Barred _)). Tells g.S.PartialEq.eq (bar_rules xs) c.args.self.now c.loop-one.self) (take_all c.loop-one.one-index c.args.barred.now c.loop-one-test.false) c.loop-one.invariant
+pub returns-clause-told : goal.returns-clause-told
+returns-clause-told g c = subst (λ (xs : List (Barred _)). Tells g.S.PartialEq.eq (bar_rules xs) c.args.self.now c.loop-one.self) (take_all c.loop-one.one-index c.args.barred.now c.loop-one-test.false) c.loop-one.invariant

@@ -14,12 +14,12 @@ use Rattle.resolvo_encoder.proofs.encoder.Encoder.choose_next.Goals as goal
 pub choose-requires-clause-in_range : goal.choose-requires-clause-in_range
 choose-requires-clause-in_range g c =
     let next = c.in_ok-next_decision.ensures.next in
-    (built_choice c.next_decision.new.self next.values (g.C.ScoreMap.score_of c.args.scores.now) c.in-Some.next c.in_ok-next_decision.ensures.built next.agree (next.picked ∙ c.in-Some.is)).1
+    (built_choice c.next_decision.new.self next.values (g.C.ScoreMap.score_of c.args.scores.now.map) c.in-Some.next c.in_ok-next_decision.ensures.built next.agree (next.picked ∙ c.in-Some.is)).1
 
 pub choose-requires-clause-undecided : goal.choose-requires-clause-undecided
 choose-requires-clause-undecided g c =
     let next = c.in_ok-next_decision.ensures.next in
-    (built_choice c.next_decision.new.self next.values (g.C.ScoreMap.score_of c.args.scores.now) c.in-Some.next c.in_ok-next_decision.ensures.built next.agree (next.picked ∙ c.in-Some.is)).0
+    (built_choice c.next_decision.new.self next.values (g.C.ScoreMap.score_of c.args.scores.now.map) c.in-Some.next c.in_ok-next_decision.ensures.built next.agree (next.picked ∙ c.in-Some.is)).0
 
 pub returns-in-None-clause-stays : goal.returns-in-None-clause-stays
 returns-in-None-clause-stays g c = λ p root lawful e.
@@ -41,9 +41,9 @@ returns-in-None-clause-chosen g c = λ quiet.
     record {
       quiet = subst (λ (x : Encoder _ _). AreQuiet x) (sym c.in_ok-next_decision.ensures.rest) quiet;
       values = next.values;
-      score = g.C.ScoreMap.score_of c.args.scores.now;
+      score = g.C.ScoreMap.score_of c.args.scores.now.map;
       agree = next.agree;
-      decided = none_picked (named_by c.next_decision.new.self.lists) next.values (g.C.ScoreMap.score_of c.args.scores.now) c.next_decision.new.self.queue (next.picked ∙ c.in-None.is);
+      decided = none_picked (named_by c.next_decision.new.self.lists) next.values (g.C.ScoreMap.score_of c.args.scores.now.map) c.next_decision.new.self.queue (next.picked ∙ c.in-None.is);
     }
 
 pub returns-in_ok-choose-in-Some-clause-stays : goal.returns-in_ok-choose-in-Some-clause-stays
@@ -51,7 +51,7 @@ returns-in_ok-choose-in-Some-clause-stays g c = λ p root lawful e.
     let exact : IsExact g.S.PartialEq.eq = record { one = g.met.S.Exact.exact; own = g.met.S.Eq.laws.refl } in
     let next = c.in_ok-next_decision.ensures.next in
     let noted = noted_keeps c.args.self.now c.next_decision.new.self c.in_ok-next_decision.ensures.rest g.S.PartialEq.eq exact p root lawful e in
-    let taken = choice_taken g.S.PartialEq.eq p root c.next_decision.new.self noted next.values (g.C.ScoreMap.score_of c.args.scores.now) c.in-Some.next next.agree (next.picked ∙ c.in-Some.is) in
+    let taken = choice_taken g.S.PartialEq.eq p root c.next_decision.new.self noted next.values (g.C.ScoreMap.score_of c.args.scores.now.map) c.in-Some.next next.agree (next.picked ∙ c.in-Some.is) in
     choice_keeps c.next_decision.new.self c.choose.new.self g.S.PartialEq.eq exact p root lawful c.in-Some.next.candidate c.in-Some.next.clause_id c.in_ok-choose-in-Some.ensures.chosen c.in_ok-choose-in-Some.ensures.kept (inr taken) noted
 
 pub returns-in_ok-choose-in-Some-clause-goes_on : goal.returns-in_ok-choose-in-Some-clause-goes_on

@@ -1,11 +1,11 @@
-use Rattle.std.proofs.Common.{None, refl, sym, ◌∙◌, ap}
+use Rattle.std.proofs.Common.{None, refl, sym, ◌∙◌, ap, rules}
 use Rattle.resolvo_sat.specs.State.{count_of}
 use Rattle.std.specs.Prelude.{option_copied}
 use Rattle.resolvo_soundness.specs.Encoding.{IsExact, Rule}
 use Rattle.resolvo_state.specs.declared.atom.ProofAtom.TheVariants.{Gate}
 use Rattle.resolvo_state.specs.declared.clause_kind.Stated.TheVariants as Says
 use Rattle.resolvo_encoder.specs.declared.encoder.Encoder.{Encoder}
-use Rattle.resolvo_encoder.specs.Steps.{SameButCoding}
+use Rattle.resolvo_encoder.specs.Steps.{SameButCoding, LacksNumberFor}
 use Rattle.resolvo_state.proofs.Growth.{stands_grow, stands_in_range}
 use Rattle.resolvo_encoder.proofs.RequireLemmas.{guard_grows}
 use Rattle.resolvo_encoder.proofs.NeedLemmas.{need_keeps, shared_ready, gives_keeps, gate_noted}
@@ -43,3 +43,12 @@ returns-clause-built g c =
     let stated = built_states (Says.Shared c.args.requirement) c.in_ok-gate.gate None c.args.requirement middle c.state_need.new.self (built_gives (Gate c.args.requirement) c.in_ok-gate.gate c.args.self.now c.variable.new.self c.requires gives) (λ name s place bit h. absurd cc) came in
     let stands = stands_grow c.variable.new.self c.state_need.new.self.coding c.in_ok-gate.gate (Gate c.args.requirement) came.states.grows gives.stands in
     built_gate c.state_need.new.self (record c.state_need.new.self { gates = c.insert.new.self }) c.args.requirement c.in_ok-gate.gate stated stands c.in_ok-insert.ensures.put refl
+
+pub returns-in_err-gate-clause-ids : goal.returns-in_err-gate-clause-ids
+returns-in_err-gate-clause-ids g c = search (rules, LacksNumberFor.coding)
+
+pub returns-in_err-state_need-clause-ids : goal.returns-in_err-state_need-clause-ids
+returns-in_err-state_need-clause-ids g c = search (rules, LacksNumberFor.coding)
+
+pub returns-in_err-insert-clause-ids : goal.returns-in_err-insert-clause-ids
+returns-in_err-insert-clause-ids g c = search (rules, LacksNumberFor.requirement)

@@ -7,10 +7,10 @@ use Rattle.resolvo_encoder.specs.Steps.{Enrols}
 use Rattle.resolvo_encoder.proofs.Helps.{set_helps}
 use Rattle.resolvo_encoder.proofs.encoder.Encoder.help.Goals as goal
 
-pub returns : goal.returns
-returns g c =
+pub returns-clause-helped : goal.returns-clause-helped
+returns-clause-helped g c =
     let exact : IsExact g.S.PartialEq.eq = record { one = g.met.S.Exact.exact; own = g.met.S.Eq.laws.refl } in
-    let enrols = subst (λ (xs : List (Offered _ _)). Enrols g.S.PartialEq.eq xs c.in_ok-candidates.candidates.items c.give.new.self c.register.new.self) c.as_slice.ensures.value c.in_ok-candidates.ensures in
-    let literals = c.in_ok-literals.ensures ∙ ap (λ (xs : List (Candidate _)). no c.in_ok-any.any ∷ candidate_literals xs) c.as_slice-2.ensures.value in
+    let enrols = subst (λ (xs : List (Offered _ _)). Enrols g.S.PartialEq.eq xs c.in_ok-candidates.candidates.items c.give.new.self c.register.new.self) c.as_slice.ensures.value c.in_ok-candidates.ensures.enrolled in
+    let literals = c.in_ok-literals.ensures.literals ∙ ap (λ (xs : List (Candidate _)). no c.in_ok-any.any ∷ candidate_literals xs) c.as_slice-2.ensures.value in
     set_helps g.S.PartialEq.eq exact c.args.set.now c.in_ok-any.any c.in_ok-candidates.candidates.items c.in_ok-literals.literals.items c.args.self.now c.help_package.new.self c.give.new.self c.register.new.self
-    c.in_ok-help_package.ensures c.in_ok-any.ensures.told c.in_ok-any.ensures.stands enrols literals
+    c.in_ok-help_package.ensures.helped c.in_ok-any.ensures.told c.in_ok-any.ensures.stands enrols literals

@@ -16,6 +16,6 @@ returns-then-contains-clause-encoded g c = λ p root lawful holds outside parent
 pub returns-clause-encoded : goal.returns-clause-encoded
 returns-clause-encoded g c = λ p root lawful holds outside parent limited.
     let exact : IsExact g.S.PartialEq.eq = record { one = g.met.S.Exact.exact; own = g.met.S.Eq.laws.refl } in
-    let (middle, stated) = c.in_ok-state_outside.ensures.encoding p root lawful holds (outs_are_rules g.S.PartialEq.eq exact p root c.args.version_set c.args.outside.now outside parent limited) in
+    let (middle, stated) = c.in_ok-state_outside.ensures.told.encoding p root lawful holds (outs_are_rules g.S.PartialEq.eq exact p root c.args.version_set c.args.outside.now outside parent limited) in
     let outs = outside_stated g.S.PartialEq.eq exact p root c.args.version_set c.args.outside.now (λ x. Rule.is_out c.args.version_set x) (rules_of c.state_outside.new.self) outside stated in
     (set_noted g.S.PartialEq.eq exact p root c.state_outside.new.self _ c.args.version_set middle c.in_ok-add_key.ensures.only refl outs, outs)

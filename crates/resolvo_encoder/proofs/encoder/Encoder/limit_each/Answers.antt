@@ -17,7 +17,7 @@ loop-one-preserved g c =
     let more : take (c.loop-one.one-index + 1) c.args.outside.now ≡ take c.loop-one.one-index c.args.outside.now ++ c.one-item.result ∷ [] =
     take_more c.args.outside.now c.loop-one.one-index c.one-item.result c.loop-one-test.true ∙ ap (λ (x : Offered _ _). take c.loop-one.one-index c.args.outside.now ++ x ∷ []) (sym c.one-item.is) in
     subst (λ (xs : List (Offered _ _)). Tells g.S.PartialEq.eq (limit_rules c.args.parent c.args.version_set xs) c.args.self.now c.limit_one.new.self) (sym more)
-    (tells_more g.S.PartialEq.eq exact (λ (x : Offered _ _). Rule.limits c.args.parent c.args.version_set x.solvable) (take c.loop-one.one-index c.args.outside.now) c.one-item.result c.args.self.now c.loop-one.self c.limit_one.new.self c.loop-one.invariant c.in_ok-limit_one.ensures)
+    (tells_more g.S.PartialEq.eq exact (λ (x : Offered _ _). Rule.limits c.args.parent c.args.version_set x.solvable) (take c.loop-one.one-index c.args.outside.now) c.one-item.result c.args.self.now c.loop-one.self c.limit_one.new.self c.loop-one.invariant c.in_ok-limit_one.ensures.told)
 
-pub returns : goal.returns
-returns g c = subst (λ (xs : List (Offered _ _)). Tells g.S.PartialEq.eq (limit_rules c.args.parent c.args.version_set xs) c.args.self.now c.loop-one.self) (take_all c.loop-one.one-index c.args.outside.now c.loop-one-test.false) c.loop-one.invariant
+pub returns-clause-told : goal.returns-clause-told
+returns-clause-told g c = subst (λ (xs : List (Offered _ _)). Tells g.S.PartialEq.eq (limit_rules c.args.parent c.args.version_set xs) c.args.self.now c.loop-one.self) (take_all c.loop-one.one-index c.args.outside.now c.loop-one-test.false) c.loop-one.invariant

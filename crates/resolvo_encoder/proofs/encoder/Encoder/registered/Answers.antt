@@ -22,6 +22,6 @@ loop-variable-preserved g c =
           subst now (sym w.registered-is) (subst (λ (us : List VariableId). AreOf atoms us c.args.name c.loop-variable.registered.items) (sym more) (of_other atoms (take i vs) c.args.name c.loop-variable.registered.items (get_or vs i d) (sym w.in_default.ensures) c.loop-variable.invariant))
     ]
 
-pub returns : goal.returns
-returns g c = those_of c.args.self.now c.args.name c.variables-variables.result.now c.loop-variable.registered.items c.variables-variables.ensures.tracked c.variables-variables.ensures.all
+pub returns-clause-those : goal.returns-clause-those
+returns-clause-those g c = those_of c.args.self.now c.args.name c.variables-variables.result.now c.loop-variable.registered.items c.variables-variables.ensures.tracked c.variables-variables.ensures.all
     (subst (λ (vs : List VariableId). AreOf c.args.self.now.coding.atoms.keys vs c.args.name c.loop-variable.registered.items) (take_all c.loop-variable.variable-index c.variables-variables.result.now c.loop-variable-test.false) c.loop-variable.invariant)

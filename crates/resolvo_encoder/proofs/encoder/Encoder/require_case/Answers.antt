@@ -1,7 +1,8 @@
-use Rattle.std.proofs.Common.{inl}
+use Rattle.std.proofs.Common.{inl, rules}
 use Rattle.resolvo_soundness.specs.Encoding.{IsExact}
 use Rattle.resolvo_store_core.specs.declared.lists.Disjunction.{Disjunction}
 use Rattle.resolvo_encoder.specs.Encoded.{rules_of}
+use Rattle.resolvo_encoder.specs.Steps.{LacksNumberFor}
 use Rattle.resolvo_encoder.proofs.EnrollLemmas.{built_fixes}
 use Rattle.resolvo_encoder.proofs.FireLemmas.{StatesCase, case_in_range, case_extends, case_adds, case_built, case_encoded, case_left_out}
 use Rattle.resolvo_encoder.proofs.TellLemmas.{parent_variable_grows}
@@ -14,12 +15,12 @@ returns-then-keeps_out-clause-encoded g c = λ p root lawful e sets offered guar
     (e, case_left_out g.S.PartialEq.eq exact p (rules_of c.args.self.now) c.args.parent c.args.need c.args.sets.now s set sets who stands there)
 
 pub parent_variable-requires : goal.parent_variable-requires
-parent_variable-requires g c = built_fixes g.S.PartialEq.eq c.args.need.requirement c.args.offered.now c.args.self.now c.fix_candidates.new.self c.requires c.in_ok-fix_candidates.ensures
+parent_variable-requires g c = built_fixes g.S.PartialEq.eq c.args.need.requirement c.args.offered.now c.args.self.now c.fix_candidates.new.self c.requires c.in_ok-fix_candidates.ensures.fixed
 
 pub state_need-requires-clause-in_range : goal.state_need-requires-clause-in_range
 state_need-requires-clause-in_range g c =
     let given : Disjunction = record { literals = c.in_ok-literals.literals } in
-    let helps = c.in_ok-literals.ensures in
+    let helps = c.in_ok-literals.ensures.helped in
     case_in_range c.add_each_at_least_one.new.self c.args.parent c.in_ok-variable.variable c.in_ok-condition.condition given c.fix_disjunction.new.self c.args.need.requirement helps.built c.in_ok-condition.ensures.fixed
     (parent_variable_grows c.parent_variable.new.self c.add_each_at_least_one.new.self c.args.parent c.in_ok-variable.variable helps.extends c.in_ok-variable.ensures.stands) helps.in_range
 
@@ -36,11 +37,11 @@ returns g c =
       id = c.in_ok-condition.condition;
       given = given;
       case = c.in_ok-case.case;
-      is_case = c.in_ok-case.ensures;
-      fixes = c.in_ok-fix_candidates.ensures;
+      is_case = c.in_ok-case.ensures.case;
+      fixes = c.in_ok-fix_candidates.ensures.fixed;
       tells = c.in_ok-variable.ensures.told;
       stands = c.in_ok-variable.ensures.stands;
-      helps = c.in_ok-literals.ensures;
+      helps = c.in_ok-literals.ensures.helped;
       disjoins = c.in_ok-condition.ensures.fixed;
       states = c.in_ok-state_need.ensures.stated;
     } in
@@ -51,4 +52,17 @@ returns g c =
       candidates = case_adds g.S.PartialEq.eq exact c.args.parent c.args.need c.args.sets.now c.args.offered.now c.args.self.now c.state_need.new.self came;
       kept = case_extends g.S.PartialEq.eq exact c.args.parent c.args.need c.args.sets.now c.args.offered.now c.args.self.now c.state_need.new.self came;
       built = case_built g.S.PartialEq.eq exact c.args.parent c.args.need c.args.sets.now c.args.offered.now c.args.self.now c.state_need.new.self came;
+      ids = search rules;
     }
+
+pub returns-in_err-variable-clause-ids : goal.returns-in_err-variable-clause-ids
+returns-in_err-variable-clause-ids g c = search (rules, LacksNumberFor.coding)
+
+pub returns-in_err-literals-clause-ids : goal.returns-in_err-literals-clause-ids
+returns-in_err-literals-clause-ids g c = search (rules, LacksNumberFor.coding)
+
+pub returns-in_err-condition-clause-ids : goal.returns-in_err-condition-clause-ids
+returns-in_err-condition-clause-ids g c = search (rules, LacksNumberFor.disjunctions)
+
+pub returns-in_err-state_need-clause-ids : goal.returns-in_err-state_need-clause-ids
+returns-in_err-state_need-clause-ids g c = search (rules, LacksNumberFor.coding)

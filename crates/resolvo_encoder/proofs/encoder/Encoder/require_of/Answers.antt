@@ -1,10 +1,10 @@
-use Rattle.std.proofs.Common.{inl, inr, Some, None, refl, ap}
+use Rattle.std.proofs.Common.{inl, inr, Some, None, refl, ap, rules}
 use Rattle.resolvo_encoder.specs.declared.encoder.EncodedOnce.{EncodedOnce}
 use Rattle.resolvo_soundness.specs.Encoding.{IsExact, Rule}
 use Rattle.resolvo_state.specs.declared.atom.ProofAtom.TheVariants.{Solvable, Gate}
 use Rattle.resolvo_state.specs.declared.clause_kind.Stated.TheVariants as Says
 use Rattle.resolvo_encoder.specs.declared.encoder.Encoder.{Encoder}
-use Rattle.resolvo_encoder.specs.Steps.{SameButCoding, Extends}
+use Rattle.resolvo_encoder.specs.Steps.{SameButCoding, Extends, LacksNumberFor}
 use Rattle.resolvo_state.proofs.Growth.{stands_grow, rules_grow, stands_in_range}
 use Rattle.resolvo_state.proofs.RegisterLemmas.{digits_more}
 use Rattle.resolvo_encoder.proofs.RequireLemmas.{extends_then, guard_grows}
@@ -83,3 +83,12 @@ returns-then-count-lt-GATED-clause-built g c =
     let needed = c.in_ok-need_directly.ensures.needed in
     built_states (Says.Needs (Some c.args.solvable) c.args.need needed.case) c.in_ok-variable.variable None c.args.need.requirement middle c.need_directly.new.self
     (built_gives (Solvable c.args.solvable) c.in_ok-variable.variable c.args.self.now c.variable.new.self c.requires c.in_ok-variable.ensures.given) (λ name s place bit h. absurd cc) needed.states
+
+pub returns-in_err-variable-clause-ids : goal.returns-in_err-variable-clause-ids
+returns-in_err-variable-clause-ids g c = search (rules, LacksNumberFor.coding)
+
+pub returns-in_err-need_directly-clause-ids : goal.returns-in_err-need_directly-clause-ids
+returns-in_err-need_directly-clause-ids g c = search (rules, LacksNumberFor.coding)
+
+pub returns-in_err-open_gate-clause-ids : goal.returns-in_err-open_gate-clause-ids
+returns-in_err-open_gate-clause-ids g c = search (rules, LacksNumberFor.coding)

@@ -17,10 +17,10 @@ loop-one-preserved g c =
     let more : take (c.loop-one.one-index + 1) c.args.list.now ≡ take c.loop-one.one-index c.args.list.now ++ c.one-item.result ∷ [] =
     take_more c.args.list.now c.loop-one.one-index c.one-item.result c.loop-one-test.true ∙ ap (λ (x : Offered _ _). take c.loop-one.one-index c.args.list.now ++ x ∷ []) (sym c.one-item.is) in
     subst (λ (xs : List (Offered _ _)). SaysThere g.S.PartialEq.eq xs c.args.self.now c.add_at_least_one.new.self) (sym more)
-    (says_then g.S.PartialEq.eq exact (take c.loop-one.one-index c.args.list.now) (c.one-item.result ∷ []) c.args.self.now c.loop-one.self c.add_at_least_one.new.self c.loop-one.invariant c.in_ok-add_at_least_one.ensures)
+    (says_then g.S.PartialEq.eq exact (take c.loop-one.one-index c.args.list.now) (c.one-item.result ∷ []) c.args.self.now c.loop-one.self c.add_at_least_one.new.self c.loop-one.invariant c.in_ok-add_at_least_one.ensures.said)
 
 pub add_at_least_one-requires : goal.add_at_least_one-requires
 add_at_least_one-requires g c = c.loop-one.invariant.built
 
-pub returns : goal.returns
-returns g c = subst (λ (xs : List (Offered _ _)). SaysThere g.S.PartialEq.eq xs c.args.self.now c.loop-one.self) (take_all c.loop-one.one-index c.args.list.now c.loop-one-test.false) c.loop-one.invariant
+pub returns-clause-said : goal.returns-clause-said
+returns-clause-said g c = subst (λ (xs : List (Offered _ _)). SaysThere g.S.PartialEq.eq xs c.args.self.now c.loop-one.self) (take_all c.loop-one.one-index c.args.list.now c.loop-one-test.false) c.loop-one.invariant

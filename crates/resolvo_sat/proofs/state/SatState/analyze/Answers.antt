@@ -4,14 +4,13 @@ use Rattle.resolvo_pool_core.specs.declared.id.ClauseId.{ClauseId}
 use Rattle.resolvo_store_core.specs.Signed.{Signed}
 use Rattle.resolvo_store_core.specs.declared.decision.Entry.{Entry}
 use Rattle.resolvo_sat.specs.declared.state.SatState.{SatState}
-use Rattle.resolvo_sat.specs.Entries.{before, IsPropagated, reason_of}
+use Rattle.resolvo_sat.specs.Entries.{before, top_level, IsPropagated, reason_of}
 use Rattle.resolvo_sat.specs.State.{clauses_of}
 use Rattle.resolvo_sat.specs.Known.{clause_at}
 use Rattle.resolvo_sat.specs.Analysis.{Walks, Seen, IsKeptOrForced, is_seen}
 use Rattle.resolvo_sat.proofs.Clauses.{length-lists}
 use Rattle.resolvo_sat.proofs.WalkLemmas.{Meets, meets, walk_starts, walk_keeps, walk_resolves, walk_at, rooted_before, kept_low, in_range_from, learnt_analysis, if_ok_more}
 use Rattle.resolvo_sat.proofs.state.SatState.analyze.Goals as goal
-use Rattle.resolvo_sat.proofs.state.SatState.analyze.Goals.{else-self-entry-via-then-self-entry+else-below-entry, else-self-entry-via-else-self-entry}
 
 pub loop-place-init : goal.loop-place-init
 loop-place-init c =
@@ -20,14 +19,14 @@ loop-place-init c =
     chosen _ _ _ _ c.push.ensures.items (ap is_ok c.in_ok-push.was) ∙ ap (λ (l : List ClauseId). l ++ c.args.broken ∷ []) c.new-causes.ensures.items in
     let whole : length c.stack-place.result.now ≡ length s.tracker.trail = ap length c.stack-place.ensures.trail in
     let bound : c.args.broken.0 < length (clauses_of s) = omega (arith, length-lists s.clauses, c.requires.in_range) in
-    let marked : Seen (clause_at (clauses_of s) c.args.broken.0) c.new-seen.result c.mark_seen.new.seen = subst (λ (l : List Signed). Seen l c.new-seen.result c.mark_seen.new.seen) c.literals.ensures c.in_ok-mark_seen.ensures.marked in
+    let marked : Seen (clause_at (clauses_of s) c.args.broken.0) c.new-seen.result c.mark_seen.new.seen = subst (λ (l : List Signed). Seen l c.new-seen.result c.mark_seen.new.seen) c.literals.ensures c.in_ok-pending.ensures.marked in
     subst (λ (n : ℕ). Walks s [] n c.mark_seen.new.seen c.new-kept.result.items c.push.new.self.items) (sym whole)
     (subst (λ (k : List Signed). Walks s [] (length s.tracker.trail) c.mark_seen.new.seen k c.push.new.self.items) (sym c.new-kept.ensures.items)
     (subst (λ (r : List ClauseId). Walks s [] (length s.tracker.trail) c.mark_seen.new.seen [] r) (sym pushed)
     (walk_starts s c.args.broken c.new-seen.result c.mark_seen.new.seen c.requires.state bound c.requires.falls c.new-seen.ensures marked)))
 
-pub returns-then-below-entry-clause-analysis : goal.returns-then-below-entry-clause-analysis
-returns-then-below-entry-clause-analysis c =
+pub returns-in-Some-clause-analysis : goal.returns-in-Some-clause-analysis
+returns-in-Some-clause-analysis c =
     let s : SatState = c.args.self.now in
     let p : ℕ = c.loop-place.place - 1 in
     let d : Entry = c.entry-entry.result in
@@ -36,7 +35,7 @@ returns-then-below-entry-clause-analysis c =
     let m : Meets s p d = meets s p d c.requires.state within c.entry-entry.ensures.next in
     let marked : is_seen c.loop-place.seen d ≡ true = sym c.contains.ensures ∙ c.if-contains.true in
     if_ok_more c.learnt.result
-    (λ x of. learnt_analysis s p d c.loop-place.seen c.loop-place.kept.items c.loop-place.causes.items c.backjump_level-below.result c.in_ok-literals.literals.items x m marked c.backjump_level-below.ensures c.if-self-entry.true c.if-below-entry.true c.in_ok-literals.ensures.literals
+    (λ x of. learnt_analysis s p d c.loop-place.seen c.loop-place.kept.items c.loop-place.causes.items c.in-Some.below c.in_ok-literals.literals.items x m marked c.in-Some.ensures.2 c.in-Some.ensures.0 c.in-Some.ensures.1 c.in_ok-literals.ensures.literals
     (walk_at s [] c.loop-place.place c.loop-place.seen c.loop-place.kept.items c.loop-place.causes.items c.loop-place-test.true c.loop-place.invariant) of)
     c.learnt.ensures.learnt
 
@@ -51,24 +50,20 @@ loop-place-preserved-in-Continue-branch-4 c =
     let marked : is_seen c.loop-place.seen d ≡ true = sym c.contains.ensures ∙ c.if-contains.true in
     let pushed = chosen _ _ _ _ c.push-then-is_kept.ensures.items (ap is_ok c.in_ok-push-2.was) ∙ ap (λ (l : Signed). c.loop-place.kept.items ++ l ∷ []) (c.negate.ensures ∙ ap Rattle.resolvo_store_core.specs.Signed.negation c.literal_made_true.ensures) in
     walk_keeps s [] p d c.loop-place.seen c.loop-place.kept.items c.push-then-is_kept.new.self.items c.loop-place.causes.items m marked
-    (kept_low s p d c.backjump_level-below.result c.backjump_level-below.ensures.low
-    (λ above under. elim c.else-self-entry.branch [
-      | else-self-entry-via-then-self-entry+else-below-entry w ↦ (let f : d.level ≤ c.backjump_level-below.result = w.if-below-entry.false in absurd (omega arith))
-      | else-self-entry-via-else-self-entry w ↦ (let f : d.level ≤ s.base_level = w.if-self-entry.false in absurd (omega arith))
-    ])
+    (kept_low s p d (top_level (before s.tracker.trail p)) (omega arith) c.in_default.ensures
     (subst (IsKeptOrForced s d (before s.tracker.trail p)) c.if-is_kept.true c.is_kept.ensures))
     pushed (walk_at s [] c.loop-place.place c.loop-place.seen c.loop-place.kept.items c.loop-place.causes.items c.loop-place-test.true c.loop-place.invariant)
 
-pub literals-requires-else-is_kept : goal.literals-requires-else-is_kept
-literals-requires-else-is_kept c =
+pub literals-reason-requires : goal.literals-reason-requires
+literals-reason-requires c =
     let s : SatState = c.args.self.now in
     let p : ℕ = c.loop-place.place - 1 in
     let d : Entry = c.entry-entry.result in
     let forced : IsPropagated (clauses_of s) d (before s.tracker.trail p) = subst (IsKeptOrForced s d (before s.tracker.trail p)) c.if-is_kept.false c.is_kept.ensures in
     omega (arith, length-lists s.clauses, in_range_from (clauses_of s) (reason_of d) _ forced.forced.stands)
 
-pub loop-place-preserved-in-Continue-branch-6 : goal.loop-place-preserved-in-Continue-branch-6
-loop-place-preserved-in-Continue-branch-6 c =
+pub loop-place-preserved-else-is_kept : goal.loop-place-preserved-else-is_kept
+loop-place-preserved-else-is_kept c =
     let s : SatState = c.args.self.now in
     let p : ℕ = c.loop-place.place - 1 in
     let d : Entry = c.entry-entry.result in
@@ -77,7 +72,7 @@ loop-place-preserved-in-Continue-branch-6 c =
     let m : Meets s p d = meets s p d c.requires.state within c.entry-entry.ensures.next in
     let is_marked_d : is_seen c.loop-place.seen d ≡ true = sym c.contains.ensures ∙ c.if-contains.true in
     let forced : IsPropagated (clauses_of s) d (before s.tracker.trail p) = subst (IsKeptOrForced s d (before s.tracker.trail p)) c.if-is_kept.false c.is_kept.ensures in
-    let marked : Seen (clause_at (clauses_of s) (reason_of d)) c.loop-place.seen c.mark_seen-else-is_kept.new.seen = subst (λ (l : List Signed). Seen l c.loop-place.seen c.mark_seen-else-is_kept.new.seen) c.literals-else-is_kept.ensures c.in_ok-mark_seen-2.ensures.marked in
+    let marked : Seen (clause_at (clauses_of s) (reason_of d)) c.loop-place.seen c.mark_seen-else-is_kept.new.seen = subst (λ (l : List Signed). Seen l c.loop-place.seen c.mark_seen-else-is_kept.new.seen) c.literals-reason.ensures c.in_ok-more.ensures.marked in
     let pushed = chosen _ _ _ _ c.push-else-is_kept.ensures.items (ap is_ok c.in_ok-push-3.was) in
     walk_resolves s [] p d c.loop-place.seen c.mark_seen-else-is_kept.new.seen c.loop-place.kept.items c.loop-place.causes.items c.push-else-is_kept.new.self.items m
     (rooted_before s p d c.loop-place.seen c.requires.state m c.loop-place.invariant.rootless is_marked_d) forced marked pushed

@@ -1,11 +1,11 @@
-use Rattle.std.proofs.Common.{List, Some, None, subst}
+use Rattle.std.proofs.Common.{◌≡◌, ◌+◌, ◌^◌, ◌<◌, ◌≤◌, List, length, None, subst, arith}
 use Rattle.resolvo_sat.specs.declared.state.SatState.{SatState}
 use Rattle.resolvo_sat.specs.declared.watch_lists.UnitClause.{UnitClause}
-use Rattle.resolvo_sat.specs.Propagation.{IsSinglesEnd, SetsSingles, IsVisit, IsTaken, last_taken}
+use Rattle.resolvo_sat.specs.Propagation.{IsSinglesEnd, SetsSingles, IsVisit, Walked}
+use Rattle.resolvo_sat.specs.State.{count_of}
 use Rattle.resolvo_sat.specs.Attach.{IsWaitingEnd}
-use Rattle.resolvo_sat.proofs.ExtendLemmas.{extends_more}
 use Rattle.resolvo_sat.proofs.Readiness.{ready_extends, same_watching}
-use Rattle.resolvo_sat.proofs.CompleteLemmas.{running_starts, running_goes_on, running_ends, running_smaller, singles_ready, singles_break, conflicts_later}
+use Rattle.resolvo_sat.proofs.CompleteLemmas.{entries_bounded, running_starts, running_goes_on, running_ends, running_smaller, singles_ready, singles_break, conflicts_later}
 use Rattle.resolvo_sat.proofs.state.SatState.propagate.Goals as goal
 
 pub loop-literal-init : goal.loop-literal-init
@@ -37,20 +37,29 @@ attach_pending-requires c = record {
 
 pub returns-in-Some-4-clause-propagation : goal.returns-in-Some-4-clause-propagation
 returns-in-Some-4-clause-propagation c =
-    let taken : IsTaken c.loop-literal.self c.take_next.new.self (Some c.in-Some-take_next.literal) = c.in-Some-take_next.ensures in
-    conflicts_later c.in-Some-4.clause.0 c.args.self.now c.take_next.new.self c.propagate_literal.new.self c.args.watching.now c.loop-literal.watching c.propagate_literal.new.watching c.loop-literal.invariant.watching
-    (extends_more c.args.self.now c.loop-literal.self c.take_next.new.self c.loop-literal.invariant.extends taken.1)
-    (subst (IsVisit (last_taken c.take_next.new.self) c.take_next.new.self c.propagate_literal.new.self c.loop-literal.watching c.propagate_literal.new.watching) c.in-Some-4.is c.in_ok-clause-4.ensures.propagate_literal)
+    conflicts_later c.in-Some-4.clause.0 c.args.self.now c.loop-literal.self c.propagate_literal.new.self c.args.watching.now c.loop-literal.watching c.propagate_literal.new.watching c.loop-literal.invariant.watching
+    c.loop-literal.invariant.extends
+    (subst (IsVisit c.loop-literal.self c.propagate_literal.new.self c.loop-literal.watching c.propagate_literal.new.watching) c.in-Some-4.is c.in_ok-clause-4.ensures.propagate_literal)
+
+pub pass_entry-requires : goal.pass_entry-requires
+pass_entry-requires c =
+    let s : SatState = c.loop-literal.self in
+    let walked : Walked (s.front + 1) s c.propagate_literal.new.self c.loop-literal.watching c.propagate_literal.new.watching = subst (IsVisit s c.propagate_literal.new.self c.loop-literal.watching c.propagate_literal.new.watching) c.in_default-4.is c.in_ok-clause-4.ensures.propagate_literal in
+    let kept : c.propagate_literal.new.self.front ≡ s.front = walked.front in
+    let within : s.front < length s.tracker.trail = c.in-Some-next_fallen.ensures.in_range in
+    let bound : length s.tracker.trail ≤ count_of s = entries_bounded s c.loop-literal.invariant.extends.state in
+    let small : count_of s < 2 ^ 31 = c.loop-literal.invariant.extends.state.small in
+    omega arith
 
 pub loop-literal-smaller : goal.loop-literal-smaller
 loop-literal-smaller c =
-    running_smaller c.args.self.now c.loop-literal.self c.take_next.new.self c.propagate_literal.new.self c.args.watching.now c.loop-literal.watching c.propagate_literal.new.watching c.in-Some-take_next.literal c.loop-literal.invariant c.in-Some-take_next.ensures
-    (subst (IsVisit (last_taken c.take_next.new.self) c.take_next.new.self c.propagate_literal.new.self c.loop-literal.watching c.propagate_literal.new.watching) c.in_default-4.is c.in_ok-clause-4.ensures.propagate_literal)
+    running_smaller c.args.self.now c.loop-literal.self c.propagate_literal.new.self c.pass_entry.new.self c.args.watching.now c.loop-literal.watching c.propagate_literal.new.watching c.in-Some-next_fallen.literal c.loop-literal.invariant c.in-Some-next_fallen.ensures
+    (subst (IsVisit c.loop-literal.self c.propagate_literal.new.self c.loop-literal.watching c.propagate_literal.new.watching) c.in_default-4.is c.in_ok-clause-4.ensures.propagate_literal) c.pass_entry.ensures
 
 pub loop-literal-preserved : goal.loop-literal-preserved
 loop-literal-preserved c =
-    running_goes_on c.args.self.now c.loop-literal.self c.take_next.new.self c.propagate_literal.new.self c.args.watching.now c.loop-literal.watching c.propagate_literal.new.watching c.in-Some-take_next.literal c.loop-literal.invariant c.in-Some-take_next.ensures
-    (subst (IsVisit (last_taken c.take_next.new.self) c.take_next.new.self c.propagate_literal.new.self c.loop-literal.watching c.propagate_literal.new.watching) c.in_default-4.is c.in_ok-clause-4.ensures.propagate_literal)
+    running_goes_on c.args.self.now c.loop-literal.self c.propagate_literal.new.self c.pass_entry.new.self c.args.watching.now c.loop-literal.watching c.propagate_literal.new.watching c.in-Some-next_fallen.literal c.loop-literal.invariant c.in-Some-next_fallen.ensures
+    (subst (IsVisit c.loop-literal.self c.propagate_literal.new.self c.loop-literal.watching c.propagate_literal.new.watching) c.in_default-4.is c.in_ok-clause-4.ensures.propagate_literal) c.pass_entry.ensures
 
 pub returns-clause-propagation : goal.returns-clause-propagation
-returns-clause-propagation c = running_ends c.args.self.now c.loop-literal.self c.take_next.new.self c.args.watching.now c.loop-literal.watching c.loop-literal.invariant c.requires.covered c.in_default-take_next.ensures
+returns-clause-propagation c = running_ends c.args.self.now c.loop-literal.self c.args.watching.now c.loop-literal.watching c.loop-literal.invariant c.requires.covered c.in_default-next_fallen.ensures

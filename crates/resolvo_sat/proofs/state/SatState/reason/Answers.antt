@@ -67,8 +67,8 @@ literals-requires-else-is_kept c =
     let forced : IsPropagated (clauses_of s) d (before s.tracker.trail p) = subst (IsKeptOrForced s d (before s.tracker.trail p)) c.if-is_kept.false c.is_kept.ensures in
     omega (arith, length-lists s.clauses, in_range_from (clauses_of s) (reason_of d) _ forced.forced.stands)
 
-pub loop-at-preserved-in-Continue-branch-6 : goal.loop-at-preserved-in-Continue-branch-6
-loop-at-preserved-in-Continue-branch-6 c =
+pub loop-at-preserved-in_ok-mark_seen-2 : goal.loop-at-preserved-in_ok-mark_seen-2
+loop-at-preserved-in_ok-mark_seen-2 c =
     let s : SatState = c.args.self.now in
     let p : ℕ = c.loop-at.at - 1 in
     let d : Entry = c.entry-earlier.result in

@@ -4,7 +4,8 @@ use Rattle.resolvo_store_core.specs.Pairs.{other_of}
 use Rattle.resolvo_sat.specs.Known.{Forces, clause_at}
 use Rattle.resolvo_sat.specs.State.{history, clauses_of}
 use Rattle.resolvo_sat.specs.Entries.{made_true}
-use Rattle.resolvo_sat.proofs.VisitLemmas.{pair_watches, forces_other, falls_whole}
+use Rattle.resolvo_sat.proofs.ExtendLemmas.{extends_nothing}
+use Rattle.resolvo_sat.proofs.VisitLemmas.{pair_watches, forces_other, falls_whole, keeps_noted}
 use Rattle.resolvo_sat.proofs.state.SatState.visit_clause.Goals as goal
 
 pub assign-requires-clause-forces : goal.assign-requires-clause-forces
@@ -32,3 +33,7 @@ returns-then-is_false-clause-met c =
           c.requires.known c.in-None.ensures
           (subst (λ (l : Signed). has known (negation l) ≡ true) is (sym c.is_false.ensures ∙ c.if-is_false.true));
     }
+
+pub returns-then-is_true-clause-met : goal.returns-then-is_true-clause-met
+returns-then-is_true-clause-met c =
+    keeps_noted c.args.cursor.literal c.other-other.result c.args.watched c.args.self.now c.args.self.now c.note_guard.new.self c.args.watching.now c.other-other.ensures (extends_nothing c.args.self.now c.requires.state) refl c.note_guard.ensures

@@ -1,4 +1,5 @@
-use Rattle.std.proofs.Common.{refl}
+use Rattle.std.proofs.Common.{rules, refl}
+use Rattle.resolvo_state.specs.SolverState.{LacksNumber}
 use Rattle.resolvo_state.proofs.Clauses.{bar_is, bar_in_range}
 use Rattle.resolvo_state.proofs.solver_state.SolverState.bar.Goals as goal
 
@@ -7,3 +8,6 @@ add_clause-requires-clause-in_range g c = bar_in_range c.args.self.now.search _ 
 
 pub returns-clause-barred : goal.returns-clause-barred
 returns-clause-barred g c = bar_is c.args.self.now _ _ c.in_ok-clause.clause c.requires.coding c.requires.bar c.in_ok-clause.ensures.added refl c.in_ok-push.ensures.items
+
+pub returns-in_err-clause-clause-full : goal.returns-in_err-clause-clause-full
+returns-in_err-clause-clause-full g c = search (rules, LacksNumber.clauses)

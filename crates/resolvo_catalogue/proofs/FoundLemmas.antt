@@ -1,0 +1,256 @@
+-- Values that are each found at their places, with one more.
+use Rattle.std.proofs.Common.{Ordering, ◌≡◌, ℕ, zero, suc, Bool, true, false, cond, List, [], ◌∷◌, ◌++◌, map, length, get_or, Option, Some, None, refl, sym, ap, subst, ◌∙◌, inl, inr, arith}
+use Rattle.std.specs.Prelude.{slice_get, slice_index_or, nat_lt, IfSome}
+use Rattle.std.specs.Option.{option_map_or}
+use Rattle.std.specs.Global.{Global, Vec}
+use Rattle.std.specs.String.{string_bytes, string_cmp}
+use Rattle.std.specs.declared.string.String.{String}
+use Rattle.std.specs.Map.{lookup, KeepsOthers, IsKeyTest, AreApart}
+use Rattle.std.specs.Str.{bytes_eq}
+use Rattle.std.specs.BTreeMap.{BTreeMap, Updates, UpdatesBy, get_by_text, is_at}
+use Rattle.std.specs.Cmp.{eq_by_cmp_equiv}
+use Rattle.std.specs.Cmp.Lexicographic.{slice_cmp, bytes_decides, nat_list_cmp_total, nat_list_eq_equiv}
+use Rattle.std.specs.Ordering.{nat_cmp, eq_by_cmp}
+use Rattle.std.proofs.lemmas.Bool.{cases_Bool, cond-true, cond-false}
+use Rattle.std.proofs.lemmas.Bool.Decides.{nat_tests}
+use Rattle.std.proofs.lemmas.Map.Text.{btree_map_updates_text, is_eq-slice_cmp}
+use Rattle.std.proofs.lemmas.Option.{none-some, same_Some, slice_get_within}
+use Rattle.std.proofs.lemmas.List.{length-append, length-map, map_push}
+use Rattle.resolvo_text.specs.declared.spec.Span.{Span}
+use Rattle.resolvo_text.specs.declared.spec.Span.TheVariants.{Any, One, Range}
+use Rattle.resolvo_pool_core.specs.declared.id.VersionSetId.{VersionSetId}
+use Rattle.resolvo_pool_core.specs.declared.id.ConditionId.{ConditionId}
+use Rattle.resolvo_pool_core.specs.declared.condition.Condition.{Condition}
+use Rattle.resolvo_pool_core.specs.declared.condition.Condition.TheVariants.{Binary, Requirement}
+use Rattle.resolvo_pool_core.specs.declared.condition.LogicalOperator.{LogicalOperator}
+use Rattle.resolvo_pool_core.specs.declared.condition.LogicalOperator.TheVariants.{And, Or}
+use Rattle.resolvo_pool_core.specs.Provider.{OperandsBelow}
+use Rattle.resolvo_pool_core.specs.Intern.{AreBelow}
+use Rattle.resolvo_catalogue_core.proofs.Pushed.{get_new, get_kept, get_push}
+use Rattle.resolvo_catalogue.specs.declared.id_table.Numbers.{Numbers}
+use Rattle.resolvo_catalogue.specs.Ids.{NameId, Extends, AreOnce, IsPlaced}
+use Rattle.resolvo_catalogue.specs.Known.{sound}
+use Rattle.resolvo_catalogue.specs.Found.{AreFound, AreKept, number_in, span_key, set_key, union_key, condition_key}
+
+-- ---- any values
+
+module _ {V : Type 0} (eq : V → V → Bool) (exact : (x y : V) → eq x y ≡ true → x ≡ y) (own : (x : V) → eq x x ≡ true) where
+  pub found_more : (f g : V → Option ℕ) (vs : List V) (v : V) → AreFound f vs → f v ≡ None → ((w : V) → g w ≡ cond (eq v w) (Some (length vs)) (f w)) → AreFound g (vs ++ v ∷ [])
+  found_more f g vs v h none is = record {
+    found = λ w i e. elim (cases_Bool (eq v w)) [
+      | inl y ↦
+          let here : length vs ≡ i = same_Some (length vs) i (subst (λ (b : Bool). cond b (Some (length vs)) (f w) ≡ Some i) y (sym (is w) ∙ e)) in
+          subst (λ (n : ℕ). slice_get (vs ++ v ∷ []) n ≡ Some w) here (get_new vs v ∙ ap (λ (x : V). Some x) (exact v w y))
+      | inr n ↦ get_kept vs v w i (h.found w i (subst (λ (b : Bool). cond b (Some (length vs)) (f w) ≡ Some i) n (sym (is w) ∙ e)))
+    ];
+    all = λ w i e. elim (get_push vs v w i e) [
+      | inl old ↦ elim (cases_Bool (eq v w)) [
+        | inl y ↦ absurd (none-some i (sym none ∙ subst (λ (x : V). f x ≡ Some i) (sym (exact v w y)) (h.all w i old)))
+        | inr n ↦ is w ∙ subst (λ (b : Bool). cond b (Some (length vs)) (f w) ≡ Some i) (sym n) (h.all w i old)
+      ]
+      | inr last ↦
+          let same : eq v w ≡ true = subst (λ (x : V). eq v x ≡ true) last.1 (own v) in
+          is w ∙ subst (λ (b : Bool). cond b (Some (length vs)) (f w) ≡ Some i) (sym same) (ap (λ (n : ℕ). Some n) (sym last.0))
+    ];
+  }
+
+module _ {V : Type 0} (f : V → Option ℕ) (vs : List V) (h : AreFound f vs) where
+  pub found_once : AreOnce vs
+  found_once i j x a b = same_Some i j (sym (h.all x i a) ∙ h.all x j b)
+
+  pub not_found : (v : V) → f v ≡ None → (i : ℕ) → slice_get vs i ≡ Some v → ⊥
+  not_found v none i at = none-some i (sym none ∙ h.all v i at)
+
+pub found_in_none : {V : Type 0} (f : V → Option ℕ) → ((v : V) → f v ≡ None) → AreFound f []
+found_in_none f none = record { found = λ v i e. absurd (none-some i (sym (none v) ∙ e)); all = λ v i e. absurd (nowhere i v e) }
+  where
+    nowhere : {V : Type 0} (i : ℕ) (v : V) → slice_get [] i ≡ Some v → ⊥
+    nowhere i v e = cc
+
+pub was_placed : {V : Type 0} (vs : List V) (v : V) (i : ℕ) → slice_get vs i ≡ Some v → IsPlaced vs vs i
+was_placed vs v i at = inl (slice_get_within vs i v at, refl)
+
+pub newly_placed : {V : Type 0} (vs : List V) (v : V) → IsPlaced vs (vs ++ v ∷ []) (length vs)
+newly_placed vs v = inr (refl, length-append vs (v ∷ []))
+
+pub extends_own : {V : Type 0} (vs : List V) → Extends vs vs
+extends_own vs k x e = e
+
+pub extends_more : {V : Type 0} (vs : List V) (v : V) → Extends vs (vs ++ v ∷ [])
+extends_more vs v k x e = get_kept vs v x k e
+
+-- what is found stands there
+pub found_if : {V : Type 0} (f : V → Option ℕ) (vs : List V) → AreFound f vs → (v : V) (r : Option ℕ) → r ≡ f v → IfSome r (λ i. slice_get vs i ≡ Some v)
+found_if f vs h v None is = tt
+found_if f vs h v (Some i) is = h.found v i (sym is)
+
+-- what stands nowhere isn't found
+pub none_found : {V : Type 0} (f : V → Option ℕ) (vs : List V) → AreFound f vs → (v : V) → ((i : ℕ) → slice_get vs i ≡ Some v → ⊥) → f v ≡ None
+none_found f vs h v nowhere = go (f v) refl
+  where
+    go : (r : Option ℕ) → f v ≡ r → f v ≡ None
+    go None is = is
+    go (Some i) is = absurd (nowhere i (h.found v i is))
+
+module _ {V : Type 0} (vs news : List V) (v : V) (more : news ≡ vs ++ v ∷ []) where
+  pub last_there : (i : ℕ) → i ≡ length vs → slice_get news i ≡ Some v
+  last_there i is = rw (more, is) (get_new vs v)
+
+  pub extends_to : Extends vs news
+  extends_to k x e = rw more (get_kept vs v x k e)
+
+-- ---- texts
+
+-- the texts after one more, which stood nowhere
+pub texts_more : (old new : BTreeMap (String Global) ℕ) (texts : List (String Global)) (kept key : String Global) (text : List ℕ) → AreFound (λ t. get_by_text old t) (map string_bytes texts) → ((i : ℕ) → slice_get (map string_bytes texts) i ≡ Some text → ⊥)
+    → string_bytes kept ≡ text → string_bytes key ≡ text → Updates string_cmp old new key (Some (length texts)) → AreFound (λ t. get_by_text new t) (map string_bytes (texts ++ kept ∷ []))
+texts_more old new texts kept key text h nowhere is_kept is_key set =
+    let count : length (map string_bytes texts) ≡ length texts = length-map texts string_bytes in
+    let put : (w : List ℕ) → get_by_text new w ≡ cond (bytes_eq text w) (Some (length (map string_bytes texts))) (get_by_text old w) = λ w. rw (count, ← is_key) (btree_map_updates_text (string_bytes key) old new (Some (length texts)) set w) in
+    rw (map_push string_bytes texts kept, is_kept) (found_more bytes_eq (λ x y e. (bytes_decides x y).0 e) (λ x. (bytes_decides x x).1 refl) (λ t. get_by_text old t) (λ t. get_by_text new t) (map string_bytes texts) text h (none_found (λ t. get_by_text old t) (map string_bytes texts) h text nowhere) put)
+
+module _ (texts news : List (String Global)) (kept : String Global) (text : List ℕ) (is_kept : string_bytes kept ≡ text) (more : news ≡ texts ++ kept ∷ []) where
+  pub text_there : (index : ℕ) → index ≡ length texts → slice_get (map string_bytes news) index ≡ Some text
+  text_there index is =
+      let all : map string_bytes news ≡ map string_bytes texts ++ text ∷ [] = rw (more, ← is_kept) (map_push string_bytes texts kept) in
+      let place : index ≡ length (map string_bytes texts) = is ∙ sym (length-map texts string_bytes) in
+      rw (all, place) (get_new (map string_bytes texts) text)
+
+  pub texts_stay : Extends (map string_bytes texts) (map string_bytes news)
+  texts_stay k x e =
+      let all : map string_bytes news ≡ map string_bytes texts ++ text ∷ [] = rw (more, ← is_kept) (map_push string_bytes texts kept) in
+      rw all (get_kept (map string_bytes texts) text x k e)
+
+-- ---- by keys
+
+abbrev key_cmp : Vec ℕ → Vec ℕ → Ordering
+key_cmp x y = slice_cmp nat_cmp x.items y.items
+
+abbrev finds : List ℕ → Vec ℕ → Bool
+finds key = is_at (λ k. slice_cmp nat_cmp key k.items)
+
+others : (key : List ℕ) (old new : List (Vec ℕ × ℕ)) → KeepsOthers (eq_by_cmp key_cmp) (finds key) old new → (other : Vec ℕ → Bool) → IsKeyTest (eq_by_cmp key_cmp) other → AreApart (finds key) other → lookup other new ≡ lookup other old
+unfolding KeepsOthers
+others key old new h = h
+
+apart : (bs cs : List ℕ) (k : Vec ℕ) → bytes_eq bs cs ≡ false → finds bs k ≡ true → finds cs k ≡ false
+apart bs cs k n y =
+    let same : bytes_eq bs k.items ≡ true = sym (is_eq-slice_cmp bs k.items) ∙ y in
+    is_eq-slice_cmp cs k.items ∙ (nat_list_eq_equiv.symm cs k.items ∙ sym (nat_list_eq_equiv.congr bs k.items cs same) ∙ n)
+
+-- what a number at a key leaves at any key
+pub number_put : (m n : BTreeMap (Vec ℕ) ℕ) (key : List ℕ) (w : Option ℕ) → UpdatesBy key_cmp (λ k. slice_cmp nat_cmp key k.items) m n w
+    → (other : List ℕ) → number_in n.entries other ≡ cond (bytes_eq key other) w (number_in m.entries other)
+number_put m n key w h other = elim (cases_Bool (bytes_eq key other)) [
+  | inl y ↦ subst (λ (l : List ℕ). number_in n.entries l ≡ w) ((bytes_decides key other).0 y) h.1 ∙ sym (cond-true (bytes_eq key other) w (number_in m.entries other) y)
+  | inr y ↦ others key m.entries n.entries h.3 (finds other) (λ a b. (eq_by_cmp_equiv nat_list_cmp_total).congr other a.items b.items) (λ k. apart key other k y) ∙ sym (cond-false (bytes_eq key other) w (number_in m.entries other) y)
+]
+
+-- the values after one more, whose key had no number
+keyed_more : {V : Type 0} (key : V → List ℕ) → ((x y : V) → key x ≡ key y → x ≡ y) → (vs : List V) (v : V) (old new : List (Vec ℕ × ℕ)) → AreFound (λ x. number_in old (key x)) vs → number_in old (key v) ≡ None
+    → ((other : List ℕ) → number_in new other ≡ cond (bytes_eq (key v) other) (Some (length vs)) (number_in old other)) → AreFound (λ x. number_in new (key x)) (vs ++ v ∷ [])
+keyed_more key exact vs v old new h none put =
+    found_more (λ x y. bytes_eq (key x) (key y)) (λ x y e. exact x y ((bytes_decides (key x) (key y)).0 e)) (λ x. (bytes_decides (key x) (key x)).1 refl) (λ x. number_in old (key x)) (λ x. number_in new (key x)) vs v h none (λ x. put (key x))
+
+abbrev first : List ℕ → ℕ
+first xs = get_or xs 0 0
+
+-- ---- values of one key are one
+
+spans_exact : (a b : Span) → span_key a ≡ span_key b → a ≡ b
+spans_exact Any Any e = refl
+spans_exact Any (One n) e = absurd cc
+spans_exact Any (Range low high) e = absurd cc
+spans_exact (One m) Any e = absurd cc
+spans_exact (One m) (One n) e = let same : m ≡ n = cc in ap (λ (k : ℕ). One k) same
+spans_exact (One m) (Range low high) e = absurd cc
+spans_exact (Range bottom top) Any e = absurd cc
+spans_exact (Range bottom top) (One n) e = absurd cc
+spans_exact (Range bottom top) (Range low high) e =
+    let lows : bottom ≡ low = cc in
+    let highs : top ≡ high = cc in
+    ap (λ (k : ℕ). Range k top) lows ∙ ap (λ (k : ℕ). Range low k) highs
+
+sets_exact : (x y : NameId × Numbers) → set_key x ≡ set_key y → x ≡ y
+sets_exact x y e =
+    let names : x.0.raw ≡ y.0.raw = cc in
+    let spans : span_key x.1.0 ≡ span_key y.1.0 = cc in
+    ap (λ (n : ℕ). let p : NameId × Numbers = (record { raw = n; tag = record {} }, x.1) in p) names
+    ∙ ap (λ (s : Span). let p : NameId × Numbers = (y.0, record { 0 = s }) in p) (spans_exact x.1.0 y.1.0 spans)
+
+unions_exact : (xs ys : List VersionSetId) → union_key xs ≡ union_key ys → xs ≡ ys
+unions_exact [] [] e = refl
+unions_exact [] (y ∷ ys) e = absurd cc
+unions_exact (x ∷ xs) [] e = absurd cc
+unions_exact (x ∷ xs) (y ∷ ys) e =
+    let heads : x.0 ≡ y.0 = cc in
+    let tails : union_key xs ≡ union_key ys = cc in
+    ap (λ (n : ℕ). let v : VersionSetId = record { 0 = n } in v ∷ xs) heads ∙ ap (λ (zs : List VersionSetId). y ∷ zs) (unions_exact xs ys tails)
+
+joined : (op : LogicalOperator) (a b c d : ConditionId) → a.0 ≡ c.0 → b.0 ≡ d.0 → Binary op a b ≡ Binary op c d
+joined op a b c d left right = ap (λ (n : ℕ). Binary op (record { 0 = n }) b) left ∙ ap (λ (n : ℕ). Binary op c (record { 0 = n })) right
+
+conditions_exact : (x y : Condition) → condition_key x ≡ condition_key y → x ≡ y
+conditions_exact (Requirement v) (Requirement w) e = let same : v.0 ≡ w.0 = cc in ap (λ (n : ℕ). let q : Condition = Requirement (record { 0 = n }) in q) same
+conditions_exact (Requirement v) (Binary And c d) e = absurd cc
+conditions_exact (Requirement v) (Binary Or c d) e = absurd cc
+conditions_exact (Binary And a b) (Requirement w) e = absurd cc
+conditions_exact (Binary Or a b) (Requirement w) e = absurd cc
+conditions_exact (Binary And a b) (Binary And c d) e =
+    let left : a.0 ≡ c.0 = cc in
+    let right : b.0 ≡ d.0 = cc in
+    joined And a b c d left right
+conditions_exact (Binary Or a b) (Binary Or c d) e =
+    let left : a.0 ≡ c.0 = cc in
+    let right : b.0 ≡ d.0 = cc in
+    joined Or a b c d left right
+conditions_exact (Binary And a b) (Binary Or c d) e = let head : 0 ≡ 1 = ap first e in absurd (omega (arith, head))
+conditions_exact (Binary Or a b) (Binary And c d) e = let head : 1 ≡ 0 = ap first e in absurd (omega (arith, head))
+
+-- ---- one more of each kind
+
+module _ (ss : List (NameId × Numbers)) (si : List (Vec ℕ × ℕ)) (us : List (List VersionSetId)) (ui : List (Vec ℕ × ℕ)) (cs : List Condition) (ci : List (Vec ℕ × ℕ)) (h : AreKept ss si us ui cs ci) where
+  pub sets_more : (s : NameId × Numbers) (new : List (Vec ℕ × ℕ)) → number_in si (set_key s) ≡ None → ((other : List ℕ) → number_in new other ≡ cond (bytes_eq (set_key s) other) (Some (length ss)) (number_in si other)) → AreKept (ss ++ s ∷ []) new us ui cs ci
+  sets_more s new none put = record { sets = keyed_more set_key sets_exact ss s si new h.sets none put; unions = h.unions; conditions = h.conditions; below = h.below; several = h.several }
+
+  pub unions_more : (u : List VersionSetId) (new : List (Vec ℕ × ℕ)) → ((v : VersionSetId) → u ≡ v ∷ [] → ⊥) → number_in ui (union_key u) ≡ None → ((other : List ℕ) → number_in new other ≡ cond (bytes_eq (union_key u) other) (Some (length us)) (number_in ui other)) → AreKept ss si (us ++ u ∷ []) new cs ci
+  unions_more u new several none put = record {
+    sets = h.sets;
+    unions = keyed_more union_key unions_exact us u ui new h.unions none put;
+    conditions = h.conditions;
+    below = h.below;
+    several = λ k v e. elim (get_push us u (v ∷ []) k e) [ inl old ↦ h.several k v old | inr last ↦ several v last.1 ];
+  }
+
+  pub conditions_more : (c : Condition) (new : List (Vec ℕ × ℕ)) → OperandsBelow c (record { 0 = length cs }) → number_in ci (condition_key c) ≡ None → ((other : List ℕ) → number_in new other ≡ cond (bytes_eq (condition_key c) other) (Some (length cs)) (number_in ci other)) → AreKept ss si us ui (cs ++ c ∷ []) new
+  conditions_more c new under none put = record {
+    sets = h.sets;
+    unions = h.unions;
+    conditions = keyed_more condition_key conditions_exact cs c ci new h.conditions none put;
+    below = λ i x e. elim (get_push cs c x i e) [
+      | inl old ↦ h.below i x old
+      | inr last ↦ subst (λ (y : Condition). OperandsBelow y (record { 0 = i })) last.1 (subst (λ (n : ℕ). OperandsBelow c (record { 0 = n })) (sym last.0) under)
+    ];
+    several = h.several;
+  }
+
+-- ---- what an id means
+
+sound_own : (c : ConditionId) (q : Condition) → OperandsBelow q c → q ≡ sound c q
+sound_own c (Requirement v) h = refl
+sound_own c (Binary op a b) h =
+    let left : nat_lt a.0 c.0 ≡ true = (let less = h.0 in grind (arith, nat_tests)) in
+    let right : nat_lt b.0 c.0 ≡ true = (let less = h.1 in grind (arith, nat_tests)) in
+    rw (left, right) refl
+
+pub sound_there : (cs : List Condition) → AreBelow cs → (c : ConditionId) (q : Condition) → slice_get cs c.0 ≡ Some q → q ≡ option_map_or (sound c) (slice_get cs c.0) (Requirement (record { 0 = 0 }))
+sound_there cs below c q at = rw at (sound_own c q (below c.0 q at))
+
+pub sound_nowhere : (cs : List Condition) (c : ConditionId) → slice_get cs c.0 ≡ None → Requirement (record { 0 = 0 }) ≡ option_map_or (sound c) (slice_get cs c.0) (Requirement (record { 0 = 0 }))
+sound_nowhere cs c none = rw none refl
+
+pub absent_text : (xs : List (List ℕ)) (n : ℕ) → slice_get xs n ≡ None → ◌≡◌ {A = List ℕ} [] (slice_index_or xs n [])
+absent_text [] zero e = refl
+absent_text [] (suc n) e = refl
+absent_text (x ∷ xs) zero e = absurd cc
+absent_text (x ∷ xs) (suc n) e = absent_text xs n e

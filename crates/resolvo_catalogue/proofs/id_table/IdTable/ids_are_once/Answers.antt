@@ -1,0 +1,14 @@
+use Rattle.std.proofs.Common.{map, subst}
+use Rattle.resolvo_catalogue.specs.Ids.{Ids, AreSound}
+use Rattle.resolvo_catalogue.specs.Found.{number_in, set_key, union_key}
+use Rattle.resolvo_catalogue.proofs.FoundLemmas.{found_once}
+use Rattle.resolvo_catalogue.proofs.id_table.IdTable.ids_are_once.Goals as goal
+
+pub returns : goal.returns
+returns c = subst (λ (ids : Ids). AreSound ids) c.self.view_is (record {
+  below = c.self.invariant.below;
+  names = c.texts_are_once.ensures;
+  version_sets = found_once (λ s. number_in c.self.inside.set_ids.entries (set_key s)) c.self.inside.version_sets.items c.self.invariant.sets;
+  unions = found_once (λ u. number_in c.self.inside.union_ids.entries (union_key u)) (map (λ u. u.items) c.self.inside.unions.items) c.self.invariant.unions;
+  several = c.self.invariant.several;
+})

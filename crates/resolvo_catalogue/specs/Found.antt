@@ -1,0 +1,50 @@
+-- Values that are each found at their places, by keys that are lists of numbers.
+use Rattle.std.specs.Prelude.{◌≡◌, ℕ, List, [], ◌∷◌, map, Option, Some, slice_get}
+use Rattle.std.specs.Global.{Vec}
+use Rattle.std.specs.Map.{lookup}
+use Rattle.std.specs.Ordering.{is_eq, nat_cmp}
+use Rattle.std.specs.Cmp.Lexicographic.{slice_cmp}
+use Rattle.resolvo_text.specs.declared.spec.Span.{Span}
+use Rattle.resolvo_text.specs.declared.spec.Span.TheVariants.{Any, One, Range}
+use Rattle.resolvo_pool_core.specs.declared.id.VersionSetId.{VersionSetId}
+use Rattle.resolvo_pool_core.specs.declared.condition.Condition.{Condition}
+use Rattle.resolvo_pool_core.specs.declared.condition.Condition.TheVariants.{Binary, Requirement}
+use Rattle.resolvo_pool_core.specs.declared.condition.LogicalOperator.TheVariants as joins
+use Rattle.resolvo_pool_core.specs.Intern.{AreBelow}
+use Rattle.resolvo_catalogue.specs.declared.id_table.Numbers.{Numbers}
+use Rattle.resolvo_catalogue.specs.Ids.{NameId, AreSeveral}
+
+-- Each value is found where it stands, and nothing else is found.
+pub record AreFound {V : Type 0} (find : V → Option ℕ) (values : List V) : Type 0 where
+  pub found : (v : V) (i : ℕ) → find v ≡ Some i → slice_get values i ≡ Some v
+  pub all : (v : V) (i : ℕ) → slice_get values i ≡ Some v → find v ≡ Some i
+
+-- the number of a key among the entries of a sorted map
+abbrev pub number_in : List (Vec ℕ × ℕ) → List ℕ → Option ℕ
+number_in entries key = lookup (λ k. is_eq (slice_cmp nat_cmp key k.items)) entries
+
+-- ---- keys
+
+abbrev pub span_key : Span → List ℕ
+span_key Any = []
+span_key (One n) = n ∷ []
+span_key (Range low high) = low ∷ high ∷ []
+
+abbrev pub set_key : NameId × Numbers → List ℕ
+set_key s = s.0.raw ∷ span_key s.1.0
+
+abbrev pub union_key : List VersionSetId → List ℕ
+union_key members = map (λ v. v.0) members
+
+abbrev pub condition_key : Condition → List ℕ
+condition_key (Requirement v) = v.0 ∷ []
+condition_key (Binary joins.And a b) = 0 ∷ a.0 ∷ b.0 ∷ []
+condition_key (Binary joins.Or a b) = 1 ∷ a.0 ∷ b.0 ∷ []
+
+-- Version sets, unions and conditions are found by their keys; no union is of one version set, and operands come first.
+pub record AreKept (ss : List (NameId × Numbers)) (si : List (Vec ℕ × ℕ)) (us : List (List VersionSetId)) (ui : List (Vec ℕ × ℕ)) (cs : List Condition) (ci : List (Vec ℕ × ℕ)) : Type 0 where
+  pub sets : AreFound (λ s. number_in si (set_key s)) ss
+  pub unions : AreFound (λ u. number_in ui (union_key u)) us
+  pub conditions : AreFound (λ c. number_in ci (condition_key c)) cs
+  pub below : AreBelow cs
+  pub several : AreSeveral us

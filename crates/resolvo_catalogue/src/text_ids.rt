@@ -1,0 +1,95 @@
+//! Texts, each numbered once, in the order in which they come. The model is the list of them.
+//! A text is found through a sorted map, so no choice of texts makes that slow. Used by `id_table`.
+
+ghost use Rattle.std.specs.Prelude.{◌≡◌, [], IfOk, IfSome, ℕ, slice_get, Some, None};
+ghost use Rattle.std.specs.Option.{option_map};
+ghost use Rattle.resolvo_catalogue.specs.Ids.{Extends, IsPlaced, AreOnce};
+
+use resolvo_pool_core::id::next_index;
+use resolvo_pool_core::want::R;
+use std::alloc::Global;
+use std::collections::BTreeMap;
+use std::marker::Model;
+
+#[derive(Drop)]
+pub struct TextIds {
+    texts: Vec<String>,
+    ids: BTreeMap<String, u32>,
+}
+
+impl Model for TextIds {
+    ghost use Rattle.std.specs.Prelude.{List, ℕ, map};
+    ghost use Rattle.std.specs.String.{string_bytes};
+    ghost use Rattle.std.specs.BTreeMap.{get_by_text};
+    ghost use Rattle.resolvo_catalogue.specs.Found.{AreFound};
+
+    ghost Value = { List (List ℕ) };
+
+    ghost view = { λ t. map string_bytes t.texts.items };
+
+    ghost invariant = { λ t. AreFound (λ text. get_by_text t.ids text) (map string_bytes t.texts.items) };
+}
+
+impl TextIds {
+    pub fn new(alloc: Global) -> TextIds
+        ensures { result ≡ [] }
+    {
+        TextIds {
+            texts: Vec::new(alloc),
+            ids: BTreeMap::new(alloc),
+        }
+    }
+
+    /// The number of a text, if it has one.
+    fn find(&self, text: &str) -> Option<u32>
+        ensures found { IfSome result (λ i. slice_get self.now i ≡ Some text.now) }
+        ensures absent { result ≡ None → (i : ℕ) → slice_get self.now i ≡ Some text.now → ⊥ }
+    {
+        self.ids.get(text).copied()
+    }
+
+    /// Numbers a text that has no number.
+    fn add(&mut self, alloc: Global, text: &str) -> R<u32>
+        requires { (i : ℕ) → slice_get self.old i ≡ Some text.now → ⊥ }
+        ensures text { IfOk result (λ i. slice_get self.new i ≡ Some text.now) }
+        ensures place { IfOk result (λ i. IsPlaced self.old self.new i) }
+        ensures extends { Extends self.old self.new }
+    {
+        let index = next_index(self.texts.len())?;
+        let kept = String::from_str(alloc, text)?;
+        let key = String::from_str(alloc, text)?;
+        self.texts.reserve(1)?;
+        self.ids.insert(key, index as u32)?;
+        self.texts.push_reserved(kept);
+        Ok(index as u32)
+    }
+
+    /// The number of a text, a new one where it has none.
+    pub fn intern(&mut self, alloc: Global, text: &str) -> R<u32>
+        ensures text { IfOk result (λ i. slice_get self.new i ≡ Some text.now) }
+        ensures place { IfOk result (λ i. IsPlaced self.old self.new i) }
+        ensures extends { Extends self.old self.new }
+    {
+        match self.find(text) {
+            Some(id) => Ok(id),
+            None => self.add(alloc, text),
+        }
+    }
+
+    /// The text of a number.
+    pub fn text(&self, id: u32) -> Option<&str>
+        ensures { option_map (λ t. t.now) result ≡ slice_get self.now id }
+    {
+        match self.texts.get(id as usize) {
+            Some(text) => Some(text.as_str()),
+            None => None,
+        }
+    }
+
+    /// What holds of each table: no text has two numbers. It does nothing.
+    pub fn texts_are_once(&self)
+        ensures { AreOnce self.now }
+    {
+        let _texts = &self.texts;
+    }
+}

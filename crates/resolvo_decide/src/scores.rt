@@ -1,0 +1,56 @@
+//! The scores of packages, with one that no score is above. Until a conflict raises a score it is 0, so the
+//! first undecided clause that offers a decision is the pick.
+ghost use Rattle.std.specs.Prelude.{◌≡◌, ◌≤◌};
+
+use resolvo_pool_core::id_map::ScoreMap;
+use resolvo_pool_core::want::R;
+use std::alloc::Global;
+use std::marker::PhantomData;
+
+/// The scores of packages.
+#[derive(Drop)]
+pub struct Scores<N: Copy + Eq, C: ScoreMap<N>> {
+    pub(crate) map: C,
+    /// No score is above it.
+    most: u64,
+    of: PhantomData<N>,
+    ghost bounded: { (name : N) → C.score_of map name ≤ most },
+}
+
+impl<N: Copy + Eq, C: ScoreMap<N>> Scores<N, C> {
+    /// Where each score is 0.
+    pub fn new(alloc: Global) -> Scores<N, C>
+        ensures { result.most ≡ 0 }
+    {
+        Scores {
+            map: <C as ScoreMap<N>>::new(alloc),
+            most: 0,
+            of: PhantomData,
+        }
+    }
+
+    /// A score that no package's is above.
+    pub fn most(&self) -> u64
+        ensures most { result ≡ self.now.most }
+        ensures bounded { (name : N) → C.score_of self.now.map name ≤ result }
+    {
+        self.most
+    }
+
+    /// Raises the score of a package, to the highest number at most.
+    pub fn bump(&mut self, name: N, added: u64) -> R<()> {
+        let score = self.map.get(name).saturating_add(added);
+        if self.most < score {
+            self.most = score;
+        }
+        self.map.set(name, score)?;
+        Ok(())
+    }
+
+    /// Leaves so many millionths of each score.
+    pub fn decay(&mut self, per_million: u64)
+        requires { per_million ≤ 1000000 }
+    {
+        self.map.scale(per_million);
+    }
+}
