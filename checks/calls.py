@@ -16,11 +16,18 @@ LIBRARIES = ("resolvo_pool_core resolvo_pool resolvo_store_core resolvo_store re
 
 
 def copy_with(folder, name, source, libraries):
-    """A copy of the repository in the folder, with the source as one more crate; the crate's folder."""
+    """A copy of the repository in the folder, with the source as one more crate; the crate's folder.
+
+    The source's files end in `.rt.txt`, since the gate stops at a `.rt` file that no crate has.
+    """
     shutil.copytree(TOP, folder, dirs_exist_ok=True, ignore=shutil.ignore_patterns(".git", "out", "target"))
     subprocess.run(["git", "init", "-q", folder], check=True)
     crate = os.path.join(folder, "crates", name)
-    shutil.copytree(source, os.path.join(crate, "src"))
+    for at, _, files in os.walk(source):
+        to = os.path.join(crate, "src", os.path.relpath(at, source))
+        os.makedirs(to, exist_ok=True)
+        for file in files:
+            shutil.copyfile(os.path.join(at, file), os.path.join(to, file.removesuffix(".txt")))
     with open(os.path.join(folder, "crates.txt"), "a", encoding="utf-8") as file:
         file.write(f"{name}: {libraries}\n")
     return crate

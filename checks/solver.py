@@ -3,7 +3,7 @@
 
 Usage: checks/solver.py [PAIRS] [PATH OF THE PROGRAM] [RT]
 Defaults: 1000 pairs of generated texts (checks/solving.py), crates/resolve/out/resolve, `rt`.
-`rt try` builds checks/solver/main.rt without proofs in a copy of the repository. It makes a provider with all dependencies at hand
+`rt try` builds checks/solver/main.rt.txt without proofs in a copy of the repository. It makes a provider with all dependencies at hand
 and leaves barred wishes out. The program's report must be what follows from these answers: the verdict; the chosen versions, turn
 by turn, each where the first line asks for it; for a refused turn its step; and the steps to which these, or the last step, lead
 back, in their order and renumbered, each with the same clause and the same causes. A wish that is barred has a step of its own.
