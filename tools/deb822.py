@@ -206,6 +206,7 @@ def split_records(chunks: Iterable[bytes], path: str) -> Iterator[Record]:
     for chunk in chunks:
         pieces = (rest + chunk).split(b"\n\n")
         rest = pieces.pop()
+        check_encoding(b"\n\n".join(pieces), path, line)
         for piece in pieces:
             if piece[:1] in (b"", b"\n"):
                 yield from one_record(piece, path, line)
@@ -215,7 +216,16 @@ def split_records(chunks: Iterable[bytes], path: str) -> Iterator[Record]:
     if rest.strip(b"\n") and not rest.endswith(b"\n"):
         last = line + rest.count(b"\n")
         raise Failure(shown_path(path), last, "its last line has no newline: was the file cut off?")
+    check_encoding(rest, path, line)
     yield from one_record(rest, path, line)
+
+
+def check_encoding(text: bytes, path: str, line: int) -> None:
+    """Refuses what isn't UTF-8, by its line, also in fields that nobody reads."""
+    try:
+        text.decode("utf-8")
+    except UnicodeDecodeError as error:
+        raise Failure(shown_path(path), line + text.count(b"\n", 0, error.start), "isn't UTF-8") from None
 
 
 def one_record(piece: bytes, path: str, line: int) -> Iterator[Record]:

@@ -67,6 +67,8 @@ class FolderCase(unittest.TestCase):
     maxDiff = None
 
     def setUp(self) -> None:
+        # what is said after a second, on a machine that is busy
+        self.enterContext(mock.patch("tools.files.SLOW", 600))
         self.folder = tempfile.mkdtemp()
         self.addCleanup(shutil.rmtree, self.folder)
 

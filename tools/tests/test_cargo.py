@@ -2,7 +2,6 @@
 import json
 import os
 import unittest
-from unittest import mock
 
 from tools import texts
 from tools.semver import Bad, read_req, read_semver
@@ -44,10 +43,6 @@ class Matcher(unittest.TestCase):
 
 
 class Cargo(FolderCase):
-    def setUp(self):
-        super().setUp()
-        self.enterContext(mock.patch("tools.files.SLOW", 600))
-
     def catalogue(self, *entries, options=()):
         status, out, error = run("cargo", "catalogue", self.write("index", "\n".join(entries)), *options)
         self.assertEqual((status, error), (0, ""))

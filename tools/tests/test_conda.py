@@ -1,7 +1,6 @@
 """conda: the order of versions, which spec matches what, and what is refused."""
 import json
 import unittest
-from unittest import mock
 
 from tools import texts
 from tools.matchspec import Bad, CondaVersion, read_matchspec
@@ -56,10 +55,6 @@ class Matcher(unittest.TestCase):
 
 
 class Conda(FolderCase):
-    def setUp(self):
-        super().setUp()
-        self.enterContext(mock.patch("tools.files.SLOW", 600))
-
     def test_builds_needs_and_limits(self):
         path = self.write("repodata.json", repodata(
             record("app", "1", depends=["lib >=1,<2", "__unix"], constrains=["opt 1.*", "far >3"]), record("lib", "1.0", "py_1", build_number=1),

@@ -21,13 +21,7 @@ def single(name, *versions):
     return "".join(stanza(name, version, f"conflicts: {name}") for version in versions)
 
 
-class CudfCase(FolderCase):
-    def setUp(self):
-        super().setUp()
-        self.enterContext(mock.patch("tools.files.SLOW", 600))
-
-
-class Values(CudfCase):
+class Values(FolderCase):
     def test_atoms_and_formulas(self):
         self.assertEqual(read_atom(" lib%3aamd64>=3 "), Atom("lib%3aamd64", ">=", 3))
         self.assertEqual(read_formula("a | b != 2, +7 <\t+04"), ((Atom("a"), Atom("b", "!=", 2)), (Atom("7", "<", 4),)))
@@ -49,7 +43,7 @@ class Values(CudfCase):
                 read_properties(text)
 
 
-class Documents(CudfCase):
+class Documents(FolderCase):
     def convert(self, text, *options):
         """The lines of the catalogue below its first, and those of the request."""
         request = self.path("request")
@@ -147,7 +141,7 @@ class Documents(CudfCase):
             self.assertEqual(self.convert(folded), wanted)
 
 
-class Solving(CudfCase):
+class Solving(FolderCase):
     TEXT = stanza("app", 2, "depends: lib >= 2", "conflicts: app") + single("lib", 1, 2) + "request: \ninstall: app\n"
 
     def solve(self, text, *reports):
@@ -184,7 +178,7 @@ class Solving(CudfCase):
         self.assertEqual(asked, ["wish a 1", "wish a 1", "wish a 2"])
 
 
-class Errors(CudfCase):
+class Errors(FolderCase):
     def assert_bad(self, line, reason, text):
         path = self.write("in", text)
         where = f"{path}: line {line}" if line else path

@@ -155,6 +155,7 @@ class Errors(FolderCase):
         good = stanza("a", "1")
         wrong = good.encode() + stanza("b", "1", "X: y").encode().replace(b"X: y", b"X: \xff")
         self.assert_bad(8, "isn't UTF-8", wrong)
+        self.assert_bad(7, "isn't UTF-8", good.encode() + b"Package: b\nVersion: 1\nArchitecture: am\xc0d64\n\n" + good.encode())
         self.assert_bad(5, "the stanza of b has no Version", good + "Package: b\nArchitecture: amd64\n\n")
         self.assert_bad(6, "the stanza of b has no Version", good + "\nPackage: b\nArchitecture: amd64\n\n")
         self.assert_bad(5, "the stanza of b has no Architecture", good + "Package: b\nVersion: 1\n\n")

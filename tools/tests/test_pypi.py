@@ -3,7 +3,6 @@ import io
 import json
 import unittest
 import zipfile
-from unittest import mock
 
 from tools import texts
 from tools.tests.base import FolderCase, run
@@ -20,7 +19,6 @@ ENVIRONMENT = {"python_full_version": "3.11.7", "python_version": "3.11", "sys_p
 class Pypi(FolderCase):
     def setUp(self):
         super().setUp()
-        self.enterContext(mock.patch("tools.files.SLOW", 600))
         self.environment = self.write("environment", json.dumps(ENVIRONMENT))
 
     def catalogue(self, entries, *options):
