@@ -6,7 +6,7 @@ use Rattle.resolvo_text.specs.Line.{Version, Spec}
 use Rattle.resolvo_text.specs.Spelling.{Words}
 use Rattle.resolvo_text.specs.Parse.{◌>>=◌, words_in, word_at, end_at, name_in, number_in, reason_at, spec_at, skip, alternatives_at, is_space}
 use Rattle.resolvo_report.specs.Value.{Place, OfRequest, OfVersion, Atom, Chosen, AnyOf, SharedBy, OutsideOf, BitOf, Literal, Step, Need, Gate, Shared, LimitBars, Limit, Outside, Lock, Exclude, Unknown, Digit, Any, Derive, Entry, Wished, LeftOut, ReportLine, InstallHead, RefusedHead, Answer, CatalogueLine, RequestLine, Numbered, Message}
-use Rattle.resolvo_report.specs.Text.{are_rising, are_once}
+pub use Rattle.resolvo_literal_order.specs.Order.{atom_part, are_in_order}
 
 -- a part of a line, and the words after it
 abbrev pub Reader : Type 0 → Type 0
@@ -94,13 +94,6 @@ literals_behind sign (p ∷ ps) = literal_behind sign p >>= λ l. literals_behin
 -- the text behind the sign
 abbrev pub text_behind : List ℕ → List ℕ
 text_behind piece = drop 1 piece
-
--- the text of the atom in a literal's text
-abbrev pub atom_part : List ℕ → List ℕ
-atom_part text = if bytes_eq (take 4 text) (codes "not ") then drop 4 text else text
-
-abbrev pub are_in_order : List (List ℕ) → Bool
-are_in_order texts = are_rising texts && are_once (map atom_part texts)
 
 abbrev pub is_semicolon : ℕ → Bool
 is_semicolon b = b == 59

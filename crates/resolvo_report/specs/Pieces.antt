@@ -7,6 +7,7 @@ use Rattle.resolvo_text.specs.declared.spec.Spec as code
 use Rattle.resolvo_text.specs.Spelling.{Words, spec_words}
 use Rattle.resolvo_text.specs.View.{spec_of}
 use Rattle.resolvo_report.specs.declared.step.Literal as code_literal
+pub use Rattle.resolvo_literal_order.specs.Order.{texts_of}
 use Rattle.resolvo_report.specs.Text.{literal_text}
 use Rattle.resolvo_report.specs.View.{literal_of}
 
@@ -26,7 +27,3 @@ parted ls = flat_map (λ l. codes "; " ++ literal_text (literal_of l)) ls
 -- the numbers of steps, a space before each
 abbrev pub causes_text : List ℕ → List ℕ
 causes_text ns = flat_map (λ n. codes " " ++ decimal n) ns
-
--- the texts behind references
-abbrev pub texts_of : List (Bor (List ℕ)) → List (List ℕ)
-texts_of ts = map (λ t. t.now) ts

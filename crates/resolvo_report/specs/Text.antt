@@ -8,6 +8,7 @@ use Rattle.std.specs.Cmp.Lexicographic.{slice_cmp}
 use Rattle.resolvo_text.specs.Line.{Version, Spec}
 use Rattle.resolvo_text.specs.Lines.{is_newline}
 use Rattle.resolvo_text.specs.Spelling.{Words, is_name, spec_words, alternatives_words, IsNumber, IsVersion, IsSpec}
+pub use Rattle.resolvo_literal_order.specs.Order.{is_before, are_rising, are_once}
 use Rattle.resolvo_report.specs.Value.{Place, OfRequest, OfVersion, Atom, Chosen, AnyOf, SharedBy, OutsideOf, BitOf, Literal, Step, Need, Gate, Shared, LimitBars, Limit, Outside, Lock, Exclude, Unknown, Digit, Any, Derive, AnswerLine, Entry, Wished, LeftOut, Report, Install, Refused, ReportLine, InstallHead, RefusedHead, Answer, CatalogueLine, RequestLine, Numbered, Message}
 
 -- ---- places, atoms, literals
@@ -107,24 +108,6 @@ IsAtom (AnyOf name) = IsTrue (is_name name)
 IsAtom (SharedBy alternatives) = AreAlternatives alternatives
 IsAtom (OutsideOf s) = IsSpec s
 IsAtom (BitOf bit name) = IsBit bit × IsTrue (is_name name)
-
--- one text stands before another in byte order
-abbrev pub is_before : List ℕ → List ℕ → Bool
-is_before x y = is_lt (slice_cmp nat_cmp x y)
-
-abbrev pub begins_after : List ℕ → List (List ℕ) → Bool
-begins_after x [] = true
-begins_after x (y ∷ ys) = is_before x y
-
--- each text stands before the next one
-abbrev pub are_rising : List (List ℕ) → Bool
-are_rising [] = true
-are_rising (x ∷ xs) = begins_after x xs && are_rising xs
-
--- no text stands twice
-abbrev pub are_once : List (List ℕ) → Bool
-are_once [] = true
-are_once (x ∷ xs) = not (list_any (λ y. bytes_eq y x) xs) && are_once xs
 
 -- The literals stand in byte order of their texts, each atom once.
 pub record AreLiterals (ls : List Literal) : Type 0 where

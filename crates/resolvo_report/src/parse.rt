@@ -11,9 +11,9 @@ ghost use Rattle.resolvo_text.specs.View.{version_of};
 ghost use Rattle.resolvo_text.specs.Parse.{Gives, words_in};
 ghost use Rattle.resolvo_report.specs.Value as says;
 ghost use Rattle.resolvo_report.specs.View.{literals_of, step_of, report_line_of};
-ghost use Rattle.resolvo_report.specs.Text.{are_rising, are_once, line_text, HasText};
+ghost use Rattle.resolvo_report.specs.Text.{line_text, HasText};
 ghost use Rattle.resolvo_report.specs.Pieces.{texts_of};
-ghost use Rattle.resolvo_report.specs.Parse.{is_semicolon, is_close, text_behind, atom_part, are_in_order, literals_behind, pieces_in, literals_in, numbers_in, causes_in, causes_behind, derived_in, limit_in, need_in, gate_in, shared_in, outside_in, lock_in, digit_in, any_in, step_said, left_out_in, numbered_in, entry_in, line_said, is_message, line_read};
+ghost use Rattle.resolvo_report.specs.Parse.{is_semicolon, is_close, text_behind, literals_behind, pieces_in, literals_in, numbers_in, causes_in, causes_behind, derived_in, limit_in, need_in, gate_in, shared_in, outside_in, lock_in, digit_in, any_in, step_said, left_out_in, numbered_in, entry_in, line_said, is_message, line_read};
 
 use crate::part::{
     behind, bit_at, line_at, line_in as last_line, line_number_at, literal_behind, number_at,
@@ -21,67 +21,9 @@ use crate::part::{
 };
 use crate::report::{AnswerLine, ReportLine};
 use crate::step::{Literal, Step};
+use resolvo_literal_order::are_in_order;
 use resolvo_text::{LineFault, Version, first_word, no_more, number_of, skip, spec_at, word_at};
 use std::alloc::{AllocError, Global};
-use std::collections::HashSet;
-use std::hash::{BuildHasherDefault, FoldHasher};
-
-/// The text of the atom in the text of a literal.
-fn atom_part(text: &[u8]) -> &[u8]
-    ensures { result.now ≡ atom_part text.now }
-{
-    match text.strip_prefix(b"not ") {
-        Some(atom) => atom,
-        None => text,
-    }
-}
-
-/// Whether each text precedes the next one in byte order.
-fn are_rising(texts: &[&[u8]]) -> bool
-    ensures { result ≡ are_rising (texts_of texts.now) }
-{
-    match texts.split_first() {
-        None => true,
-        Some((first, others)) => {
-            let mut before = *first;
-            for text in others {
-                if !before.cmp(text).is_lt() {
-                    return false;
-                }
-                before = *text;
-            }
-            true
-        }
-    }
-}
-
-/// Whether these texts of literals name no atom twice.
-fn are_atoms_once(alloc: Global, texts: &[&[u8]]) -> Result<bool, AllocError>
-    ensures { IfOk result (λ b. b ≡ are_once (map atom_part (texts_of texts.now))) }
-{
-    let mut seen: HashSet<&[u8], BuildHasherDefault<FoldHasher>> = HashSet::with_hasher(
-        alloc,
-        BuildHasherDefault::default(),
-    );
-    let mut at = texts.len();
-    while at > 0 {
-        at -= 1;
-        if !seen.insert(atom_part(texts[at]))? {
-            return Ok(false);
-        }
-    }
-    Ok(true)
-}
-
-/// Whether texts of literals are in byte order, each atom once.
-fn are_in_order(alloc: Global, texts: &[&[u8]]) -> Result<bool, AllocError>
-    ensures { IfOk result (λ b. b ≡ are_in_order (texts_of texts.now)) }
-{
-    if !are_rising(texts) {
-        return Ok(false);
-    }
-    are_atoms_once(alloc, texts)
-}
 
 /// The pieces of the text between semicolons.
 fn pieces_of<'a>(alloc: Global, text: &'a [u8]) -> Result<Vec<&'a [u8]>, AllocError>

@@ -1,10 +1,10 @@
 use Rattle.std.proofs.Common.{[], ◌∷◌, ◌+◌, drop, sym, ap, ◌∙◌, get_or, Bor, List, ℕ}
 use Rattle.std.specs.Ordering.{is_lt}
 use Rattle.std.proofs.lemmas.List.{drop_more}
-use Rattle.resolvo_report.specs.Text.{are_rising}
-use Rattle.resolvo_report.specs.Pieces.{texts_of}
-use Rattle.resolvo_report.proofs.ClauseLemmas.{rising_on, rising_stops}
-use Rattle.resolvo_report.proofs.parse.are_rising.Goals as goal
+use Rattle.resolvo_literal_order.specs.Order.{are_rising}
+use Rattle.resolvo_literal_order.specs.Order.{texts_of}
+use Rattle.resolvo_literal_order.proofs.OrderLemmas.{rising_on, rising_stops}
+use Rattle.resolvo_literal_order.proofs.are_rising.Goals as goal
 
 pub returns-then-not-is_lt : goal.returns-then-not-is_lt
 returns-then-not-is_lt c =

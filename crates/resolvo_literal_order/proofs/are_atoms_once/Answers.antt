@@ -1,8 +1,8 @@
 use Rattle.std.proofs.Common.{◌-◌, [], Bor, List, ℕ, arith}
 use Rattle.std.specs.HashSet.{contains}
 use Rattle.std.specs.Str.{bytes_eq}
-use Rattle.resolvo_report.proofs.ClauseLemmas.{once_stops, once_goes_on}
-use Rattle.resolvo_report.proofs.parse.are_atoms_once.Goals as goal
+use Rattle.resolvo_literal_order.proofs.OrderLemmas.{once_stops, once_goes_on}
+use Rattle.resolvo_literal_order.proofs.are_atoms_once.Goals as goal
 
 pub returns-then-not-branch : goal.returns-then-not-branch
 returns-then-not-branch c =

@@ -1,0 +1,68 @@
+//! The order of the literals of a clause in a report: their texts rise in byte order, and no atom stands twice.
+//!
+//! So one clause has one spelling. The reader of reports asks `are_in_order` of each clause.
+#![tactic(auto)]
+
+ghost use Rattle.std.specs.Prelude.{◌≡◌, IfOk, map};
+ghost use Rattle.resolvo_literal_order.specs.Order.{texts_of, are_rising, are_once, atom_part, are_in_order};
+
+use std::alloc::{AllocError, Global};
+use std::collections::HashSet;
+use std::hash::{BuildHasherDefault, FoldHasher};
+
+/// The text of the atom in the text of a literal.
+fn atom_part(text: &[u8]) -> &[u8]
+    ensures { result.now ≡ atom_part text.now }
+{
+    match text.strip_prefix(b"not ") {
+        Some(atom) => atom,
+        None => text,
+    }
+}
+
+/// Whether each text precedes the next one in byte order.
+fn are_rising(texts: &[&[u8]]) -> bool
+    ensures { result ≡ are_rising (texts_of texts.now) }
+{
+    match texts.split_first() {
+        None => true,
+        Some((first, others)) => {
+            let mut before = *first;
+            for text in others {
+                if !before.cmp(text).is_lt() {
+                    return false;
+                }
+                before = *text;
+            }
+            true
+        }
+    }
+}
+
+/// Whether these texts of literals name no atom twice.
+fn are_atoms_once(alloc: Global, texts: &[&[u8]]) -> Result<bool, AllocError>
+    ensures { IfOk result (λ b. b ≡ are_once (map atom_part (texts_of texts.now))) }
+{
+    let mut seen: HashSet<&[u8], BuildHasherDefault<FoldHasher>> = HashSet::with_hasher(
+        alloc,
+        BuildHasherDefault::default(),
+    );
+    let mut at = texts.len();
+    while at > 0 {
+        at -= 1;
+        if !seen.insert(atom_part(texts[at]))? {
+            return Ok(false);
+        }
+    }
+    Ok(true)
+}
+
+/// Whether texts of literals are in byte order, each atom once.
+pub fn are_in_order(alloc: Global, texts: &[&[u8]]) -> Result<bool, AllocError>
+    ensures { IfOk result (λ b. b ≡ are_in_order (texts_of texts.now)) }
+{
+    if !are_rising(texts) {
+        return Ok(false);
+    }
+    are_atoms_once(alloc, texts)
+}
