@@ -144,6 +144,8 @@ impl Source for MemorySource<'_> {
 }
 
 /// A device that takes bytes, at most so many a call, into room that was taken when it was made.
+///
+/// One of 0 bytes a call takes none, and counts each call as an empty write: `write_all` fails at its first.
 #[derive(Drop)]
 pub struct MemorySink {
     room: Vec<u8>,
@@ -152,14 +154,13 @@ pub struct MemorySink {
     turns: Turns,
     empty_writes: u64,
     ghost inside: { used ≤ vec_len room },
-    ghost moves: { 0 < per_call },
 }
 
 impl MemorySink {
     /// Room for `room` bytes. A write that does not fit fails.
     pub fn new(alloc: Global, room: usize, per_call: usize) -> Result<Self, AllocError>
-        requires { 0 < per_call }
         ensures empty { IfOk result (λ sink. sink.used ≡ 0) }
+        ensures most { IfOk result (λ sink. sink.per_call ≡ per_call) }
         ensures room { IfOk result (λ sink. vec_len sink.room ≡ room) }
     {
         Ok(MemorySink {
@@ -174,6 +175,7 @@ impl MemorySink {
     /// The next `calls` calls are interrupted.
     pub fn interrupted(mut self, calls: u32) -> Self
         ensures bytes { take result.used result.room.items ≡ take self.used self.room.items }
+        ensures most { result.per_call ≡ self.per_call }
         ensures turns { result.turns ≡ record self.turns { interruptions_ahead = calls } }
     {
         self.turns = self.turns.interrupted(calls);
@@ -183,6 +185,7 @@ impl MemorySink {
     /// After so many calls that took bytes each call fails.
     pub fn failing_after(mut self, calls: u64) -> Self
         ensures bytes { take result.used result.room.items ≡ take self.used self.room.items }
+        ensures most { result.per_call ≡ self.per_call }
         ensures turns { result.turns ≡ record self.turns { calls_before_failure = Some calls } }
     {
         self.turns = self.turns.failing_after(calls);
@@ -199,6 +202,9 @@ impl MemorySink {
 
 impl Sink for MemorySink {
     ghost use Rattle.std.specs.Prelude.{Some, take};
+    ghost use Rattle.std.specs.Io.{WritesAtMost};
+    ghost use Rattle.std.specs.Io.KnownBytes.{WriteAppends};
+    ghost use Rattle.resolvo_text.specs.Device.{CountsEmpty};
 
     ghost contents = { λ s. Some (take s.used s.room.items) };
 
@@ -208,7 +214,17 @@ impl Sink for MemorySink {
 
     ghost empty_writes = { λ s. s.empty_writes };
 
-    fn write(&mut self, buf: &[u8]) -> Result<usize, IoFault> {
+    /// As of each device, and at most `per_call` bytes: none where that is 0.
+    fn write(&mut self, buf: &[u8]) -> Result<usize, IoFault>
+        ensures bound { WritesAtMost result buf.now }
+        ensures bytes { WriteAppends (Some (take self.old.used self.old.room.items))
+            (Some (take self.new.used self.new.room.items)) result buf.now }
+        ensures failures { CountsFailures self.old.turns.tally.failures self.new.turns.tally.failures result }
+        ensures interruptions { CountsInterruptions self.old.turns.tally.interruptions
+            self.new.turns.tally.interruptions result }
+        ensures empty { CountsEmpty self.old.empty_writes self.new.empty_writes result }
+        ensures most { IfOk result (λ n. n ≤ self.old.per_call) }
+    {
         let count = self.per_call.min(buf.len());
         if count > self.room.len() - self.used {
             return Err(self.turns.tally.failed());
