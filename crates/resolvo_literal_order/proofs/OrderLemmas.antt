@@ -3,6 +3,10 @@ use Rattle.std.proofs.Common.{◌≡◌, ℕ, zero, suc, Bool, true, false, not,
 use Rattle.resolvo_literal_order.specs.Order.{texts_of, is_before, are_rising, are_once, atom_part}
 use Rattle.std.specs.Str.{bytes_eq}
 use Rattle.std.specs.List.{list_any}
+use Rattle.std.specs.declared.cmp.Ordering.{Ordering}
+use Rattle.std.specs.Ordering.{is_eq, nat_cmp}
+use Rattle.std.specs.Cmp.Lexicographic.{slice_cmp}
+use Rattle.std.proofs.lemmas.Map.Text.{is_eq-slice_cmp}
 use Rattle.std.proofs.lemmas.List.{drop_more}
 use Rattle.std.proofs.lemmas.Bool.{and_parts}
 
@@ -20,6 +24,14 @@ pub once_below : (n : ℕ) (xs : List (List ℕ)) → are_once xs ≡ true → a
 once_below zero xs e = e
 once_below (suc n) [] e = refl
 once_below (suc n) (x ∷ xs) e = once_below n xs (once_part x xs e)
+
+-- references in the order of the bytes behind them
+abbrev pub by_bytes : Bor (List ℕ) → Bor (List ℕ) → Ordering
+by_bytes x y = slice_cmp nat_cmp x.now y.now
+
+-- a sorted set to which a text came tells it by its bytes
+pub updates_by_bytes : (has has_now : Bor (List ℕ) → Bool) (x : Bor (List ℕ)) → ((q : Bor (List ℕ)) → has_now q ≡ cond (is_eq (by_bytes x q)) true (has q)) → (q : Bor (List ℕ)) → has_now q ≡ cond (bytes_eq x.now q.now) true (has q)
+updates_by_bytes has has_now x updated = λ q. updated q ∙ ap (λ (b : Bool). cond b true (has q)) (is_eq-slice_cmp x.now q.now)
 
 -- the texts that a set of references has
 abbrev pub HasSeen : (Bor (List ℕ) → Bool) → List (List ℕ) → Type 0

@@ -7,8 +7,7 @@ ghost use Rattle.std.specs.Prelude.{◌≡◌, IfOk, map};
 ghost use Rattle.resolvo_literal_order.specs.Order.{texts_of, are_rising, are_once, atom_part, are_in_order};
 
 use std::alloc::{AllocError, Global};
-use std::collections::HashSet;
-use std::hash::{BuildHasherDefault, FoldHasher};
+use std::collections::BTreeSet;
 
 /// The text of the atom in the text of a literal.
 fn atom_part(text: &[u8]) -> &[u8]
@@ -43,10 +42,7 @@ fn are_rising(texts: &[&[u8]]) -> bool
 fn are_atoms_once(alloc: Global, texts: &[&[u8]]) -> Result<bool, AllocError>
     ensures { IfOk result (λ b. b ≡ are_once (map atom_part (texts_of texts.now))) }
 {
-    let mut seen: HashSet<&[u8], BuildHasherDefault<FoldHasher>> = HashSet::with_hasher(
-        alloc,
-        BuildHasherDefault::default(),
-    );
+    let mut seen: BTreeSet<&[u8]> = BTreeSet::new(alloc);
     let mut at = texts.len();
     while at > 0 {
         at -= 1;
