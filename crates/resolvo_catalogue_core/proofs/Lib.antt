@@ -3,6 +3,7 @@ pub mod Sorted
 pub mod BelongingLemmas
 pub mod HeldLemmas
 pub mod NumberedLemmas
+pub mod PickedLemmas
 pub mod TableLemmas
 pub mod TableSteps
 pub mod PlaceLemmas

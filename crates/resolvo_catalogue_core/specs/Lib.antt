@@ -6,6 +6,7 @@ pub mod Answers
 pub mod Listed
 pub mod Numbered
 pub mod Questions
+pub mod Picked
 pub mod Codes
 pub mod LinesByVersion
 pub mod Table

@@ -8,6 +8,7 @@ use crate::rule::{Rule, VersionNo};
 use crate::table::Table;
 use resolvo_text::{LineFault, LineReader, ReadFault, Source, Spec, Version};
 use std::alloc::{AllocError, Global};
+use std::collections::BTreeSet;
 use std::marker::Model;
 
 /// The most bytes of the text of a catalogue or a request.
@@ -56,6 +57,7 @@ impl Catalogue {
     ghost use Rattle.resolvo_catalogue_core.specs.Rules.{keeps};
     ghost use Rattle.resolvo_catalogue_core.specs.Listed.{listed, version_at, members, is_match, pair_versions, AreDistinct};
     ghost use Rattle.resolvo_catalogue_core.specs.Questions.{IsOnly, AreAll, IsOfPackage, SaysOf, BelongsTo, States, LineIs, IsFavour, FavoursAt, Bars, is_rule, cases_of_line, number_of};
+    ghost use Rattle.resolvo_catalogue_core.specs.Picked.{IsPicked};
 
     /// What holds of the lines of each catalogue. It does nothing.
     pub fn lines_are_in_place(&self)
@@ -94,6 +96,19 @@ impl Catalogue {
         ensures { AreAll (map number_of result.now) (IsOfPackage (listed self.now) name.now) }
     {
         self.table.versions_of(name)
+    }
+
+    /// The versions of the SPEC's package that it matches, or else those that it doesn't. The others aren't walked.
+    pub fn picked(
+        &self,
+        alloc: Global,
+        spec: &Spec,
+        outside: bool,
+    ) -> Result<BTreeSet<u32>, AllocError>
+        ensures { IfOk result
+            (λ set. AreAll set.keys (IsPicked (listed self.now) (spec_of spec.now) outside)) }
+    {
+        self.table.picked(alloc, spec, outside)
     }
 
     /// Whether the SPEC matches the version. A number that no version has is not matched.

@@ -7,6 +7,7 @@ mod line_table;
 mod lines_by_version;
 mod obey;
 mod package;
+mod picked;
 mod request;
 mod request_lines;
 mod rule;

@@ -2,15 +2,21 @@
 //! Most catalogues list them from the least number on: as long as they rise, they are sought among themselves, and only where one
 //! comes that is not above the last is a map made. Used by `table`.
 
-ghost use Rattle.std.specs.Prelude.{◌≡◌, ℕ, [], None, Some, IsTrue, IfOk, OnOk, length, not, is_some, slice_get};
+ghost use Rattle.std.specs.Prelude.{◌≡◌, ℕ, [], None, Some, IsTrue, IfOk, OnOk, length, not, is_some, slice_get, true, false};
 ghost use Rattle.std.specs.BTreeMap.{get};
 ghost use Rattle.std.specs.Ordering.{nat_cmp};
 ghost use Rattle.resolvo_catalogue_core.specs.Numbered.{beside, AreRising, IsAbove, IsSought, IsNumbered};
+ghost use Rattle.std.specs.BTreeMap.Range.{range_contains, IsLeBy, IsLtBy};
+ghost use Rattle.std.specs.Range.Bound.{IsForward};
+ghost use Rattle.resolvo_catalogue_core.specs.Picked.{IsAmong, AddsEach, HasEach, is_picked};
 ghost use Rattle.resolvo_catalogue_core.specs.Table.{AddsNumber};
 
+use crate::picked::{add_mapped, add_rising};
 use crate::rule::VersionNo;
+use resolvo_text::Span;
 use std::alloc::{AllocError, Global};
-use std::collections::BTreeMap;
+use std::collections::{BTreeMap, BTreeSet};
+use std::ops::Bound;
 
 #[derive(Drop)]
 pub struct Package {
@@ -47,6 +53,107 @@ impl Package {
         match &self.by_number {
             Some(map) => map.get(&number).copied(),
             None => version_beside(&self.numbers, &self.versions, number),
+        }
+    }
+
+    /// Adds the versions whose numbers lie between the bounds.
+    fn add_between(
+        &self,
+        start: Bound<u32>,
+        end: Bound<u32>,
+        out: &mut BTreeSet<u32>,
+    ) -> Result<(), AllocError>
+        requires numbered { IsNumbered self.now }
+        requires forward { IsForward (IsLeBy nat_cmp) (IsLtBy nat_cmp) start end }
+        ensures { OnOk result
+            (AddsEach out.old
+            (IsAmong self.now.numbers.items self.now.versions.items
+            (range_contains nat_cmp start end))
+            out.new) }
+    {
+        match &self.by_number {
+            Some(map) => add_mapped(map, start, end, out),
+            None => add_rising(&self.numbers, &self.versions, start, end, out),
+        }
+    }
+
+    fn add_picked(
+        &self,
+        span: Span,
+        outside: bool,
+        out: &mut BTreeSet<u32>,
+    ) -> Result<(), AllocError>
+        requires { IsNumbered self.now }
+        ensures { OnOk result
+            (AddsEach out.old
+            (IsAmong self.now.numbers.items self.now.versions.items (is_picked span outside))
+            out.new) }
+    {
+        if outside {
+            self.add_outside(span, out)
+        } else {
+            self.add_inside(span, out)
+        }
+    }
+
+    /// The versions whose numbers the span has, or else those whose numbers it hasn't.
+    pub fn picked(
+        &self,
+        alloc: Global,
+        span: Span,
+        outside: bool,
+    ) -> Result<BTreeSet<u32>, AllocError>
+        requires { IsNumbered self.now }
+        ensures { IfOk result
+            (HasEach
+            (IsAmong self.now.numbers.items self.now.versions.items (is_picked span outside))) }
+    {
+        let mut out = BTreeSet::new(alloc);
+        self.add_picked(span, outside, &mut out)?;
+        // The proof rests on what this says: the set is in order.
+        let _count = out.len();
+        Ok(out)
+    }
+
+    fn add_inside(&self, span: Span, out: &mut BTreeSet<u32>) -> Result<(), AllocError>
+        requires { IsNumbered self.now }
+        ensures { OnOk result
+            (AddsEach out.old
+            (IsAmong self.now.numbers.items self.now.versions.items (is_picked span false))
+            out.new) }
+    {
+        match span {
+            Span::Any => self.add_between(Bound::Unbounded, Bound::Unbounded, out),
+            Span::One(number) => {
+                self.add_between(Bound::Included(number), Bound::Included(number), out)
+            }
+            Span::Range(low, high) => {
+                if low < high {
+                    self.add_between(Bound::Included(low), Bound::Excluded(high), out)
+                } else {
+                    Ok(())
+                }
+            }
+        }
+    }
+
+    fn add_outside(&self, span: Span, out: &mut BTreeSet<u32>) -> Result<(), AllocError>
+        requires { IsNumbered self.now }
+        ensures { OnOk result
+            (AddsEach out.old
+            (IsAmong self.now.numbers.items self.now.versions.items (is_picked span true))
+            out.new) }
+    {
+        match span {
+            Span::Any => Ok(()),
+            Span::One(number) => {
+                self.add_between(Bound::Unbounded, Bound::Excluded(number), out)?;
+                self.add_between(Bound::Excluded(number), Bound::Unbounded, out)
+            }
+            Span::Range(low, high) => {
+                self.add_between(Bound::Unbounded, Bound::Excluded(low), out)?;
+                self.add_between(Bound::Included(high), Bound::Unbounded, out)
+            }
         }
     }
 

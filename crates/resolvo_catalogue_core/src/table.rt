@@ -10,7 +10,8 @@ ghost use Rattle.resolvo_text.specs.Line as says;
 ghost use Rattle.resolvo_text.specs.View.{version_of, spec_of, specs_of, condition_of, view};
 ghost use Rattle.resolvo_text.specs.declared.line.LineFault.TheVariants.{Fault};
 ghost use Rattle.resolvo_catalogue_core.specs.Grammar.{MayFollow, IsCatalogueLine, line_at, owner_below};
-ghost use Rattle.resolvo_catalogue_core.specs.Questions.{number_of, IsOwner, IsOnly, LineIs, LocksAnother, Bars};
+ghost use Rattle.resolvo_catalogue_core.specs.Questions.{number_of, AreAll, IsOwner, IsOnly, LineIs, LocksAnother, Bars};
+ghost use Rattle.resolvo_catalogue_core.specs.Picked.{IsPicked};
 ghost use Rattle.resolvo_catalogue_core.specs.Table.{AddsVersion, number_in};
 ghost use Rattle.resolvo_catalogue_core.specs.Numbered.{IsNumbered};
 ghost use Rattle.resolvo_catalogue_core.specs.declared.package.Package.{Package};
@@ -22,7 +23,7 @@ use crate::package::Package;
 use crate::rule::{Rule, VersionNo};
 use resolvo_text::{Cond, Line, LineFault, Spec, Version, line_in};
 use std::alloc::{AllocError, Global};
-use std::collections::BTreeMap;
+use std::collections::{BTreeMap, BTreeSet};
 
 pub struct Table {
     pub versions: Vec<(String, u32)>,
@@ -124,6 +125,23 @@ impl Table {
         match self.packages.get(name) {
             Some(package) => package.versions(),
             None => &[],
+        }
+    }
+
+    /// The versions of the SPEC's package that it matches, or else those that it doesn't.
+    pub fn picked(
+        &self,
+        alloc: Global,
+        spec: &Spec,
+        outside: bool,
+    ) -> Result<BTreeSet<u32>, AllocError>
+        requires { IsTable self.now }
+        ensures { IfOk result
+            (λ set. AreAll set.keys (IsPicked (versions_in self.now) (spec_of spec.now) outside)) }
+    {
+        match self.packages.get(spec.name.as_str()) {
+            Some(package) => package.picked(alloc, spec.span, outside),
+            None => Ok(BTreeSet::new(alloc)),
         }
     }
 
