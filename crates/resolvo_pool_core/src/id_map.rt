@@ -1,11 +1,12 @@
 //! Sets and total maps of ids, as traits, and the collections of std that serve as them.
 //! The model of a set is a test of ids; of a map, a function from ids to values. The solver keeps
 //! its tables by id in them, dense and sparse ids alike.
-ghost use Rattle.std.specs.Prelude.{◌≡◌, ℕ, ◌≤◌, ◌*◌, ◌/◌, Bool, true, false, not, IfOk, OnOk, OnErr, slice_index_or, None};
+ghost use Rattle.std.specs.Prelude.{◌≡◌, ℕ, ◌≤◌, ◌*◌, ◌/◌, Bool, true, false, not, IfOk, OnOk, OnErr, IsOkUnless, slice_index_or, None};
 ghost use Rattle.std.specs.Option.{unwrap_or};
 ghost use Rattle.std.specs.HashMap.{get};
 ghost use Rattle.std.specs.HashSet.{contains};
 ghost use Rattle.resolvo_pool_core.specs.Ids.{Puts, Same};
+ghost use Rattle.resolvo_pool_core.specs.declared.want.Want.TheVariants.{Memory};
 
 use crate::id::DenseIndex;
 use crate::want::R;
@@ -63,7 +64,8 @@ pub trait IdSet<K: Eq> {
     fn insert(&mut self, id: K) -> R<bool>
         ensures added { IfOk result (λ new. new ≡ not (has self.old id)) }
         ensures put { OnOk result (Puts K.eq (has self.old) (has self.new) id true) }
-        ensures err { OnErr result (Same (has self.old) (has self.new)) };
+        ensures err { OnErr result (Same (has self.old) (has self.new)) }
+        ensures refusal { IsOkUnless result Memory };
 }
 
 /// A total map: an id that was not set has the default value.
@@ -82,7 +84,8 @@ pub trait IdMap<K: Eq, V: Copy + OneDefault> {
     /// Sets the value of an id.
     fn set(&mut self, id: K, value: V) -> R<()>
         ensures put { OnOk result (Puts K.eq (value_of self.old) (value_of self.new) id value) }
-        ensures err { OnErr result (Same (value_of self.old) (value_of self.new)) };
+        ensures err { OnErr result (Same (value_of self.old) (value_of self.new)) }
+        ensures refusal { IsOkUnless result Memory };
 }
 
 /// Scores by id, which fade: a total map of its own, in which an id that was not set has 0.
@@ -104,7 +107,8 @@ pub trait ScoreMap<K: Eq> {
     /// Sets the score of an id.
     fn set(&mut self, id: K, score: u64) -> R<()>
         ensures put { OnOk result (Puts K.eq (score_of self.old) (score_of self.new) id score) }
-        ensures err { OnErr result (Same (score_of self.old) (score_of self.new)) };
+        ensures err { OnErr result (Same (score_of self.old) (score_of self.new)) }
+        ensures refusal { IsOkUnless result Memory };
 
     /// Scales each score by `per_million` millionths, rounding down.
     fn scale(&mut self, per_million: u64)

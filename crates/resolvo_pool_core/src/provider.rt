@@ -1,7 +1,7 @@
 //! What a solver asks of a source of packages, as two traits, and the plain data of the answers.
 //! A provider's meaning is its ghost members; its laws are the traits'. The cache, the solver and the
 //! conflict graph are generic in it.
-ghost use Rattle.std.specs.Prelude.{◌≡◌, ℕ, List, Bool, Option, true, None, [], IfOk, IfSome, OnOk, OnErr, All};
+ghost use Rattle.std.specs.Prelude.{◌≡◌, ℕ, List, Bool, Option, true, None, [], IfOk, IfSome, OnOk, OnErr, IsErrOf, IsOkUnless, All};
 ghost use Rattle.std.specs.Option.{option_map};
 ghost use Rattle.std.specs.List.Sorted.{IsPermutation};
 ghost use Rattle.std.specs.Fmt.{WritesOnOk};
@@ -10,6 +10,7 @@ ghost use Rattle.resolvo_pool_core.specs.declared.id.VersionSetUnionId.{VersionS
 ghost use Rattle.resolvo_pool_core.specs.declared.id.ConditionId.{ConditionId};
 ghost use Rattle.resolvo_pool_core.specs.declared.id.StringId.{StringId};
 ghost use Rattle.resolvo_pool_core.specs.declared.condition.Condition.{Condition};
+ghost use Rattle.resolvo_pool_core.specs.declared.want.Want.TheVariants.{Ids, Memory};
 ghost use Rattle.resolvo_pool_core.specs.declared.provider.HintDependenciesAvailable.TheVariants.{None as NoHint};
 ghost use Rattle.resolvo_pool_core.specs.Provider.{Listing, Needs, listing, needs_of, OperandsBelow, kept, AreOf};
 
@@ -148,6 +149,9 @@ pub trait DependencyProvider: Interner {
     /// With which values it may cancel.
     ghost may_cancel: { Self → Self.Cancel → Type 0 };
 
+    /// Whether its answers may want for ids.
+    ghost may_lack_ids: { Self → Type 0 };
+
     /// The candidates that match, in order; with `inverse` those that don't.
     fn filter_candidates(
         &self,
@@ -156,7 +160,8 @@ pub trait DependencyProvider: Interner {
         version_set: VersionSetId,
         inverse: bool,
     ) -> R<Vec<Self::SolvableId>>
-        ensures { IfOk result (λ v. v.items ≡ kept (matches self.now version_set) inverse candidates.now) };
+        ensures kept { IfOk result (λ v. v.items ≡ kept (matches self.now version_set) inverse candidates.now) }
+        ensures ids { IsErrOf result Ids → may_lack_ids self.now };
 
     /// The candidates of a package.
     fn get_candidates(
@@ -164,16 +169,19 @@ pub trait DependencyProvider: Interner {
         alloc: Global,
         name: Self::NameId,
     ) -> R<Option<Candidates<Self::SolvableId>>>
-        ensures { IfOk result (λ c. option_map listing c ≡ candidates_of self.now name) };
+        ensures listed { IfOk result (λ c. option_map listing c ≡ candidates_of self.now name) }
+        ensures ids { IsErrOf result Ids → may_lack_ids self.now };
 
     /// Sorts solvables of one package, the one to be tried first in front.
     fn sort_candidates(&self, alloc: Global, candidates: &mut [Self::SolvableId]) -> R<()>
         ensures sorted { OnOk result (sorts self.now candidates.old candidates.new) }
-        ensures err { OnErr result (IsPermutation candidates.old candidates.new) };
+        ensures err { OnErr result (IsPermutation candidates.old candidates.new) }
+        ensures ids { IsErrOf result Ids → may_lack_ids self.now };
 
     /// What a solvable needs and limits.
     fn get_dependencies(&self, alloc: Global, solvable: Self::SolvableId) -> R<Dependencies>
-        ensures { IfOk result (λ d. needs_of d ≡ dependencies_of self.now solvable) };
+        ensures needs { IfOk result (λ d. needs_of d ≡ dependencies_of self.now solvable) }
+        ensures ids { IsErrOf result Ids → may_lack_ids self.now };
 
     /// Whether the solver shall stop, and with which value. Asked before each question.
     fn should_cancel_with_value(&self) -> Option<Self::Cancel>
@@ -226,7 +234,8 @@ impl<S: Copy> Candidates<S> {
     pub fn clone(&self, alloc: Global) -> R<Candidates<S>>
     where
         S: Drop,
-        ensures { IfOk result (λ c. listing c ≡ listing self.now) }
+        ensures same { IfOk result (λ c. listing c ≡ listing self.now) }
+        ensures refusal { IsOkUnless result Memory }
     {
         Ok(Candidates {
             candidates: Vec::from_slice(alloc, self.candidates.as_slice())?,
@@ -261,7 +270,8 @@ impl<S: Copy> HintDependenciesAvailable<S> {
     pub fn clone(&self, alloc: Global) -> R<HintDependenciesAvailable<S>>
     where
         S: Drop,
-        ensures { IfOk result (λ h. hint_of h ≡ hint_of self.now) }
+        ensures same { IfOk result (λ h. hint_of h ≡ hint_of self.now) }
+        ensures refusal { IsOkUnless result Memory }
     {
         match self {
             HintDependenciesAvailable::None => Ok(HintDependenciesAvailable::None),
