@@ -112,6 +112,7 @@ AreSeveral {X} lists = (k : ℕ) (x : X) → slice_get lists k ≡ Some (x ∷ [
 pub record AreSound (ids : Ids) : Type 0 where
   pub below : AreBelow ids.conditions
   pub names : AreOnce ids.names
+  pub words : AreOnce ids.words
   pub version_sets : AreOnce ids.version_sets
   pub unions : AreOnce ids.unions
   pub several : AreSeveral ids.unions

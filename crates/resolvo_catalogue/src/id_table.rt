@@ -384,6 +384,7 @@ impl IdTable {
         ensures { AreSound self.now }
     {
         self.names.texts_are_once();
+        self.words.texts_are_once();
     }
 }
 
