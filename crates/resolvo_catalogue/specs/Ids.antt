@@ -1,5 +1,5 @@
 -- The ids of packages, SPECs, lists of alternatives, conditions and words, and which text an id stands for.
-use Rattle.std.specs.Prelude.{◌≡◌, ◌⊎◌, ◌<◌, ◌+◌, ℕ, suc, ◌==◌, if◌then◌else◌, ⊤, length, slice_index_or, Bool, List, [], ◌∷◌, map, Option, Some, None, slice_get}
+use Rattle.std.specs.Prelude.{◌≡◌, ◌⊎◌, ◌<◌, ◌≤◌, ◌+◌, ℕ, suc, ◌==◌, if◌then◌else◌, ⊤, length, slice_index_or, Bool, List, [], ◌∷◌, map, Option, Some, None, slice_get}
 use Rattle.resolvo_text.specs.Line.{Version, Spec, Cond, Is, And, Or}
 use Rattle.resolvo_pool_core.specs.declared.id.DenseId.{DenseId}
 use Rattle.resolvo_pool_core.specs.declared.id.NameTag.{NameTag}
@@ -108,10 +108,20 @@ AreOnce {X} xs = (i j : ℕ) (x : X) → slice_get xs i ≡ Some x → slice_get
 abbrev pub AreSeveral : {X : Type 0} → List (List X) → Type 0
 AreSeveral {X} lists = (k : ℕ) (x : X) → slice_get lists k ≡ Some (x ∷ []) → ⊥
 
+-- No number is left for a value of some kind: the last one is given.
+pub data LacksNumber (ids : Ids) : Type 0 where
+  names : 4294967295 ≤ length ids.names → LacksNumber ids
+  words : 4294967295 ≤ length ids.words → LacksNumber ids
+  solvables : 4294967295 ≤ length ids.solvables → LacksNumber ids
+  version_sets : 4294967295 ≤ length ids.version_sets → LacksNumber ids
+  unions : 4294967295 ≤ length ids.unions → LacksNumber ids
+  conditions : 4294967295 ≤ length ids.conditions → LacksNumber ids
+
 -- No value has two ids, no union is of one version set, and the operands of a condition have smaller ids than it.
 pub record AreSound (ids : Ids) : Type 0 where
   pub below : AreBelow ids.conditions
   pub names : AreOnce ids.names
+  pub words : AreOnce ids.words
   pub version_sets : AreOnce ids.version_sets
   pub unions : AreOnce ids.unions
   pub several : AreSeveral ids.unions

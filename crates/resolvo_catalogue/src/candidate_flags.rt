@@ -1,11 +1,12 @@
 //! What the lines of a catalogue say of each version, but for its needs and limits: whether it is locked,
 //! favoured, or excluded.
 
-ghost use Rattle.std.specs.Prelude.{◌≡◌, ◌<◌, ◌++◌, ◌∷◌, [], IfOk, OnOk, List, Option, Some, length, slice_get};
+ghost use Rattle.std.specs.Prelude.{◌≡◌, ◌<◌, ◌++◌, ◌∷◌, [], IfOk, IsErrOf, IsOkUnless, OnOk, List, Option, Some, length, slice_get};
+ghost use Rattle.resolvo_pool_core.specs.declared.want.Want.TheVariants.{Ids as NoIds, Memory};
 ghost use Rattle.resolvo_text.specs.Line.{Version, Line, Favour};
 ghost use Rattle.resolvo_catalogue_core.specs.Questions.{States};
 ghost use Rattle.resolvo_catalogue_core.specs.Listed.{listed, AreDistinct};
-ghost use Rattle.resolvo_catalogue.specs.Ids.{Ids, Interns};
+ghost use Rattle.resolvo_catalogue.specs.Ids.{Ids, Interns, LacksNumber};
 ghost use Rattle.resolvo_catalogue.specs.Marked.{AreMarked};
 
 use crate::id_table::IdTable;
@@ -35,6 +36,7 @@ pub fn marks_of(alloc: Global, ids: &mut IdTable, catalogue: &Catalogue) -> R<Ve
         (λ marks.
         AreMarked ids.new catalogue.now catalogue.now (listed catalogue.now) marks.items) }
     ensures interns { Interns ids.old ids.new }
+    ensures ids { IsErrOf result NoIds → LacksNumber ids.new }
 {
     let mut marks = unmarked(alloc, catalogue.versions().len())?;
     for line in 0..catalogue.line_count() {
@@ -50,11 +52,12 @@ pub fn marks_of(alloc: Global, ids: &mut IdTable, catalogue: &Catalogue) -> R<Ve
 
 /// No marks of so many versions.
 fn unmarked(alloc: Global, count: usize) -> R<Vec<CandidateFlags>>
-    ensures { IfOk result
+    ensures marked { IfOk result
         (λ marks.
         (ids : Ids) (versions : List Version)
         → length versions ≡ count
         → AreMarked ids [] [] versions marks.items) }
+    ensures refusal { IsOkUnless result Memory }
 {
     let mut marks = Vec::new(alloc);
     for _ in 0..count {
@@ -73,6 +76,7 @@ fn mark(ids: &mut IdTable, marks: &mut Vec<CandidateFlags>, rule: &Rule) -> R<()
         → AreMarked ids.old lines favours versions marks.old.items
         → AreMarked ids.new (lines ++ line ∷ []) favours versions marks.new.items) }
     ensures interns { Interns ids.old ids.new }
+    ensures ids { IsErrOf result NoIds → LacksNumber ids.new }
 {
     match rule {
         Rule::Lock { version } => {

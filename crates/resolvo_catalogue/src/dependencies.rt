@@ -1,6 +1,7 @@
 //! What lines need and limit, as ids. The lines of a version are told so, and those of a request.
 
-ghost use Rattle.std.specs.Prelude.{◌≡◌, ◌++◌, ◌∷◌, [], IfOk, OnOk, List, Option};
+ghost use Rattle.std.specs.Prelude.{◌≡◌, ◌++◌, ◌∷◌, [], IfOk, IsErrOf, OnOk, List, Option};
+ghost use Rattle.resolvo_pool_core.specs.declared.want.Want.TheVariants.{Ids};
 
 use crate::id_table::IdTable;
 use resolvo_catalogue_core::{Catalogue, Request, Rule};
@@ -21,7 +22,7 @@ pub struct VersionDependencies {
 impl VersionDependencies {
     ghost use Rattle.resolvo_text.specs.Line.{Version, Line};
     ghost use Rattle.resolvo_catalogue_core.specs.Questions.{States};
-    ghost use Rattle.resolvo_catalogue.specs.Ids.{Interns};
+    ghost use Rattle.resolvo_catalogue.specs.Ids.{Interns, LacksNumber};
     ghost use Rattle.resolvo_catalogue.specs.Told.{Tells, told_of, lines_at};
 
     fn new(alloc: Global) -> VersionDependencies
@@ -42,6 +43,7 @@ impl VersionDependencies {
             → Tells ids.old lines (told_of self.old)
             → Tells ids.new (lines ++ line ∷ []) (told_of self.new)) }
         ensures interns { Interns ids.old ids.new }
+        ensures ids { IsErrOf result Ids → LacksNumber ids.new }
     {
         match rule {
             Rule::Needs {
@@ -74,6 +76,7 @@ impl VersionDependencies {
     ) -> R<VersionDependencies>
         ensures tells { IfOk result (λ told. Tells ids.new (lines_at catalogue.now lines.now) (told_of told)) }
         ensures interns { Interns ids.old ids.new }
+        ensures ids { IsErrOf result Ids → LacksNumber ids.new }
     {
         let mut told = VersionDependencies::new(alloc);
         for line in lines {
@@ -88,6 +91,7 @@ impl VersionDependencies {
     pub fn of_request(alloc: Global, ids: &mut IdTable, request: &Request) -> R<VersionDependencies>
         ensures tells { IfOk result (λ told. Tells ids.new request.now.lines (told_of told)) }
         ensures interns { Interns ids.old ids.new }
+        ensures ids { IsErrOf result Ids → LacksNumber ids.new }
     {
         let mut told = VersionDependencies::new(alloc);
         for line in 0..request.line_count() {

@@ -2,13 +2,14 @@
 //! The model is one list of each, in the order of first interning; `specs/Ids.antt` says which text an id
 //! stands for. What has an id is found through sorted maps, so no choice of names or numbers makes that slow. Filled by `versions`, `told` and `marks`, read by `provider`.
 
-ghost use Rattle.std.specs.Prelude.{◌≡◌, ◌<◌, ◌+◌, ◌++◌, ◌∷◌, [], if◌then◌else◌, ℕ, List, bytes_eq, IfOk, OnOk, OnErr, length, slice_get, Some};
+ghost use Rattle.std.specs.Prelude.{◌≡◌, ◌<◌, ◌≤◌, ◌+◌, ◌++◌, ◌∷◌, [], if◌then◌else◌, ℕ, List, bytes_eq, IfOk, IsErrOf, OnOk, OnErr, length, slice_get, Some};
 ghost use Rattle.std.specs.Option.{option_copied};
 ghost use Rattle.resolvo_text.specs.View.{spec_of, specs_of, cond_of, condition_of};
 ghost use Rattle.resolvo_text.specs.Line.{Is};
 ghost use Rattle.resolvo_pool_core.specs.declared.condition.Condition.TheVariants.{Binary};
 ghost use Rattle.resolvo_pool_core.specs.Provider.{OperandsBelow};
-ghost use Rattle.resolvo_catalogue.specs.Ids.{Interns, Grows, IsPlaced, AreSound, IsPackage, IsWord, IsSpec, AreEach, AreAlternatives, IsCondition, IsConditionOf, IsNeed};
+ghost use Rattle.resolvo_pool_core.specs.declared.want.Want.TheVariants.{Ids};
+ghost use Rattle.resolvo_catalogue.specs.Ids.{Interns, Grows, IsPlaced, AreSound, LacksNumber, IsPackage, IsWord, IsSpec, AreEach, AreAlternatives, IsCondition, IsConditionOf, IsNeed};
 ghost use Rattle.resolvo_catalogue.specs.Found.{number_in, set_key, union_key, condition_key};
 
 use crate::text_ids::TextIds;
@@ -107,6 +108,7 @@ impl IdTable {
         ensures package { IfOk result (λ n. IsPackage self.new n name.now) }
         ensures place { IfOk result (λ n. IsPlaced self.old.names self.new.names n.raw) }
         ensures interns { Interns self.old self.new }
+        ensures ids { IsErrOf result Ids → LacksNumber self.new }
     {
         Ok(NameId::from_raw(self.names.intern(self.alloc, name)?))
     }
@@ -121,6 +123,7 @@ impl IdTable {
             self.new.solvables ≡ self.old.solvables ++ record { version = number; name = x.0 }
             ∷ []) }
         ensures grows { Grows self.old self.new }
+        ensures ids { IsErrOf result Ids → LacksNumber self.new }
     {
         let package = self.package(name)?;
         let index = next_index(self.solvables.len())?;
@@ -135,6 +138,7 @@ impl IdTable {
     pub fn word(&mut self, word: &str) -> R<StringId>
         ensures word { IfOk result (λ w. IsWord self.new w word.now) }
         ensures interns { Interns self.old self.new }
+        ensures ids { IsErrOf result Ids → LacksNumber self.new }
     {
         Ok(StringId(self.words.intern(self.alloc, word)?))
     }
@@ -144,6 +148,7 @@ impl IdTable {
     pub fn spec(&mut self, spec: &Spec) -> R<VersionSetId>
         ensures spec { IfOk result (λ v. IsSpec self.new v (spec_of spec.now)) }
         ensures interns { Interns self.old self.new }
+        ensures ids { IsErrOf result Ids → LacksNumber self.new }
     {
         let package = self.package(spec.name.as_str())?;
         self.version_set(package, spec.span)
@@ -154,6 +159,7 @@ impl IdTable {
         ensures version_set { IfOk result
             (λ v. slice_get self.new.version_sets v.0 ≡ Some (name, record { 0 = span })) }
         ensures interns { Interns self.old self.new }
+        ensures ids { IsErrOf result Ids → LacksNumber self.new }
     {
         let key = key_of_set(self.alloc, name, span)?;
         if let Some(id) = self.set_ids.get(key.as_slice()) {
@@ -172,6 +178,7 @@ impl IdTable {
     fn specs(&mut self, specs: &[Spec]) -> R<Vec<VersionSetId>>
         ensures specs { IfOk result (λ vs. AreEach (IsSpec self.new) vs.items (specs_of specs.now)) }
         ensures interns { Interns self.old self.new }
+        ensures ids { IsErrOf result Ids → LacksNumber self.new }
     {
         let mut ids = Vec::new(self.alloc);
         for spec in specs {
@@ -185,6 +192,7 @@ impl IdTable {
         requires several { (v : VersionSetId) → members.items ≡ v ∷ [] → ⊥ }
         ensures union { IfOk result (λ u. slice_get self.new.unions u.0 ≡ Some members.items) }
         ensures interns { Interns self.old self.new }
+        ensures ids { IsErrOf result Ids → LacksNumber self.new }
     {
         let key = key_of_union(self.alloc, &members)?;
         if let Some(id) = self.union_ids.get(key.as_slice()) {
@@ -199,6 +207,7 @@ impl IdTable {
     pub fn alternatives(&mut self, alternatives: &[Spec]) -> R<Requirement>
         ensures alternatives { IfOk result (λ r. AreAlternatives self.new r (specs_of alternatives.now)) }
         ensures interns { Interns self.old self.new }
+        ensures ids { IsErrOf result Ids → LacksNumber self.new }
     {
         if let [only] = alternatives {
             return Ok(Requirement::Single(self.spec(only)?));
@@ -212,6 +221,7 @@ impl IdTable {
     fn condition_of_spec(&mut self, spec: &Spec) -> R<ConditionId>
         ensures condition { IfOk result (λ c. IsCondition self.new c (Is (spec_of spec.now))) }
         ensures interns { Interns self.old self.new }
+        ensures ids { IsErrOf result Ids → LacksNumber self.new }
     {
         let version_set = self.spec(spec)?;
         self.intern_condition(Condition::Requirement(version_set))
@@ -221,6 +231,7 @@ impl IdTable {
         requires { OperandsBelow condition (record { 0 = length self.old.conditions }) }
         ensures condition { IfOk result (λ c. slice_get self.new.conditions c.0 ≡ Some condition) }
         ensures interns { Interns self.old self.new }
+        ensures ids { IsErrOf result Ids → LacksNumber self.new }
     {
         let key = key_of_condition(self.alloc, condition)?;
         if let Some(id) = self.condition_ids.get(key.as_slice()) {
@@ -240,6 +251,7 @@ impl IdTable {
     pub fn condition(&mut self, condition: &Cond) -> R<ConditionId>
         ensures condition { IfOk result (λ c. IsCondition self.new c (cond_of condition.now)) }
         ensures interns { Interns self.old self.new }
+        ensures ids { IsErrOf result Ids → LacksNumber self.new }
     {
         match condition {
             Cond::Spec(spec) => self.condition_of_spec(spec),
@@ -267,6 +279,7 @@ impl IdTable {
         requires right { right.0 < length self.old.conditions }
         ensures joined { IfOk result (λ c. slice_get self.new.conditions c.0 ≡ Some (Binary operator left right)) }
         ensures interns { Interns self.old self.new }
+        ensures ids { IsErrOf result Ids → LacksNumber self.new }
     {
         self.intern_condition(Condition::Binary(operator, left, right))
     }
@@ -283,6 +296,7 @@ impl IdTable {
             IsNeed self.new r
             (specs_of alternatives.now, condition_of (option_copied condition.entry))) }
         ensures interns { Interns self.old self.new }
+        ensures ids { IsErrOf result Ids → LacksNumber self.new }
     {
         let requirement = self.alternatives(alternatives)?;
         let condition = match condition {
@@ -384,6 +398,7 @@ impl IdTable {
         ensures { AreSound self.now }
     {
         self.names.texts_are_once();
+        self.words.texts_are_once();
     }
 }
 
@@ -402,6 +417,7 @@ fn add<T: Drop>(
         ≡ (if bytes_eq key.items other then Some (length values.old.items) else number_in ids.old.entries other)) }
     ensures kept { OnErr result (values.new.items ≡ values.old.items) }
     ensures keys { OnErr result (ids.new.entries ≡ ids.old.entries) }
+    ensures ids { IsErrOf result Ids → 4294967295 ≤ length values.new.items }
 {
     let index = next_index(values.len())?;
     values.reserve(1)?;

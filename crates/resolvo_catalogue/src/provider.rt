@@ -1,10 +1,10 @@
 //! The provider over a catalogue: made once from the lines, then asked by the solver.
 //! Its model is what was interned and what the lines say of each version (`specs/Provider.antt`).
 
-ghost use Rattle.std.specs.Prelude.{◌≡◌, [], map, IfOk, IsOkUnless};
-ghost use Rattle.resolvo_pool_core.specs.declared.want.Want.TheVariants.{Memory};
+ghost use Rattle.std.specs.Prelude.{◌≡◌, [], map, IfOk, IsErrOf, IsOkUnless};
+ghost use Rattle.resolvo_pool_core.specs.declared.want.Want.TheVariants.{Ids, Memory};
 ghost use Rattle.resolvo_catalogue.specs.declared.provider.Hint.{Hint};
-ghost use Rattle.resolvo_catalogue.specs.Ids.{AreByPackage, Interns};
+ghost use Rattle.resolvo_catalogue.specs.Ids.{AreByPackage, Interns, LacksNumber};
 ghost use Rattle.resolvo_catalogue.specs.Told.{told_of};
 ghost use Rattle.resolvo_catalogue.specs.Over.{AreTold, IsOver};
 
@@ -120,6 +120,7 @@ impl CatalogueProvider {
         ensures asked { IfOk result (λ asked. AreAsked self.new.ids request.now asked) }
         ensures interns { ChangesIds self.old self.new }
         ensures over { (catalogue : List says.Line) → IsOver catalogue self.old → IsOver catalogue self.new }
+        ensures ids { IsErrOf result Ids → LacksNumber self.new.ids }
         ensures rules { IfOk result
             (λ asked.
             (catalogue : List says.Line)

@@ -1,7 +1,8 @@
 //! Texts, each numbered once, in the order in which they come. The model is the list of them.
 //! A text is found through a sorted map, so no choice of texts makes that slow. Used by `id_table`.
 
-ghost use Rattle.std.specs.Prelude.{◌≡◌, [], IfOk, IfSome, ℕ, slice_get, Some, None};
+ghost use Rattle.std.specs.Prelude.{◌≡◌, ◌≤◌, [], IfOk, IfSome, IsErrOf, ℕ, length, slice_get, Some, None};
+ghost use Rattle.resolvo_pool_core.specs.declared.want.Want.TheVariants.{Ids};
 ghost use Rattle.std.specs.Option.{option_map};
 ghost use Rattle.resolvo_catalogue.specs.Ids.{Extends, IsPlaced, AreOnce};
 
@@ -54,6 +55,7 @@ impl TextIds {
         ensures text { IfOk result (λ i. slice_get self.new i ≡ Some text.now) }
         ensures place { IfOk result (λ i. IsPlaced self.old self.new i) }
         ensures extends { Extends self.old self.new }
+        ensures ids { IsErrOf result Ids → 4294967295 ≤ length self.new }
     {
         let index = next_index(self.texts.len())?;
         let kept = String::from_str(alloc, text)?;
@@ -69,6 +71,7 @@ impl TextIds {
         ensures text { IfOk result (λ i. slice_get self.new i ≡ Some text.now) }
         ensures place { IfOk result (λ i. IsPlaced self.old self.new i) }
         ensures extends { Extends self.old self.new }
+        ensures ids { IsErrOf result Ids → 4294967295 ≤ length self.new }
     {
         match self.find(text) {
             Some(id) => Ok(id),

@@ -1,8 +1,9 @@
 //! The versions of a catalogue as solvables, in the order of their lines, and those of each package.
 
-ghost use Rattle.std.specs.Prelude.{◌≡◌, ◌≤◌, ◌+◌, ◌++◌, ◌∷◌, ◌==◌, [], IfOk, OnOk, length, if◌then◌else◌, ℕ};
+ghost use Rattle.std.specs.Prelude.{◌≡◌, ◌≤◌, ◌+◌, ◌++◌, ◌∷◌, ◌==◌, [], IfOk, IsErrOf, IsOkUnless, OnOk, length, if◌then◌else◌, ℕ};
+ghost use Rattle.resolvo_pool_core.specs.declared.want.Want.TheVariants.{Ids, Memory};
 ghost use Rattle.resolvo_catalogue_core.specs.Listed.{pair_versions};
-ghost use Rattle.resolvo_catalogue.specs.Ids.{AreVersions, AreByPackage, IsPlaced, list_at};
+ghost use Rattle.resolvo_catalogue.specs.Ids.{AreVersions, AreByPackage, IsPlaced, LacksNumber, list_at};
 
 use crate::id_table::IdTable;
 use resolvo_pool_core::id::{DenseIndex, NameId, SolvableId};
@@ -19,6 +20,7 @@ pub fn list_versions(
     requires none { ids.old.solvables ≡ [] }
     ensures versions { IfOk result (λ _. AreVersions ids.new (pair_versions versions.now)) }
     ensures packages { IfOk result (λ lists. AreByPackage ids.new lists.items) }
+    ensures ids { IsErrOf result Ids → LacksNumber ids.new }
 {
     let mut lists = Vec::new(alloc);
     for version in versions {
@@ -33,6 +35,7 @@ fn add(alloc: Global, lists: &mut Vec<Vec<SolvableId>>, name: NameId, id: Solvab
     requires { name.raw ≤ length lists.old.items }
     ensures place { OnOk result (IsPlaced lists.old.items lists.new.items name.raw) }
     ensures added { OnOk result ((n : ℕ) → list_at lists.new.items n ≡ (if name.raw == n then list_at lists.old.items n ++ id ∷ [] else list_at lists.old.items n)) }
+    ensures refusal { IsOkUnless result Memory }
 {
     let place = name.to_index();
     if place == lists.len() {

@@ -10,7 +10,7 @@ use Rattle.resolvo_catalogue.proofs.candidate_flags.marks_of.Goals.{in-Some+in_o
 
 pub loop-line-init : goal.loop-line-init
 loop-line-init c =
-    (c.in_ok-marks.ensures c.args.ids.now (listed c.args.catalogue.now) (ap length (sym c.versions.ensures.listed) ∙ length-map c.versions.result.now _), interns_own c.args.ids.now)
+    (c.in_ok-marks.ensures.marked c.args.ids.now (listed c.args.catalogue.now) (ap length (sym c.versions.ensures.listed) ∙ length-map c.versions.result.now _), interns_own c.args.ids.now)
 
 pub loop-line-preserved : goal.loop-line-preserved
 loop-line-preserved c = elim c.match-rule.branch [
