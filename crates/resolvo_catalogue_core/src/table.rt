@@ -317,6 +317,7 @@ impl Table {
         requires table { IsTable self.old }
         requires line { line ≡ length (lines_in self.old) + 1 }
         requires short { line < 16777217 }
+        // After an answer.
         ensures ok { OnOk result
             (Adds self.old (says.Needs (specs_of alternatives.items) (condition_of condition))
             self.new) }
@@ -342,6 +343,7 @@ impl Table {
         requires table { IsTable self.old }
         requires line { line ≡ length (lines_in self.old) + 1 }
         requires short { line < 16777217 }
+        // After an answer.
         ensures ok { OnOk result (Adds self.old (says.Limits (spec_of spec)) self.new) }
         ensures placed { OnOk result (MayFollow (lines_in self.old) (says.Limits (spec_of spec))) }
         ensures fault { result ≡ Err Fault → MayFollow (lines_in self.old) (says.Limits (spec_of spec)) → ⊥ }
@@ -359,6 +361,7 @@ impl Table {
         requires table { IsTable self.old }
         requires line { line ≡ length (lines_in self.old) + 1 }
         requires short { line < 16777217 }
+        // After an answer.
         ensures ok { OnOk result (Adds self.old (says.Unknown (string_bytes word)) self.new) }
         ensures placed { OnOk result (MayFollow (lines_in self.old) (says.Unknown (string_bytes word))) }
         ensures fault { result ≡ Err Fault
@@ -439,6 +442,7 @@ impl Table {
         requires table { IsTable self.old }
         requires number { number ≡ length (lines_in self.old) + 1 }
         requires short { number < 16777217 }
+        // After an answer.
         ensures ok { OnOk result (Adds self.old (view line) self.new) }
         ensures placed { OnOk result (MayFollow (lines_in self.old) (view line)) }
         ensures fault { result ≡ Err Fault → MayFollow (lines_in self.old) (view line) → ⊥ }

@@ -127,8 +127,11 @@ impl ClauseStates {
     fn pass(&mut self, position: usize) -> usize
         requires within { position < length self.old }
         requires shut { is_open_state (state_at self.old position) ≡ false }
+        // Whatever the answer.
         ensures behind { position < result }
+        // After an answer.
         ensures within { result ≤ length self.old }
+        // Whatever the answer.
         ensures passed { (i : ℕ) → position ≤ i → i < result → is_open_state (state_at self.old i) ≡ false }
         ensures same { self.new ≡ self.old }
     {
@@ -222,6 +225,7 @@ impl ClauseStates {
     /// Opens those among the clauses of a block, from this position on. The answer is the position behind the block.
     fn reopen_block(&mut self, start: usize, common: usize) -> usize
         requires { start < length self.old }
+        // What the call promises.
         ensures behind { start < result }
         ensures changed { (i : ℕ)
             → start ≤ i

@@ -77,9 +77,11 @@ impl UndecidedClauses {
         N: Drop,
         requires fits { Fits (literals_in lists.now) self.old queue.now }
         requires seen { IsFrontOf self.old.seen.items trail.now.trail }
+        // After an answer.
         ensures picked { IfOk result (IsPick lists.now trail.now.trail (C.score_of scores.now.map) queue.now) }
         ensures fits { OnOk result (Fits (literals_in lists.now) self.new queue.now) }
         ensures seen { OnOk result (self.new.seen.items ≡ trail.now.trail) }
+        // After a refusal.
         ensures refusal { IsOkUnless result Memory }
     {
         self.go_on(trail.stack())?;
@@ -191,7 +193,9 @@ impl UndecidedClauses {
         requires fits { Fits (literals_in lists.now) self.old queue.now }
         requires values { (v : ℕ) → value_at values.now v ≡ value_in self.old.seen.items v }
         requires bounded { (name : N) → C.score_of scores.now name ≤ most }
+        // After an answer.
         ensures picked { result ≡ pick lists.now (value_at values.now) (C.score_of scores.now) queue.now }
+        // Whatever the answer.
         ensures fits { Fits (literals_in lists.now) self.new queue.now }
         ensures seen { self.new.seen ≡ self.old.seen }
     {
@@ -222,10 +226,12 @@ impl UndecidedClauses {
         requires within { position < length queue.now }
         requires fits { Fits (literals_in lists.now) self.old queue.now }
         requires values { (v : ℕ) → value_at values.now v ≡ value_in self.old.seen.items v }
+        // After an answer.
         ensures nothing { result ≡ false
             → (score : N → ℕ) (q : NeedClause)
             → slice_get queue.now position ≡ Some q
             → offer lists.now (value_at values.now) score q ≡ None }
+        // Whatever the answer.
         ensures fits { Fits (literals_in lists.now) self.new queue.now }
         ensures seen { self.new.seen ≡ self.old.seen }
     {

@@ -160,6 +160,7 @@ impl<N: Copy + Exact + Hash + Debug + Drop, S: Copy + Exact + Hash + Debug> Enco
         offered: &[Offered<N, S>],
     ) -> R<()>
         requires { IsBuilt self.old }
+        // After an answer.
         ensures encoded { OnOk result
             ((p : Packages N S) (root : Rules)
             → IsLawful p
@@ -174,6 +175,7 @@ impl<N: Copy + Exact + Hash + Debug + Drop, S: Copy + Exact + Hash + Debug> Enco
         ensures candidates { OnOk result (AddsCandidates need.requirement offered.now self.old self.new) }
         ensures kept { OnOk result (Extends self.old self.new) }
         ensures built { OnOk result (IsBuilt self.new) }
+        // After a refusal.
         ensures ids { IsErrOf result Ids → LacksNumberFor need.requirement self.new }
     {
         if keeps_out(sets, parent) {

@@ -60,6 +60,7 @@ impl<N: Copy + Exact + Hash + Debug + Drop, S: Copy + Exact + Hash + Debug> Enco
     /// Chooses the next candidate, or tells that none is left to choose.
     pub fn choose_next<C: ScoreMap<N>>(&mut self, scores: &Scores<N, C>) -> R<bool>
         requires { IsBuilt self.old }
+        // After an answer.
         ensures stays { OnOk result
             ((p : Packages N S) (root : Rules)
             → IsLawful p
@@ -69,6 +70,7 @@ impl<N: Copy + Exact + Hash + Debug + Drop, S: Copy + Exact + Hash + Debug> Enco
         ensures built { OnOk result (IsBuilt self.new) }
         ensures first { OnOk result (KeepsFirst self.old self.new) }
         ensures chosen { IfOk result (IsChoice self.old self.new) }
+        // After a refusal.
         ensures refusal { IsOkUnless result Memory }
     {
         match self.next_decision(scores)? {
@@ -83,6 +85,7 @@ impl<N: Copy + Exact + Hash + Debug + Drop, S: Copy + Exact + Hash + Debug> Enco
     /// Takes what was chosen since the turn began away, and what follows from it.
     pub fn undo_turn(&mut self)
         requires { IsBuilt self.old }
+        // What the call promises.
         ensures stays { (p : Packages N S) (root : Rules)
             → IsLawful p
             → IsEncoding S.eq p root self.old
@@ -101,6 +104,7 @@ impl<N: Copy + Exact + Hash + Debug + Drop, S: Copy + Exact + Hash + Debug> Enco
     /// Sets what follows; then learns where a clause is broken, and chooses where none is.
     pub fn step<C: ScoreMap<N>>(&mut self, alloc: Global, scores: &Scores<N, C>) -> R<Step>
         requires { IsBuilt self.old }
+        // After an answer.
         ensures stays { OnOk result
             ((p : Packages N S) (root : Rules)
             → IsLawful p
@@ -110,6 +114,7 @@ impl<N: Copy + Exact + Hash + Debug + Drop, S: Copy + Exact + Hash + Debug> Enco
         ensures built { OnOk result (IsBuilt self.new) }
         ensures first { OnOk result (KeepsFirst self.old self.new) }
         ensures step { IfOk result (IsStep self.old self.new) }
+        // After a refusal.
         ensures ids { IsErrOf result Ids → LacksNumber self.new.coding }
     {
         match self.coding.propagate_and_learn(alloc)? {

@@ -184,6 +184,7 @@ impl<N: Copy + Exact + Hash + Debug + Drop, S: Copy + Exact + Hash + Debug> Enco
         offered: &[Offered<N, S>],
     ) -> R<()>
         requires { IsBuilt self.old }
+        // After an answer.
         ensures encoded { OnOk result
             ((p : Packages N S) (root : Rules)
             → IsLawful p
@@ -196,6 +197,7 @@ impl<N: Copy + Exact + Hash + Debug + Drop, S: Copy + Exact + Hash + Debug> Enco
         ensures candidates { OnOk result (AddsCandidates need.requirement offered.now self.old self.new) }
         ensures kept { OnOk result (Extends self.old self.new) }
         ensures built { OnOk result (IsBuilt self.new) }
+        // After a refusal.
         ensures ids { IsErrOf result Ids → LacksNumberFor need.requirement self.new }
     {
         self.fix_candidates(alloc, need.requirement, offered)?;
@@ -220,6 +222,7 @@ impl<N: Copy + Exact + Hash + Debug + Drop, S: Copy + Exact + Hash + Debug> Enco
         count: usize,
     ) -> R<()>
         requires { IsBuilt self.old }
+        // After an answer.
         ensures encoded { OnOk result
             ((p : Packages N S) (root : Rules)
             → IsLawful p
@@ -232,6 +235,7 @@ impl<N: Copy + Exact + Hash + Debug + Drop, S: Copy + Exact + Hash + Debug> Enco
         ensures lists { OnOk result (self.new.lists ≡ self.old.lists) }
         ensures kept { OnOk result (Extends self.old self.new) }
         ensures built { OnOk result (IsBuilt self.new) }
+        // After a refusal.
         ensures ids { IsErrOf result Ids → LacksNumberFor need.requirement self.new }
     {
         let variable = self.coding.variable(ProofAtom::Solvable(solvable))?;
@@ -319,6 +323,7 @@ impl<N: Copy + Exact + Hash + Debug + Drop, S: Copy + Exact + Hash + Debug> Enco
     /// The variable of the gate of a requirement that some solvable asks for, with its clause.
     fn gate(&mut self, alloc: Global, requirement: Requirement) -> R<VariableId>
         requires { IsBuilt self.old }
+        // After an answer.
         ensures encoded { OnOk result
             ((p : Packages N S) (root : Rules)
             → IsLawful p
@@ -331,6 +336,7 @@ impl<N: Copy + Exact + Hash + Debug + Drop, S: Copy + Exact + Hash + Debug> Enco
         ensures lists { OnOk result (self.new.lists ≡ self.old.lists) }
         ensures kept { OnOk result (Extends self.old self.new) }
         ensures built { OnOk result (IsBuilt self.new) }
+        // After a refusal.
         ensures ids { IsErrOf result Ids → LacksNumberFor requirement self.new }
     {
         if let Some(gate) = self.gates.get(requirement) {

@@ -38,6 +38,7 @@ impl<N: Copy + Exact + Hash + Debug + Drop, S: Copy + Exact + Hash + Debug> Enco
     /// States what locks and exclusions keep out of a package.
     pub fn bar(&mut self, alloc: Global, name: N, barred: &[Barred<S>]) -> R<()>
         requires { IsBuilt self.old }
+        // After an answer.
         ensures encoded { OnOk result
             ((p : Packages N S) (root : Rules)
             → IsLawful p
@@ -48,6 +49,7 @@ impl<N: Copy + Exact + Hash + Debug + Drop, S: Copy + Exact + Hash + Debug> Enco
         ensures lists { OnOk result (self.new.lists ≡ self.old.lists) }
         ensures kept { OnOk result (Extends self.old self.new) }
         ensures built { OnOk result (IsBuilt self.new) }
+        // After a refusal.
         ensures ids { IsErrOf result Ids → LacksNumber self.new.coding }
     {
         self.bar_each(alloc, barred)?;
@@ -74,6 +76,7 @@ impl<N: Copy + Exact + Hash + Debug + Drop, S: Copy + Exact + Hash + Debug> Enco
         outside: &[Offered<N, S>],
     ) -> R<()>
         requires { IsBuilt self.old }
+        // After an answer.
         ensures encoded { OnOk result
             ((p : Packages N S) (root : Rules)
             → IsLawful p
@@ -85,6 +88,7 @@ impl<N: Copy + Exact + Hash + Debug + Drop, S: Copy + Exact + Hash + Debug> Enco
         ensures lists { OnOk result (self.new.lists ≡ self.old.lists) }
         ensures kept { OnOk result (Extends self.old self.new) }
         ensures built { OnOk result (IsBuilt self.new) }
+        // After a refusal.
         ensures ids { IsErrOf result Ids → LacksNumber self.new.coding }
     {
         if outside.len() < GATED {
@@ -104,6 +108,7 @@ impl<N: Copy + Exact + Hash + Debug + Drop, S: Copy + Exact + Hash + Debug> Enco
         outside: &[Offered<N, S>],
     ) -> R<()>
         requires { IsBuilt self.old }
+        // After an answer.
         ensures encoded { OnOk result
             ((p : Packages N S) (root : Rules)
             → IsLawful p
@@ -118,6 +123,7 @@ impl<N: Copy + Exact + Hash + Debug + Drop, S: Copy + Exact + Hash + Debug> Enco
         ensures lists { OnOk result (self.new.lists ≡ self.old.lists) }
         ensures kept { OnOk result (Extends self.old self.new) }
         ensures built { OnOk result (IsBuilt self.new) }
+        // After a refusal.
         ensures ids { IsErrOf result Ids → LacksNumber self.new.coding }
     {
         if self.noted.version_sets.contains(&version_set) {
@@ -289,7 +295,9 @@ impl<N: Copy + Exact + Hash + Debug + Drop, S: Copy + Exact + Hash + Debug> Enco
         requires rule { IsSome (rule_of stated) }
         requires first { first.0 < count_of self.old.coding.search }
         requires second { second.variable.0 < count_of self.old.coding.search }
+        // After an answer.
         ensures stated { OnOk result (StatesPair stated (no first) second self.old self.new) }
+        // After a refusal.
         ensures ids { IsErrOf result Ids → LacksNumber self.new.coding }
     {
         let literals = pair_of(alloc, first, second)?;

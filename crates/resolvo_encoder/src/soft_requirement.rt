@@ -42,6 +42,7 @@ impl<N: Copy + Exact + Hash + Debug + Drop, S: Copy + Exact + Hash + Debug> Enco
     pub fn assume_soft(&mut self, alloc: Global, variable: VariableId) -> R<Option<FinalConflict>>
         requires built { IsBuilt self.old }
         requires turn { HasTurn (Some variable) self.old }
+        // After an answer.
         ensures stays { OnOk result
             ((p : Packages N S) (root : Rules)
             → IsLawful p
@@ -51,6 +52,7 @@ impl<N: Copy + Exact + Hash + Debug + Drop, S: Copy + Exact + Hash + Debug> Enco
         ensures built { OnOk result (IsBuilt self.new) }
         ensures turn { OnOk result (KeepsTurn (Some variable) self.old self.new) }
         ensures tried { IfOk result (IsTried self.new variable) }
+        // After a refusal.
         ensures refusal { IsOkUnless result Memory }
     {
         if self.coding.search.is_true(Literal::new(variable, false)) {
@@ -66,6 +68,7 @@ impl<N: Copy + Exact + Hash + Debug + Drop, S: Copy + Exact + Hash + Debug> Enco
         requires built { IsBuilt self.old }
         requires above { top_level (history self.old.coding.search) < self.old.coding.search.base_level }
         requires turn { HasTurn (Some variable) self.old }
+        // After an answer.
         ensures stays { OnOk result
             ((p : Packages N S) (root : Rules)
             → IsLawful p
@@ -75,6 +78,7 @@ impl<N: Copy + Exact + Hash + Debug + Drop, S: Copy + Exact + Hash + Debug> Enco
         ensures built { OnOk result (IsBuilt self.new) }
         ensures turn { OnOk result (KeepsTurn (Some variable) self.old self.new) }
         ensures tried { IfOk result (IsTried self.new variable) }
+        // After a refusal.
         ensures refusal { IsOkUnless result Memory }
     {
         if let Some(refusal) = self.coding.search.analyze_final(alloc, variable)? {
@@ -89,6 +93,7 @@ impl<N: Copy + Exact + Hash + Debug + Drop, S: Copy + Exact + Hash + Debug> Enco
         requires built { IsBuilt self.old }
         requires some { 0 < length refusal.literals.items }
         requires bar { IsBar self.old.coding.search refusal.literals.items refusal.causes.items }
+        // After an answer.
         ensures stays { OnOk result
             ((p : Packages N S) (root : Rules)
             → IsLawful p
@@ -101,6 +106,7 @@ impl<N: Copy + Exact + Hash + Debug + Drop, S: Copy + Exact + Hash + Debug> Enco
             (λ id.
             Bars refusal.literals.items refusal.causes.items id self.old.coding
             self.new.coding) }
+        // After a refusal.
         ensures ids { IsErrOf result Ids → LacksNumber self.new.coding }
     {
         let clause = self.coding.bar(refusal)?;

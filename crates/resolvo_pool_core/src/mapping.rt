@@ -226,12 +226,14 @@ where
     requires below { index < wanted }
     requires room { wanted ≤ 4294967295 }
     requires few { vec_len slots.old ≤ 4294967295 }
+    // What the call promises.
     ensures old { IfOk result (λ old. old ≡ at slots.old.items index) }
     ensures put { OnOk result (PutsSlot slots.old.items slots.new.items index (Some value)) }
     ensures count { IfOk result
         (λ old. sum_by filled slots.new.items + filled old ≡ sum_by filled slots.old.items + 1) }
     ensures few { vec_len slots.new ≤ 4294967295 }
     ensures slots { OnOk result (vec_len slots.new ≡ max wanted (vec_len slots.old)) }
+    // After a refusal.
     ensures err { OnErr result (slots.new.items ≡ slots.old.items) }
     ensures refusal { IsOkUnless result Memory }
 {

@@ -357,10 +357,13 @@ fn index_of_new<K: Eq + Hash>(keys: &mut IndexSet<K>, key: K) -> R<usize>
 where
     K: Drop,
     requires few { length keys.old.keys ≤ 4294967295 }
+    // After an answer.
     ensures index { IfOk result (λ i. i ≡ position_or_len (K.eq key) keys.old.keys) }
     ensures put { OnOk result (keys.new.keys ≡ insert_key K.eq keys.old.keys key) }
     ensures bounded { IfOk result (λ i. i < 4294967295) }
+    // Whatever the answer.
     ensures few { length keys.new.keys ≤ 4294967295 }
+    // After a refusal.
     ensures err { OnErr result (keys.new.keys ≡ keys.old.keys) }
     ensures ids { IsErrOf result Ids → length keys.old.keys ≡ 4294967295 }
 {

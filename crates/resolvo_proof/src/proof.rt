@@ -30,6 +30,7 @@ pub fn proof_of<N: Copy + Exact + Hash + Debug, S: Copy + Exact + Hash + Debug>(
 ) -> R<Vec<ProofStep<N, S>>>
     requires coding { IsCoding coding.now }
     requires refusal { IfSome last (λ r. IsRefusal coding.now.search r.now.literals.items r.now.causes.items) }
+    // After an answer.
     ensures steps { IfOk result
         (λ v.
         MatchOption last.entry (AreSteps coding.now v.items)
@@ -51,6 +52,7 @@ pub fn proof_of<N: Copy + Exact + Hash + Debug, S: Copy + Exact + Hash + Debug>(
         → Spelled same p coding.now
         → AreDrawn same p v.items) }
     ensures signs { IfOk result (λ v. HaveOneSigns v.items) }
+    // After a refusal.
     ensures refusal { IsOkUnless result Memory }
 {
     let mut steps = steps_of(alloc, coding)?;

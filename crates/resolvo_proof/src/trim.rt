@@ -28,12 +28,14 @@ pub fn trim<N: Copy + Exact + Hash + Debug, S: Copy + Exact + Hash + Debug>(
     alloc: Global,
     steps: Vec<ProofStep<N, S>>,
 ) -> R<Vec<ProofStep<N, S>>>
+    // After an answer.
     ensures kept { IfOk result (λ v. IsTrimmed steps.items v.items) }
     ensures named { IfOk result (λ v. AreNamed v.items) }
     ensures proof { IfOk result (λ v. StaysProof steps.items v.items) }
     ensures empty { IfOk result (λ v. EndsEmpty steps.items → EndsEmpty v.items) }
     ensures places { IfOk result (λ v. HaveOnePlace steps.items → HaveOnePlace v.items) }
     ensures signs { IfOk result (λ v. HaveOneSigns steps.items → HaveOneSigns v.items) }
+    // After a refusal.
     ensures refusal { IsOkUnless result Memory }
 {
     let last = steps.len().saturating_sub(1);

@@ -23,7 +23,9 @@ impl SatState {
             → IsDerived (clauses_of self.old) clause.literals.items clause.causes.items }
         requires in_range { AreInRange (count_of self.old) clause.literals.items }
         requires some { 0 < length clause.literals.items }
+        // After an answer.
         ensures added { IfOk result (λ id. Comes clause id self.old watching.old self.new watching.new) }
+        // After a refusal.
         ensures ids { IsErrOf result Ids → length self.old.clauses ≡ 4294967295 }
         ensures full { IsErrOf result Ids → length self.new.clauses ≡ 4294967295 }
     {

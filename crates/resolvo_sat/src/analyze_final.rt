@@ -42,7 +42,9 @@ impl SatState {
         requires in_range { place < length self.now.tracker.trail }
         requires next { before self.now.tracker.trail (place + 1) ≡ entry ∷ before self.now.tracker.trail place }
         requires fell { entry.decision.value ≡ false }
+        // After an answer.
         ensures reason { IfOk result (λ r. IsReason self.now (literal_of entry) r.literals.items r.causes.items) }
+        // After a refusal.
         ensures refusal { IsOkUnless result Memory }
     {
         let mut seen = IndexedSet::new(alloc);

@@ -89,7 +89,9 @@ impl SatState {
         requires follows { 0 < length clause.causes.items
             → IsDerived (clauses_of self.old) clause.literals.items clause.causes.items }
         requires in_range { AreInRange (count_of self.old) clause.literals.items }
+        // After an answer.
         ensures added { IfOk result (λ id. Adds clause id self.old self.new) }
+        // After a refusal.
         ensures ids { IsErrOf result Ids → length self.old.clauses ≡ 4294967295 }
         ensures full { IsErrOf result Ids → length self.new.clauses ≡ 4294967295 }
     {

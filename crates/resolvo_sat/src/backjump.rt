@@ -18,7 +18,9 @@ impl SatState {
         requires ready { IsReady self.old watching.old }
         requires covered { AreCovered self.old watching.old }
         requires learnt { IsLearnt self.old learnt }
+        // After an answer.
         ensures learns { IfOk result (λ id. Learns learnt id self.old self.new watching.new) }
+        // After a refusal.
         ensures ids { IsErrOf result Ids → length self.old.clauses ≡ 4294967295 }
         ensures full { IsErrOf result Ids → length self.new.clauses ≡ 4294967295 }
     {

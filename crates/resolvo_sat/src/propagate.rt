@@ -58,9 +58,11 @@ impl SatState {
         requires known { has (made_true (history self.old)) (negation cursor.literal) ≡ true }
         requires stands { slice_get (watchers watching.old.watches cursor.literal) cursor.place ≡ Some clause }
         requires pair { pair_at watching.old.watched.items clause.0 ≡ Some watched }
+        // After an answer.
         ensures met { IfOk result
             (IsMeeting cursor.literal cursor.place clause.0 watched self.old watching.old self.new
             watching.new) }
+        // After a refusal.
         ensures refusal { IsOkUnless result Memory }
     {
         let other = watched.other(cursor.literal);
@@ -96,7 +98,9 @@ impl SatState {
         requires fits { IsFit self.old watching.old }
         requires fell { FellAt literal self.old.front self.old }
         requires walked { IsWalkedTo self.old.front self.old watching.old }
+        // After an answer.
         ensures propagate_literal { IfOk result (IsVisit self.old self.new watching.old watching.new) }
+        // After a refusal.
         ensures refusal { IsOkUnless result Memory }
     {
         let mut cursor = watching.watches.cursor(literal);

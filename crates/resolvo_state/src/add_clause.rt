@@ -24,7 +24,9 @@ impl<N: Copy + Exact + Hash + Debug, S: Copy + Exact + Hash + Debug> SolverState
         requires rule { IsSome (rule_of stated) }
         requires some { 0 < length literals.items }
         requires in_range { AreInRange (count_of self.old.search) literals.items }
+        // After an answer.
         ensures states { IfOk result (λ id. States stated literals.items id self.old self.new) }
+        // After a refusal.
         ensures ids { IsErrOf result Ids → length self.old.search.clauses ≡ 4294967295 }
         ensures full { IsErrOf result Ids → LacksNumber self.new }
     {
@@ -41,8 +43,10 @@ impl<N: Copy + Exact + Hash + Debug, S: Copy + Exact + Hash + Debug> SolverState
         requires coding { IsCoding self.old }
         requires some { 0 < length refusal.literals.items }
         requires bar { IsBar self.old.search refusal.literals.items refusal.causes.items }
+        // After an answer.
         ensures barred { IfOk result
             (λ id. Bars refusal.literals.items refusal.causes.items id self.old self.new) }
+        // After a refusal.
         ensures ids { IsErrOf result Ids → length self.old.search.clauses ≡ 4294967295 }
         ensures full { IsErrOf result Ids → LacksNumber self.new }
     {

@@ -41,8 +41,10 @@ impl<N: Copy + Exact + Hash + Debug, S: Copy + Exact + Hash + Debug> SolverState
         requires coding { IsCoding self.old }
         requires in_range { variable.0 < count_of self.old.search }
         requires undecided { IsUndecided (made_true (history self.old.search)) (yes variable) }
+        // After an answer.
         ensures chosen { OnOk result (Chooses variable clause self.old.search self.new.search) }
         ensures kept { OnOk result (KeepsCode self.old self.new) }
+        // After a refusal.
         ensures refusal { IsOkUnless result Memory }
     {
         self.search.choose(variable, clause)

@@ -75,10 +75,12 @@ impl<V: Copy + Eq + Hash + Drop> AtMostOnceTracker<V> {
     /// variable is true. False where the variable is tracked already.
     pub fn add(&mut self, variable: V, helper: Option<V>, out: &mut Vec<(V, V, bool)>) -> R<bool>
         requires { is_some helper ≡ needs_helper V.eq self.old variable }
+        // After an answer.
         ensures answer { IfOk result (λ new. new ≡ not (among V.eq self.old variable)) }
         ensures tracker { OnOk result (self.new ≡ tracked V.eq self.old variable helper) }
         ensures ties { OnOk result (out.new.items ≡ out.old.items
             ++ new_ties V.eq self.old variable helper) }
+        // After a refusal.
         ensures err { OnErr result (self.new ≡ self.old) }
         ensures err_out { OnErr result (out.new.items ≡ out.old.items) }
         ensures refusal { IsOkUnless result Memory }

@@ -93,6 +93,7 @@ impl WatchMap {
         moves: &[Option<Literal>],
     ) -> R<Vec<ClauseId>>
         requires { IsWatched clauses.old (watchers self.old) }
+        // After an answer.
         ensures met { IfOk result (λ v. v.items ≡ watchers self.old literal) }
         ensures moved { IfOk result (λ v. clauses.new ≡ pairs_after literal clauses.old v.items
             moves.now) }
@@ -101,7 +102,9 @@ impl WatchMap {
             (l : Signed)
             → watchers self.new l
             ≡ lists_after literal clauses.old v.items moves.now (watchers self.old) l) }
+        // Whatever the answer.
         ensures fit { IsWatched clauses.new (watchers self.new) }
+        // After a refusal.
         ensures err { OnErr result (SameLists (watchers self.old) (watchers self.new)) }
         ensures err_clauses { OnErr result (clauses.new ≡ clauses.old) }
         ensures refusal { IsOkUnless result Memory }
@@ -125,6 +128,7 @@ impl WatchMap {
         requires none_met { met.old.items ≡ [] }
         requires met_room { length (watchers self.old literal) ≤ vec_capacity met.old }
         requires room { HasRoom (length moves.now) self.old moves.now }
+        // What the call promises.
         ensures met { met.new.items ≡ watchers self.old literal }
         ensures moved { clauses.new ≡ pairs_after literal clauses.old met.new.items moves.now }
         ensures lists { (l : Signed)
@@ -300,6 +304,7 @@ impl WatchMapCursor {
         requires free { (c : ClauseId)
             → slice_get (watchers map.old self.now.literal) self.now.place ≡ Some c
             → watches (pair_at clauses.old c.0) to ≡ false }
+        // What the call promises.
         ensures moved { OnOk result
             (Moves self.now.literal self.now.place to clauses.old clauses.new (watchers map.old)
             (watchers map.new)) }
@@ -307,6 +312,7 @@ impl WatchMapCursor {
         ensures room { OnOk result ((l : Signed) → room map.old l ≤ room map.new l + 1) }
         ensures err_clauses { OnErr result (clauses.new ≡ clauses.old) }
         ensures succeeds { 1 ≤ room map.old to → IsOk result }
+        // After a refusal.
         ensures refusal { IsOkUnless result Memory }
     {
         let WatchMapCursor { literal, place } = *self;

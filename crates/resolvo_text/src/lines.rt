@@ -113,14 +113,18 @@ impl LineReader {
     /// All whole lines that have come are given before the device is asked again. After a fault the reader is of
     /// no more use.
     pub fn next_line<S: Source>(&mut self, source: &mut S) -> Result<bool, ReadFault>
+        // After an answer.
         ensures taken { IfOk result (λ more. IsTrue more → TakesLine (left self.old (S.left source.old)) self.old.room
             self.new.line.items (left self.new (S.left source.new)) self.new.room) }
         ensures ending { IfOk result (λ more. IsTrue more → EndsLine self.new.whole (left self.old (S.left source.old)) self.old.room
             self.new.line.items (left self.new (S.left source.new)) self.new.room) }
+        // Whatever the answer.
         ensures less { self.new.room ≤ self.old.room }
+        // After an answer.
         ensures progress { IfOk result (λ more. IsTrue more → self.new.room < self.old.room) }
         ensures end { IfOk result (λ more. more ≡ false → IsAtEnd (left self.old (S.left source.old))) }
         ensures failures { OnOk result (S.failures source.new ≡ S.failures source.old) }
+        // After a refusal.
         ensures fault { IfErr result (λ e. IsReadFault e (left self.old (S.left source.old)) (S.left source.new)
             self.old.room (DeviceFailed (S.failures source.old) (S.failures source.new) (S.interruptions source.new))) }
     {
@@ -171,6 +175,7 @@ impl LineReader {
 
     /// Takes the next byte, or none at the end.
     fn next_byte<S: Source>(&mut self, source: &mut S) -> Result<Option<u8>, ReadFault>
+        // What the call promises.
         ensures taken { IfOk result (λ next. Consumes (left self.old (S.left source.old))
             (left self.new (S.left source.new)) (option_to_list next)) }
         ensures end { IfOk result (λ next. IfNone next (IsAtEnd (left self.old (S.left source.old)))) }
@@ -178,6 +183,7 @@ impl LineReader {
         ensures room { IfOk result (λ next. self.new.room + length (option_to_list next) ≡ self.old.room) }
         ensures line { self.new.line ≡ self.old.line }
         ensures failures { OnOk result (S.failures source.new ≡ S.failures source.old) }
+        // After a refusal.
         ensures fault { IfErr result (λ e. IsReadFault e (left self.old (S.left source.old)) (S.left source.new)
             self.old.room (DeviceFailed (S.failures source.old) (S.failures source.new) (S.interruptions source.new))) }
     {
@@ -196,12 +202,16 @@ impl LineReader {
 
     /// Sees to it that a byte of the piece is left, unless the text has ended.
     fn refill<S: Source>(&mut self, source: &mut S) -> Result<(), ReadFault>
+        // After an answer.
         ensures kept { OnOk result
             (Keeps (left self.old (S.left source.old)) (left self.new (S.left source.new))) }
         ensures end { OnOk result (self.new.at ≡ self.new.end → IsAtEnd (left self.old (S.left source.old))) }
+        // Whatever the answer.
         ensures line { self.new.line ≡ self.old.line }
         ensures room { self.new.room ≡ self.old.room }
+        // After an answer.
         ensures failures { OnOk result (S.failures source.new ≡ S.failures source.old) }
+        // After a refusal.
         ensures fault { IfErr result (λ e. IsReadFault e (left self.old (S.left source.old)) (S.left source.new)
             self.old.room (DeviceFailed (S.failures source.old) (S.failures source.new) (S.interruptions source.new))) }
     {
@@ -214,11 +224,13 @@ impl LineReader {
     /// Gets the next piece.
     fn fill<S: Source>(&mut self, source: &mut S) -> Result<(), ReadFault>
         requires { self.old.at ≡ self.old.end }
+        // What the call promises.
         ensures given { OnOk result (Consumes (S.left source.old) (S.left source.new) (unread self.new)) }
         ensures end { OnOk result (self.new.at ≡ self.new.end → IsAtEnd (S.left source.new)) }
         ensures line { self.new.line ≡ self.old.line }
         ensures room { self.new.room ≡ self.old.room }
         ensures failures { OnOk result (S.failures source.new ≡ S.failures source.old) }
+        // After a refusal.
         ensures fault { IfErr result (λ e. IsReadFault e (left self.old (S.left source.old)) (S.left source.new)
             self.old.room (DeviceFailed (S.failures source.old) (S.failures source.new) (S.interruptions source.new))) }
     {

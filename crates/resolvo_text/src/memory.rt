@@ -216,6 +216,7 @@ impl Sink for MemorySink {
 
     /// As of each device, and at most `per_call` bytes: none where that is 0.
     fn write(&mut self, buf: &[u8]) -> Result<usize, IoFault>
+        // Whatever the answer.
         ensures bound { WritesAtMost result buf.now }
         ensures bytes { WriteAppends (Some (take self.old.used self.old.room.items))
             (Some (take self.new.used self.new.room.items)) result buf.now }
@@ -223,6 +224,7 @@ impl Sink for MemorySink {
         ensures interruptions { CountsInterruptions self.old.turns.tally.interruptions
             self.new.turns.tally.interruptions result }
         ensures empty { CountsEmpty self.old.empty_writes self.new.empty_writes result }
+        // After an answer.
         ensures most { IfOk result (λ n. n ≤ self.old.per_call) }
     {
         let count = self.per_call.min(buf.len());
