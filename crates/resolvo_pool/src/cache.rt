@@ -4,12 +4,14 @@
 //! answer comes by two calls, one that sees to it that the answer is kept and one that looks; the
 //! `get_or_cache` calls are both in one. Which solvables kept candidates hint is kept as a set, so
 //! that whether one is hinted is one look-up.
-ghost use Rattle.std.specs.Prelude.{◌≡◌, ◌||◌, ◌&&◌, [], ◌∷◌, true, false, not, All, None, Some, List, IfOk, IfErr, IsOk, OnErr, OnOk, ⊤, IfSome, length, position, ◌<◌};
+ghost use Rattle.std.specs.Prelude.{◌≡◌, ◌||◌, ◌&&◌, [], ◌∷◌, true, false, not, All, None, Some, List, IfOk, IfErr, IsErrOf, IsOk, IsOkUnless, OnErr, OnOk, ⊤, IfSome, length, position, ◌<◌};
 ghost use Rattle.std.specs.List.{flat_map};
 ghost use Rattle.std.specs.Map.{lookup};
 ghost use Rattle.resolvo_pool_core.specs.declared.id.VersionSetId.{VersionSetId};
+ghost use Rattle.resolvo_pool_core.specs.declared.want.Want.TheVariants.{Ids as WantIds, Memory as WantMemory};
 ghost use Rattle.resolvo_pool_core.specs.Text.{alternatives_of};
 ghost use Rattle.resolvo_pool_core.specs.Provider.{kept, listed, listing, listing_or_empty, hints, needs_of, matching_in, favoured_first, IsTried, tried_first, IsTriedFor};
+ghost use Rattle.resolvo_pool.specs.declared.cache.CacheFault.TheVariants.{Ids};
 ghost use Rattle.resolvo_pool.specs.Cached.{among, same_set, same_union, sorted_of, has_sorted, is_sorted, Extends, AddsNames, AddsMatching, AddsSorted, IsCancelledBy};
 
 use crate::hinted::put_hinted;
@@ -30,7 +32,7 @@ pub enum CacheFault<C> {
     /// A growth was refused.
     #[error("no memory")]
     Memory,
-    /// The provider ran out of ids.
+    /// The provider's ids are used up.
     #[error("no ids")]
     Ids,
     /// The provider cancelled, with this value.
@@ -165,6 +167,7 @@ impl<D: DependencyProvider> SolverCache<D> {
         ensures only { AddsNames self.old self.new }
         ensures err { OnErr result (self.new ≡ self.old) }
         ensures cancelled { IfErr result (IsCancelledBy (D.may_cancel self.old.provider)) }
+        ensures ids { IsErrOf result Ids → D.may_lack_ids self.old.provider }
     {
         if self.has_candidates(name) {
             return Ok(());
@@ -179,6 +182,7 @@ impl<D: DependencyProvider> SolverCache<D> {
         ensures only { AddsNames self.old self.new }
         ensures err { OnErr result (self.new ≡ self.old) }
         ensures cancelled { IfErr result (IsCancelledBy (D.may_cancel self.old.provider)) }
+        ensures ids { IsErrOf result Ids → D.may_lack_ids self.old.provider }
     {
         if let Some(value) = self.provider.should_cancel_with_value() {
             return Err(CacheFault::Cancelled(value));
@@ -198,6 +202,7 @@ impl<D: DependencyProvider> SolverCache<D> {
             (λ r. listing r.now ≡ listing_or_empty (D.candidates_of self.old.provider name)) }
         ensures cached { among D.NameId.eq self.old.names name ≡ true → IsOk result }
         ensures cancelled { IfErr result (IsCancelledBy (D.may_cancel self.old.provider)) }
+        ensures ids { IsErrOf result Ids → D.may_lack_ids self.old.provider }
     {
         self.cache_candidates(name)?;
         Ok(self.candidates(name))
@@ -235,6 +240,7 @@ impl<D: DependencyProvider> SolverCache<D> {
         ensures only { AddsMatching self.old self.new }
         ensures err { OnErr result (AddsNames self.old self.new) }
         ensures cancelled { IfErr result (IsCancelledBy (D.may_cancel self.old.provider)) }
+        ensures ids { IsErrOf result Ids → D.may_lack_ids self.old.provider }
     {
         if self.has_matching_candidates(version_set) {
             return Ok(());
@@ -253,6 +259,7 @@ impl<D: DependencyProvider> SolverCache<D> {
         ensures extends { Extends D.NameId.eq D.SolvableId.eq self.old self.new }
         ensures only { AddsMatching self.old self.new }
         ensures err { OnErr result (self.new ≡ self.old) }
+        ensures ids { IsErrOf result WantIds → D.may_lack_ids self.old.provider }
     {
         let found = self.filtered(version_set, false)?;
         self.matching.insert(version_set, found)?;
@@ -272,6 +279,7 @@ impl<D: DependencyProvider> SolverCache<D> {
             version_set) }
         ensures cached { among same_set self.old.matching version_set ≡ true → IsOk result }
         ensures cancelled { IfErr result (IsCancelledBy (D.may_cancel self.old.provider)) }
+        ensures ids { IsErrOf result Ids → D.may_lack_ids self.old.provider }
     {
         self.cache_matching_candidates(version_set)?;
         Ok(self.matching_candidates(version_set))
@@ -308,6 +316,7 @@ impl<D: DependencyProvider> SolverCache<D> {
         ensures extends { Extends D.NameId.eq D.SolvableId.eq self.old self.new }
         ensures err { OnErr result (AddsNames self.old self.new) }
         ensures cancelled { IfErr result (IsCancelledBy (D.may_cancel self.old.provider)) }
+        ensures ids { IsErrOf result Ids → D.may_lack_ids self.old.provider }
     {
         if self.has_non_matching_candidates(version_set) {
             return Ok(());
@@ -325,6 +334,7 @@ impl<D: DependencyProvider> SolverCache<D> {
         ensures there { OnOk result (among same_set self.new.non_matching version_set ≡ true) }
         ensures extends { Extends D.NameId.eq D.SolvableId.eq self.old self.new }
         ensures err { OnErr result (self.new ≡ self.old) }
+        ensures ids { IsErrOf result WantIds → D.may_lack_ids self.old.provider }
     {
         let found = self.filtered(version_set, true)?;
         self.non_matching.insert(version_set, found)?;
@@ -344,6 +354,7 @@ impl<D: DependencyProvider> SolverCache<D> {
             version_set) }
         ensures cached { among same_set self.old.non_matching version_set ≡ true → IsOk result }
         ensures cancelled { IfErr result (IsCancelledBy (D.may_cancel self.old.provider)) }
+        ensures ids { IsErrOf result Ids → D.may_lack_ids self.old.provider }
     {
         self.cache_non_matching_candidates(version_set)?;
         Ok(self.non_matching_candidates(version_set))
@@ -353,12 +364,13 @@ impl<D: DependencyProvider> SolverCache<D> {
     fn filtered(&self, version_set: VersionSetId, inverse: bool) -> R<Vec<D::SolvableId>>
         requires { among D.NameId.eq self.now.names (D.name_of_version_set self.now.provider version_set)
             ≡ true }
-        ensures { IfOk result
+        ensures filtered { IfOk result
             (λ v.
             v.items
             ≡ matching_in (D.name_of_version_set self.now.provider)
             (D.candidates_of self.now.provider) (D.matches self.now.provider) inverse
             version_set) }
+        ensures ids { IsErrOf result WantIds → D.may_lack_ids self.now.provider }
     {
         let name = self.provider.version_set_name(version_set);
         let list = self.candidates(name);
@@ -445,6 +457,7 @@ impl<D: DependencyProvider> SolverCache<D> {
         ensures only { AddsSorted self.old self.new }
         ensures err { OnErr result (AddsMatching self.old self.new) }
         ensures cancelled { IfErr result (IsCancelledBy (D.may_cancel self.old.provider)) }
+        ensures ids { IsErrOf result Ids → D.may_lack_ids self.old.provider }
     {
         if self.has_sorted_candidates(Requirement::Single(version_set)) {
             return Ok(());
@@ -465,6 +478,7 @@ impl<D: DependencyProvider> SolverCache<D> {
         ensures extends { Extends D.NameId.eq D.SolvableId.eq self.old self.new }
         ensures only { AddsSorted self.old self.new }
         ensures err { OnErr result (self.new ≡ self.old) }
+        ensures ids { IsErrOf result WantIds → D.may_lack_ids self.old.provider }
     {
         if self.sorted.contains_key(&version_set) {
             return Ok(());
@@ -479,7 +493,7 @@ impl<D: DependencyProvider> SolverCache<D> {
         requires matching { among same_set self.now.matching version_set ≡ true }
         requires listed { among D.NameId.eq self.now.names (D.name_of_version_set self.now.provider version_set)
             ≡ true }
-        ensures { IfOk result
+        ensures tried { IfOk result
             (λ v.
             IsTried (D.sorts self.now.provider) D.SolvableId.eq
             (tried_first (D.name_of_version_set self.now.provider)
@@ -488,6 +502,7 @@ impl<D: DependencyProvider> SolverCache<D> {
             (D.candidates_of self.now.provider) (D.matches self.now.provider) false
             version_set)
             v.items) }
+        ensures ids { IsErrOf result WantIds → D.may_lack_ids self.now.provider }
     {
         let mut list = Vec::from_slice(self.alloc, self.matching_candidates(version_set))?;
         self.provider
@@ -521,6 +536,7 @@ impl<D: DependencyProvider> SolverCache<D> {
             → r.now ≡ xs) }
         ensures succeeds { is_sorted self.old.sorted version_set ≡ true → IsOk result }
         ensures cancelled { IfErr result (IsCancelledBy (D.may_cancel self.old.provider)) }
+        ensures ids { IsErrOf result Ids → D.may_lack_ids self.old.provider }
     {
         self.cache_sorted_candidates_for_version_set(version_set)?;
         Ok(self.sorted_of_set(version_set))
@@ -536,6 +552,7 @@ impl<D: DependencyProvider> SolverCache<D> {
         ensures extends { Extends D.NameId.eq D.SolvableId.eq self.old self.new }
         ensures err { OnErr result (AddsSorted self.old self.new) }
         ensures cancelled { IfErr result (IsCancelledBy (D.may_cancel self.old.provider)) }
+        ensures ids { IsErrOf result Ids → D.may_lack_ids self.old.provider }
     {
         if self.has_sorted_candidates(requirement) {
             return Ok(());
@@ -554,6 +571,7 @@ impl<D: DependencyProvider> SolverCache<D> {
         ensures extends { Extends D.NameId.eq D.SolvableId.eq self.old self.new }
         ensures err { OnErr result (AddsSorted self.old self.new) }
         ensures cancelled { IfErr result (IsCancelledBy (D.may_cancel self.old.provider)) }
+        ensures ids { IsErrOf result Ids → D.may_lack_ids self.old.provider }
     {
         let members = Vec::from_slice(self.alloc, self.provider.version_sets_in_union(union))?;
         self.cache_sorted_members(members.as_slice())?;
@@ -570,6 +588,7 @@ impl<D: DependencyProvider> SolverCache<D> {
         ensures extends { Extends D.NameId.eq D.SolvableId.eq self.old self.new }
         ensures only { AddsSorted self.old self.new }
         ensures cancelled { IfErr result (IsCancelledBy (D.may_cancel self.old.provider)) }
+        ensures ids { IsErrOf result Ids → D.may_lack_ids self.old.provider }
     {
         for version_set in members {
             self.cache_sorted_candidates_for_version_set(*version_set)?;
@@ -583,6 +602,7 @@ impl<D: DependencyProvider> SolverCache<D> {
         ensures there { OnOk result (among same_union self.new.unions union ≡ true) }
         ensures extends { Extends D.NameId.eq D.SolvableId.eq self.old self.new }
         ensures err { OnErr result (self.new ≡ self.old) }
+        ensures refusal { IsOkUnless result WantMemory }
     {
         let joined = self.joined(self.provider.version_sets_in_union(union))?;
         self.unions.insert(union, joined)?;
@@ -592,7 +612,8 @@ impl<D: DependencyProvider> SolverCache<D> {
     /// The kept sorted lists of these version sets, one after another.
     fn joined(&self, members: &[VersionSetId]) -> R<Vec<D::SolvableId>>
         requires { All (λ v. is_sorted self.now.sorted v ≡ true) members.now }
-        ensures { IfOk result (λ v. v.items ≡ flat_map (sorted_of self.now.sorted) members.now) }
+        ensures joined { IfOk result (λ v. v.items ≡ flat_map (sorted_of self.now.sorted) members.now) }
+        ensures refusal { IsOkUnless result WantMemory }
     {
         let mut joined = Vec::new(self.alloc);
         for version_set in members {
@@ -623,6 +644,7 @@ impl<D: DependencyProvider> SolverCache<D> {
             (alternatives_of (D.members_of self.old.provider) requirement)) }
         ensures succeeds { has_sorted self.old requirement ≡ true → IsOk result }
         ensures cancelled { IfErr result (IsCancelledBy (D.may_cancel self.old.provider)) }
+        ensures ids { IsErrOf result Ids → D.may_lack_ids self.old.provider }
     {
         self.cache_sorted_candidates(requirement)?;
         Ok(self.sorted_candidates(requirement))
@@ -657,6 +679,7 @@ impl<D: DependencyProvider> SolverCache<D> {
         ensures extends { Extends D.NameId.eq D.SolvableId.eq self.old self.new }
         ensures err { OnErr result (self.new ≡ self.old) }
         ensures cancelled { IfErr result (IsCancelledBy (D.may_cancel self.old.provider)) }
+        ensures ids { IsErrOf result Ids → D.may_lack_ids self.old.provider }
     {
         if self.has_dependencies(solvable) {
             return Ok(());
@@ -670,6 +693,7 @@ impl<D: DependencyProvider> SolverCache<D> {
         ensures extends { Extends D.NameId.eq D.SolvableId.eq self.old self.new }
         ensures err { OnErr result (self.new ≡ self.old) }
         ensures cancelled { IfErr result (IsCancelledBy (D.may_cancel self.old.provider)) }
+        ensures ids { IsErrOf result Ids → D.may_lack_ids self.old.provider }
     {
         if let Some(value) = self.provider.should_cancel_with_value() {
             return Err(CacheFault::Cancelled(value));
@@ -687,6 +711,7 @@ impl<D: DependencyProvider> SolverCache<D> {
         ensures answer { IfOk result (λ r. needs_of r.now ≡ D.dependencies_of self.old.provider solvable) }
         ensures cached { among D.SolvableId.eq self.old.solvables solvable ≡ true → IsOk result }
         ensures cancelled { IfErr result (IsCancelledBy (D.may_cancel self.old.provider)) }
+        ensures ids { IsErrOf result Ids → D.may_lack_ids self.old.provider }
     {
         self.cache_dependencies(solvable)?;
         Ok(self.dependencies(solvable))
@@ -718,7 +743,8 @@ fn candidates_from<D: DependencyProvider>(
     alloc: Global,
     name: D::NameId,
 ) -> R<Candidates<D::SolvableId>>
-    ensures { IfOk result (λ c. listing c ≡ listing_or_empty (D.candidates_of provider.now name)) }
+    ensures listed { IfOk result (λ c. listing c ≡ listing_or_empty (D.candidates_of provider.now name)) }
+    ensures ids { IsErrOf result WantIds → D.may_lack_ids provider.now }
 {
     match provider.get_candidates(alloc, name)? {
         Some(list) => Ok(list),

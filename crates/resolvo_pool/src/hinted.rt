@@ -1,7 +1,8 @@
 //! The solvables whose dependencies a provider has at hand, as a set. The cache puts a package's
 //! hinted solvables in before it keeps the package's candidates, and afterwards asks the set.
 //! Of a list that hints solvables of other packages too, only those of the asked package count.
-ghost use Rattle.std.specs.Prelude.{OnOk};
+ghost use Rattle.std.specs.Prelude.{OnOk, IsOkUnless};
+ghost use Rattle.resolvo_pool_core.specs.declared.want.Want.TheVariants.{Memory};
 ghost use Rattle.resolvo_pool_core.specs.Provider.{listing, hints};
 ghost use Rattle.resolvo_pool.specs.Hinted.{hints_own, among_own, Grows, HasEach};
 
@@ -26,6 +27,7 @@ pub fn put_hinted<D: DependencyProvider>(
         (hints_own D.NameId.eq D.SolvableId.eq (D.name_of_solvable provider.now) name
         (listing list.now))
         (D.SolvableId.Set.has set.new)) }
+    ensures refusal { IsOkUnless result Memory }
 {
     match &list.hint_dependencies_available {
         HintDependenciesAvailable::None => Ok(()),
@@ -50,6 +52,7 @@ fn put_own<D: DependencyProvider>(
         (among_own D.NameId.eq D.SolvableId.eq (D.name_of_solvable provider.now) name
         solvables.now)
         (D.SolvableId.Set.has set.new)) }
+    ensures refusal { IsOkUnless result Memory }
 {
     for solvable in solvables {
         if provider.solvable_name(*solvable) == name {

@@ -8,12 +8,12 @@ use Rattle.resolvo_pool.proofs.cache.SolverCache.ask_candidates.Goals as goal
 
 pub invariant_of-self-2 : goal.invariant_of-self-2
 invariant_of-self-2 g c =
-    let grown = hinted_grows g.D.NameId.PartialEq.eq g.D.SolvableId.PartialEq.eq (g.D.Interner.name_of_solvable c.self.inside.provider) (g.D.DependencyProvider.candidates_of c.self.inside.provider) g.met.D.NameId.Exact.exact c.args.name (listing c.in_ok-list.list) c.in_ok-list.ensures (λ s. among g.D.NameId.PartialEq.eq (keys c.self.inside.lists) (g.D.Interner.name_of_solvable c.self.inside.provider s)) (g.D.SolvableId.Set.IdSet.has c.self.inside.hinted) (g.D.SolvableId.Set.IdSet.has c.put_hinted.new.set) c.put_hinted.ensures.grows c.self.invariant.6 in
-    (kept_more g.D.NameId.PartialEq.eq c.self.inside.lists.entries c.insert.new.self.entries c.args.name c.in_ok-list.list c.in_ok-insert.ensures.updates.0 (IsListing (g.D.DependencyProvider.candidates_of c.self.inside.provider)) (g.met.D.NameId.Exact.exact c.args.name) c.in_ok-list.ensures c.self.invariant.0, c.self.invariant.1, c.self.invariant.2, c.self.invariant.3, c.self.invariant.4, c.self.invariant.5, hinted_kept g.D.NameId.PartialEq.eq g.D.SolvableId.PartialEq.eq (g.D.Interner.name_of_solvable c.self.inside.provider) (g.D.DependencyProvider.candidates_of c.self.inside.provider) g.met.D.NameId.Exact.exact c.args.name (listing c.in_ok-list.list) c.in_ok-list.ensures c.self.inside.lists.entries c.insert.new.self.entries c.in_ok-list.list (g.D.SolvableId.Set.IdSet.has c.put_hinted.new.set) c.in_ok-insert.ensures.updates.0 c.in_ok-put_hinted.ensures.each grown)
+    let grown = hinted_grows g.D.NameId.PartialEq.eq g.D.SolvableId.PartialEq.eq (g.D.Interner.name_of_solvable c.self.inside.provider) (g.D.DependencyProvider.candidates_of c.self.inside.provider) g.met.D.NameId.Exact.exact c.args.name (listing c.in_ok-list.list) c.in_ok-list.ensures.listed (λ s. among g.D.NameId.PartialEq.eq (keys c.self.inside.lists) (g.D.Interner.name_of_solvable c.self.inside.provider s)) (g.D.SolvableId.Set.IdSet.has c.self.inside.hinted) (g.D.SolvableId.Set.IdSet.has c.put_hinted.new.set) c.put_hinted.ensures.grows c.self.invariant.6 in
+    (kept_more g.D.NameId.PartialEq.eq c.self.inside.lists.entries c.insert.new.self.entries c.args.name c.in_ok-list.list c.in_ok-insert.ensures.updates.0 (IsListing (g.D.DependencyProvider.candidates_of c.self.inside.provider)) (g.met.D.NameId.Exact.exact c.args.name) c.in_ok-list.ensures.listed c.self.invariant.0, c.self.invariant.1, c.self.invariant.2, c.self.invariant.3, c.self.invariant.4, c.self.invariant.5, hinted_kept g.D.NameId.PartialEq.eq g.D.SolvableId.PartialEq.eq (g.D.Interner.name_of_solvable c.self.inside.provider) (g.D.DependencyProvider.candidates_of c.self.inside.provider) g.met.D.NameId.Exact.exact c.args.name (listing c.in_ok-list.list) c.in_ok-list.ensures.listed c.self.inside.lists.entries c.insert.new.self.entries c.in_ok-list.list (g.D.SolvableId.Set.IdSet.has c.put_hinted.new.set) c.in_ok-insert.ensures.updates.0 c.in_ok-put_hinted.ensures.each grown)
 
 pub invariant_of-self-in_err-insert : goal.invariant_of-self-in_err-insert
 invariant_of-self-in_err-insert g c =
-    let grown = hinted_grows g.D.NameId.PartialEq.eq g.D.SolvableId.PartialEq.eq (g.D.Interner.name_of_solvable c.self.inside.provider) (g.D.DependencyProvider.candidates_of c.self.inside.provider) g.met.D.NameId.Exact.exact c.args.name (listing c.in_ok-list.list) c.in_ok-list.ensures (λ s. among g.D.NameId.PartialEq.eq (keys c.self.inside.lists) (g.D.Interner.name_of_solvable c.self.inside.provider s)) (g.D.SolvableId.Set.IdSet.has c.self.inside.hinted) (g.D.SolvableId.Set.IdSet.has c.put_hinted.new.set) c.put_hinted.ensures.grows c.self.invariant.6 in
+    let grown = hinted_grows g.D.NameId.PartialEq.eq g.D.SolvableId.PartialEq.eq (g.D.Interner.name_of_solvable c.self.inside.provider) (g.D.DependencyProvider.candidates_of c.self.inside.provider) g.met.D.NameId.Exact.exact c.args.name (listing c.in_ok-list.list) c.in_ok-list.ensures.listed (λ s. among g.D.NameId.PartialEq.eq (keys c.self.inside.lists) (g.D.Interner.name_of_solvable c.self.inside.provider s)) (g.D.SolvableId.Set.IdSet.has c.self.inside.hinted) (g.D.SolvableId.Set.IdSet.has c.put_hinted.new.set) c.put_hinted.ensures.grows c.self.invariant.6 in
     rw c.in_err-insert.ensures.err (c.self.invariant.0, c.self.invariant.1, c.self.invariant.2, c.self.invariant.3, c.self.invariant.4, c.self.invariant.5, grown)
 
 pub returns-clause-there : goal.returns-clause-there

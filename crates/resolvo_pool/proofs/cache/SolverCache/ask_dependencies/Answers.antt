@@ -5,7 +5,7 @@ use Rattle.resolvo_pool.proofs.cache.SolverCache.ask_dependencies.Goals as goal
 
 pub invariant_of-self-2 : goal.invariant_of-self-2
 invariant_of-self-2 g c =
-    (c.self.invariant.0, c.self.invariant.1, c.self.invariant.2, c.self.invariant.3, c.self.invariant.4, kept_more g.D.SolvableId.PartialEq.eq c.self.inside.dependencies.entries c.insert.new.self.entries c.args.solvable c.in_ok-found.found c.in_ok-insert.ensures.updates.0 (IsNeeds (g.D.DependencyProvider.dependencies_of c.self.inside.provider)) (g.met.D.SolvableId.Exact.exact c.args.solvable) c.in_ok-found.ensures c.self.invariant.5, c.self.invariant.6)
+    (c.self.invariant.0, c.self.invariant.1, c.self.invariant.2, c.self.invariant.3, c.self.invariant.4, kept_more g.D.SolvableId.PartialEq.eq c.self.inside.dependencies.entries c.insert.new.self.entries c.args.solvable c.in_ok-found.found c.in_ok-insert.ensures.updates.0 (IsNeeds (g.D.DependencyProvider.dependencies_of c.self.inside.provider)) (g.met.D.SolvableId.Exact.exact c.args.solvable) c.in_ok-found.ensures.needs c.self.invariant.5, c.self.invariant.6)
 
 pub returns-clause-there : goal.returns-clause-there
 returns-clause-there g c = among_found g.D.SolvableId.PartialEq.eq c.insert.new.self.entries c.args.solvable _ c.in_ok-insert.ensures.updates.1
