@@ -2,8 +2,8 @@
 """Measures the program on texts of a stranger who picks names, words and numbers that collide in std's HashMap, beside such that don't.
 
 Usage: checks/collisions.py [PATH OF THE PROGRAM] [BYTES ..]
-Defaults: crates/resolve/out/resolve (which `rt run` leaves), and 2^18, 2^20, 2^22 and 2^24 bytes. The program is asked for one package.
-For each kind of text and each size: processor seconds of both, the least of three runs. The check fails where the colliding text takes
+Defaults: crates/resolve/out/resolve (which `rt run` leaves), and 2^18, 2^20, 2^22 and 2^24 bytes. The program is asked for one package,
+or for all. For each kind of text and each size: processor seconds of both, the least of three runs. The check fails where the colliding text takes
 more than twice as long as the other, and more than a tenth of a second longer.
 
 The kit's HashMap hashes by FoldHasher, whose seed is fixed: it multiplies sixteen bytes at a time, each half joined by xor with what
@@ -90,7 +90,13 @@ def spans(size, collide):
     return ["version a 1\n", *(f"needs a {number} | a\n" for number in found)], "needs a\n"
 
 
-KINDS = (packages, specs, words, versions, spans)
+def installed(size, collide):
+    """Each package is needed by a line of the request."""
+    names = list(texts(size // 43, collide))
+    return [f"version {name} 1\n" for name in names], "".join(f"needs {name}\n" for name in names)
+
+
+KINDS = (packages, specs, words, versions, spans, installed)
 
 
 def seconds(program, lines, request):

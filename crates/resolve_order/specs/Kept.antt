@@ -1,7 +1,7 @@
 -- What the lister keeps: the chosen versions by their packages, the lines in their order, and those left to look at.
 use Rattle.std.specs.Prelude.{◌≡◌, ℕ, zero, suc, ◌<◌, ◌≤◌, IsTrue, Bool, true, false, not, ⊤, ◌⊎◌, List, [], ◌∷◌, ◌++◌, length, map, reverse, drop, Option, Some, None, Contains, slice_get}
 use Rattle.std.specs.Option.{option_map_or}
-use Rattle.std.specs.HashMap.{get_by_text}
+use Rattle.std.specs.BTreeMap.{get_by_text}
 use Rattle.std.specs.List.{list_any, sum_by}
 use Rattle.resolvo_text.specs.Line.{Version, Spec, Cond, Line, Needs}
 use Rattle.resolvo_text.specs.Matches.{Set, is_member, matches, condition_holds}

@@ -2,7 +2,7 @@
 //! It holds two sets (`Holds` of specs/Kept.antt), and answers what a line gives. `install_order` keeps it.
 
 ghost use Rattle.std.specs.Prelude.{◌≡◌, ◌++◌, ◌∷◌, [], ◌+◌, true, Contains, slice_get, Some, List, Option, IfOk, OnOk, IfSome};
-ghost use Rattle.std.specs.HashMap.{get_by_text};
+ghost use Rattle.std.specs.BTreeMap.{get_by_text};
 ghost use Rattle.std.specs.Option.{option_copied, option_map};
 ghost use Rattle.resolvo_text.specs.Line as says;
 ghost use Rattle.resolvo_text.specs.Matches.{Set, is_met, holds, condition_holds};
@@ -13,7 +13,7 @@ ghost use Rattle.resolve_order.specs.Kept.{Holds, AreOneEach, IsChosenMatch, IsU
 
 use resolvo_catalogue_core::{Catalogue, Cond, Rule, Spec, VersionNo};
 use std::alloc::{AllocError, Global};
-use std::collections::HashMap;
+use std::collections::BTreeMap;
 
 /// What a line gives now.
 #[derive(Clone, Copy, Debug)]
@@ -35,7 +35,7 @@ fn version_at(catalogue: &Catalogue, version: VersionNo) -> Option<&(String, u32
 #[derive(Drop)]
 pub struct Chosen {
     /// The chosen version of each package.
-    picks: HashMap<String, VersionNo>,
+    picks: BTreeMap<String, VersionNo>,
     /// Of each version of the catalogue, whether it is an entry.
     listed: Vec<bool>,
 }
@@ -47,7 +47,7 @@ impl Chosen {
         let mut listed = Vec::new(alloc);
         listed.resize(catalogue.versions().len(), false)?;
         Ok(Chosen {
-            picks: HashMap::new(alloc),
+            picks: BTreeMap::new(alloc),
             listed,
         })
     }
