@@ -16,11 +16,12 @@ import sys
 if __name__ == "__main__":
     sys.path[0] = os.path.dirname(os.path.dirname(os.path.realpath(__file__)))
 
+import gc
 import re
 import shutil
 import tempfile
+import time
 from dataclasses import dataclass, field
-from email.utils import formatdate
 from typing import Iterable, Iterator, Optional, Sequence
 
 from tools.catalogue import FavourLine, LimitsLine, LockLine, NeedsLine, Request, RequestLine, WishLine
@@ -88,10 +89,10 @@ def read_scenario(chunks: Iterator[bytes]) -> Scenario:
     keeps_to_installed = scenario.flag("forbid-new-install") or scenario.flag("upgrade")
     installed, others = dict[str, None](), []
     for record in records:
-        if record.quick(b"Installed") == b"yes":
+        if record.says(b"Installed: yes"):
             scenario.universe.add(record)
-            installed[(record.quick(b"Package") or b"").decode("utf-8", "replace")] = None
-        elif not is_strict or record.quick(b"APT-Candidate") == b"yes":
+            installed[(record.head()[0] or b"").decode("utf-8", "replace")] = None
+        elif not is_strict or record.says(b"APT-Candidate: yes"):
             others.append(record)
     add_others(scenario.universe, others, installed if keeps_to_installed else None)
     for name in installed:
@@ -102,7 +103,7 @@ def read_scenario(chunks: Iterator[bytes]) -> Scenario:
 def add_others(universe: Universe, records: list[Record], only: Optional[dict[str, None]]) -> None:
     """Packages that aren't installed; with `only` just the versions of these."""
     for record in records:
-        if only is None or (record.quick(b"Package") or b"").decode("utf-8", "replace") in only:
+        if only is None or (record.head()[0] or b"").decode("utf-8", "replace") in only:
             universe.add(record)
 
 
@@ -406,7 +407,8 @@ def named_sources(solved: Solved, report: Refused) -> Iterator[str]:
 
 def progress_stanza(percentage: int, message: str) -> str:
     """What goes on."""
-    return stanza(("Progress", formatdate(usegmt=True)), ("Percentage", str(percentage)), ("Message", message))
+    now = time.strftime("%a, %d %b %Y %H:%M:%S GMT", time.gmtime())
+    return stanza(("Progress", now), ("Percentage", str(percentage)), ("Message", message))
 
 
 def say(text: str) -> None:
@@ -448,4 +450,5 @@ def main() -> int:
 
 
 if __name__ == "__main__":
+    gc.disable()  # it ends soon, and nothing that it makes is a cycle worth a search
     sys.exit(main())
