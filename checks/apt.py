@@ -7,7 +7,7 @@ Versions drawn from the index are compared by pairs, as many as PAIRS says (10,0
 with 0 for COUNT these alone.
 Packages are drawn by seed from the machine's own index. Over each, `apt-get -s install` runs twice. Where apt's own
 solver installs, ours does, and apt, which checks each answer itself, takes it. `Inst` lines are compared, and where they
-differ the first package that differs is printed. Seconds are of wall clock and of processor, of `apt-get` with all that
+differ the first package that differs is printed, with the line that has it among its alternatives. Seconds are of wall clock and of processor, of `apt-get` with all that
 it runs. The options that lead apt to a solver, and to a cache of its own, are the only ones.
 """
 import os
@@ -20,13 +20,14 @@ import tempfile
 import time
 from collections import Counter
 from dataclasses import dataclass
+from typing import Iterator
 
 HERE = os.path.dirname(os.path.abspath(__file__))
 TOP = os.path.dirname(HERE)
 PAIRS = int(os.environ.get("PAIRS", "10000"))
 sys.path.insert(0, TOP)
 
-from tools.deb822 import version_key
+from tools.deb822 import Fields, read_groups, read_list, split_records, version_key
 
 
 @dataclass
@@ -84,14 +85,35 @@ def check_order(versions: list[str], count: int, seed: int) -> None:
     print(f"{count} pairs of versions are in dpkg's order", flush=True)
 
 
+def shown_fields(names: list[str]) -> Iterator[Fields]:
+    """The stanzas of some packages, as apt would take them."""
+    done = subprocess.run(["apt-cache", "show", "--no-all-versions", *names], capture_output=True)
+    yield from (record.fields() for record in split_records([done.stdout], "apt-cache show"))
+
+
+def line_about(name: str, others: list[str]) -> str:
+    """The line of one of the others that has a package, or what it provides, among its alternatives."""
+    offered = {name, *(given.name for each in shown_fields([name]) for _, given in read_list(each.get("provides", ""), "Provides"))}
+    found = []
+    for fields in shown_fields(others):
+        for title in ("Pre-Depends", "Depends", "Recommends"):
+            for words, group in read_groups(fields.get(title.lower(), "")):
+                if any(relation.name in offered for relation in group):
+                    found.append((len(group) < 2 and words == name, f"{fields['package']} has {title}: {words}"))
+    return min(found, default=(True, "no line of them names it"), key=lambda pair: pair[0])[1]
+
+
 def first_difference(own: Run, ours: Run) -> str:
-    """The first package that one of them alone has."""
+    """The first package that one of them alone has, and the line that has it among its alternatives."""
     mine, theirs = set(ours.installs), set(own.installs)
     changes = [f"apt alone: {line}" for line in own.installs if line not in mine]
     changes += [f"resolve alone: {line}" for line in ours.installs if line not in theirs]
     changes += [f"apt alone removes {name}" for name in own.removes if name not in ours.removes]
     changes += [f"resolve alone removes {name}" for name in ours.removes if name not in own.removes]
-    return f"{changes[0]} ({len(changes)} differ of {len(own.installs)})"
+    alone = set(own.installs) ^ set(ours.installs)
+    first = next((line.split(" ")[0] for line in [*own.installs, *ours.installs] if line in alone), "")
+    about = line_about(first, [line.split(" ")[0] for line in [*ours.installs, *own.installs]]) if first else ""
+    return f"{changes[0]} ({len(changes)} differ of {len(own.installs)}): {about}"
 
 
 def verdict(name: str, own: Run, ours: Run) -> str:

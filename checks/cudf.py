@@ -9,7 +9,8 @@ right by `resolve judge`.
 aspcud gets the document without folded lines, which its reader doesn't take around comments. `keep: feature` stands with names of
 features alone: of a package's own name aspcud thinks otherwise than libcudf. Where the verdicts differ `cudf-check` decides, and such
 documents are counted apart; it stops the check where aspcud's answer is right and we give up.
-With the word `size` for COUNT a document of 60,000 packages is solved, and the seconds of processor are printed.
+With the word `size` for COUNT two documents of 60,000 packages are solved, and the seconds of processor are printed: one in which every
+package conflicts with itself, as Debian's do, and one of the general form, in which none does.
 """
 import os
 import random
@@ -155,8 +156,8 @@ def check_document(rng, folder, program, counts):
 # ---- a large document
 
 
-def write_large(rng, path):
-    """A document of 60,000 packages in the manner of Debian's: two versions each of 30,000, of which 2,000 are installed."""
+def write_large(rng, path, is_general):
+    """A document of 60,000 packages: two versions each of 30,000, of which 2,000 are installed."""
     with open(path, "w") as out:
         out.write("preamble: \nproperty: number: string, recommends: vpkgformula = [true!]\n\n")
         for at in range(30000):
@@ -165,17 +166,19 @@ def write_large(rng, path):
                 needs = {rng.randrange(max(at // 4, 1)) for _ in range(rng.randint(1, 8))} if at else ()
                 depends = ", ".join(f"p{each}{rng.choice(['', '', ' >= 1', ' >= 2 | p0'])}" for each in sorted(needs)) or "true!"
                 out.write(f"package: p{at}\nversion: {version}\nnumber: {version}.0-1+b{at}\ndepends: {depends}\n")
-                out.write(f"recommends: p{rng.randrange(30000)}\nconflicts: p{at}{', old < 3' if at % 9 == 0 else ''}\n")
+                conflicts = ([] if is_general else [f"p{at}"]) + ["old < 3"] * (at % 9 == 0)
+                out.write(f"recommends: p{rng.randrange(30000)}\nconflicts: {', '.join(conflicts)}\n")
                 out.write(f"provides: mta{at % 50} = {version}\n" if at % 7 == 0 else "")
                 out.write(f"installed: {'true' if installed and version == 1 else 'false'}\n\n")
         out.write("request: \ninstall: " + ", ".join(f"p{at}" for at in range(2500, 30000, 5500)) + "\nupgrade: p10\n")
 
 
-def check_size(rng, program):
+def check_size(rng, program, is_general):
     """Reads, solves and writes; then `cudf-check` over the answer."""
+    what = "versions may stand together" if is_general else "every package conflicts with itself"
     with tempfile.TemporaryDirectory() as folder:
         path, answer = os.path.join(folder, "in"), os.path.join(folder, "out")
-        write_large(rng, path)
+        write_large(rng, path, is_general)
         spent = lambda: sum(sum(resource.getrusage(who)[:2]) for who in (resource.RUSAGE_SELF, resource.RUSAGE_CHILDREN))
         before, start = spent(), time.monotonic()
         status, _, error = run("cudf", "solve", "--resolve", program, path, answer, "-removed,-changed")
@@ -187,7 +190,7 @@ def check_size(rng, program):
             fail("cudf-check refuses our answer", said)
         with open(answer) as file:
             count = file.read().count("package: ")
-        print(f"60,000 packages, {count} of them in the answer: {processor:.1f} s of processor, {seconds:.1f} s of wall clock")
+        print(f"60,000 packages, {what}, {count} of them in the answer: {processor:.1f} s of processor, {seconds:.1f} s of wall clock", flush=True)
 
 
 def main():
@@ -195,7 +198,7 @@ def main():
     rng = random.Random(int(sys.argv[2]) if len(sys.argv) > 2 else 1)
     program = os.path.abspath(sys.argv[3] if len(sys.argv) > 3 else os.path.join(HERE, "../crates/resolve/out/resolve"))
     if word == "size":
-        return check_size(rng, program)
+        return [check_size(rng, program, is_general) for is_general in (False, True)]
     counts = Counter()
     with tempfile.TemporaryDirectory() as folder:
         for _ in range(int(word)):

@@ -54,7 +54,7 @@ def write_repository(folder):
 
 def opam(root, *arguments):
     """The status and the output of a command."""
-    more = {"OPAMROOT": root, "OPAMYES": "1", "OPAMROOTISOK": "1", "OPAMCOLOR": "never"}
+    more = {"OPAMROOT": root, "OPAMYES": "1", "OPAMROOTISOK": "1", "OPAMCOLOR": "never", "OPAMNODEPEXTS": "1"}
     done = subprocess.run(["opam", *arguments], capture_output=True, text=True, env=os.environ | more, stdin=subprocess.DEVNULL)
     return done.returncode, done.stdout, done.stderr
 

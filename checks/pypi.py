@@ -5,6 +5,8 @@ Usage: checks/pypi.py [COUNT] [SEED] [PATH OF THE PROGRAM]      defaults: 300, 1
 Each index has pre-releases, extras, markers, Requires-Python and yanked versions. `pip install --dry-run --no-index` gives its verdict;
 where we install, pip takes our set as `==` pins and adds nothing. Where pip alone installs, its set has a pre-release that one
 requirement names and another doesn't; with `--pre` for these packages our verdict is pip's, else the check fails.
+With the word `match` for COUNT, pairs of a requirement and a version are compared, as many as PAIRS says (10,000), by the wheel that pip takes
+of each package, which is of the newest version that matches: those above it don't.
 """
 import hashlib
 import html
@@ -24,7 +26,7 @@ from pip._internal.cli.main import main as pip_main
 from pip._internal.commands import create_command
 
 from tools import texts
-from tools.pypi import canonical, requirements as requirement_texts, versions
+from tools.pypi import PypiIndex, canonical, read_environment, requirements as requirement_texts, versions
 from tools.tests.base import run
 
 POOL = ["0.9", "1.0", "1.0.post1", "1.1", "1.1+local.2", "1.2.dev3", "1.2", "1.10", "2.0a1", "2.0rc1", "2.0", "2.1", "1!0.5"]
@@ -32,6 +34,7 @@ NAMES = ["Pkg.A", "pkg_b", "pkg-c", "PKG-d", "pkge", "pkg__f"]
 EXTRAS = ["x", "y-z", "Q"]
 MARKERS = ['python_version >= "3.8"', 'python_version < "3"', 'sys_platform == "win32"', 'sys_platform != "win32" or os_name == "nt"']
 PIP = ["install", "--isolated", "--disable-pip-version-check", "--no-cache-dir", "--dry-run", "--ignore-installed", "--no-index", "--quiet"]
+PAIRS = int(os.environ.get("PAIRS", "10000"))
 REFUSALS = ("ResolutionImpossible", "No matching distribution found", "Could not find a version")
 
 
@@ -195,15 +198,59 @@ def check_request(folder, requirements, program, source, counts):
     counts["the same set as pip's"] += mine == theirs
 
 
+def some_version(rng):
+    """A version of any form that PEP 440 has."""
+    text = rng.choice(["", "", "", "", "", "1!"]) + ".".join(str(rng.choice([0, 0, 1, 1, 2, 10])) for _ in range(rng.choice([1, 2, 2, 3, 3])))
+    text += rng.choice([""] * 8 + ["a0", "a1", "b2", "rc1", "rc10"]) + rng.choice([""] * 8 + [".post0", ".post1"])
+    return text + rng.choice([""] * 12 + [".dev0", ".dev3"]) + rng.choice([""] * 12 + ["+local.2", "+10"])
+
+
+def near_specifier(rng, texts):
+    """Specifiers near some versions."""
+    public = [text.partition("+")[0] for text in texts] + [some_version(rng).partition("+")[0]]
+    release = lambda: ".".join(map(str, versions.Version(rng.choice(public)).release))
+    one = lambda: rng.choice([
+        f"{rng.choice(['>=', '<=', '>', '<', '==', '!='])}{rng.choice(public)}", f"{rng.choice(['>=', '<', '>', '<='])}{release()}",
+        f"{rng.choice(['==', '!='])}{release()}.*", f"~={release()}.0", f"=={rng.choice(texts)}", "",
+    ])
+    return ",".join(each for each in (one() for _ in range(rng.choice([1, 1, 1, 2]))) if each)
+
+
+def check_picks(rng, counts):
+    """Forty packages with one requirement each: pip takes the newest version that ours matches."""
+    entries, wanted = [], {}
+    for at in range(40):
+        name, found = f"p{at}", {versions.Version(some_version(rng)): None for _ in range(8)}
+        entries += [{"name": name, "version": str(version), "requires_dist": [], "requires_python": None, "provides_extra": [], "yanked": False} for version in found]
+        wanted[name] = name + near_specifier(rng, list(map(str, found)))
+    with tempfile.TemporaryDirectory() as folder:
+        write_index(folder, entries)
+        index = PypiIndex(os.path.join(folder, "index.json"), read_environment(None))
+        matched = {name: index.match(name, requirement_texts.Requirement(text).specifier) for name, text in wanted.items()}
+        taken = pip(folder, [wanted[name] for name, numbers in matched.items() if numbers])
+        for name in [name for name, numbers in matched.items() if not numbers][:2]:
+            if pip(folder, [wanted[name]]) is not None:
+                fail("the matchers differ: pip finds one", wanted[name], index.projects[name].listed)
+            counts["pairs not matched"] += len(index.projects[name].listed)
+    for name, numbers in matched.items():
+        listed = index.projects[name].listed
+        if numbers and (taken is None or taken[name] != listed[numbers[-1]]):
+            fail("the matchers differ", wanted[name], listed, f"ours: {listed[numbers[-1]]}", f"pip: {taken and taken[name]}")
+        counts["pairs matched"] += bool(numbers)
+        counts["pairs not matched"] += len(listed) - numbers[-1] if numbers else 0
+
+
 def main():
-    count = int(sys.argv[1]) if len(sys.argv) > 1 else 300
+    word = sys.argv[1] if len(sys.argv) > 1 else "300"
     rng = random.Random(int(sys.argv[2]) if len(sys.argv) > 2 else 1)
     program = sys.argv[3] if len(sys.argv) > 3 else os.path.join(HERE, "../crates/resolve/out/resolve")
     counts = Counter()
     create_command("install")
-    for _ in range(count):
+    while word == "match" and sum(counts.values()) < PAIRS:
+        check_picks(rng, counts)
+    for _ in range(0 if word == "match" else int(word)):
         check_index(rng, os.path.abspath(program), counts)
-    print(f"{count} indexes, two requests each: " + ", ".join(f"{n} {what}" for what, n in sorted(counts.items())))
+    print((f"{word}: " if word == "match" else f"{word} indexes, two requests each: ") + ", ".join(f"{n} {what}" for what, n in sorted(counts.items())))
 
 
 if __name__ == "__main__":

@@ -16,12 +16,14 @@ import sys
 if __name__ == "__main__":
     sys.path[0] = os.path.dirname(os.path.dirname(os.path.realpath(__file__)))
 
+import gc
+import itertools
 import re
 import shutil
 import tempfile
+import time
 from dataclasses import dataclass, field
-from email.utils import formatdate
-from typing import Iterable, Iterator, Optional, Sequence
+from typing import BinaryIO, Iterable, Iterator, Optional, Sequence
 
 from tools.catalogue import FavourLine, LimitsLine, LockLine, NeedsLine, Request, RequestLine, WishLine
 from tools.catalogue import Catalogue, CatalogueLine, catalogue_text, request_text
@@ -34,6 +36,7 @@ from tools.reports import Install, Refused, Report, read_report
 from tools.words import Spec, Version
 
 CHUNK = 2**20
+MOST_READ = 40  # the percentage at which the packages are read
 MOST_SOURCES = 12
 PATH = "scenario"
 NONE = re.compile(r"(\S+) #0(?=$|[ ,.])")  # the number 0, which is never listed
@@ -88,10 +91,10 @@ def read_scenario(chunks: Iterator[bytes]) -> Scenario:
     keeps_to_installed = scenario.flag("forbid-new-install") or scenario.flag("upgrade")
     installed, others = dict[str, None](), []
     for record in records:
-        if record.quick(b"Installed") == b"yes":
+        if record.says(b"Installed: yes"):
             scenario.universe.add(record)
-            installed[(record.quick(b"Package") or b"").decode("utf-8", "replace")] = None
-        elif not is_strict or record.quick(b"APT-Candidate") == b"yes":
+            installed[(record.head()[0] or b"").decode("utf-8", "replace")] = None
+        elif not is_strict or record.says(b"APT-Candidate: yes"):
             others.append(record)
     add_others(scenario.universe, others, installed if keeps_to_installed else None)
     for name in installed:
@@ -102,7 +105,7 @@ def read_scenario(chunks: Iterator[bytes]) -> Scenario:
 def add_others(universe: Universe, records: list[Record], only: Optional[dict[str, None]]) -> None:
     """Packages that aren't installed; with `only` just the versions of these."""
     for record in records:
-        if only is None or (record.quick(b"Package") or b"").decode("utf-8", "replace") in only:
+        if only is None or (record.head()[0] or b"").decode("utf-8", "replace") in only:
             universe.add(record)
 
 
@@ -216,6 +219,7 @@ class Solving:
         self.reached: dict[str, None] = {}
         self.cached: dict[str, list[Line]] = {}
         self.tried: set[Group] = set()
+        self.runs = 0
 
     def path(self, name: str, data: bytes) -> str:
         """Writes a file of the folder."""
@@ -246,7 +250,11 @@ class Solving:
         return draft
 
     def solve(self, prefix: str, more: Sequence[NeedsLine] = ()) -> Solved:
-        """One run; the files' names begin with the prefix."""
+        """One run, of which apt hears; the files' names begin with the prefix."""
+        self.runs += 1
+        what = "recommendations" if prefix else "the request"
+        percentage = min(MOST_READ + 10 * self.runs, 90)
+        say(progress_stanza(percentage, f"resolve solves {what} over {len(self.reached)} packages"))
         draft = self.draft()
         catalogue = draft.catalogue()
         request = Request((*self.plan.lines, *more, *map(WishLine, self.plan.wished)))
@@ -406,7 +414,8 @@ def named_sources(solved: Solved, report: Refused) -> Iterator[str]:
 
 def progress_stanza(percentage: int, message: str) -> str:
     """What goes on."""
-    return stanza(("Progress", formatdate(usegmt=True)), ("Percentage", str(percentage)), ("Message", message))
+    now = time.strftime("%a, %d %b %Y %H:%M:%S GMT", time.gmtime())
+    return stanza(("Progress", now), ("Percentage", str(percentage)), ("Message", message))
 
 
 def say(text: str) -> None:
@@ -429,14 +438,23 @@ def answer(solving: Solving, first: Solved, last: Solved) -> bool:
     return bool(forced)
 
 
+def read_chunks(source: BinaryIO) -> Iterator[bytes]:
+    """The scenario piece by piece; apt hears of each eighth piece, since nobody knows how many there are."""
+    for count in itertools.count():
+        chunk = source.read(CHUNK)
+        if not chunk:
+            return
+        if count % 8 == 0:
+            say(progress_stanza(min(count, MOST_READ), "resolve reads the packages"))
+        yield chunk
+
+
 def main() -> int:
     """Answers one scenario; a refusal or a fault is an answer too, so the status is 0."""
     folder = tempfile.mkdtemp(prefix="resolve-apt-")
     is_kept = False
     try:
-        say(progress_stanza(0, "resolve reads the packages"))
-        scenario = read_scenario(iter(lambda: sys.stdin.buffer.read(CHUNK), b""))
-        say(progress_stanza(50, "resolve solves"))
+        scenario = read_scenario(read_chunks(sys.stdin.buffer))
         solving = Solving(plan_of(scenario), folder)
         is_kept = answer(solving, *solving.run())
     except Failure as failure:
@@ -448,4 +466,5 @@ def main() -> int:
 
 
 if __name__ == "__main__":
+    gc.disable()  # it ends soon, and nothing that it makes is a cycle worth a search
     sys.exit(main())

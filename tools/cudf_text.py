@@ -9,6 +9,7 @@ import codecs
 import re
 import sys
 from dataclasses import dataclass, field
+from functools import cached_property
 from typing import BinaryIO, Callable, Iterator, NamedTuple, NoReturn, Optional
 
 from tools.files import Failure, shown_path
@@ -211,10 +212,27 @@ TYPES: dict[str, Reader] = {
 
 @dataclass(frozen=True, slots=True)
 class Declared:
-    """The type of a property, and whether a stanza may leave it out."""
+    """The type of a property, whether a stanza may leave it out, and the values of the texts that were read."""
 
     read: Reader
     may_be_missing: bool = True
+    known: dict[str, object] = field(default_factory=dict)
+
+    def value(self, text: str) -> object:
+        """The value of a text; raises Bad."""
+        if self.read is str:
+            return text
+        self.known[text] = value = self.read(text)
+        return value
+
+
+class Kind(dict[str, Declared]):
+    """The properties that stanzas of one kind may have."""
+
+    @cached_property
+    def due(self) -> tuple[str, ...]:
+        """Those that none may leave out."""
+        return tuple(name for name, each in self.items() if not each.may_be_missing)
 
 
 def read_type(text: str) -> Reader:
@@ -253,19 +271,19 @@ def read_default(read: Reader, text: str) -> None:
         read(text)
 
 
-PREAMBLE = {
+PREAMBLE = Kind({
     "preamble": Declared(str, False), "property": Declared(read_properties), "univ-checksum": Declared(str),
     "status-checksum": Declared(str), "req-checksum": Declared(str),
-}
-PACKAGE = {
+})
+PACKAGE = Kind({
     "package": Declared(read_name, False), "version": Declared(read_positive, False), "depends": Declared(read_formula),
     "conflicts": Declared(read_atoms), "provides": Declared(read_provided), "installed": Declared(read_truth),
     "was-installed": Declared(read_truth), "keep": Declared(one_of(KEEP)),
-}
-REQUEST = {
+})
+REQUEST = Kind({
     "request": Declared(str, False), "install": Declared(read_atoms), "remove": Declared(read_atoms),
     "upgrade": Declared(read_atoms),
-}
+})
 KINDS = {"preamble": PREAMBLE, "package": PACKAGE, "request": REQUEST}
 
 
@@ -283,22 +301,22 @@ class Stanza(dict[str, str]):
         """Raises the Failure of a line of the stanza."""
         raise Failure(shown_path(self.path), line or self.line, reason)
 
-    def values(self, declared: dict[str, Declared], cache: dict) -> dict[str, object]:
+    def values(self, kind: Kind) -> dict[str, object]:
         """The properties as values; each is declared, and none is missing."""
         found: dict[str, object] = {}
         for name, text in self.items():
-            if name not in declared:
+            declared = kind.get(name)
+            if declared is None:
                 self.fail(f"no property {quoted(name)} is declared for this stanza", self.lines[name])
-            read = declared[name].read
-            key = read, text
-            if key not in cache:
+            value = declared.known.get(text)
+            if value is None:
                 try:
-                    cache[key] = read(text)
+                    value = declared.value(text)
                 except Bad as bad:
                     self.fail(str(bad), self.lines[name])
-            found[name] = cache[key]
-        for name, each in declared.items():
-            if not each.may_be_missing and name not in found:
+            found[name] = value
+        for name in kind.due:
+            if name not in found:
                 self.fail(f"the stanza has no {quoted(name)}")
         return found
 
@@ -325,7 +343,7 @@ def read_lines(source: BinaryIO, path: str) -> Iterator[str]:
 
 def read_stanzas(lines: Iterator[str], path: str) -> Iterator[Stanza]:
     """The stanzas of a text."""
-    stanza, name = None, ""
+    stanza, name, names = None, "", set[str]()
     for number, text in enumerate(lines, 1):
         first = text[:1]
         if first == "#":
@@ -343,8 +361,10 @@ def read_stanzas(lines: Iterator[str], path: str) -> Iterator[Stanza]:
             stanza[name] += text[1:]
             continue
         name, colon, value = text.partition(": ")
-        if not colon or not PROPERTY.match(name):
-            stanza.fail(f"{quoted(text)} isn't a property `NAME: VALUE`", number)
+        if not colon or name not in names:
+            if not colon or not PROPERTY.match(name):
+                stanza.fail(f"{quoted(text)} isn't a property `NAME: VALUE`", number)
+            names.add(name)
         if name in stanza:
             stanza.fail(f"the stanza has {quoted(name)} already", number)
         stanza[name], stanza.lines[name] = value, number
@@ -359,8 +379,7 @@ class DocumentReader:
     """Takes the stanzas one after the other."""
 
     def __init__(self, path: str) -> None:
-        self.found, self.cache = Document(path), dict[tuple[Reader, str], object]()
-        self.declared = PACKAGE
+        self.found, self.declared = Document(path), PACKAGE
         self.is_first = True
 
     def take(self, stanza: Stanza) -> None:
@@ -375,7 +394,7 @@ class DocumentReader:
         elif kind == "package":
             self.package(stanza)
         else:
-            values = stanza.values(REQUEST, self.cache)
+            values = stanza.values(REQUEST)
             self.found.request = {key: value for key, value in values.items() if key != "request"}
             self.found.request_line = stanza.line
         self.is_first = False
@@ -384,14 +403,16 @@ class DocumentReader:
         """The properties that packages may have beside the known ones."""
         if not self.is_first:
             stanza.fail("the preamble isn't the first stanza")
-        self.declared = PACKAGE | stanza.values(PREAMBLE, self.cache).get("property", {})
+        self.declared = Kind(PACKAGE | stanza.values(PREAMBLE).get("property", {}))
 
     def package(self, stanza: Stanza) -> None:
         """A version of a package."""
-        values = stanza.values(self.declared, self.cache)
-        known = {key: value for key, value in values.items() if key in PACKAGE and key != "was-installed"}
-        avoided = values.get("avoid-version", 0)
-        package = Package(known.pop("package"), known.pop("version"), stanza.line, **known, is_avoided=avoided not in (0, False))
+        values = stanza.values(self.declared)
+        get = values.get
+        package = Package(
+            values["package"], values["version"], stanza.line, get("depends", ()), get("conflicts", ()), get("provides", ()),
+            get("installed", False), get("keep", "none"), get("avoid-version", 0) not in (0, False),
+        )
         self.found.packages.setdefault(package.name, []).append(package)
         for atom in package.provides:
             self.found.providers.setdefault(atom.name, {})[package] = None

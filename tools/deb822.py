@@ -19,6 +19,8 @@ WITH_EPOCH = re.compile(r"([0-9]{1,10}):([A-Za-z0-9.+~:-]+?)(?:-([A-Za-z0-9.+~]+
 WITHOUT_EPOCH = re.compile(r"([A-Za-z0-9.+~-]+?)(?:-([A-Za-z0-9.+~]+))?\Z")
 RELATION = re.compile(r"([^\s:()]+)(?::([a-z0-9-]+))?\s*(?:\(\s*(<<|<=|=|>=|>>|<|>)\s*([^\s()]+)\s*\))?\Z")
 PIECE = re.compile("([^0-9]*)([0-9]*)")
+# How most stanzas of an index or a scenario begin.
+USUAL = re.compile(rb"Package: ([^\n]*)\nArchitecture: ([^\n]*)\n")
 # `<` and `>` are old spellings of `<=` and `>=`.
 OLD_SIGNS = {"<": "<=", ">": ">="}
 LARGEST_EPOCH = 2**31 - 1
@@ -140,6 +142,18 @@ class Record:
             start = at + len(mark) + 1
         end = raw.find(b"\n", start)
         return start, len(raw) if end < 0 else end
+
+    def head(self) -> tuple[Optional[bytes], Optional[bytes]]:
+        """The first lines of Package and Architecture, without reading the stanza."""
+        usual = USUAL.match(self.raw)
+        return usual.groups() if usual else (self.quick(b"Package"), self.quick(b"Architecture"))
+
+    def says(self, line: bytes) -> bool:
+        """Whether this is a whole line of it."""
+        raw = self.raw
+        at = raw.find(b"\n" + line) + 1
+        end = at + len(line)
+        return raw[end:end + 1] in (b"", b"\n") and raw.startswith(line, at)
 
     def quick(self, title: bytes) -> Optional[bytes]:
         """The first line of a field, without reading the stanza."""

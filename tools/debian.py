@@ -108,10 +108,9 @@ class Universe:
 
     def add(self, record: Record) -> None:
         """A stanza, of which the name and what it provides are looked at."""
-        name = record.quick(b"Package")
+        name, architecture = record.head()
         if name is None:
             record.fail("the stanza has no Package")
-        architecture = record.quick(b"Architecture")
         if architecture not in self.architectures:
             if architecture is None:
                 record.fail(f"the stanza of {name.decode('utf-8', 'replace')} has no Architecture")

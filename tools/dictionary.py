@@ -9,13 +9,16 @@ A catalogue whose first line isn't `#@ 1 ..` has no dictionary, and its other `#
 """
 from __future__ import annotations
 
+import re
 from dataclasses import dataclass, field
+from functools import lru_cache
 from typing import Optional
 
 from tools.catalogue import Catalogue, CatalogueLine, SkippedLine, VersionLine
 from tools.words import BEHIND_SPEC, NAME, RESERVED, Bad, Fault, Spelling, Version, number_of, quoted
 
 HEAD = "#@ 1 "
+PLAIN_NAME = re.compile(r"[A-Za-z0-9][A-Za-z0-9.-]*\Z")  # its own NAME, if it isn't a word of the grammar
 # Signs of the grammar, which are no real names.
 SIGNS = ("(",) + BEHIND_SPEC[:-1]
 
@@ -52,10 +55,13 @@ class Dictionary:
         return tuple(found)
 
 
+@lru_cache(maxsize=None)
 def escape(real: str) -> str:
     """A NAME for a real name, another one for each: `_` is `__`, `+` is `_p`, other signs are `_xHEX_`."""
     if real in RESERVED:
         return f"_w{real}"
+    if PLAIN_NAME.match(real):
+        return real
     plain = {"_": "__", "+": "_p"}
     kept = lambda at, c: c.isascii() and (c.isalnum() or (at > 0 and c in "-."))
     return "".join(c if kept(at, c) else plain.get(c, f"_x{ord(c):x}_") for at, c in enumerate(real))

@@ -4,6 +4,7 @@ from __future__ import annotations
 import argparse
 import os
 import sys
+from functools import lru_cache
 from typing import Callable, Optional, Sequence
 
 from tools import texts, view
@@ -289,8 +290,9 @@ def action(
     return parser
 
 
+@lru_cache(maxsize=None)
 def make_parser() -> argparse.ArgumentParser:
-    """The command line."""
+    """The command line, made once."""
     form = argparse.RawDescriptionHelpFormatter
     parser = argparse.ArgumentParser(prog="resolve-tools", description=ABOUT, epilog=STATUSES, formatter_class=form)
     commands = parser.add_subparsers(dest="command", metavar="COMMAND", required=True)

@@ -214,6 +214,7 @@ class Solver(FolderCase):
             with mock.patch.dict(os.environ, {"RESOLVE": path, "TMPDIR": self.folder}), mock.patch("tempfile.tempdir", self.folder):
                 self.assertEqual(apt_solver.main(), 0)
         stanzas = out.taken().decode().split("\n\n")[:-1]
+        self.progress = [each.split("\n")[1:] for each in stanzas if each.startswith("Progress: ")]
         return [each for each in stanzas if not each.startswith("Progress:")], error.taken().decode()
 
     def got(self):
@@ -254,6 +255,11 @@ class Solver(FolderCase):
         last = "install\napp=1 for request line 1\nr1=1 for request line 2\nold=1 for request line 3\n"
         stanzas, _ = self.answer(scenario, first, refused, last)
         self.assertEqual([each.split("\n")[0] for each in stanzas], ["Install: 7", "Install: 10"])
+        self.assertEqual(self.progress, [
+            ["Percentage: 0", "Message: resolve reads the packages"], ["Percentage: 50", "Message: resolve solves the request over 2 packages"],
+            ["Percentage: 60", "Message: resolve solves recommendations over 5 packages"],
+            ["Percentage: 70", "Message: resolve solves recommendations over 5 packages"],
+        ])
         asked = [line for line in self.got() if line.startswith(("needs", "wish", "==="))]
         self.assertEqual(asked, [
             "needs app 1", "wish old 1", "===", "needs app 1", "needs r1 | r2", "needs rx", "needs old", "wish old 1", "===",
