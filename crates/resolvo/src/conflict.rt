@@ -193,7 +193,9 @@ pub(crate) fn solve_to_conflict<A: PackageSource, C: ScoreMap<A::NameId> + Drop>
     ),
     CacheFault<A::Cancel>,
 >
+    // Whatever the answer.
     ensures same { answers.new ≡ answers.old }
+    // After an answer.
     ensures solved { IfOk result
         (λ s.
         (root : Rules)
@@ -210,6 +212,7 @@ pub(crate) fn solve_to_conflict<A: PackageSource, C: ScoreMap<A::NameId> + Drop>
         (λ s.
         IsLeft A.SolvableId.eq (A.packages answers.old) (A.orders answers.old) s.0.found
         s.0.proof.items s.1.items s.2) }
+    // After a refusal.
     ensures cancelled { IfErr result (IsCancelledBy (A.may_cancel answers.old)) }
 {
     let solved = solve::<A, C>(alloc, answers, activity, requirements, constraints, wishes)?;

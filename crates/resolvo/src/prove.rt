@@ -50,6 +50,7 @@ fn steps_of<N: Copy + Exact + Hash + Debug, S: Copy + Exact + Hash + Debug>(
 ) -> R<Vec<ProofStep<N, S>>>
     requires coding { IsCoding coding.now }
     requires denial { IsDenial coding.now found.now }
+    // After an answer.
     ensures proof { IfOk result (λ v. Proves coding.now v.items) }
     ensures drawn { IfOk result
         (λ v.
@@ -80,6 +81,7 @@ fn prove<N: Copy + Exact + Hash + Debug + Drop, S: Copy + Exact + Hash + Debug>(
     found: SearchResult<S>,
 ) -> R<Solved<N, S>>
     requires { IsProvable encoding.now found }
+    // After an answer.
     ensures found { IfOk result (λ s. s.found ≡ found) }
     ensures count { IfOk result (λ s. Counts s.found s.clause_count (length s.proof.items)) }
     ensures clause_count { IfOk result (λ s. s.clause_count ≡ length encoding.now.coding.search.clauses) }
@@ -120,7 +122,9 @@ fn solve_in<A: PackageSource, C: ScoreMap<A::NameId> + Drop>(
     wishes: &[A::SolvableId],
 ) -> Result<Solved<A::NameId, A::SolvableId>, CacheFault<A::Cancel>>
     requires { IsBegunEncoding encoding.old }
+    // Whatever the answer.
     ensures same { answers.new ≡ answers.old }
+    // After an answer.
     ensures solved { IfOk result
         (λ s.
         (root : Rules)
@@ -134,6 +138,7 @@ fn solve_in<A: PackageSource, C: ScoreMap<A::NameId> + Drop>(
         (λ s. AskNothing requirements.now constraints.now wishes.now → s.clause_count ≡ 1) }
     ensures ends { IfOk result (λ s. EndsSo s.found s.proof.items) }
     ensures count { IfOk result (λ s. Counts s.found s.clause_count (length s.proof.items)) }
+    // After a refusal.
     ensures cancelled { IfErr result (IsCancelledBy (A.may_cancel answers.old)) }
 {
     match search::<A, C>(
@@ -163,7 +168,9 @@ pub fn solve<A: PackageSource, C: ScoreMap<A::NameId> + Drop>(
     constraints: &[VersionSetId],
     wishes: &[A::SolvableId],
 ) -> Result<Solved<A::NameId, A::SolvableId>, CacheFault<A::Cancel>>
+    // Whatever the answer.
     ensures same { answers.new ≡ answers.old }
+    // After an answer.
     ensures solved { IfOk result
         (λ s.
         (root : Rules)
@@ -176,6 +183,7 @@ pub fn solve<A: PackageSource, C: ScoreMap<A::NameId> + Drop>(
         (λ s. AskNothing requirements.now constraints.now wishes.now → s.clause_count ≡ 1) }
     ensures ends { IfOk result (λ s. EndsSo s.found s.proof.items) }
     ensures count { IfOk result (λ s. Counts s.found s.clause_count (length s.proof.items)) }
+    // After a refusal.
     ensures cancelled { IfErr result (IsCancelledBy (A.may_cancel answers.old)) }
 {
     let mut encoding = Encoder::begin(alloc)?;

@@ -74,7 +74,9 @@ fn run_others<A: PackageSource, C: ScoreMap<A::NameId>>(
     requires rooted { IsRooted encoding.old }
     requires ended { IsTurn A.SolvableId.eq None encoding.old None }
     requires first { encoding.old.noted.wishes.items ≡ [] }
+    // Whatever the answer.
     ensures same { answers.new ≡ answers.old }
+    // After an answer.
     ensures found { IfOk result
         (λ f.
         (root : Rules)
@@ -89,6 +91,7 @@ fn run_others<A: PackageSource, C: ScoreMap<A::NameId>>(
     ensures listed { IfOk result (IsListedIn encoding.new) }
     ensures denial { IfOk result (IsDenial encoding.new.coding) }
     ensures built { OnOk result (IsBuilt encoding.new) }
+    // After a refusal.
     ensures cancelled { IfErr result (IsCancelledBy (A.may_cancel answers.old)) }
 {
     let mut turns = Turns::new(alloc);
@@ -120,7 +123,9 @@ fn run_turns<A: PackageSource, C: ScoreMap<A::NameId>>(
     wishes: &[A::SolvableId],
 ) -> Result<SearchResult<A::SolvableId>, CacheFault<A::Cancel>>
     requires { IsBegunEncoding encoding.old }
+    // Whatever the answer.
     ensures same { answers.new ≡ answers.old }
+    // After an answer.
     ensures found { IfOk result
         (λ f.
         (root : Rules)
@@ -135,6 +140,7 @@ fn run_turns<A: PackageSource, C: ScoreMap<A::NameId>>(
     ensures listed { IfOk result (IsListedIn encoding.new) }
     ensures denial { IfOk result (IsDenial encoding.new.coding) }
     ensures built { OnOk result (IsBuilt encoding.new) }
+    // After a refusal.
     ensures cancelled { IfErr result (IsCancelledBy (A.may_cancel answers.old)) }
 {
     let turn = run_turn(
@@ -182,6 +188,7 @@ fn find_nothing<A: PackageSource>(
     encoding: &mut Encoder<A::NameId, A::SolvableId>,
 ) -> Result<SearchResult<A::SolvableId>, CacheFault<A::Cancel>>
     requires { IsBegunEncoding encoding.old }
+    // After an answer.
     ensures found { IfOk result
         (λ f.
         (root : Rules)
@@ -193,6 +200,7 @@ fn find_nothing<A: PackageSource>(
     ensures listed { IfOk result (IsListedIn encoding.new) }
     ensures provable { IfOk result (IsProvable encoding.new) }
     ensures alone { OnOk result (length encoding.new.coding.search.clauses ≡ 1) }
+    // After a refusal.
     ensures cancelled { IfErr result (IsCancelledBy (A.may_cancel answers.now)) }
 {
     answers.check()?;
@@ -217,7 +225,9 @@ pub fn search<A: PackageSource, C: ScoreMap<A::NameId> + Drop>(
     wishes: &[A::SolvableId],
 ) -> Result<SearchResult<A::SolvableId>, CacheFault<A::Cancel>>
     requires { IsBegunEncoding encoding.old }
+    // Whatever the answer.
     ensures same { answers.new ≡ answers.old }
+    // After an answer.
     ensures found { IfOk result
         (λ f.
         (root : Rules)
@@ -231,6 +241,7 @@ pub fn search<A: PackageSource, C: ScoreMap<A::NameId> + Drop>(
     ensures alone { OnOk result
         (AskNothing requirements.now constraints.now wishes.now
         → length encoding.new.coding.search.clauses ≡ 1) }
+    // After a refusal.
     ensures cancelled { IfErr result (IsCancelledBy (A.may_cancel answers.old)) }
 {
     if asks_nothing(requirements, constraints, wishes) {

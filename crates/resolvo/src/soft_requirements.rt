@@ -64,7 +64,9 @@ fn run_open<A: PackageSource, C: ScoreMap<A::NameId>>(
     requires rooted { IsRooted encoding.old }
     requires wish { IsWish encoding.old variable }
     requires open { has (made_true (history encoding.old.coding.search)) (yes variable) ≡ false }
+    // Whatever the answer.
     ensures same { answers.new ≡ answers.old }
+    // After an answer.
     ensures stays { OnOk result
         ((root : Rules)
         → IsRoot requirements.now constraints.now root
@@ -78,6 +80,7 @@ fn run_open<A: PackageSource, C: ScoreMap<A::NameId>>(
         × (base_of encoding.new ≡ history encoding.old.coding.search)) }
     ensures ended { IfOk result (IsTurn A.SolvableId.eq (Some variable) encoding.new) }
     ensures built { OnOk result (IsBuilt encoding.new) }
+    // After a refusal.
     ensures cancelled { IfErr result (IsCancelledBy (A.may_cancel answers.old)) }
 {
     encoding.begin_turn();
@@ -103,6 +106,7 @@ fn refuse<N: Copy + Exact + Hash + Debug, S: Copy + Exact + Hash + Debug>(
     requires built { IsBuilt encoding.old }
     requires refused { IsRefusable encoding.old refusal }
     requires some { 0 < length refusal.literals.items }
+    // After an answer.
     ensures stays { OnOk result
         ((p : Packages N S) (root : Rules)
         → IsLawful p
@@ -125,6 +129,7 @@ fn refuse_turn<N: Copy + Exact + Hash + Debug, S: Copy + Exact + Hash + Debug>(
 ) -> R<SoftOutcome>
     requires built { IsBuilt encoding.old }
     requires refused { IsRefusable encoding.old refusal }
+    // After an answer.
     ensures stays { OnOk result
         ((p : Packages N S) (root : Rules)
         → IsLawful p
@@ -154,7 +159,9 @@ pub fn run_soft_requirement<A: PackageSource, C: ScoreMap<A::NameId>>(
 ) -> Result<SoftOutcome, CacheFault<A::Cancel>>
     requires built { IsBuilt encoding.old }
     requires rooted { IsRooted encoding.old }
+    // Whatever the answer.
     ensures same { answers.new ≡ answers.old }
+    // After an answer.
     ensures stays { IfOk result
         (λ w.
         (root : Rules)
@@ -169,6 +176,7 @@ pub fn run_soft_requirement<A: PackageSource, C: ScoreMap<A::NameId>>(
     ensures outcome { IfOk result (IsOutcome A.SolvableId.eq wish encoding.old encoding.new) }
     ensures keeps { OnOk result (KeepsTrail encoding.old encoding.new) }
     ensures built { OnOk result (IsBuilt encoding.new) }
+    // After a refusal.
     ensures cancelled { IfErr result (IsCancelledBy (A.may_cancel answers.old)) }
 {
     let name = answers.package(wish);
@@ -219,7 +227,9 @@ fn run_next<A: PackageSource, C: ScoreMap<A::NameId>>(
     requires built { IsBuilt encoding.old }
     requires rooted { IsRooted encoding.old }
     requires at { AreAt encoding.old turns.old }
+    // Whatever the answer.
     ensures same { answers.new ≡ answers.old }
+    // After an answer.
     ensures right { IfOk result
         (λ o.
         (root : Rules) (first : ℕ) (done : List A.SolvableId)
@@ -237,6 +247,7 @@ fn run_next<A: PackageSource, C: ScoreMap<A::NameId>>(
     ensures front { OnOk result (IsFrontOf turns.old.chosen.keys turns.new.chosen.keys) }
     ensures rooted { OnOk result (IsRooted encoding.new) }
     ensures built { OnOk result (IsBuilt encoding.new) }
+    // After a refusal.
     ensures cancelled { IfErr result (IsCancelledBy (A.may_cancel answers.old)) }
 {
     let begin = turns.chosen.len();
@@ -283,7 +294,9 @@ pub fn run_soft_requirements<A: PackageSource, C: ScoreMap<A::NameId>>(
     requires built { IsBuilt encoding.old }
     requires rooted { IsRooted encoding.old }
     requires at { AreAt encoding.old turns.old }
+    // Whatever the answer.
     ensures same { answers.new ≡ answers.old }
+    // After an answer.
     ensures right { IfOk result
         (λ o.
         (root : Rules) (first : ℕ)
@@ -300,6 +313,7 @@ pub fn run_soft_requirements<A: PackageSource, C: ScoreMap<A::NameId>>(
     ensures stands { IfOk result (StandSo encoding.new turns.new) }
     ensures front { OnOk result (IsFrontOf turns.old.chosen.keys turns.new.chosen.keys) }
     ensures built { OnOk result (IsBuilt encoding.new) }
+    // After a refusal.
     ensures cancelled { IfErr result (IsCancelledBy (A.may_cancel answers.old)) }
 {
     for wish in wishes {

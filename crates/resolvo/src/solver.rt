@@ -246,6 +246,7 @@ impl<D: DependencyProvider> Solver<D> {
     ) -> Result<Vec<D::SolvableId>, UnsolvableOrCancelled<D::Cancel>>
         requires wishes { I.can_next problem.soft_requirements }
         requires finite { IsFinite (I.remaining problem.soft_requirements) }
+        // What the call promises.
         ensures provider { self.new.provider ≡ self.old.provider }
         ensures answer { IfEnded result
             ((wishes : List D.SolvableId)
@@ -266,6 +267,7 @@ impl<D: DependencyProvider> Solver<D> {
             → self.new.clause_count ≡ 1)) }
         ensures once { IfOk result (λ v. AreOnce v.items) }
         ensures leaves { Leaves result self.new }
+        // After a refusal.
         ensures cancelled { IsStopped (D.may_cancel self.old.provider) result }
     {
         self.forget();

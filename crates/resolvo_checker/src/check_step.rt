@@ -243,13 +243,16 @@ fn is_derived(
     requires later { truth.old.pass ≤ length clauses.old.kept }
     requires short { length clauses.old.kept + 1 < 2 ^ 32 }
     requires room { clauses.old.readings.read + length causes.now < 2 ^ 64 }
+    // After an answer.
     ensures answer { IfOk result
         (λ fine.
         fine
         ≡ (list_all (is_earlier (length clauses.old.kept)) causes.now && one_pass nat_eq
         (literals_of derived.now) (map (clause_at clauses.old.kept) causes.now))) }
+    // Whatever the answer.
     ensures pass { truth.new.pass ≤ length clauses.old.kept + 1 }
     ensures kept { clauses.new.kept ≡ clauses.old.kept }
+    // After an answer.
     ensures read { IfOk result
         (λ fine.
         IsTrue fine
@@ -296,6 +299,7 @@ fn follows(
     requires later { truth.old.pass ≤ length clauses.old.kept }
     requires short { length clauses.old.kept + 1 < 2 ^ 32 }
     requires room { clauses.old.readings.read + causes_in (step_of step.now) < 2 ^ 64 }
+    // After an answer.
     ensures answer { IfOk result
         (λ fine.
         (request : List says.Line) (entries : List (Vec ℕ × ℕ)) (earlier : List SaidStep)
@@ -307,8 +311,10 @@ fn follows(
         → Numbered (listed catalogue.now) entries
         (clause_or_none catalogue.now request (step_of step.now)) literals.now
         → fine ≡ follows_lem catalogue.now request earlier (step_of step.now)) }
+    // Whatever the answer.
     ensures pass { truth.new.pass ≤ length clauses.old.kept + 1 }
     ensures kept { clauses.new.kept ≡ clauses.old.kept }
+    // After an answer.
     ensures read { IfOk result
         (λ fine.
         IsTrue fine
@@ -366,6 +372,7 @@ pub fn advance(
     requires long { length checker.old.places.items ≡ length (listed catalogue.now) }
     requires short { length clauses.old.kept + 1 < 2 ^ 32 }
     requires room { clauses.old.readings.read + causes_in (step_of step.now) < 2 ^ 64 }
+    // After an answer.
     ensures answer { IfOk result
         (λ fine.
         (earlier : List SaidStep)

@@ -93,6 +93,7 @@ fn check_from(
     requires long { length checker.old.places.items ≡ length (listed catalogue.now) }
     requires few { length steps.now + 1 < 2 ^ 32 }
     requires room { count_causes (steps_of steps.now) < 2 ^ 64 }
+    // After an answer.
     ensures wrong { IfOk result
         (λ wrong.
         IfSome wrong

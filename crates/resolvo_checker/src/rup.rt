@@ -108,6 +108,7 @@ pub fn is_rup(
     requires later { truth.old.pass < pass }
     requires causes { list_all (is_earlier (length clauses.old.kept)) causes.now ≡ true }
     requires room { clauses.old.readings.read + length causes.now < 2 ^ 64 }
+    // After an answer.
     ensures answer { IfOk result
         (λ refuted.
         refuted
@@ -116,6 +117,7 @@ pub fn is_rup(
     ensures read { OnOk result
         (clauses.new.readings
         ≡ record clauses.old.readings { read = clauses.old.readings.read + length causes.now }) }
+    // Whatever the answer.
     ensures kept { clauses.new.kept ≡ clauses.old.kept }
     ensures pass { truth.new.pass ≡ pass }
 {

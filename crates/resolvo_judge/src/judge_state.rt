@@ -100,6 +100,7 @@ fn take_numbered(
     requires long { length judging.old.log.checker.places.items ≡ length (listed catalogue.now) }
     requires short { length clauses.old.kept + 1 < 2 ^ 32 }
     requires room { clauses.old.readings.read + causes_in_lem (step_of step.now) < 2 ^ 64 }
+    // After an answer.
     ensures answer { IfOk result
         (λ fine.
         (above : List SaidLine) (n : ℕ)
@@ -128,8 +129,10 @@ fn take_numbered(
         → TellsBarred catalogue.now request.now.lines judging.old.barred above
         → TellsBarred catalogue.now request.now.lines judging.new.barred
         (above ++ Numbered n (step_of step.now) ∷ [])) }
+    // Whatever the answer.
     ensures entries { judging.new.entries ≡ judging.old.entries }
     ensures refused { judging.new.refused ≡ judging.old.refused }
+    // After an answer.
     ensures later { IfOk result
         (λ fine. IsTrue fine → judging.new.log.checker.truth.pass ≤ length clauses.new.kept) }
     ensures long { IfOk result
@@ -169,6 +172,7 @@ fn take_line(
     requires short { length clauses.old.kept + 1 < 2 ^ 32 }
     requires few { judging.old.entries.chosen.count < 2 ^ 32 }
     requires room { clauses.old.readings.read + causes_of_line_lem (report_line_of line.now) < 2 ^ 64 }
+    // After an answer.
     ensures answer { IfOk result
         (λ fine.
         (above : List SaidLine)
@@ -215,7 +219,9 @@ fn take_line(
         → TellsBarred catalogue.now request.now.lines judging.old.barred above
         → TellsBarred catalogue.now request.now.lines judging.new.barred
         (above ++ report_line_of line.now ∷ [])) }
+    // Whatever the answer.
     ensures refused { judging.new.refused ≡ judging.old.refused }
+    // After an answer.
     ensures later { IfOk result
         (λ fine. IsTrue fine → judging.new.log.checker.truth.pass ≤ length clauses.new.kept) }
     ensures long { IfOk result
@@ -280,6 +286,7 @@ pub fn take(
     requires few { judging.old.entries.chosen.count < 2 ^ 32 }
     requires room { clauses.old.readings.read + causes_of_line_lem (report_line_of line) < 2 ^ 64 }
     requires named { clauses.old.readings.named + causes_of_line_lem (report_line_of line) < 2 ^ 64 }
+    // After an answer.
     ensures answer { IfOk result
         (λ fine.
         (above : List SaidLine)

@@ -65,6 +65,7 @@ fn judge_lines<S: Source>(
     requires kept { clauses.old.kept ≡ [] }
     requires named { clauses.old.readings.named ≡ 0 }
     requires read { clauses.old.readings.read ≡ 0 }
+    // After an answer.
     ensures verdict { IfOk result
         (λ verdict.
         IfKnown (S.left source.old)
@@ -72,6 +73,7 @@ fn judge_lines<S: Source>(
     ensures counted { IfOk result
         (λ verdict.
         IfKnown (S.left source.old) (λ text. CountsReadings text verdict clauses.new.readings)) }
+    // After a refusal.
     ensures fault { IfErr result
         (λ e.
         IsStop catalogue.now request.now.lines e (S.left source.old) (S.left source.new)

@@ -95,6 +95,7 @@ pub fn take_step(
     requires long { length log.old.checker.places.items ≡ length (listed catalogue.now) }
     requires short { length clauses.old.kept + 1 < 2 ^ 32 }
     requires room { clauses.old.readings.read + causes_in (step_of step.now) < 2 ^ 64 }
+    // After an answer.
     ensures answer { IfOk result
         (λ fine.
         (above : List ReportLine) (n : ℕ)

@@ -79,6 +79,7 @@ pub fn decide<A: PackageSource, C: ScoreMap<A::NameId>>(
     activity: Activity,
 ) -> Result<Option<FinalConflict>, CacheFault<A::Cancel>>
     requires built { IsBuilt encoding.old }
+    // After an answer.
     ensures stays { OnOk result
         ((root : Rules)
         → IsInOrder A.SolvableId.eq (A.packages answers.now) (A.orders answers.now) root
@@ -89,6 +90,7 @@ pub fn decide<A: PackageSource, C: ScoreMap<A::NameId>>(
     ensures first { OnOk result (KeepsFirst encoding.old encoding.new) }
     ensures decided { IfOk result (IsDecision encoding.new) }
     ensures built { OnOk result (IsBuilt encoding.new) }
+    // After a refusal.
     ensures cancelled { IfErr result (IsCancelledBy (A.may_cancel answers.now)) }
 {
     loop {

@@ -80,7 +80,9 @@ fn defer_case<A: PackageSource>(
     case: &[VersionSetId],
 ) -> Result<(), CacheFault<A::Cancel>>
     requires { IsBuilt encoding.old }
+    // Whatever the answer.
     ensures same { answers.new ≡ answers.old }
+    // After an answer.
     ensures encoded { OnOk result
         ((root : Rules)
         → IsInOrder A.SolvableId.eq (A.packages answers.old) (A.orders answers.old) root
@@ -93,6 +95,7 @@ fn defer_case<A: PackageSource>(
         × IsDeferred encoding.new parent need case.now) }
     ensures kept { OnOk result (AddsNeeds encoding.old encoding.new) }
     ensures built { OnOk result (IsBuilt encoding.new) }
+    // After a refusal.
     ensures cancelled { IfErr result (IsCancelledBy (A.may_cancel answers.old)) }
 {
     let conjuncts = conjuncts_of(alloc, answers, case)?;
@@ -111,7 +114,9 @@ pub fn defer_need<A: PackageSource>(
 ) -> Result<(), CacheFault<A::Cancel>>
     requires built { IsBuilt encoding.old }
     requires condition { need.condition ≡ Some condition }
+    // Whatever the answer.
     ensures same { answers.new ≡ answers.old }
+    // After an answer.
     ensures encoded { OnOk result
         ((root : Rules)
         → IsInOrder A.SolvableId.eq (A.packages answers.old) (A.orders answers.old) root
@@ -124,6 +129,7 @@ pub fn defer_need<A: PackageSource>(
         (cases_for A.SolvableId.eq (A.packages answers.old) need)) }
     ensures kept { OnOk result (AddsNeeds encoding.old encoding.new) }
     ensures built { OnOk result (IsBuilt encoding.new) }
+    // After a refusal.
     ensures cancelled { IfErr result (IsCancelledBy (A.may_cancel answers.old)) }
 {
     let cases = answers.cases(condition)?;
@@ -141,7 +147,9 @@ fn defer_cases<A: PackageSource>(
     cases: &[Vec<VersionSetId>],
 ) -> Result<(), CacheFault<A::Cancel>>
     requires { IsBuilt encoding.old }
+    // Whatever the answer.
     ensures same { answers.new ≡ answers.old }
+    // After an answer.
     ensures encoded { OnOk result
         ((root : Rules)
         → IsInOrder A.SolvableId.eq (A.packages answers.old) (A.orders answers.old) root
@@ -156,6 +164,7 @@ fn defer_cases<A: PackageSource>(
         × AreDeferred encoding.new parent need (cases_of cases.now)) }
     ensures kept { OnOk result (AddsNeeds encoding.old encoding.new) }
     ensures built { OnOk result (IsBuilt encoding.new) }
+    // After a refusal.
     ensures cancelled { IfErr result (IsCancelledBy (A.may_cancel answers.old)) }
 {
     for case in cases {

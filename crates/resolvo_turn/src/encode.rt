@@ -48,7 +48,9 @@ fn bar_package<A: PackageSource>(
     name: A::NameId,
 ) -> Result<(), CacheFault<A::Cancel>>
     requires { IsBuilt encoding.old }
+    // Whatever the answer.
     ensures same { answers.new ≡ answers.old }
+    // After an answer.
     ensures encoded { OnOk result
         ((root : Rules)
         → IsInOrder A.SolvableId.eq (A.packages answers.old) (A.orders answers.old) root
@@ -61,6 +63,7 @@ fn bar_package<A: PackageSource>(
     ensures kept { OnOk result (AddsNeeds encoding.old encoding.new) }
     ensures fired { OnOk result (encoding.new.fired ≡ encoding.old.fired) }
     ensures built { OnOk result (IsBuilt encoding.new) }
+    // After a refusal.
     ensures cancelled { IfErr result (IsCancelledBy (A.may_cancel answers.old)) }
 {
     if encoding.is_encoded(name) {
@@ -79,7 +82,9 @@ fn bar_packages<A: PackageSource>(
     names: &[A::NameId],
 ) -> Result<(), CacheFault<A::Cancel>>
     requires { IsBuilt encoding.old }
+    // Whatever the answer.
     ensures same { answers.new ≡ answers.old }
+    // After an answer.
     ensures encoded { OnOk result
         ((root : Rules)
         → IsInOrder A.SolvableId.eq (A.packages answers.old) (A.orders answers.old) root
@@ -93,6 +98,7 @@ fn bar_packages<A: PackageSource>(
     ensures kept { OnOk result (AddsNeeds encoding.old encoding.new) }
     ensures fired { OnOk result (encoding.new.fired ≡ encoding.old.fired) }
     ensures built { OnOk result (IsBuilt encoding.new) }
+    // After a refusal.
     ensures cancelled { IfErr result (IsCancelledBy (A.may_cancel answers.old)) }
 {
     for name in names {
@@ -109,7 +115,9 @@ pub fn guard<A: PackageSource>(
     requirement: Requirement,
 ) -> Result<(), CacheFault<A::Cancel>>
     requires { IsBuilt encoding.old }
+    // Whatever the answer.
     ensures same { answers.new ≡ answers.old }
+    // After an answer.
     ensures encoded { OnOk result
         ((root : Rules)
         → IsInOrder A.SolvableId.eq (A.packages answers.old) (A.orders answers.old) root
@@ -121,6 +129,7 @@ pub fn guard<A: PackageSource>(
     ensures kept { OnOk result (AddsNeeds encoding.old encoding.new) }
     ensures fired { OnOk result (encoding.new.fired ≡ encoding.old.fired) }
     ensures built { OnOk result (IsBuilt encoding.new) }
+    // After a refusal.
     ensures cancelled { IfErr result (IsCancelledBy (A.may_cancel answers.old)) }
 {
     let names = answers.named(requirement)?;
@@ -137,7 +146,9 @@ fn require<A: PackageSource>(
     need: ConditionalRequirement,
 ) -> Result<(), CacheFault<A::Cancel>>
     requires { IsBuilt encoding.old }
+    // Whatever the answer.
     ensures same { answers.new ≡ answers.old }
+    // After an answer.
     ensures encoded { OnOk result
         ((root : Rules)
         → IsInOrder A.SolvableId.eq (A.packages answers.old) (A.orders answers.old) root
@@ -151,6 +162,7 @@ fn require<A: PackageSource>(
         need []) }
     ensures kept { OnOk result (AddsNeeds encoding.old encoding.new) }
     ensures built { OnOk result (IsBuilt encoding.new) }
+    // After a refusal.
     ensures cancelled { IfErr result (IsCancelledBy (A.may_cancel answers.old)) }
 {
     let offered = answers.candidates(need.requirement)?;
@@ -168,7 +180,9 @@ fn encode_plain_need<A: PackageSource>(
     need: ConditionalRequirement,
 ) -> Result<(), CacheFault<A::Cancel>>
     requires { IsBuilt encoding.old }
+    // Whatever the answer.
     ensures same { answers.new ≡ answers.old }
+    // After an answer.
     ensures encoded { OnOk result
         ((root : Rules)
         → IsInOrder A.SolvableId.eq (A.packages answers.old) (A.orders answers.old) root
@@ -180,6 +194,7 @@ fn encode_plain_need<A: PackageSource>(
         need []) }
     ensures kept { OnOk result (AddsNeeds encoding.old encoding.new) }
     ensures built { OnOk result (IsBuilt encoding.new) }
+    // After a refusal.
     ensures cancelled { IfErr result (IsCancelledBy (A.may_cancel answers.old)) }
 {
     guard(alloc, answers, encoding, need.requirement)?;
@@ -196,7 +211,9 @@ fn encode_need<A: PackageSource>(
     need: ConditionalRequirement,
 ) -> Result<(), CacheFault<A::Cancel>>
     requires { IsBuilt encoding.old }
+    // Whatever the answer.
     ensures same { answers.new ≡ answers.old }
+    // After an answer.
     ensures encoded { OnOk result
         ((root : Rules)
         → IsInOrder A.SolvableId.eq (A.packages answers.old) (A.orders answers.old) root
@@ -209,6 +226,7 @@ fn encode_need<A: PackageSource>(
         need) }
     ensures kept { OnOk result (AddsNeeds encoding.old encoding.new) }
     ensures built { OnOk result (IsBuilt encoding.new) }
+    // After a refusal.
     ensures cancelled { IfErr result (IsCancelledBy (A.may_cancel answers.old)) }
 {
     match need.condition {
@@ -232,7 +250,9 @@ fn encode_needs<A: PackageSource>(
     needs: &[ConditionalRequirement],
 ) -> Result<(), CacheFault<A::Cancel>>
     requires { IsBuilt encoding.old }
+    // Whatever the answer.
     ensures same { answers.new ≡ answers.old }
+    // After an answer.
     ensures encoded { OnOk result
         ((root : Rules)
         → IsInOrder A.SolvableId.eq (A.packages answers.old) (A.orders answers.old) root
@@ -250,6 +270,7 @@ fn encode_needs<A: PackageSource>(
         need)) }
     ensures kept { OnOk result (AddsNeeds encoding.old encoding.new) }
     ensures built { OnOk result (IsBuilt encoding.new) }
+    // After a refusal.
     ensures cancelled { IfErr result (IsCancelledBy (A.may_cancel answers.old)) }
 {
     for need in needs {
@@ -267,7 +288,9 @@ fn limit<A: PackageSource>(
     version_set: VersionSetId,
 ) -> Result<(), CacheFault<A::Cancel>>
     requires { IsBuilt encoding.old }
+    // Whatever the answer.
     ensures same { answers.new ≡ answers.old }
+    // After an answer.
     ensures encoded { OnOk result
         ((root : Rules)
         → IsInOrder A.SolvableId.eq (A.packages answers.old) (A.orders answers.old) root
@@ -280,6 +303,7 @@ fn limit<A: PackageSource>(
         parent version_set) }
     ensures kept { OnOk result (AddsNeeds encoding.old encoding.new) }
     ensures built { OnOk result (IsBuilt encoding.new) }
+    // After a refusal.
     ensures cancelled { IfErr result (IsCancelledBy (A.may_cancel answers.old)) }
 {
     let outside = answers.outside(version_set)?;
@@ -296,7 +320,9 @@ fn encode_limit<A: PackageSource>(
     version_set: VersionSetId,
 ) -> Result<(), CacheFault<A::Cancel>>
     requires { IsBuilt encoding.old }
+    // Whatever the answer.
     ensures same { answers.new ≡ answers.old }
+    // After an answer.
     ensures encoded { OnOk result
         ((root : Rules)
         → IsInOrder A.SolvableId.eq (A.packages answers.old) (A.orders answers.old) root
@@ -311,6 +337,7 @@ fn encode_limit<A: PackageSource>(
         (Single version_set)) }
     ensures kept { OnOk result (AddsNeeds encoding.old encoding.new) }
     ensures built { OnOk result (IsBuilt encoding.new) }
+    // After a refusal.
     ensures cancelled { IfErr result (IsCancelledBy (A.may_cancel answers.old)) }
 {
     guard(alloc, answers, encoding, Requirement::Single(version_set))?;
@@ -327,7 +354,9 @@ fn encode_limits<A: PackageSource>(
     constraints: &[VersionSetId],
 ) -> Result<(), CacheFault<A::Cancel>>
     requires { IsBuilt encoding.old }
+    // Whatever the answer.
     ensures same { answers.new ≡ answers.old }
+    // After an answer.
     ensures encoded { OnOk result
         ((root : Rules)
         → IsInOrder A.SolvableId.eq (A.packages answers.old) (A.orders answers.old) root
@@ -347,6 +376,7 @@ fn encode_limits<A: PackageSource>(
         (Single version_set))) }
     ensures kept { OnOk result (AddsNeeds encoding.old encoding.new) }
     ensures built { OnOk result (IsBuilt encoding.new) }
+    // After a refusal.
     ensures cancelled { IfErr result (IsCancelledBy (A.may_cancel answers.old)) }
 {
     for version_set in constraints {
@@ -365,7 +395,9 @@ fn encode_rules<A: PackageSource>(
     constraints: &[VersionSetId],
 ) -> Result<(), CacheFault<A::Cancel>>
     requires { IsBuilt encoding.old }
+    // Whatever the answer.
     ensures same { answers.new ≡ answers.old }
+    // After an answer.
     ensures encoded { OnOk result
         ((root : Rules)
         → AreRulesOf A.SolvableId.eq (A.packages answers.old) root parent requirements.now
@@ -377,6 +409,7 @@ fn encode_rules<A: PackageSource>(
         × IsParentEncoded A.SolvableId.eq (A.packages answers.old) encoding.new root parent) }
     ensures kept { OnOk result (AddsNeeds encoding.old encoding.new) }
     ensures built { OnOk result (IsBuilt encoding.new) }
+    // After a refusal.
     ensures cancelled { IfErr result (IsCancelledBy (A.may_cancel answers.old)) }
 {
     encode_needs(alloc, answers, encoding, parent, requirements)?;
@@ -394,7 +427,9 @@ fn encode_parent<A: PackageSource>(
     parent: SolvableIdOrRoot<A::SolvableId>,
 ) -> Result<(), CacheFault<A::Cancel>>
     requires { IsBuilt encoding.old }
+    // Whatever the answer.
     ensures same { answers.new ≡ answers.old }
+    // After an answer.
     ensures encoded { OnOk result
         ((root : Rules)
         → IsRoot requirements.now constraints.now root
@@ -406,6 +441,7 @@ fn encode_parent<A: PackageSource>(
         (solvable_of parent)) }
     ensures kept { OnOk result (AddsNeeds encoding.old encoding.new) }
     ensures built { OnOk result (IsBuilt encoding.new) }
+    // After a refusal.
     ensures cancelled { IfErr result (IsCancelledBy (A.may_cancel answers.old)) }
 {
     match parent {
@@ -442,7 +478,9 @@ pub fn encode_parents<A: PackageSource>(
     constraints: &[VersionSetId],
 ) -> Result<(), CacheFault<A::Cancel>>
     requires { IsBuilt encoding.old }
+    // Whatever the answer.
     ensures same { answers.new ≡ answers.old }
+    // After an answer.
     ensures encoded { OnOk result
         ((root : Rules)
         → IsRoot requirements.now constraints.now root
@@ -453,6 +491,7 @@ pub fn encode_parents<A: PackageSource>(
     ensures all { OnOk result (AddsAll encoding.old encoding.new) }
     ensures turn { OnOk result (KeepsTurns encoding.old encoding.new) }
     ensures built { OnOk result (IsBuilt encoding.new) }
+    // After a refusal.
     ensures cancelled { IfErr result (IsCancelledBy (A.may_cancel answers.old)) }
 {
     while let Some(parent) = encoding.next_parent() {

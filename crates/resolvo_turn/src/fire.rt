@@ -67,7 +67,9 @@ fn state_case<A: PackageSource>(
     sets: &[ConditionSet<A::NameId, A::SolvableId>],
 ) -> Result<(), CacheFault<A::Cancel>>
     requires { IsBuilt encoding.old }
+    // Whatever the answer.
     ensures same { answers.new ≡ answers.old }
+    // After an answer.
     ensures encoded { OnOk result
         ((root : Rules)
         → IsInOrder A.SolvableId.eq (A.packages answers.old) (A.orders answers.old) root
@@ -85,6 +87,7 @@ fn state_case<A: PackageSource>(
     ensures kept { OnOk result (AddsNeeds encoding.old encoding.new) }
     ensures fired { OnOk result (encoding.new.fired ≡ encoding.old.fired) }
     ensures built { OnOk result (IsBuilt encoding.new) }
+    // After a refusal.
     ensures cancelled { IfErr result (IsCancelledBy (A.may_cancel answers.old)) }
 {
     let offered = answers.candidates(need.requirement)?;
@@ -103,7 +106,9 @@ fn encode_case<A: PackageSource>(
     case: &[VersionSetId],
 ) -> Result<(), CacheFault<A::Cancel>>
     requires { IsBuilt encoding.old }
+    // Whatever the answer.
     ensures same { answers.new ≡ answers.old }
+    // After an answer.
     ensures encoded { OnOk result
         ((root : Rules)
         → IsInOrder A.SolvableId.eq (A.packages answers.old) (A.orders answers.old) root
@@ -118,6 +123,7 @@ fn encode_case<A: PackageSource>(
     ensures kept { OnOk result (AddsNeeds encoding.old encoding.new) }
     ensures fired { OnOk result (encoding.new.fired ≡ encoding.old.fired) }
     ensures built { OnOk result (IsBuilt encoding.new) }
+    // After a refusal.
     ensures cancelled { IfErr result (IsCancelledBy (A.may_cancel answers.old)) }
 {
     guard(alloc, answers, encoding, need.requirement)?;
@@ -136,7 +142,9 @@ fn fire<A: PackageSource>(
     requires built { IsBuilt encoding.old }
     requires within { index < length encoding.old.deferred.items }
     requires waits { Contains encoding.old.fired.keys index → ⊥ }
+    // Whatever the answer.
     ensures same { answers.new ≡ answers.old }
+    // After an answer.
     ensures stays { OnOk result
         ((root : Rules)
         → IsInOrder A.SolvableId.eq (A.packages answers.old) (A.orders answers.old) root
@@ -146,6 +154,7 @@ fn fire<A: PackageSource>(
     ensures kept { OnOk result (AddsNeeds encoding.old encoding.new) }
     ensures fires { OnOk result (FiresMore encoding.old encoding.new) }
     ensures built { OnOk result (IsBuilt encoding.new) }
+    // After a refusal.
     ensures cancelled { IfErr result (IsCancelledBy (A.may_cancel answers.old)) }
 {
     let DeferredRequirement { parent, need, case } = encoding.waiting(alloc, index)?;
@@ -162,7 +171,9 @@ fn fire_if_due<A: PackageSource>(
     index: usize,
 ) -> Result<bool, CacheFault<A::Cancel>>
     requires built { IsBuilt encoding.old }
+    // Whatever the answer.
     ensures same { answers.new ≡ answers.old }
+    // After an answer.
     ensures stays { OnOk result
         ((root : Rules)
         → IsInOrder A.SolvableId.eq (A.packages answers.old) (A.orders answers.old) root
@@ -175,6 +186,7 @@ fn fire_if_due<A: PackageSource>(
         (λ b.
         b ≡ false → (encoding.new ≡ encoding.old) × IsSpent A.SolvableId.eq encoding.new index) }
     ensures built { OnOk result (IsBuilt encoding.new) }
+    // After a refusal.
     ensures cancelled { IfErr result (IsCancelledBy (A.may_cancel answers.old)) }
 {
     if !encoding.is_due(index) {
@@ -192,7 +204,9 @@ pub fn fire_cases<A: PackageSource>(
     encoding: &mut Encoder<A::NameId, A::SolvableId>,
 ) -> Result<bool, CacheFault<A::Cancel>>
     requires { IsBuilt encoding.old }
+    // Whatever the answer.
     ensures same { answers.new ≡ answers.old }
+    // After an answer.
     ensures stays { OnOk result
         ((root : Rules)
         → IsInOrder A.SolvableId.eq (A.packages answers.old) (A.orders answers.old) root
@@ -204,6 +218,7 @@ pub fn fire_cases<A: PackageSource>(
     ensures spent { IfOk result
         (λ b. b ≡ false → (encoding.new ≡ encoding.old) × AreSpent A.SolvableId.eq encoding.new) }
     ensures built { OnOk result (IsBuilt encoding.new) }
+    // After a refusal.
     ensures cancelled { IfErr result (IsCancelledBy (A.may_cancel answers.old)) }
 {
     let mut has_fired = false;

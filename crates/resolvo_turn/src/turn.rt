@@ -82,7 +82,9 @@ fn encode<A: PackageSource>(
     constraints: &[VersionSetId],
 ) -> Result<(), CacheFault<A::Cancel>>
     requires { IsBuilt encoding.old }
+    // Whatever the answer.
     ensures same { answers.new ≡ answers.old }
+    // After an answer.
     ensures encoded { OnOk result
         ((root : Rules)
         → IsRoot requirements.now constraints.now root
@@ -93,6 +95,7 @@ fn encode<A: PackageSource>(
     ensures all { OnOk result (AddsAll encoding.old encoding.new) }
     ensures turn { OnOk result (KeepsTurns encoding.old encoding.new) }
     ensures built { OnOk result (IsBuilt encoding.new) }
+    // After a refusal.
     ensures cancelled { IfErr result (IsCancelledBy (A.may_cancel answers.old)) }
 {
     let before = encoding.coding.search.clauses.len();
@@ -109,7 +112,9 @@ fn fire<A: PackageSource>(
     encoding: &mut Encoder<A::NameId, A::SolvableId>,
 ) -> Result<bool, CacheFault<A::Cancel>>
     requires { IsBuilt encoding.old }
+    // Whatever the answer.
     ensures same { answers.new ≡ answers.old }
+    // After an answer.
     ensures stays { OnOk result
         ((root : Rules)
         → IsInOrder A.SolvableId.eq (A.packages answers.old) (A.orders answers.old) root
@@ -121,6 +126,7 @@ fn fire<A: PackageSource>(
     ensures spent { IfOk result
         (λ b. b ≡ false → (encoding.new ≡ encoding.old) × AreSpent A.SolvableId.eq encoding.new) }
     ensures built { OnOk result (IsBuilt encoding.new) }
+    // After a refusal.
     ensures cancelled { IfErr result (IsCancelledBy (A.may_cancel answers.old)) }
 {
     let before = encoding.coding.search.clauses.len();
@@ -139,6 +145,7 @@ fn choose_first<N: Copy + Exact + Hash + Debug, S: Copy + Exact + Hash + Debug>(
 ) -> R<Option<FinalConflict>>
     requires built { IsBuilt encoding.old }
     requires turn { HasTurn wish encoding.old }
+    // After an answer.
     ensures stays { OnOk result
         ((p : Packages N S) (root : Rules)
         → IsLawful p
@@ -166,6 +173,7 @@ fn choose_and_decide<A: PackageSource, C: ScoreMap<A::NameId>>(
 ) -> Result<Option<FinalConflict>, CacheFault<A::Cancel>>
     requires built { IsBuilt encoding.old }
     requires turn { HasTurn wish encoding.old }
+    // After an answer.
     ensures stays { OnOk result
         ((root : Rules)
         → IsInOrder A.SolvableId.eq (A.packages answers.now) (A.orders answers.now) root
@@ -176,6 +184,7 @@ fn choose_and_decide<A: PackageSource, C: ScoreMap<A::NameId>>(
     ensures turn { OnOk result (KeepsTurn wish encoding.old encoding.new) }
     ensures decided { IfOk result (IsDecisionOf wish encoding.new) }
     ensures built { OnOk result (IsBuilt encoding.new) }
+    // After a refusal.
     ensures cancelled { IfErr result (IsCancelledBy (A.may_cancel answers.now)) }
 {
     if let Some(refusal) = choose_first(alloc, encoding, wish)? {
@@ -198,7 +207,9 @@ fn encode_and_decide<A: PackageSource, C: ScoreMap<A::NameId>>(
 ) -> Result<Option<FinalConflict>, CacheFault<A::Cancel>>
     requires built { IsBuilt encoding.old }
     requires turn { HasTurn wish encoding.old }
+    // Whatever the answer.
     ensures same { answers.new ≡ answers.old }
+    // After an answer.
     ensures stays { OnOk result
         ((root : Rules)
         → IsRoot requirements.now constraints.now root
@@ -210,6 +221,7 @@ fn encode_and_decide<A: PackageSource, C: ScoreMap<A::NameId>>(
     ensures turn { OnOk result (KeepsTurn wish encoding.old encoding.new) }
     ensures decided { IfOk result (IsDecisionOf wish encoding.new) }
     ensures built { OnOk result (IsBuilt encoding.new) }
+    // After a refusal.
     ensures cancelled { IfErr result (IsCancelledBy (A.may_cancel answers.old)) }
 {
     encode(alloc, answers, encoding, requirements, constraints)?;
@@ -243,7 +255,9 @@ fn run_round<A: PackageSource, C: ScoreMap<A::NameId>>(
     requires built { IsBuilt encoding.old }
     requires rooted { IsRooted encoding.old }
     requires turn { HasTurn wish encoding.old }
+    // Whatever the answer.
     ensures same { answers.new ≡ answers.old }
+    // After an answer.
     ensures stays { OnOk result
         ((root : Rules)
         → IsRoot requirements.now constraints.now root
@@ -255,6 +269,7 @@ fn run_round<A: PackageSource, C: ScoreMap<A::NameId>>(
     ensures turn { OnOk result (KeepsTurn wish encoding.old encoding.new) }
     ensures round { IfOk result (IsRound A.SolvableId.eq wish encoding.old encoding.new) }
     ensures built { OnOk result (IsBuilt encoding.new) }
+    // After a refusal.
     ensures cancelled { IfErr result (IsCancelledBy (A.may_cancel answers.old)) }
 {
     let decided = encode_and_decide(
@@ -295,7 +310,9 @@ pub fn run_turn<A: PackageSource, C: ScoreMap<A::NameId>>(
     requires built { IsBuilt encoding.old }
     requires rooted { IsRooted encoding.old }
     requires turn { HasTurn wish encoding.old }
+    // Whatever the answer.
     ensures same { answers.new ≡ answers.old }
+    // After an answer.
     ensures stays { OnOk result
         ((root : Rules)
         → IsRoot requirements.now constraints.now root
@@ -307,6 +324,7 @@ pub fn run_turn<A: PackageSource, C: ScoreMap<A::NameId>>(
     ensures turn { OnOk result (KeepsTurn wish encoding.old encoding.new) }
     ensures ended { IfOk result (IsTurn A.SolvableId.eq wish encoding.new) }
     ensures built { OnOk result (IsBuilt encoding.new) }
+    // After a refusal.
     ensures cancelled { IfErr result (IsCancelledBy (A.may_cancel answers.old)) }
 {
     loop {
