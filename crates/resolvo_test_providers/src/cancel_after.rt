@@ -137,6 +137,8 @@ impl<P: DependencyProvider> DependencyProvider for CancelAfter<P> {
 
     ghost may_cancel = { λ p c. c ≡ p.value };
 
+    ghost may_lack_ids = { λ p. P.may_lack_ids p.inner };
+
     ghost sorts_permute = { λ p xs ys h. P.sorts_permute p.inner xs ys h };
 
     ghost candidates_named = { λ p n. P.candidates_named p.inner n };

@@ -1,9 +1,10 @@
 //! A source of packages whose ids are sparse: each id is kept as what it stands for, and none is a place in a list.
 
-ghost use Rattle.std.specs.Prelude.{◌≡◌, ◌/◌, IfOk, decimal, [], Some, filter};
+ghost use Rattle.std.specs.Prelude.{◌≡◌, ◌/◌, IfOk, IsOkUnless, decimal, [], Some, filter};
 ghost use Rattle.std.specs.List.Sorted.{IsPermutation};
 ghost use Rattle.resolvo_pool_core.specs.Provider.{known};
 ghost use Rattle.resolvo_pool_core.specs.declared.condition.Condition.TheVariants.{Requirement};
+ghost use Rattle.resolvo_pool_core.specs.declared.want.Want.TheVariants.{Memory};
 ghost use Rattle.resolvo_test_providers.specs.Shelf.{is_in, is_of, listing_of, needs_of, span_at};
 ghost use Rattle.resolvo_test_providers.specs.Laws.{candidates_named};
 
@@ -65,7 +66,8 @@ impl SparseProvider {
     }
 
     fn versions_of(&self, alloc: Global, name: Package) -> R<Vec<Version>>
-        ensures { IfOk result (λ v. v.items ≡ filter (λ s. is_of name.raw s.raw) self.now.versions.items) }
+        ensures found { IfOk result (λ v. v.items ≡ filter (λ s. is_of name.raw s.raw) self.now.versions.items) }
+        ensures refusal { IsOkUnless result Memory }
     {
         let mut found = Vec::new(alloc);
         for version in &self.versions {
@@ -77,7 +79,8 @@ impl SparseProvider {
     }
 
     fn needs_of(&self, alloc: Global, version: Version) -> R<Vec<ConditionalRequirement>>
-        ensures { IfOk result (λ v. v.items ≡ needs_of self.now.needs.items version.raw) }
+        ensures found { IfOk result (λ v. v.items ≡ needs_of self.now.needs.items version.raw) }
+        ensures refusal { IsOkUnless result Memory }
     {
         let mut needs = Vec::new(alloc);
         for need in &self.needs {
@@ -203,6 +206,8 @@ impl DependencyProvider for SparseProvider {
     ghost sorts = { λ p xs ys. IsPermutation xs ys };
 
     ghost may_cancel = { λ p c. ⊥ };
+
+    ghost may_lack_ids = { λ p. ⊥ };
 
     ghost sorts_permute = { λ p xs ys h. h };
 

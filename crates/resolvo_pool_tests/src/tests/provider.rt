@@ -158,6 +158,8 @@ impl DependencyProvider for Tens {
 
     ghost may_cancel = { λ p c. ⊤ };
 
+    ghost may_lack_ids = { λ p. ⊤ };
+
     ghost sorts_permute = { λ p xs ys h. h };
 
     ghost candidates_named = { λ p n. tens_named p.favored n };
