@@ -4,6 +4,7 @@
 Usage: checks/bounds.py [PATH OF THE PROGRAM] [small]   (default: crates/resolve/out/resolve, which `rt run` leaves)
 With `small` no report of 2^30 bytes is judged, for which a file of that size is written. Status 1 where an answer isn't as promised.
 A text at its bound is read, and one byte more is `too long`, unless a whole line before it is faulty. A `#` line may hold each byte but 10.
+A line of a message is held once while it is read, and then no more.
 """
 import os
 import subprocess
@@ -14,6 +15,9 @@ import time
 HERE = os.path.dirname(os.path.abspath(__file__))
 TEXT, INPUT, REPORT = 1 << 24, 1 << 25, 1 << 30
 NAMED = b"refused\nrequest line 1\nstep 1 need request line 1 case 1\nstep 2 derive [] by 1\n"
+LINE = 1 << 28
+# of what is held beside a line there is no more than this
+BESIDE = 1 << 26
 
 
 def comment(count, newline=False):
@@ -65,6 +69,19 @@ def write_report(path, front, count):
         file.write(b"| " + b"x" * (left - 3) + b"\n")
 
 
+def message(path):
+    """A report with one long line of a message."""
+    with open(path, "wb") as file:
+        file.write(NAMED + b"| " + b"x" * (LINE - 3) + b"\n")
+
+
+def peak(program, arguments):
+    """What is printed, and the most memory that was held, in bytes."""
+    child = subprocess.Popen([program, *arguments], stdout=subprocess.PIPE)
+    output = child.stdout.read()
+    return output, os.wait4(child.pid, 0)[2].ru_maxrss * 1024
+
+
 def ask(program, arguments, given=b""):
     begin = time.time()
     ended = subprocess.run([program, *arguments], input=given, capture_output=True)
@@ -98,6 +115,17 @@ def main():
             found = ask(program, ["judge", *paths])
             print(f"{name}: {found[2]:.1f} s")
             compare(name, found, tuple(wanted))
+            if name == "a report at its bound":
+                held = peak(program, ["judge", *paths])[1]
+                print(f"{name}, of lines of a million bytes: {held} bytes are held")
+                compare(name, (b"held" if held < BESIDE else b"more", 0), (b"held", 0))
+        for path, text in zip(paths, (b"", b"needs a\n")):
+            with open(path, "wb") as file:
+                file.write(text)
+        message(paths[2])
+        output, held = peak(program, ["judge", *paths])
+        print(f"a line of {LINE} bytes in a message: {held} bytes are held")
+        compare("a long line of a message", (output if held < LINE + BESIDE else b"more", 0), (b"yes\n", 0))
     print("\n".join(faults) if faults else f"{count} texts, all as promised")
     sys.exit(1 if faults else 0)
 

@@ -17,6 +17,7 @@ HERE = os.path.dirname(os.path.abspath(__file__))
 TOP = os.path.dirname(HERE)
 PROGRAM = os.path.abspath(sys.argv[1]) if len(sys.argv) > 1 else os.path.join(TOP, "crates/resolve/out/resolve")
 PIECES = ["1", "2", "3", "4096"]
+TOTALS = {}
 
 EVERY_KIND = b"""# every kind of line
 
@@ -136,23 +137,24 @@ def refuse_each(library, name, arguments, given, plain, kind, piece):
             faults.append(f"{name}: {kind} {number} refused, pieces {piece}: status {status}, {output!r}")
 
 
-def interrupt_each(library, name, arguments, given, plain):
-    """What goes wrong where calls are interrupted, before each of them in turn."""
-    faults = []
+def interrupt_each(library, name, arguments, given, plain, piece):
+    """The number of calls that were interrupted, each in turn, and what went wrong."""
+    faults, calls = [], 0
     for kind in ["read", "write"]:
         number = 0
         while True:
             number += 1
-            settings = {"kind": kind, "how": "interrupt", "number": str(number)}
+            settings = {"kind": kind, "how": "interrupt", "number": str(number), "piece": piece}
             status, output, refused = run(library, arguments, given, times="1000", **settings)
             if (status, output) != plain:
-                faults.append(f"{name}: 1000 interruptions of {kind} {number}: status {status}, {output!r}")
+                faults.append(f"{name}: 1000 interruptions of {kind} {number}, pieces {piece}: status {status}, {output!r}")
             if not refused:
                 break
+            calls += 1
             status, output, _ = run(library, arguments, given, times="1001", **settings)
             if not is_as_promised(kind, plain, status, output):
-                faults.append(f"{name}: 1001 interruptions of {kind} {number}: status {status}, {output!r}")
-    return faults
+                faults.append(f"{name}: 1001 interruptions of {kind} {number}, pieces {piece}: status {status}, {output!r}")
+    return calls, faults
 
 
 def check(library, name, arguments, given):
@@ -167,8 +169,12 @@ def check(library, name, arguments, given):
             count, wrong = refuse_each(library, name, arguments, given, plain, kind, piece)
             counts[kind] = counts.get(kind, 0) + count
             faults += wrong
-    faults += interrupt_each(library, name, arguments, given, plain)
-    print(f"{name}: status {plain[0]}, refused in turn: " + ", ".join(f"{n} {k}" for k, n in counts.items()))
+        count, wrong = interrupt_each(library, name, arguments, given, plain, piece)
+        counts["interrupted call"] = counts.get("interrupted call", 0) + count
+        faults += wrong
+    print(f"{name}: status {plain[0]}, in turn: " + ", ".join(f"{n} {k}" for k, n in counts.items()), flush=True)
+    for kind, count in counts.items():
+        TOTALS[kind] = TOTALS.get(kind, 0) + count
     return faults
 
 
@@ -190,6 +196,7 @@ def main():
                 with open(path, "wb") as out:
                     out.write(text)
             faults += check(library, name + ", judged", ["judge", *paths], b"")
+    print("in all: " + ", ".join(f"{n} {k}" for k, n in TOTALS.items()))
     print("\n".join(faults) if faults else "all as promised")
     sys.exit(1 if faults else 0)
 
