@@ -37,6 +37,6 @@ object() {
 	(cd "$work" && ar rcsD "$to/lib$file.a" "$file.o")
 }
 
-object resolve resolve_solve resolve_judge
+object resolve resolve_solve resolve_solve_within resolve_judge
 object resolve_judge resolve_judge
 cc -shared -s -Wl,--build-id=none -Wl,-z,noexecstack -o "$to/libresolve.so" -Wl,--whole-archive "$to/libresolve.a" -Wl,--no-whole-archive

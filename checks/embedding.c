@@ -4,6 +4,8 @@
    what to do with them:
    answers      prints a line `ENDING LENGTH` and the text of each
    rooms MOST   gives each call every room that is too short, up to MOST, one that fits and one more
+   budgets      gives each pair a budget of 0, 1, 2, .. until it is answered, and prints that budget; below it nothing is written,
+                and with it, one more and the most the answer is that without a budget
    refused      refuses each malloc and realloc of each call in turn: ending 5, or the same answer where the call can do without
    again CALLS  makes so many calls, one record after the other
    threads N    answers all records in N threads at once
@@ -197,6 +199,36 @@ static void refused(void)
 	printf("%zu allocations refused\n", refusals);
 }
 
+#ifndef JUDGE_ALONE
+static resolve_told call_within(const struct record *r, uint64_t budget, uint8_t *out, size_t room)
+{
+	memset(out, MARK, room);
+	return resolve_solve_within(r->text[0], r->length[0], r->text[1], r->length[1], budget, out, room);
+}
+
+static void budgets(void)
+{
+	for (struct record *r = records; r < records + record_count; r++) {
+		size_t room = r->told.length + 9;
+		uint8_t *out = room_for(room);
+		uint64_t budget = 0;
+		for (;; budget++) {
+			resolve_told told = call_within(r, budget, out, room);
+			if (told.ending != RESOLVE_GIVEN_UP)
+				break;
+			if (told.length != 0)
+				fail("given up with a length", (size_t)(r - records));
+			is_unwritten(r, out, room);
+		}
+		uint64_t enough[] = {budget, budget + 1, UINT64_MAX};
+		for (int i = 0; i < 3; i++)
+			compare(r, call_within(r, enough[i], out, room), out, room);
+		free(out);
+		printf("%llu\n", (unsigned long long)budget);
+	}
+}
+#endif
+
 static void *answer_all(void *unused)
 {
 	for (struct record *r = records; r < records + record_count; r++)
@@ -242,6 +274,10 @@ int main(int count, char **words)
 		}
 	else if (strcmp(words[1], "rooms") == 0)
 		rooms((size_t)number);
+#ifndef JUDGE_ALONE
+	else if (strcmp(words[1], "budgets") == 0)
+		budgets();
+#endif
 	else if (strcmp(words[1], "refused") == 0)
 		refused();
 	else if (strcmp(words[1], "again") == 0)

@@ -7,8 +7,9 @@ Needs cc, cargo (offline) and valgrind; what isn't there is told and left out. S
 
 Over all rows of crates/resolve_rows/data: the program, C, C with the judge's archive, Python over the shared object and over
 the program, and Rust give the same ending and bytes. Over the small ones, in C: every room that is too short, each allocation
-refused in turn, eight threads at once, and 10,000 calls under valgrind, after which nothing is lost. `--times` prints what a
-call costs beside a run of the program.
+refused in turn, eight threads at once, and 10,000 calls under valgrind, after which nothing is lost. Each small pair is given a
+budget of 0, 1, 2, .. by C, Python and Rust: all three give up below one number, and from it on give the answer without a budget. `--times`
+prints what a call costs beside a run of the program.
 """
 import os
 import resource
@@ -152,6 +153,40 @@ def check_memory(archives, folder):
         print("no valgrind: left out")
 
 
+def python_budget(library, texts):
+    """The least budget with which a pair is answered, and then as without one."""
+    budget = 0
+    while True:
+        try:
+            found = library.solve(*texts, budget)
+        except resolve.GivenUp:
+            budget += 1
+            continue
+        except (resolve.TooLong, resolve.NoIds):
+            return budget
+        must(found == library.solve(*texts), "Python: another answer within a budget", texts)
+        return budget
+
+
+def check_budgets(archives, folder):
+    """Below one number a call gives up with nothing written, and from it on it answers as without a budget."""
+    pairs = [texts for _, texts in all_rows() if len(texts) == 2 and sum(map(len, texts)) <= SMALL]
+    pairs += [texts for texts in examples() if len(texts) == 2]
+    # a chain, in which each package needs the next one
+    chains = [b"".join(b"version p%d 1\nneeds p%d\n" % (n, n + 1) for n in range(count)) + b"version p%d 1\n" % count for count in range(1, 40)]
+    pairs += [(chain, b"needs p0\n") for chain in chains]
+    by_c = [int(line) for line in run(compiled(archives, "resolve", folder), pairs, "budgets").split()]
+    must(len(by_c) == len(pairs), "budgets of C", len(by_c), len(pairs))
+    library = resolve.Library(os.path.join(archives, "libresolve.so"))
+    must([python_budget(library, texts) for texts in pairs] == by_c, "Python needs other budgets than C")
+    if shutil.which("cargo"):
+        by_rust = [int(line) for line in run(rust_example(archives, folder, "records"), pairs, "budgets").split()]
+        must(by_rust == by_c, "Rust needs other budgets than C")
+    links = by_c[-len(chains):]
+    must(len({after - before for before, after in zip(links, links[1:])}) == 1, "a chain's links don't cost the same", links)
+    print(f"budgets of 0, 1, 2, .. over {len(pairs)} pairs: {sum(by_c)} calls gave up; a link of a chain costs {links[1] - links[0]}, the most needed was {max(by_c)}")
+
+
 def seconds(work, times=5):
     """Processor seconds of this process and its children, median of some."""
     def used():
@@ -188,6 +223,7 @@ def main():
             return
         check_rows(program, archives, folder)
         check_memory(archives, folder)
+        check_budgets(archives, folder)
     print("as promised")
 
 

@@ -23,7 +23,8 @@ enum resolve_ending {
 	RESOLVE_FAULTY = 2,    /* a line outside the grammar: `fault at catalogue line N`, or of the request */
 	RESOLVE_TOO_LONG = 4,  /* a text has more bytes than it may have */
 	RESOLVE_NO_MEMORY = 5, /* malloc or realloc answered NULL */
-	RESOLVE_NO_IDS = 6     /* more than 2^32 numbers of a kind would be needed */
+	RESOLVE_NO_IDS = 6,    /* more than 2^32 numbers of a kind would be needed */
+	RESOLVE_GIVEN_UP = 8   /* the budget of `resolve_solve_within` was used up */
 };
 
 /* The first min(length, room) bytes of the text are in `out`; the bytes of the room behind them are as they were.
@@ -38,6 +39,13 @@ typedef struct resolve_told {
 resolve_told resolve_solve(const uint8_t *catalogue, size_t catalogue_length,
 			   const uint8_t *request, size_t request_length,
 			   uint8_t *out, size_t room);
+
+/* The same with a budget, or it gives up: `length` is then 0, and `out` as it was. The solver asks whether to stop before each
+   propagation, and before each question of which versions a package has or what a version needs. So many times it goes on, and at
+   the next it gives up. The same texts need the same budget on every machine. */
+resolve_told resolve_solve_within(const uint8_t *catalogue, size_t catalogue_length,
+				  const uint8_t *request, size_t request_length,
+				  uint64_t budget, uint8_t *out, size_t room);
 
 /* What `resolve judge` prints for these texts and a report, whoever wrote it. 64 bytes are room enough. */
 resolve_told resolve_judge(const uint8_t *catalogue, size_t catalogue_length,

@@ -12,7 +12,8 @@ HERE = os.path.dirname(os.path.abspath(__file__))
 Bytes = Union[bytes, bytearray, memoryview]
 
 # how a call ends: as bindings/c/resolve.h says; the first three have a text
-TOO_LONG, NO_MEMORY, NO_IDS = 4, 5, 6
+TOO_LONG, NO_MEMORY, NO_IDS, GIVEN_UP = 4, 5, 6, 8
+MOST_BUDGET = 2**64 - 1
 
 
 class ResolveError(Exception):
@@ -31,10 +32,14 @@ class NoIds(ResolveError):
     """More numbers of a kind would be needed than there are."""
 
 
+class GivenUp(ResolveError):
+    """The budget was used up."""
+
+
 class Backend(Protocol):
     """What answers: the ending 0, 1 or 2, and the text."""
 
-    def solve(self, catalogue: Bytes, request: Bytes) -> tuple[int, bytes]: ...
+    def solve(self, catalogue: Bytes, request: Bytes, budget: Optional[int] = None) -> tuple[int, bytes]: ...
 
     def judge(self, catalogue: Bytes, request: Bytes, report: Bytes) -> tuple[int, bytes]: ...
 
@@ -47,6 +52,8 @@ def lack(ending: int) -> Exception:
         return MemoryError("no memory")
     if ending == NO_IDS:
         return NoIds("no ids")
+    if ending == GIVEN_UP:
+        return GivenUp("given up")
     return Unavailable(f"resolve ended with {ending}")
 
 
@@ -75,9 +82,12 @@ class Library:
         if self._solve is not None:
             self._solve.argtypes = text * 2 + out
             self._solve.restype = Told
+            self._solve_within = loaded.resolve_solve_within
+            self._solve_within.argtypes = text * 2 + [ctypes.c_uint64] + out
+            self._solve_within.restype = Told
 
-    def _call(self, function, texts: Sequence[Bytes]) -> tuple[int, bytes]:
-        arguments = [part for text in map(bytes, texts) for part in (text, len(text))]
+    def _call(self, function, texts: Sequence[Bytes], *more: int) -> tuple[int, bytes]:
+        arguments = [part for text in map(bytes, texts) for part in (text, len(text))] + list(more)
         room = self.room
         while True:
             out = ctypes.create_string_buffer(room) if room else None
@@ -88,10 +98,14 @@ class Library:
                 return told.ending, b"" if out is None else ctypes.string_at(out, told.length)
             room = told.length
 
-    def solve(self, catalogue: Bytes, request: Bytes) -> tuple[int, bytes]:
+    def solve(self, catalogue: Bytes, request: Bytes, budget: Optional[int] = None) -> tuple[int, bytes]:
         if self._solve is None:
             raise Unavailable(f"{self.path} has the judge alone")
-        return self._call(self._solve, (catalogue, request))
+        if budget is None:
+            return self._call(self._solve, (catalogue, request))
+        if not 0 <= budget <= MOST_BUDGET:
+            raise ValueError(f"a budget is a number from 0 to {MOST_BUDGET}, and this is {budget}")
+        return self._call(self._solve_within, (catalogue, request), budget)
 
     def judge(self, catalogue: Bytes, request: Bytes, report: Bytes) -> tuple[int, bytes]:
         return self._call(self._judge, (catalogue, request, report))
@@ -122,7 +136,9 @@ class Program:
             raise lack(self.LAST_LINES.get(ended.stdout, ended.returncode))
         return ended.returncode, ended.stdout
 
-    def solve(self, catalogue: Bytes, request: Bytes) -> tuple[int, bytes]:
+    def solve(self, catalogue: Bytes, request: Bytes, budget: Optional[int] = None) -> tuple[int, bytes]:
+        if budget is not None:
+            raise Unavailable("the program has no budget: the shared object is needed")
         return self._call("solve", (catalogue, request))
 
     def judge(self, catalogue: Bytes, request: Bytes, report: Bytes) -> tuple[int, bytes]:

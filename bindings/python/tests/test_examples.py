@@ -55,6 +55,25 @@ class Examples(unittest.TestCase):
         with self.assertRaises(resolve.TooLong):
             solve(b"#" * (2**24 + 1), b"")
 
+    def test_budgets(self):
+        catalogue, request = example("wishes.catalogue"), example("wishes.request")
+        if not isinstance(resolve.default_backend(), resolve.Library):
+            self.assertRaises(resolve.Unavailable, solve, catalogue, request, budget=1)
+            self.skipTest("no shared object")
+        budget = 0
+        while True:
+            try:
+                answer = solve(catalogue, request, budget=budget)
+                break
+            except resolve.GivenUp:
+                budget += 1
+        self.assertGreater(budget, 0)
+        for more in (budget, budget + 1, 2**64 - 1):
+            self.assertEqual(solve(catalogue, request, budget=more), solve(catalogue, request))
+        self.assertEqual(answer, solve(catalogue, request))
+        self.assertRaises(ValueError, solve, catalogue, request, budget=2**64)
+        self.assertRaises(ValueError, solve, catalogue, request, budget=-1)
+
     def test_bytes_of_any_kind(self):
         catalogue = bytearray(example("app.catalogue"))
         self.assertEqual(solve(catalogue, memoryview(example("app.request"))).text, example("app.report"))

@@ -1,7 +1,8 @@
 //! Answers records of texts, for checks/embedding.py: `solve N N` or `judge N N N` and the texts on standard input; a line
-//! `ENDING LENGTH` and the text on standard output, as checks/embedding.c does.
+//! `ENDING LENGTH` and the text on standard output, as checks/embedding.c does. With the word `budgets` the least budget with which
+//! each pair is answered.
 
-use resolve::{judge, solve, Answer, Lack, Verdict};
+use resolve::{judge, solve, solve_within, Answer, Lack, Verdict};
 use std::io::{BufRead, Read, Write};
 
 fn lack_ending(lack: Lack) -> u32 {
@@ -9,6 +10,7 @@ fn lack_ending(lack: Lack) -> u32 {
         Lack::TooLong => 4,
         Lack::Memory => 5,
         Lack::Ids => 6,
+        Lack::GivenUp => 8,
     }
 }
 
@@ -30,22 +32,33 @@ fn judged(texts: &[Vec<u8>]) -> (u32, Vec<u8>) {
     }
 }
 
+/// The least budget with which a pair is answered.
+fn budget_for(texts: &[Vec<u8>]) -> u64 {
+    (0..).find(|budget| solve_within(*budget, &texts[0], &texts[1]) != Err(Lack::GivenUp)).expect("a budget that is enough")
+}
+
 fn main() -> std::io::Result<()> {
+    let budgets = std::env::args().nth(1).as_deref() == Some("budgets");
     let mut input = std::io::stdin().lock();
     let mut output = std::io::stdout().lock();
     let mut line = String::new();
     while input.read_line(&mut line)? > 0 {
         let words: Vec<&str> = line.split_whitespace().collect();
+        let solves = words[0] == "solve";
         let mut texts = Vec::new();
         for word in &words[1..] {
             let mut text = vec![0; word.parse().expect("a length")];
             input.read_exact(&mut text)?;
             texts.push(text);
         }
-        let (ending, text) = if words[0] == "solve" { solved(&texts) } else { judged(&texts) };
+        line = String::new();
+        if budgets {
+            writeln!(output, "{}", budget_for(&texts))?;
+            continue;
+        }
+        let (ending, text) = if solves { solved(&texts) } else { judged(&texts) };
         writeln!(output, "{ending} {}", text.len())?;
         output.write_all(&text)?;
-        line.clear();
     }
     Ok(())
 }

@@ -22,6 +22,7 @@ mod c {
 
     extern "C" {
         pub fn resolve_solve(catalogue: *const u8, catalogue_length: usize, request: *const u8, request_length: usize, out: *mut u8, room: usize) -> Told;
+        pub fn resolve_solve_within(catalogue: *const u8, catalogue_length: usize, request: *const u8, request_length: usize, budget: u64, out: *mut u8, room: usize) -> Told;
         pub fn resolve_judge(catalogue: *const u8, catalogue_length: usize, request: *const u8, request_length: usize, report: *const u8, report_length: usize, out: *mut u8, room: usize) -> Told;
     }
 }
@@ -68,6 +69,8 @@ pub enum Lack {
     Memory,
     /// More numbers of a kind would be needed than there are.
     Ids,
+    /// The budget was used up.
+    GivenUp,
 }
 
 impl fmt::Display for Lack {
@@ -76,6 +79,7 @@ impl fmt::Display for Lack {
             Lack::TooLong => "too long",
             Lack::Memory => "no memory",
             Lack::Ids => "no ids",
+            Lack::GivenUp => "given up",
         })
     }
 }
@@ -92,6 +96,7 @@ fn whole(mut room: usize, call: impl Fn(*mut u8, usize) -> c::Told) -> Result<(u
             4 => return Err(Lack::TooLong),
             5 => return Err(Lack::Memory),
             6 => return Err(Lack::Ids),
+            8 => return Err(Lack::GivenUp),
             other => unreachable!("resolve ended with {}", other),
         }
         let length = usize::try_from(told.length).map_err(|_| Lack::Memory)?;
@@ -114,11 +119,25 @@ pub fn solve_in(room: usize, catalogue: &[u8], request: &[u8]) -> Result<Answer,
     let (ending, text) = whole(room, |out, room| unsafe {
         c::resolve_solve(catalogue.as_ptr(), catalogue.len(), request.as_ptr(), request.len(), out, room)
     })?;
-    Ok(match ending {
+    Ok(answer_of(ending, text))
+}
+
+/// As `solve`, or it gives up: the solver asks whether to stop before each propagation, and before each question of which versions a
+/// package has or what a version needs. So many times it goes on, and at the next it gives up.
+pub fn solve_within(budget: u64, catalogue: &[u8], request: &[u8]) -> Result<Answer, Lack> {
+    // SAFETY: each pointer is valid for its length, `out` is no other text's, and the call keeps none of them.
+    let (ending, text) = whole(ROOM, |out, room| unsafe {
+        c::resolve_solve_within(catalogue.as_ptr(), catalogue.len(), request.as_ptr(), request.len(), budget, out, room)
+    })?;
+    Ok(answer_of(ending, text))
+}
+
+fn answer_of(ending: u32, text: Vec<u8>) -> Answer {
+    match ending {
         0 => Answer::Installed(text),
         1 => Answer::Refused(text),
         _ => Answer::Faulty(text),
-    })
+    }
 }
 
 /// The line that is told by `no line N`.

@@ -1,6 +1,6 @@
 //! The repository's examples.
 
-use resolve::{Answer, Lack, Verdict, judge, solve, solve_in};
+use resolve::{Answer, Lack, Verdict, judge, solve, solve_in, solve_within};
 
 fn example(name: &str) -> Vec<u8> {
     std::fs::read(format!("{}/../../examples/{name}", env!("CARGO_MANIFEST_DIR"))).unwrap()
@@ -30,6 +30,19 @@ fn tells_faults_and_lacks() {
     assert_eq!(judge(b"", b"needs\n", b""), Ok(Verdict::Faulty(b"fault at request line 1\n".to_vec())));
     assert_eq!(solve(&vec![b'#'; (1 << 24) + 1], b""), Err(Lack::TooLong));
     assert_eq!(solve(b"", b"").unwrap().text(), b"install\n");
+}
+
+#[test]
+fn gives_up_below_the_budget_that_is_needed() {
+    for (catalogue, request) in [("app", "app"), ("app", "conflict"), ("wishes", "wishes")] {
+        let (catalogue, request) = (example(&format!("{catalogue}.catalogue")), example(&format!("{request}.request")));
+        let answer = solve(&catalogue, &request);
+        let needed = (0..).find(|budget| solve_within(*budget, &catalogue, &request) != Err(Lack::GivenUp)).unwrap();
+        assert!(needed > 0);
+        for budget in [needed, needed + 1, u64::MAX] {
+            assert_eq!(solve_within(budget, &catalogue, &request), answer);
+        }
+    }
 }
 
 #[test]

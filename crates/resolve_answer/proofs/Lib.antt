@@ -17,3 +17,4 @@ pub mod JoinLemmas
 pub mod MessageLemmas
 pub mod Verdicts
 pub mod TrimRules
+pub mod StopLemmas

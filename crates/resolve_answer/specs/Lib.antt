@@ -6,3 +6,4 @@ pub mod Solved
 pub mod Reported
 pub mod Message
 pub mod Verdict
+pub mod Stops

@@ -9,7 +9,7 @@ use Rattle.resolvo_catalogue.specs.Ids.{NameId, SolvableId}
 use Rattle.resolvo_catalogue.specs.Provider.{Provider, packages_of}
 use Rattle.resolvo_catalogue.specs.Over.{IsOver, AreAsked}
 use Rattle.resolvo_catalogue.specs.KeptSets.{root_of}
-use Rattle.resolvo_catalogue.specs.declared.impls.Never.{Never}
+use Rattle.resolvo_catalogue.specs.declared.impls.GivenUp.{GivenUp}
 use Rattle.resolvo_catalogue.specs.declared.provider.RequestIds.{RequestIds}
 use Rattle.resolvo.specs.Solver.{IsAnswer, Kept}
 use Rattle.resolvo.specs.declared.conflict.Conflict.{Conflict}
@@ -17,9 +17,9 @@ use Rattle.resolvo.specs.declared.solver.UnsolvableOrCancelled.{UnsolvableOrCanc
 use Rattle.resolvo.specs.declared.solver.UnsolvableOrCancelled.TheVariants.{Unsolvable}
 use Rattle.resolve_answer.specs.First.{orders_of}
 
--- What a call of a solver over a catalogue's provider gives. It is never cancelled.
+-- What a call of a solver over a catalogue's provider gives. It is cancelled only where there is a budget.
 abbrev pub Verdict : Type 0
-Verdict = Result (Vec SolvableId) (UnsolvableOrCancelled Never)
+Verdict = Result (Vec SolvableId) (UnsolvableOrCancelled GivenUp)
 
 -- A solver over the provider, which was made of the catalogue, gives this for what a request over the catalogue asks. Which
 -- dependencies the provider says are at hand isn't asked.

@@ -1,6 +1,6 @@
 //! The report of the solver's answer: the install report of its turns, or the refused report of its proof.
 
-ghost use Rattle.std.specs.Prelude.{◌≡◌, IfOk};
+ghost use Rattle.std.specs.Prelude.{◌≡◌, true, ℕ, Option, IfOk, IfErr, IsSome};
 ghost use Rattle.resolvo_catalogue_core.specs.Grammar.{AreRequestLines};
 ghost use Rattle.resolvo_catalogue.specs.KeptSets.{root_of as asked_of};
 ghost use Rattle.resolvo_catalogue.specs.Over.{IsOver, AreAsked};
@@ -10,8 +10,10 @@ ghost use Rattle.resolve_answer.specs.Message.{with_message};
 ghost use Rattle.resolve_answer.specs.Wishes.{AreWishesAt, GivesAll};
 ghost use Rattle.resolve_answer.specs.Solved.{IsInstalledOver, IsRefutedOver};
 ghost use Rattle.resolve_answer.specs.Reported.{IsReportOf};
+ghost use Rattle.resolve_answer.specs.Stops.{IsStopOf};
 
 use crate::message::message_of;
+use crate::stop::Stop;
 use crate::turns::{Outcome, report_turns, wanted_steps};
 use crate::wishes::{Wish, free_wishes, wishes_of};
 use resolve_install::{install_report, numbers_of};
@@ -165,25 +167,26 @@ fn answered(
     request: &Request,
     solver: &mut Solver<CatalogueProvider>,
     asked: RequestIds,
-) -> R<Report>
-    ensures { IfOk result
+) -> Result<Report, Stop>
+    ensures report { IfOk result
         (λ r.
         AreRequestLines catalogue.now request.now.lines
         → AreWishesAt catalogue.now request.now
         → IsOver catalogue.now solver.old.provider
         → AreAsked solver.old.provider.ids request.now asked
         → IsReportOf catalogue.now request.now.lines (report_of r)) }
+    ensures stop { IfErr result (IsStopOf (solver.old.provider.has_budget ≡ true)) }
 {
     let wishes = wishes_of(alloc, catalogue, request)?;
     let free = free_wishes(alloc, wishes.as_slice())?;
     match solver.solve(problem_of(asked, free)) {
-        Ok(chosen) => told(alloc, catalogue, request, solver, wishes, chosen.as_slice()),
-        Err(UnsolvableOrCancelled::Unsolvable(conflict)) => refused(
-            alloc, catalogue, request, solver, &conflict,
-        ),
-        Err(UnsolvableOrCancelled::Memory) => Err(Want::Memory),
-        Err(UnsolvableOrCancelled::Ids) => Err(Want::Ids),
-        Err(UnsolvableOrCancelled::Cancelled(value)) => match value {},
+        Ok(chosen) => Ok(told(alloc, catalogue, request, solver, wishes, chosen.as_slice())?),
+        Err(UnsolvableOrCancelled::Unsolvable(conflict)) => {
+            Ok(refused(alloc, catalogue, request, solver, &conflict)?)
+        }
+        Err(UnsolvableOrCancelled::Memory) => Err(Stop::Lacks(Want::Memory)),
+        Err(UnsolvableOrCancelled::Ids) => Err(Stop::Lacks(Want::Ids)),
+        Err(UnsolvableOrCancelled::Cancelled(_given_up)) => Err(Stop::GivenUp),
     }
 }
 
@@ -194,29 +197,48 @@ fn answered_by(
     request: &Request,
     provider: CatalogueProvider,
     asked: RequestIds,
-) -> R<Report>
-    ensures { IfOk result
+) -> Result<Report, Stop>
+    ensures report { IfOk result
         (λ r.
         AreRequestLines catalogue.now request.now.lines
         → AreWishesAt catalogue.now request.now
         → IsOver catalogue.now provider
         → AreAsked provider.ids request.now asked
         → IsReportOf catalogue.now request.now.lines (report_of r)) }
+    ensures stop { IfErr result (IsStopOf (provider.has_budget ≡ true)) }
 {
     let mut solver = Solver::new(alloc, provider);
     answered(alloc, catalogue, request, &mut solver, asked)
 }
 
+/// The provider of a catalogue, with a budget or without one.
+fn provider_of(alloc: Global, catalogue: &Catalogue, budget: Option<u64>) -> R<CatalogueProvider>
+    ensures over { IfOk result (λ p. IsOver catalogue.now p) }
+    ensures budget { IfOk result (λ p. p.has_budget ≡ true → IsSome budget) }
+{
+    let provider = CatalogueProvider::new(alloc, catalogue, Hint::All)?;
+    match budget {
+        Some(budget) => Ok(provider.within(budget)),
+        None => Ok(provider),
+    }
+}
+
 /// The report of a catalogue and a request over it: the solver's answer. `Memory` where it finds no room; `Ids` where there is more
-/// than numbers can tell.
-pub fn report_for(alloc: Global, catalogue: &Catalogue, request: &Request) -> R<Report>
-    ensures { IfOk result
+/// than numbers can tell. With a budget the search gives up where the solver asks so many times, and once more, whether to stop.
+pub fn report_for(
+    alloc: Global,
+    catalogue: &Catalogue,
+    request: &Request,
+    budget: Option<u64>,
+) -> Result<Report, Stop>
+    ensures report { IfOk result
         (λ r.
         AreRequestLines catalogue.now request.now.lines
         → AreWishesAt catalogue.now request.now
         → IsReportOf catalogue.now request.now.lines (report_of r)) }
+    ensures stop { IfErr result (IsStopOf (IsSome budget)) }
 {
-    let mut provider = CatalogueProvider::new(alloc, catalogue, Hint::All)?;
+    let mut provider = provider_of(alloc, catalogue, budget)?;
     let asked = provider.intern_request(request)?;
     answered_by(alloc, catalogue, request, provider, asked)
 }

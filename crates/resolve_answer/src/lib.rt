@@ -4,5 +4,6 @@
 pub mod answer;
 pub mod laws;
 mod message;
+pub mod stop;
 pub mod turns;
 pub mod wishes;

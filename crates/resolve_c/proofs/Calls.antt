@@ -1,5 +1,5 @@
 -- From what `run` and `check` do to devices to what a call leaves for bytes.
-use Rattle.std.proofs.Common.{◌≡◌, ℕ, ◌<◌, List, [], Option, Some, refl, sym, subst, ⊎_elim, arith}
+use Rattle.std.proofs.Common.{◌≡◌, ℕ, ◌<◌, List, [], Option, Some, None, refl, sym, subst, ⊎_elim, arith}
 use Rattle.std.specs.Io.KnownBytes.{Appends}
 use Rattle.resolvo_text.specs.Device.{DeviceFailed}
 use Rattle.resolvo_text.specs.declared.lines.ReadFault.TheVariants as read
@@ -11,9 +11,12 @@ use Rattle.resolve_check.specs.declared.outcome.RunFault.TheVariants.{Reader, To
 use Rattle.resolve_check.specs.Devices.{Device, StopsReading, in_catalogue, in_request}
 use Rattle.resolve_check.specs.Check.{IsCheck, ChecksTexts, StopsTexts, StopsBeforeCheck, StopsCheck}
 use Rattle.resolve_run.specs.Answer.{IsAnswer}
-use Rattle.resolve_run.specs.Run.{AnswersTexts, StopsBefore, StopsRun}
-use Rattle.resolve_c.specs.Endings.{growing, fault_ending_of}
-use Rattle.resolve_c.specs.Told.{Leaves, lent, StopsSolving, StopsJudging, Solves, Judges}
+use Rattle.resolve_run.specs.Run.{AnswersTexts, AreRead, StopsBefore, StopsRun}
+use Rattle.resolve_run.specs.Within.{AreGrammatical, StopsWithin}
+use Rattle.resolve_run.specs.declared.stop.RunStop.{RunStop}
+use Rattle.resolve_run.specs.declared.stop.RunStop.TheVariants.{Fault, GivenUp}
+use Rattle.resolve_c.specs.Endings.{growing, growing_within, fault_ending_of, stop_ending_of}
+use Rattle.resolve_c.specs.Told.{Leaves, lent, StopsSolving, StopsSolvingWithin, StopsJudging, Solves, SolvesWithin, Judges}
 use Rattle.resolve_c.specs.Told as how
 use Rattle.resolve_c.specs.declared.told.Told.{Told}
 
@@ -57,6 +60,17 @@ run_stopped fault told c r c_lent r_lent c_left r_left writer is_c is_r is stopp
     before Ids catalogue request writer h = h.0
     before Writer catalogue request writer h = tt
 
+-- both texts were read to their ends
+grammatical_read : (c r : List ℕ) (c_left r_left : Option (List ℕ)) → AreRead (lent c c_left) (lent r r_left) → AreGrammatical c r
+grammatical_read c r c_left r_left are = (are.catalogue_lines, are.request_lines, are.catalogue_read c refl, are.request_read r refl)
+
+pub run_stopped_within : (budget : Option ℕ) (stop told : RunStop) (c r c_lent r_lent : List ℕ) (c_left r_left : Option (List ℕ)) (writer : Device) → c_lent ≡ c → r_lent ≡ r → told ≡ growing_within stop
+    → StopsWithin budget stop (lent c_lent c_left) (lent r_lent r_left) writer → StopsSolvingWithin budget told c r
+run_stopped_within budget (Fault e) told c r c_lent r_lent c_left r_left writer is_c is_r is stopped = subst (λ (s : RunStop). StopsSolvingWithin budget s c r) (sym is)
+    (run_stopped e (growing e) c r c_lent r_lent c_left r_left writer is_c is_r refl stopped)
+run_stopped_within budget GivenUp told c r c_lent r_lent c_left r_left writer is_c is_r is (some, are, same) = subst (λ (s : RunStop). StopsSolvingWithin budget s c r) (sym is)
+    (some, subst (λ (xs : List ℕ). AreGrammatical c xs) is_r (subst (λ (xs : List ℕ). AreGrammatical xs r_lent) is_c (grammatical_read c_lent r_lent c_left r_left are)))
+
 pub check_stopped : (fault told : RunFault) (c r p c_lent r_lent p_lent : List ℕ) (c_left r_left p_left : Option (List ℕ)) (writer : Device) → c_lent ≡ c → r_lent ≡ r → p_lent ≡ p → told ≡ growing fault
     → StopsCheck fault (lent c_lent c_left) (lent r_lent r_left) (lent p_lent p_left) writer → StopsJudging told c r p
 check_stopped fault told c r p c_lent r_lent p_lent c_left r_left p_left writer is_c is_r is_p is stopped = (
@@ -95,6 +109,15 @@ unanswered TooLong c r before after told h leaves = how.too_long h leaves
 unanswered Memory c r before after told h leaves = how.no_memory leaves
 unanswered Ids c r before after told h leaves = how.no_ids h leaves
 unanswered Writer c r before after told (c_left, r_left, h) leaves = absurd h
+
+-- without a budget no call gives up
+pub unanswered_without : (stop : RunStop) (c r before after : List ℕ) (told : Told) → StopsSolvingWithin None stop c r → Leaves (stop_ending_of stop) [] before after told → Solves c r before after told
+unanswered_without (Fault e) c r before after told h leaves = unanswered e c r before after told h leaves
+unanswered_without GivenUp c r before after told (none, texts) leaves = absurd none
+
+pub unanswered_within : (budget : Option ℕ) (stop : RunStop) (c r before after : List ℕ) (told : Told) → StopsSolvingWithin budget stop c r → Leaves (stop_ending_of stop) [] before after told → SolvesWithin c r before after told
+unanswered_within budget (Fault e) c r before after told h leaves = how.solved (unanswered e c r before after told h leaves)
+unanswered_within budget GivenUp c r before after told (some, texts) leaves = how.given_up texts leaves
 
 pub unchecked : (fault : RunFault) (c r p before after : List ℕ) (told : Told) → StopsJudging fault c r p → Leaves (fault_ending_of fault) [] before after told → Judges c r p before after told
 unchecked Reader c r p before after told (c_left, r_left, p_left, h) leaves = absurd (never_unjudged c r p c_left r_left p_left h)

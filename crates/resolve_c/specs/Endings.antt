@@ -6,6 +6,8 @@ use Rattle.resolve_check.specs.declared.outcome.Checked.{Checked}
 use Rattle.resolve_check.specs.declared.outcome.Checked.TheVariants as checked
 use Rattle.resolve_check.specs.declared.outcome.RunFault.{RunFault}
 use Rattle.resolve_check.specs.declared.outcome.RunFault.TheVariants.{Reader, TooLong, Memory, Ids, Writer}
+use Rattle.resolve_run.specs.declared.stop.RunStop.{RunStop}
+use Rattle.resolve_run.specs.declared.stop.RunStop.TheVariants.{Fault, GivenUp}
 
 -- of a text that was written: the status of `resolve solve`
 abbrev pub ending_of : Outcome → ℕ
@@ -31,3 +33,13 @@ fault_ending_of TooLong = 4
 fault_ending_of Memory = 5
 fault_ending_of Ids = 6
 fault_ending_of Writer = 7
+
+-- the same of a run that may have a budget
+abbrev pub growing_within : RunStop → RunStop
+growing_within (Fault e) = Fault (growing e)
+growing_within GivenUp = GivenUp
+
+-- where there is no text, and there may be a budget
+abbrev pub stop_ending_of : RunStop → ℕ
+stop_ending_of (Fault e) = fault_ending_of e
+stop_ending_of GivenUp = 8

@@ -1,5 +1,5 @@
 -- What a call from C leaves and returns: the front of a text in the caller's room, the ending, and the whole text's length.
-use Rattle.std.specs.Prelude.{◌≡◌, ℕ, List, [], ◌++◌, length, take, drop, Option, Some}
+use Rattle.std.specs.Prelude.{◌≡◌, ℕ, List, [], ◌++◌, length, take, drop, Option, Some, IsSome}
 use Rattle.resolvo_text.specs.Device.{DeviceFailed}
 use Rattle.resolve_check.specs.declared.outcome.Outcome.{Outcome}
 use Rattle.resolve_check.specs.declared.outcome.Checked.{Checked}
@@ -9,6 +9,9 @@ use Rattle.resolve_check.specs.Devices.{Device, reader_of}
 use Rattle.resolve_check.specs.Check.{IsCheck, StopsBeforeCheck}
 use Rattle.resolve_run.specs.Answer.{IsAnswer}
 use Rattle.resolve_run.specs.Run.{StopsBefore}
+use Rattle.resolve_run.specs.Within.{AreGrammatical}
+use Rattle.resolve_run.specs.declared.stop.RunStop.{RunStop}
+use Rattle.resolve_run.specs.declared.stop.RunStop.TheVariants.{Fault, GivenUp}
 use Rattle.resolve_c.specs.Endings.{ending_of, check_ending_of}
 use Rattle.resolve_c.specs.declared.told.Told.{Told}
 
@@ -27,6 +30,11 @@ lent bytes left = reader_of (Some bytes) left (DeviceFailed 0 0 0)
 abbrev pub StopsSolving : RunFault → List ℕ → List ℕ → Type 0
 StopsSolving fault c r = (c_left : Option (List ℕ)) × (r_left : Option (List ℕ)) × StopsBefore fault (lent c c_left) (lent r r_left)
 
+-- Why there is no report, where there may be a budget.
+abbrev pub StopsSolvingWithin : Option ℕ → RunStop → List ℕ → List ℕ → Type 0
+StopsSolvingWithin budget (Fault e) c r = StopsSolving e c r
+StopsSolvingWithin budget GivenUp c r = IsSome budget × AreGrammatical c r
+
 -- Why there is no verdict.
 abbrev pub StopsJudging : RunFault → List ℕ → List ℕ → List ℕ → Type 0
 StopsJudging fault c r p = (c_left : Option (List ℕ)) × (r_left : Option (List ℕ)) × (p_left : Option (List ℕ))
@@ -39,6 +47,11 @@ pub data Solves (c r before after : List ℕ) (told : Told) : Type 0 where
   too_long : StopsSolving TooLong c r → Leaves 4 [] before after told → Solves c r before after told
   no_memory : Leaves 5 [] before after told → Solves c r before after told
   no_ids : StopsSolving Ids c r → Leaves 6 [] before after told → Solves c r before after told
+
+-- What solving them with a budget leaves: the same, or no text, where the search gave up.
+pub data SolvesWithin (c r before after : List ℕ) (told : Told) : Type 0 where
+  solved : Solves c r before after told → SolvesWithin c r before after told
+  given_up : AreGrammatical c r → Leaves 8 [] before after told → SolvesWithin c r before after told
 
 -- What judging the texts of a catalogue, a request and a report leaves: their check, with the ending 0 for `yes`, 1 for `no` and
 -- 2 for a faulty line. Or no text, where one is too long or memory is lacking.

@@ -1,9 +1,10 @@
 //! The numbers that say how a call ended.
 
 ghost use Rattle.std.specs.Prelude.{◌≡◌};
-ghost use Rattle.resolve_c.specs.Endings.{ending_of, check_ending_of, fault_ending_of, growing};
+ghost use Rattle.resolve_c.specs.Endings.{ending_of, check_ending_of, fault_ending_of, growing, growing_within, stop_ending_of};
 
 use resolve_check::outcome::{Checked, Outcome, RunFault};
+use resolve_run::RunStop;
 
 /// How a call ended that wrote a report or a faulty line.
 pub(crate) fn ending_of(outcome: Outcome) -> u32
@@ -47,5 +48,25 @@ pub(crate) fn fault_ending_of(fault: RunFault) -> u32
         RunFault::Memory => 5,
         RunFault::Ids => 6,
         RunFault::Writer => 7,
+    }
+}
+
+/// The same of a run that may have a budget.
+pub(crate) fn growing_within(stop: RunStop) -> RunStop
+    ensures { result ≡ growing_within stop }
+{
+    match stop {
+        RunStop::Fault(fault) => RunStop::Fault(growing(fault)),
+        RunStop::GivenUp => RunStop::GivenUp,
+    }
+}
+
+/// How a call ended that may have a budget, and has no text.
+pub(crate) fn stop_ending_of(stop: RunStop) -> u32
+    ensures { result ≡ stop_ending_of stop }
+{
+    match stop {
+        RunStop::Fault(fault) => fault_ending_of(fault),
+        RunStop::GivenUp => 8,
     }
 }

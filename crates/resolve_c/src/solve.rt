@@ -1,35 +1,40 @@
-//! Solving for C.
+//! Solving for C, without a budget and with one.
 
-ghost use Rattle.std.specs.Prelude.{IfOk, IfErr};
+ghost use Rattle.std.specs.Prelude.{None, Some, IfOk, IfErr};
 ghost use Rattle.resolve_run.specs.Answer.{IsAnswer};
-ghost use Rattle.resolve_c.specs.Told.{Solves, StopsSolving};
+ghost use Rattle.resolve_c.specs.Told.{Solves, SolvesWithin, StopsSolvingWithin};
 
-use crate::endings::{ending_of, fault_ending_of, growing};
+use crate::endings::{ending_of, growing_within, stop_ending_of};
 use crate::lent::Lent;
 use crate::told::{Told, tell};
-use resolve_check::outcome::RunFault;
 use resolve_check::written::Written;
-use resolve_run::run;
+use resolve_run::{RunStop, run_within};
 use resolvo_text::GrowingSink;
 use std::alloc::Global;
 
 /// What `run` writes for the two texts, or why it writes nothing.
-fn answer_of(alloc: Global, catalogue: &[u8], request: &[u8]) -> Result<Written, RunFault>
+fn answer_of(
+    alloc: Global,
+    catalogue: &[u8],
+    request: &[u8],
+    budget: Option<u64>,
+) -> Result<Written, RunStop>
     ensures ok { IfOk result (λ a. IsAnswer catalogue.now request.now a.outcome a.text.items) }
-    ensures err { IfErr result (λ e. StopsSolving e catalogue.now request.now) }
+    ensures err { IfErr result (λ e. StopsSolvingWithin budget e catalogue.now request.now) }
 {
     let mut text = GrowingSink::new(alloc);
-    match run(
+    match run_within(
         alloc,
         &mut Lent::new(catalogue),
         &mut Lent::new(request),
         &mut text,
+        budget,
     ) {
         Ok(outcome) => Ok(Written {
             outcome,
             text: text.into_bytes(),
         }),
-        Err(fault) => Err(growing(fault)),
+        Err(stop) => Err(growing_within(stop)),
     }
 }
 
@@ -43,8 +48,25 @@ pub extern "C" fn resolve_solve(
 ) -> Told
     ensures { Solves catalogue.now request.now room.old room.new result }
 {
-    match answer_of(alloc, catalogue, request) {
+    match answer_of(alloc, catalogue, request, None) {
         Ok(answer) => tell(ending_of(answer.outcome), &answer.text, room),
-        Err(fault) => tell(fault_ending_of(fault), b"", room),
+        Err(stop) => tell(stop_ending_of(stop), b"", room),
+    }
+}
+
+/// The same, or it gives up: where the solver asks so many times, and once more, whether to stop.
+#[unsafe(no_mangle)]
+pub extern "C" fn resolve_solve_within(
+    alloc: Global,
+    catalogue: &[u8],
+    request: &[u8],
+    budget: u64,
+    room: &mut [u8],
+) -> Told
+    ensures { SolvesWithin catalogue.now request.now room.old room.new result }
+{
+    match answer_of(alloc, catalogue, request, Some(budget)) {
+        Ok(written) => tell(ending_of(written.outcome), &written.text, room),
+        Err(stop) => tell(stop_ending_of(stop), b"", room),
     }
 }

@@ -1,6 +1,6 @@
 -- A report is an answer of the lines, and so of the texts.
 use Rattle.std.proofs.Common.{◌≡◌, ℕ, List, Option, Result, Ok, Err, refl, sym, subst, inl, inr}
-use Rattle.std.specs.Prelude.{IfOk, IfErr, codes}
+use Rattle.std.specs.Prelude.{IfOk, IfErr, IsSome, codes}
 use Rattle.resolvo_text.specs.Line.{Line}
 use Rattle.resolvo_text.specs.Device.{IfKnown}
 use Rattle.resolvo_text.specs.Texts.{IsGrammatical}
@@ -21,6 +21,13 @@ use Rattle.resolve_check.proofs.Results.{if_ok, if_err, never_ids}
 use Rattle.resolve_run.specs.Run.{AnswersTexts, AreRead, IsLack, IsWriteLack, StopsBefore, StopsRun}
 use Rattle.resolvo_report.specs.Value.{Report}
 use Rattle.resolve_answer.specs.Reported.{IsReportOf}
+use Rattle.resolve_answer.specs.Stops.{IsStopOf}
+use Rattle.resolve_answer.specs.declared.stop.Stop.{Stop}
+use Rattle.resolve_answer.specs.declared.stop.Stop.TheVariants as stop
+use Rattle.resolvo_pool_core.specs.declared.want.Want.TheVariants as want
+use Rattle.resolve_run.specs.Within.{stop_of, IsLackWithin, StopsBeforeWithin, StopsWithin}
+use Rattle.resolve_run.specs.declared.stop.RunStop.{RunStop}
+use Rattle.resolve_run.specs.declared.stop.RunStop.TheVariants.{Fault, GivenUp}
 
 pub of_texts : (c r : Option (List ℕ)) (catalogue request : List Line) (outcome : Outcome) (output : List ℕ) → IfKnown c (λ t. IsGrammatical IsCatalogueLine t catalogue) → IfKnown r (λ t. IsGrammatical (IsRequestLine catalogue) t request)
     → IsAnswerOfLines catalogue request outcome output → AnswersTexts c r outcome output
@@ -79,3 +86,19 @@ lacked TooLong catalogue request are lack = inr (are, lack)
 lacked Memory catalogue request are lack = tt
 lacked Ids catalogue request are lack = are
 lacked Writer catalogue request are lack = absurd lack
+
+-- ---- where there may be a budget
+
+pub lacked_within : (budget : Option ℕ) (s : RunStop) (catalogue request : Device) (are : AreRead catalogue request) → IsLackWithin budget s are.catalogue_lines are.request_lines → StopsBeforeWithin budget s catalogue request
+lacked_within budget (Fault e) catalogue request are lack = lacked e catalogue request are lack
+lacked_within budget GivenUp catalogue request are some = (some, are)
+
+pub nothing_written_within : (budget : Option ℕ) (s : RunStop) (catalogue request writer : Device) → StopsBeforeWithin budget s catalogue request → writer.after ≡ writer.before → StopsWithin budget s catalogue request writer
+nothing_written_within budget (Fault e) catalogue request writer h same = nothing_written e catalogue request writer h same
+nothing_written_within budget GivenUp catalogue request writer (some, are) same = (some, are, same)
+
+-- a search without a report stops so
+pub stop_lack : (budget : Option ℕ) (s : Stop) (catalogue request : List Line) → IsStopOf (IsSome budget) s → IsLackWithin budget (stop_of s) catalogue request
+stop_lack budget (stop.Lacks want.Memory) catalogue request h = tt
+stop_lack budget (stop.Lacks want.Ids) catalogue request h = tt
+stop_lack budget stop.GivenUp catalogue request h = h

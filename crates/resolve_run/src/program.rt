@@ -1,6 +1,6 @@
 //! From the bytes of a catalogue and a request to the bytes of a report. `main` and the tests call `run`.
 
-ghost use Rattle.std.specs.Prelude.{◌≡◌, ◌≤◌, length, IfOk, IfErr};
+ghost use Rattle.std.specs.Prelude.{◌≡◌, ◌≤◌, None, length, IfOk, IfErr};
 ghost use Rattle.resolvo_text.specs.Device.{DeviceFailed, WriterFailed};
 ghost use Rattle.resolvo_catalogue_core.specs.Grammar.{AreRequestLines};
 ghost use Rattle.resolvo_report.specs.Grammar.{most_bytes};
@@ -8,10 +8,12 @@ ghost use Rattle.resolvo_report.specs.Text.{report_text};
 ghost use Rattle.resolvo_report.specs.View.{report_of};
 ghost use Rattle.resolve_answer.specs.Wishes.{AreWishesAt};
 ghost use Rattle.resolve_run.specs.Answer.{IsAnswerOfLines, outcome_of};
-ghost use Rattle.resolve_run.specs.Run.{AnswersTexts, IsLack, IsWriteLack, StopsBefore, StopsRun, Writes};
+ghost use Rattle.resolve_run.specs.Run.{AnswersTexts, IsWriteLack, StopsRun, Writes};
+ghost use Rattle.resolve_run.specs.Within.{IsLackWithin, StopsBeforeWithin, StopsWithin};
 ghost use Rattle.resolve_check.specs.Devices.{IfCatalogueFaulty, reader_of, writer_of};
 
 use crate::report::report_text;
+use crate::stop::RunStop;
 use resolve_answer::answer::report_for;
 use resolve_check::length::report_length;
 use resolve_check::outcome::{Outcome, RunFault};
@@ -53,7 +55,12 @@ fn written(alloc: Global, report: &Report) -> Result<Written, RunFault>
 }
 
 /// The report of grammatical texts.
-fn report(alloc: Global, catalogue: &Catalogue, request: &Request) -> Result<Written, RunFault>
+fn report(
+    alloc: Global,
+    catalogue: &Catalogue,
+    request: &Request,
+    budget: Option<u64>,
+) -> Result<Written, RunStop>
     ensures ok { IfOk result
         (λ answer.
         AreRequestLines catalogue.now request.now.lines
@@ -63,10 +70,10 @@ fn report(alloc: Global, catalogue: &Catalogue, request: &Request) -> Result<Wri
         (λ e.
         AreRequestLines catalogue.now request.now.lines
         → AreWishesAt catalogue.now request.now
-        → IsLack e catalogue.now request.now.lines) }
+        → IsLackWithin budget e catalogue.now request.now.lines) }
 {
-    let report = report_for(alloc, catalogue, request)?;
-    written(alloc, &report)
+    let report = report_for(alloc, catalogue, request, budget)?;
+    Ok(written(alloc, &report)?)
 }
 
 /// What is written for two texts. The catalogue is read to its end first; where it is refused the request isn't read.
@@ -74,14 +81,15 @@ fn answer<C: Source, R: Source>(
     alloc: Global,
     catalogue: &mut C,
     request: &mut R,
-) -> Result<Written, RunFault>
+    budget: Option<u64>,
+) -> Result<Written, RunStop>
     ensures ok { IfOk result
         (λ answer.
         AnswersTexts (C.left catalogue.old) (R.left request.old) answer.outcome
         answer.text.items) }
     ensures err { IfErr result
         (λ e.
-        StopsBefore e
+        StopsBeforeWithin budget e
         (reader_of (C.left catalogue.old) (C.left catalogue.new)
         (DeviceFailed (C.failures catalogue.old) (C.failures catalogue.new)
         (C.interruptions catalogue.new)))
@@ -92,13 +100,60 @@ fn answer<C: Source, R: Source>(
 {
     let catalogue = match Catalogue::read(alloc, catalogue) {
         Ok(catalogue) => catalogue,
-        Err(fault) => return not_read(alloc, "catalogue", fault),
+        Err(fault) => return Ok(not_read(alloc, "catalogue", fault)?),
     };
     let request = match Request::read(alloc, request, &catalogue) {
         Ok(request) => request,
-        Err(fault) => return not_read(alloc, "request", fault),
+        Err(fault) => return Ok(not_read(alloc, "request", fault)?),
     };
-    report(alloc, &catalogue, &request)
+    report(alloc, &catalogue, &request, budget)
+}
+
+/// The same as `run`, but that it may give up where it has a budget, with nothing written: where the solver asks so many times, and once
+/// more, whether to stop. It asks before each propagation, and before each question about candidates or dependencies that it asked never before.
+pub fn run_within<C: Source, R: Source, W: Sink>(
+    alloc: Global,
+    catalogue: &mut C,
+    request: &mut R,
+    writer: &mut W,
+    budget: Option<u64>,
+) -> Result<Outcome, RunStop>
+    ensures written { IfOk result
+        (λ outcome.
+        Writes
+        (reader_of (C.left catalogue.old) (C.left catalogue.new)
+        (DeviceFailed (C.failures catalogue.old) (C.failures catalogue.new)
+        (C.interruptions catalogue.new)))
+        (reader_of (R.left request.old) (R.left request.new)
+        (DeviceFailed (R.failures request.old) (R.failures request.new)
+        (R.interruptions request.new)))
+        (writer_of (W.contents writer.old) (W.contents writer.new)
+        (WriterFailed (W.failures writer.old) (W.failures writer.new)
+        (W.interruptions writer.new) (W.empty_writes writer.old)
+        (W.empty_writes writer.new)))
+        outcome) }
+    ensures stopped { IfErr result
+        (λ e.
+        StopsWithin budget e
+        (reader_of (C.left catalogue.old) (C.left catalogue.new)
+        (DeviceFailed (C.failures catalogue.old) (C.failures catalogue.new)
+        (C.interruptions catalogue.new)))
+        (reader_of (R.left request.old) (R.left request.new)
+        (DeviceFailed (R.failures request.old) (R.failures request.new)
+        (R.interruptions request.new)))
+        (writer_of (W.contents writer.old) (W.contents writer.new)
+        (WriterFailed (W.failures writer.old) (W.failures writer.new)
+        (W.interruptions writer.new) (W.empty_writes writer.old)
+        (W.empty_writes writer.new)))) }
+    ensures catalogue_faulty { IfCatalogueFaulty (C.left catalogue.old) (request.new ≡ request.old) }
+{
+    match answer(alloc, catalogue, request, budget) {
+        Ok(answer) => match write_all(writer, answer.text.as_slice()) {
+            Ok(()) => Ok(answer.outcome),
+            Err(_) => Err(RunStop::Fault(RunFault::Writer)),
+        },
+        Err(stop) => Err(stop),
+    }
 }
 
 /// Reads the catalogue to its end, then the request, and writes the report, or the first faulty line. The text is whole
@@ -138,11 +193,9 @@ pub fn run<C: Source, R: Source, W: Sink>(
         (W.empty_writes writer.new)))) }
     ensures catalogue_faulty { IfCatalogueFaulty (C.left catalogue.old) (request.new ≡ request.old) }
 {
-    match answer(alloc, catalogue, request) {
-        Ok(answer) => match write_all(writer, answer.text.as_slice()) {
-            Ok(()) => Ok(answer.outcome),
-            Err(_) => Err(RunFault::Writer),
-        },
-        Err(fault) => Err(fault),
+    match run_within(alloc, catalogue, request, writer, None) {
+        Ok(outcome) => Ok(outcome),
+        Err(RunStop::Fault(fault)) => Err(fault),
+        Err(RunStop::GivenUp) => unreachable!(),
     }
 }

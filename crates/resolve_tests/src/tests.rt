@@ -1,5 +1,6 @@
 //! What no clause says and no row can show: devices that fail, stop or are interrupted, and how input is parted.
 
+mod budget;
 mod check;
 mod full;
 mod input;

@@ -43,3 +43,4 @@ pub record ChangesIds (old new : Provider) : Type 0 where
   pub told : new.told ≡ old.told
   pub marks : new.marks ≡ old.marks
   pub hint : new.hint ≡ old.hint
+  pub budget : new.has_budget ≡ old.has_budget

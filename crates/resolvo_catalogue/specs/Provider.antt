@@ -14,12 +14,13 @@ use Rattle.resolvo_catalogue.specs.declared.candidate_flags.CandidateFlags.{Cand
 use Rattle.resolvo_catalogue.specs.declared.provider.Hint as hints
 use Rattle.resolvo_catalogue.specs.declared.provider.Hint.TheVariants as hint
 
--- What a provider keeps: what was interned, and of each version what its lines need and which marks it has.
+-- What a provider keeps: what was interned, of each version what its lines need and which marks it has, and whether it may cancel.
 pub record Provider : Type 0 where
   pub ids : Ids
   pub told : List VersionDependencies
   pub marks : List CandidateFlags
   pub hint : hints.Hint
+  pub has_budget : Bool
 
 -- ---- matching
 

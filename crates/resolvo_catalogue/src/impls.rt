@@ -21,9 +21,9 @@ use resolvo_pool_core::want::R;
 use std::alloc::Global;
 use std::fmt;
 
-/// What a provider over a catalogue cancels with: nothing, since it never does.
-#[derive(Clone, Copy)]
-pub enum Never {}
+/// What a provider over a catalogue cancels with, where its budget is used up.
+#[derive(Clone, Copy, Debug, PartialEq, Eq)]
+pub struct GivenUp;
 
 impl Interner for CatalogueProvider {
     type NameId = NameId;
@@ -128,10 +128,10 @@ impl Interner for CatalogueProvider {
 }
 
 impl DependencyProvider for CatalogueProvider {
-    ghost use Rattle.std.specs.Prelude.{⊤};
+    ghost use Rattle.std.specs.Prelude.{⊤, true};
     ghost use Rattle.resolvo_catalogue.specs.Provider.{candidates_of, dependencies_of, IsSorted};
 
-    type Cancel = Never;
+    type Cancel = GivenUp;
 
     ghost matches = { λ p v s. matches p v s };
 
@@ -141,7 +141,7 @@ impl DependencyProvider for CatalogueProvider {
 
     ghost sorts = { λ p xs ys. IsSorted p xs ys };
 
-    ghost may_cancel = { λ p c. ⊥ };
+    ghost may_cancel = { λ p c. p.has_budget ≡ true };
 
     ghost sorts_permute = { λ p xs ys h. h.permutation };
 
@@ -198,6 +198,20 @@ impl DependencyProvider for CatalogueProvider {
                 requirements: Vec::from_slice(alloc, told.requirements.as_slice())?,
                 constrains: Vec::from_slice(alloc, told.constrains.as_slice())?,
             })),
+        }
+    }
+
+    fn should_cancel_with_value(&self) -> Option<GivenUp> {
+        let left = match &self.budget {
+            Some(left) => left,
+            None => return None,
+        };
+        match left.get().checked_sub(1) {
+            Some(rest) => {
+                left.set(rest);
+                None
+            }
+            None => Some(GivenUp),
         }
     }
 }

@@ -1,7 +1,7 @@
 //! The provider over a catalogue: made once from the lines, then asked by the solver.
 //! Its model is what was interned and what the lines say of each version (`specs/Provider.antt`).
 
-ghost use Rattle.std.specs.Prelude.{◌≡◌, [], map, IfOk, IsErrOf, IsOkUnless};
+ghost use Rattle.std.specs.Prelude.{◌≡◌, [], Bool, false, true, map, IfOk, IsErrOf, IsOkUnless};
 ghost use Rattle.resolvo_pool_core.specs.declared.want.Want.TheVariants.{Ids, Memory};
 ghost use Rattle.resolvo_catalogue.specs.declared.provider.Hint.{Hint};
 ghost use Rattle.resolvo_catalogue.specs.Ids.{AreByPackage, Interns, LacksNumber};
@@ -17,6 +17,7 @@ use resolvo_pool_core::id::{NameId, SolvableId, StringId, VersionSetId};
 use resolvo_pool_core::requirement::{ConditionalRequirement, Requirement};
 use resolvo_pool_core::want::{R, Want};
 use std::alloc::Global;
+use std::cell::Cell;
 use std::marker::Model;
 
 /// For which candidates of a package the dependencies are said to be at hand.
@@ -34,6 +35,8 @@ pub struct CatalogueProvider {
     pub(crate) told: Vec<VersionDependencies>,
     pub(crate) marks: Vec<CandidateFlags>,
     pub(crate) hint: Hint,
+    /// How many more questions whether to stop are answered no; without it all are.
+    pub(crate) budget: Option<Cell<u64>>,
     alloc: Global,
 }
 
@@ -46,13 +49,14 @@ impl Drop for CatalogueProvider {
             told: _,
             marks: _,
             hint: _,
+            budget: _,
             alloc: _,
         } = self;
     }
 }
 
 impl Model for CatalogueProvider {
-    ghost use Rattle.std.specs.Prelude.{map};
+    ghost use Rattle.std.specs.Prelude.{map, is_some};
     ghost use Rattle.resolvo_catalogue.specs.Told.{told_of};
     ghost use Rattle.resolvo_catalogue.specs.Ids.{AreByPackage};
     ghost use Rattle.resolvo_catalogue.specs.Provider.{Provider};
@@ -61,7 +65,7 @@ impl Model for CatalogueProvider {
 
     ghost view = { λ p.
         record
-        { ids = p.ids; told = map told_of p.told.items; marks = p.marks.items; hint = p.hint } };
+        { ids = p.ids; told = map told_of p.told.items; marks = p.marks.items; hint = p.hint; has_budget = is_some p.budget } };
 
     ghost invariant = { λ p. AreByPackage p.ids p.packages.items };
 }
@@ -97,6 +101,7 @@ impl CatalogueProvider {
     pub fn new(alloc: Global, catalogue: &Catalogue, hint: Hint) -> R<CatalogueProvider>
         ensures over { IfOk result (λ p. IsOver catalogue.now p) }
         ensures hint { IfOk result (λ p. p.hint ≡ hint) }
+        ensures budget { IfOk result (λ p. p.has_budget ≡ false) }
     {
         let mut ids = IdTable::new(alloc);
         let Tables {
@@ -110,8 +115,33 @@ impl CatalogueProvider {
             told,
             marks,
             hint,
+            budget: None,
             alloc,
         })
+    }
+
+    /// The same provider, which lets so many questions whether to stop pass, and stops at each later one.
+    pub fn within(self, budget: u64) -> CatalogueProvider
+        ensures { result ≡ record self { has_budget = true } }
+    {
+        let CatalogueProvider {
+            ids,
+            packages,
+            told,
+            marks,
+            hint,
+            budget: _,
+            alloc,
+        } = self;
+        CatalogueProvider {
+            ids,
+            packages,
+            told,
+            marks,
+            hint,
+            budget: Some(Cell::new(budget)),
+            alloc,
+        }
     }
 
     /// What a request over the catalogue says, as ids. Where it is refused, more may be interned.
@@ -232,10 +262,10 @@ fn tables_of(alloc: Global, ids: &mut IdTable, catalogue: &Catalogue) -> R<Table
     requires none { ids.old.solvables ≡ [] }
     ensures over { IfOk result
         (λ t.
-        (hint : Hint)
+        (hint : Hint) (has_budget : Bool)
         → IsOver catalogue.now
         (record
-        { ids = ids.new; told = map told_of t.told.items; marks = t.marks.items; hint = hint })) }
+        { ids = ids.new; told = map told_of t.told.items; marks = t.marks.items; hint = hint; has_budget = has_budget })) }
     ensures packages { IfOk result (λ t. AreByPackage ids.new t.packages.items) }
 {
     catalogue.lines_are_in_place();

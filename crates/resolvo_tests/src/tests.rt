@@ -8,7 +8,7 @@ use resolvo::problem::Problem;
 use resolvo::prove::solve;
 use resolvo::search::SearchResult;
 use resolvo::solver::Solver;
-use resolvo_catalogue::impls::Never;
+use resolvo_catalogue::impls::GivenUp;
 use resolvo_catalogue::provider::{CatalogueProvider, Hint, RequestIds};
 use resolvo_catalogue_core::{Catalogue, MemorySource, Request, VersionNo};
 use resolvo_packages::cached_packages::CachedPackages;
@@ -28,11 +28,11 @@ fn request(alloc: Global, text: &str, catalogue: &Catalogue) -> Result<Request, 
     Ok(Request::read(alloc, &mut source, catalogue)?)
 }
 
-fn failed(fault: CacheFault<Never>) -> Fail {
+fn failed(fault: CacheFault<GivenUp>) -> Fail {
     match fault {
         CacheFault::Memory => Fail::from(Want::Memory),
         CacheFault::Ids => Fail::from(Want::Ids),
-        CacheFault::Cancelled(never) => match never {},
+        CacheFault::Cancelled(given_up) => Fail::from(given_up),
     }
 }
 

@@ -5,7 +5,7 @@ use Rattle.resolvo_pool_core.specs.RuleKeeping.{Rules}
 use Rattle.resolvo_soundness.specs.Encoding.{IsExact}
 use Rattle.resolvo_catalogue.specs.Ids.{SolvableId, NameId}
 use Rattle.resolvo_catalogue.specs.Provider.{Provider, packages_of}
-use Rattle.resolvo_catalogue.specs.declared.impls.Never.{Never}
+use Rattle.resolvo_catalogue.specs.declared.impls.GivenUp.{GivenUp}
 use Rattle.resolvo.specs.Solver.{IsAnswer, IfEnded, Leaves, Kept, root_of as asked_of}
 use Rattle.resolvo.specs.declared.conflict.Conflict.{Conflict}
 use Rattle.resolvo.specs.declared.solver.UnsolvableOrCancelled.{UnsolvableOrCancelled}
@@ -15,7 +15,7 @@ use Rattle.resolve_answer.specs.First.{orders_of}
 use Rattle.resolve_answer.specs.Solved.{IsInstalledOver}
 use Rattle.resolve_answer.specs.Verdict.{Verdict}
 use Rattle.resolve_answer.specs.Wishes.{free_of}
-use Rattle.resolve_answer.proofs.Upheld.{if_ok, answer_installed, answer_refuted}
+use Rattle.resolve_answer.proofs.Upheld.{answer_installed, answer_refuted}
 use Rattle.resolve_answer.proofs.answer.answered.Goals as goal
 
 -- the test of solvables that the solver runs, and that it is exact
@@ -36,11 +36,11 @@ abbrev IsLeftBy : Verdict → Kept Provider NameId SolvableId → Type 0
 IsLeftBy verdict solver = Leaves verdict solver
 
 -- a search that refuses has come to its end
-ended : {P : Type 0} {e : UnsolvableOrCancelled Never} {conflict : Conflict} → e ≡ Unsolvable conflict → IfGiven (Err e) P → P
-ended {P} is h = subst (λ (x : UnsolvableOrCancelled Never). IfGiven (Err x) P) is h
+ended : {P : Type 0} {e : UnsolvableOrCancelled GivenUp} {conflict : Conflict} → e ≡ Unsolvable conflict → IfGiven (Err e) P → P
+ended {P} is h = subst (λ (x : UnsolvableOrCancelled GivenUp). IfGiven (Err x) P) is h
 
-pub returns-in-Ok : goal.returns-in-Ok
-returns-in-Ok c =
+pub returns-in-Ok-clause-report : goal.returns-in-Ok-clause-report
+returns-in-Ok-clause-report c =
     let catalogue = c.args.catalogue.now in
     let said = c.args.request.now in
     let solver = c.solve.new.self in
@@ -48,14 +48,13 @@ returns-in-Ok c =
     let wishes = c.in_ok-wishes.wishes.items in
     let (free, whole, answers, alone) = c.in-Ok.ensures.answer in
     let free_is : free ≡ free_of wishes = c.problem_of.ensures.wishes free whole ∙ (c.in_ok-free.ensures ∙ ap free_of c.as_slice.ensures.value) in
-    if_ok c.told.result (λ r reports asks versions over asked. reports asks
+    λ asks versions over asked. c.in_ok-told.ensures asks
     (subst (λ (xs : List SolvableId). IsInstalledOver catalogue said solver.provider wishes xs solver.turns solver.proof) (sym c.as_slice-in-Ok.ensures.value)
     (answer_installed catalogue said wishes c.args.asked same exact old solver asks c.in_ok-wishes.ensures.lines versions c.in_ok-wishes.ensures.wishes c.solve.ensures.provider over asked free free_is c.in-Ok.chosen
-    (subst (λ (root : Rules). SaysOf root free (Ok c.in-Ok.chosen) solver old) c.problem_of.ensures.root answers))))
-    c.told.ensures
+    (subst (λ (root : Rules). SaysOf root free (Ok c.in-Ok.chosen) solver old) c.problem_of.ensures.root answers)))
 
-pub returns-in-Err-Unsolvable : goal.returns-in-Err-Unsolvable
-returns-in-Err-Unsolvable c =
+pub returns-in-Err-Unsolvable-clause-report : goal.returns-in-Err-Unsolvable-clause-report
+returns-in-Err-Unsolvable-clause-report c =
     let catalogue = c.args.catalogue.now in
     let said = c.args.request.now in
     let solver = c.solve.new.self in
@@ -64,9 +63,8 @@ returns-in-Err-Unsolvable c =
     let conflict = c.in-Err-Unsolvable.conflict in
     let is = c.in-Err-Unsolvable.field-0-is in
     let (free, whole, answers, alone) = ended is c.in-Err-Unsolvable.ensures.answer in
-    let (count, ends, turnless, holds, listed) = subst (λ (e : UnsolvableOrCancelled Never). IsLeftBy (Err e) solver) is c.in-Err-Unsolvable.ensures.leaves in
+    let (count, ends, turnless, holds, listed) = subst (λ (e : UnsolvableOrCancelled GivenUp). IsLeftBy (Err e) solver) is c.in-Err-Unsolvable.ensures.leaves in
     let free_is : free ≡ free_of wishes = c.problem_of.ensures.wishes free whole ∙ (c.in_ok-free.ensures ∙ ap free_of c.as_slice.ensures.value) in
-    if_ok c.refused.result (λ r reports asks versions over asked. reports asks
+    λ asks versions over asked. c.in_ok-refused.ensures asks
     (answer_refuted catalogue said wishes c.args.asked same exact old solver asks c.in_ok-wishes.ensures.lines versions c.in_ok-wishes.ensures.wishes c.solve.ensures.provider over asked free free_is conflict
-    (subst (λ (root : Rules). SaysOf root free (Err (Unsolvable conflict)) solver old) c.problem_of.ensures.root (subst (λ (e : UnsolvableOrCancelled Never). SaysOf (asked_of c.problem_of.result) free (Err e) solver old) is answers)) ends))
-    c.refused.ensures
+    (subst (λ (root : Rules). SaysOf root free (Err (Unsolvable conflict)) solver old) c.problem_of.ensures.root (subst (λ (e : UnsolvableOrCancelled GivenUp). SaysOf (asked_of c.problem_of.result) free (Err e) solver old) is answers)) ends)

@@ -4,7 +4,7 @@ use Rattle.resolvo_catalogue.proofs.CoverLemmas.{told_stays}
 use Rattle.resolvo_catalogue.proofs.provider.tables_of.Goals as goal
 
 pub returns-clause-over : goal.returns-clause-over
-returns-clause-over c hint =
+returns-clause-over c hint has_budget =
     let a = c.list_versions.new.ids in
     let b = c.lines_told.new.ids in
     let d = c.marks_of.new.ids in
