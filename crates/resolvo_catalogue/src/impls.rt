@@ -1,6 +1,7 @@
 //! What the solver asks of the provider, and the laws that it rests on.
 
-ghost use Rattle.std.specs.Prelude.{◌≡◌, ◌==◌, IfOk, option_copied};
+ghost use Rattle.std.specs.Prelude.{◌≡◌, ◌==◌, IfOk, IsOkUnless, option_copied};
+ghost use Rattle.resolvo_pool_core.specs.declared.want.Want.TheVariants.{Memory};
 ghost use Rattle.std.specs.List.{find, flat_map};
 ghost use Rattle.resolvo_catalogue.specs.Laws.{operands_below, candidates_named};
 ghost use Rattle.resolvo_catalogue.specs.Ids.{solvables_of};
@@ -142,6 +143,8 @@ impl DependencyProvider for CatalogueProvider {
     ghost sorts = { λ p xs ys. IsSorted p xs ys };
 
     ghost may_cancel = { λ p c. p.has_budget ≡ true };
+
+    ghost may_lack_ids = { λ p. ⊥ };
 
     ghost sorts_permute = { λ p xs ys h. h.permutation };
 
@@ -286,7 +289,8 @@ impl CatalogueProvider {
 
     /// Those that are excluded, each with the reason.
     fn excluded_of(&self, alloc: Global, versions: &[SolvableId]) -> R<Vec<(SolvableId, StringId)>>
-        ensures { IfOk result (λ v. v.items ≡ flat_map (exclusion_of self.now) versions.now) }
+        ensures excluded { IfOk result (λ v. v.items ≡ flat_map (exclusion_of self.now) versions.now) }
+        ensures refusal { IsOkUnless result Memory }
     {
         let mut excluded = Vec::new(alloc);
         for version in versions {
