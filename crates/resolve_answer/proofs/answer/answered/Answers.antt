@@ -48,7 +48,7 @@ returns-in-Ok-clause-report c =
     let wishes = c.in_ok-wishes.wishes.items in
     let (free, whole, answers, alone) = c.in-Ok.ensures.answer in
     let free_is : free ≡ free_of wishes = c.problem_of.ensures.wishes free whole ∙ (c.in_ok-free.ensures ∙ ap free_of c.as_slice.ensures.value) in
-    λ asks versions over asked. c.in_ok-told.ensures asks
+    λ asks versions over asked. c.in_ok-told-in-Ok.ensures asks
     (subst (λ (xs : List SolvableId). IsInstalledOver catalogue said solver.provider wishes xs solver.turns solver.proof) (sym c.as_slice-in-Ok.ensures.value)
     (answer_installed catalogue said wishes c.args.asked same exact old solver asks c.in_ok-wishes.ensures.lines versions c.in_ok-wishes.ensures.wishes c.solve.ensures.provider over asked free free_is c.in-Ok.chosen
     (subst (λ (root : Rules). SaysOf root free (Ok c.in-Ok.chosen) solver old) c.problem_of.ensures.root answers)))
@@ -65,6 +65,6 @@ returns-in-Err-Unsolvable-clause-report c =
     let (free, whole, answers, alone) = ended is c.in-Err-Unsolvable.ensures.answer in
     let (count, ends, turnless, holds, listed) = subst (λ (e : UnsolvableOrCancelled GivenUp). IsLeftBy (Err e) solver) is c.in-Err-Unsolvable.ensures.leaves in
     let free_is : free ≡ free_of wishes = c.problem_of.ensures.wishes free whole ∙ (c.in_ok-free.ensures ∙ ap free_of c.as_slice.ensures.value) in
-    λ asks versions over asked. c.in_ok-refused.ensures asks
+    λ asks versions over asked. c.in_ok-refused-in-Err-Unsolvable.ensures asks
     (answer_refuted catalogue said wishes c.args.asked same exact old solver asks c.in_ok-wishes.ensures.lines versions c.in_ok-wishes.ensures.wishes c.solve.ensures.provider over asked free free_is conflict
     (subst (λ (root : Rules). SaysOf root free (Err (Unsolvable conflict)) solver old) c.problem_of.ensures.root (subst (λ (e : UnsolvableOrCancelled GivenUp). SaysOf (asked_of c.problem_of.result) free (Err e) solver old) is answers)) ends)

@@ -1,4 +1,4 @@
-use Rattle.std.proofs.Common.{◌≡◌, ◌∙◌, sym}
+use Rattle.std.proofs.Common.{◌∙◌, sym}
 use Rattle.resolve_answer.proofs.StopLemmas.{if_stopped}
 use Rattle.resolve_answer.proofs.Upheld.{if_ok}
 use Rattle.resolve_answer.proofs.answer.report_for.Goals as goal
