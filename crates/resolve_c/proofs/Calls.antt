@@ -1,5 +1,6 @@
 -- From what `run` and `check` do to devices to what a call leaves for bytes.
 use Rattle.std.proofs.Common.{◌≡◌, ℕ, ◌<◌, List, [], Option, Some, None, refl, sym, subst, ⊎_elim, arith}
+use Rattle.std.proofs.lemmas.Bool.{false≢true}
 use Rattle.std.specs.Io.KnownBytes.{Appends}
 use Rattle.resolvo_text.specs.Device.{DeviceFailed}
 use Rattle.resolvo_text.specs.declared.lines.ReadFault.TheVariants as read
@@ -113,7 +114,7 @@ unanswered Writer c r before after told (c_left, r_left, h) leaves = absurd h
 -- without a budget no call gives up
 pub unanswered_without : (stop : RunStop) (c r before after : List ℕ) (told : Told) → StopsSolvingWithin None stop c r → Leaves (stop_ending_of stop) [] before after told → Solves c r before after told
 unanswered_without (Fault e) c r before after told h leaves = unanswered e c r before after told h leaves
-unanswered_without GivenUp c r before after told (none, texts) leaves = absurd none
+unanswered_without GivenUp c r before after told (none, texts) leaves = absurd (false≢true none)
 
 pub unanswered_within : (budget : Option ℕ) (stop : RunStop) (c r before after : List ℕ) (told : Told) → StopsSolvingWithin budget stop c r → Leaves (stop_ending_of stop) [] before after told → SolvesWithin c r before after told
 unanswered_within budget (Fault e) c r before after told h leaves = how.solved (unanswered e c r before after told h leaves)

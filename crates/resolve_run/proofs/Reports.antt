@@ -1,6 +1,6 @@
 -- A report is an answer of the lines, and so of the texts.
 use Rattle.std.proofs.Common.{◌≡◌, ℕ, List, Option, Result, Ok, Err, refl, sym, subst, inl, inr}
-use Rattle.std.specs.Prelude.{IfOk, IfErr, IsSome, codes}
+use Rattle.std.specs.Prelude.{IfOk, IfErr, codes}
 use Rattle.resolvo_text.specs.Line.{Line}
 use Rattle.resolvo_text.specs.Device.{IfKnown}
 use Rattle.resolvo_text.specs.Texts.{IsGrammatical}
@@ -21,11 +21,7 @@ use Rattle.resolve_check.proofs.Results.{if_ok, if_err, never_ids}
 use Rattle.resolve_run.specs.Run.{AnswersTexts, AreRead, IsLack, IsWriteLack, StopsBefore, StopsRun}
 use Rattle.resolvo_report.specs.Value.{Report}
 use Rattle.resolve_answer.specs.Reported.{IsReportOf}
-use Rattle.resolve_answer.specs.Stops.{IsStopOf}
-use Rattle.resolve_answer.specs.declared.stop.Stop.{Stop}
-use Rattle.resolve_answer.specs.declared.stop.Stop.TheVariants as stop
-use Rattle.resolvo_pool_core.specs.declared.want.Want.TheVariants as want
-use Rattle.resolve_run.specs.Within.{stop_of, IsLackWithin, StopsBeforeWithin, StopsWithin}
+use Rattle.resolve_run.specs.Within.{within, IsLackWithin, StopsBeforeWithin, StopsWithin}
 use Rattle.resolve_run.specs.declared.stop.RunStop.{RunStop}
 use Rattle.resolve_run.specs.declared.stop.RunStop.TheVariants.{Fault, GivenUp}
 
@@ -97,8 +93,10 @@ pub nothing_written_within : (budget : Option ℕ) (s : RunStop) (catalogue requ
 nothing_written_within budget (Fault e) catalogue request writer h same = nothing_written e catalogue request writer h same
 nothing_written_within budget GivenUp catalogue request writer (some, are) same = (some, are, same)
 
--- a search without a report stops so
-pub stop_lack : (budget : Option ℕ) (s : Stop) (catalogue request : List Line) → IsStopOf (IsSome budget) s → IsLackWithin budget (stop_of s) catalogue request
-stop_lack budget (stop.Lacks want.Memory) catalogue request h = tt
-stop_lack budget (stop.Lacks want.Ids) catalogue request h = tt
-stop_lack budget stop.GivenUp catalogue request h = h
+pub within_ok : (P : Written → Type 0) (r : Result Written RunFault) (s : Result Written RunStop) → s ≡ within r → IfOk r P → IfOk s P
+within_ok P (Ok w) s is h = subst (λ (x : Result Written RunStop). IfOk x P) (sym is) h
+within_ok P (Err e) s is h = subst (λ (x : Result Written RunStop). IfOk x P) (sym is) tt
+
+pub within_err : (P : RunFault → Type 0) (Q : RunStop → Type 0) (r : Result Written RunFault) (s : Result Written RunStop) → s ≡ within r → ((e : RunFault) → P e → Q (Fault e)) → IfErr r P → IfErr s Q
+within_err P Q (Ok w) s is f h = subst (λ (x : Result Written RunStop). IfErr x Q) (sym is) tt
+within_err P Q (Err e) s is f h = subst (λ (x : Result Written RunStop). IfErr x Q) (sym is) (f e h)

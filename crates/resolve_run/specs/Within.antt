@@ -1,5 +1,5 @@
 -- How a run ends that may have a budget: as one without, or it gives up.
-use Rattle.std.specs.Prelude.{◌≡◌, ℕ, List, Option, IsSome}
+use Rattle.std.specs.Prelude.{◌≡◌, ℕ, List, Option, Result, Ok, Err, IsSome}
 use Rattle.resolvo_text.specs.Line.{Line}
 use Rattle.resolvo_text.specs.Texts.{IsGrammatical}
 use Rattle.resolvo_catalogue_core.specs.Grammar.{IsCatalogueLine, IsRequestLine}
@@ -7,9 +7,16 @@ use Rattle.resolve_answer.specs.declared.stop.Stop.{Stop}
 use Rattle.resolve_answer.specs.declared.stop.Stop.TheVariants as stop
 use Rattle.resolve_check.specs.Devices.{Device}
 use Rattle.resolve_check.specs.Faults.{fault_of}
+use Rattle.resolve_check.specs.declared.outcome.RunFault.{RunFault}
+use Rattle.resolve_check.specs.declared.written.Written.{Written}
 use Rattle.resolve_run.specs.Run.{AreRead, IsLack, StopsBefore, StopsRun}
 use Rattle.resolve_run.specs.declared.stop.RunStop.{RunStop}
 use Rattle.resolve_run.specs.declared.stop.RunStop.TheVariants.{Fault, GivenUp}
+
+-- the same end, of a run that may have a budget
+abbrev pub within : Result Written RunFault → Result Written RunStop
+within (Ok w) = Ok w
+within (Err e) = Err (Fault e)
 
 -- the end of a run whose search has no report
 abbrev pub stop_of : Stop → RunStop

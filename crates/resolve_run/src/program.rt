@@ -9,7 +9,7 @@ ghost use Rattle.resolvo_report.specs.View.{report_of};
 ghost use Rattle.resolve_answer.specs.Wishes.{AreWishesAt};
 ghost use Rattle.resolve_run.specs.Answer.{IsAnswerOfLines, outcome_of};
 ghost use Rattle.resolve_run.specs.Run.{AnswersTexts, IsWriteLack, StopsRun, Writes};
-ghost use Rattle.resolve_run.specs.Within.{IsLackWithin, StopsBeforeWithin, StopsWithin};
+ghost use Rattle.resolve_run.specs.Within.{within, IsLackWithin, StopsBeforeWithin, StopsWithin};
 ghost use Rattle.resolve_check.specs.Devices.{IfCatalogueFaulty, reader_of, writer_of};
 
 use crate::report::report_text;
@@ -54,6 +54,16 @@ fn written(alloc: Global, report: &Report) -> Result<Written, RunFault>
     })
 }
 
+/// The same end, of a run that may have a budget.
+fn within(ended: Result<Written, RunFault>) -> Result<Written, RunStop>
+    ensures { result ≡ within ended }
+{
+    match ended {
+        Ok(written) => Ok(written),
+        Err(fault) => Err(RunStop::Fault(fault)),
+    }
+}
+
 /// The report of grammatical texts.
 fn report(
     alloc: Global,
@@ -73,7 +83,7 @@ fn report(
         → IsLackWithin budget e catalogue.now request.now.lines) }
 {
     let report = report_for(alloc, catalogue, request, budget)?;
-    Ok(written(alloc, &report)?)
+    within(written(alloc, &report))
 }
 
 /// What is written for two texts. The catalogue is read to its end first; where it is refused the request isn't read.
@@ -100,11 +110,11 @@ fn answer<C: Source, R: Source>(
 {
     let catalogue = match Catalogue::read(alloc, catalogue) {
         Ok(catalogue) => catalogue,
-        Err(fault) => return Ok(not_read(alloc, "catalogue", fault)?),
+        Err(fault) => return within(not_read(alloc, "catalogue", fault)),
     };
     let request = match Request::read(alloc, request, &catalogue) {
         Ok(request) => request,
-        Err(fault) => return Ok(not_read(alloc, "request", fault)?),
+        Err(fault) => return within(not_read(alloc, "request", fault)),
     };
     report(alloc, &catalogue, &request, budget)
 }

@@ -1,10 +1,12 @@
 use Rattle.resolvo_report.specs.View.{report_of}
-use Rattle.resolve_check.proofs.Results.{if_ok, if_err}
-use Rattle.resolve_run.proofs.Reports.{lack_of}
+use Rattle.resolve_check.proofs.Results.{if_ok}
+use Rattle.resolve_run.proofs.Reports.{lack_of, within_ok, within_err}
 use Rattle.resolve_run.proofs.program.report.Goals as goal
 
 pub returns-clause-ok : goal.returns-clause-ok
-returns-clause-ok c = if_ok c.written.result (λ a (ends, is, few) asks wishes. record { report = report_of c.in_ok-report.report; reported = c.in_ok-report.ensures asks wishes; ends = ends; is_text = is; bound = few }) c.written.ensures.ok
+returns-clause-ok c = within_ok _ c.written.result c.within.result c.within.ensures
+    (if_ok c.written.result (λ a (ends, is, few) asks wishes. record { report = report_of c.in_ok-report.report; reported = c.in_ok-report.ensures.report asks wishes; ends = ends; is_text = is; bound = few }) c.written.ensures.ok)
 
 pub returns-clause-err : goal.returns-clause-err
-returns-clause-err c = if_err c.written.result (λ e lack asks wishes. lack_of e _ _ (report_of c.in_ok-report.report) (c.in_ok-report.ensures asks wishes) lack) c.written.ensures.err
+returns-clause-err c = within_err _ _ c.written.result c.within.result c.within.ensures
+    (λ e lack asks wishes. lack_of e _ _ (report_of c.in_ok-report.report) (c.in_ok-report.ensures.report asks wishes) lack) c.written.ensures.err

@@ -1,8 +1,8 @@
 use Rattle.std.proofs.Common.{refl, subst, List, ℕ}
 use Rattle.std.specs.Io.KnownBytes.{Appends}
 use Rattle.resolvo_text.specs.Device.{TakesFront}
-use Rattle.resolve_run.proofs.Reports.{nothing_written}
-use Rattle.resolve_run.proofs.program.run.Goals as goal
+use Rattle.resolve_run.proofs.Reports.{nothing_written_within}
+use Rattle.resolve_run.proofs.program.run_within.Goals as goal
 
 pub returns-in-Ok-write_all-clause-written : goal.returns-in-Ok-write_all-clause-written
 returns-in-Ok-write_all-clause-written g c = (
@@ -23,4 +23,4 @@ returns-in-Ok-clause-stopped g c = (
 )
 
 pub returns-clause-stopped : goal.returns-clause-stopped
-returns-clause-stopped g c = nothing_written c.in-Err.fault _ _ _ c.in-Err.ensures.err refl
+returns-clause-stopped g c = nothing_written_within c.args.budget c.in-Err.stop _ _ _ c.in-Err.ensures.err refl
