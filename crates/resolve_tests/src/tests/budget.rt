@@ -41,14 +41,16 @@ fn answers(alloc: Global, budget: u64) -> Result<bool, AllocError> {
 
 #[test]
 fn each_budget(rt: HostRuntime) -> Result<(), Fail> {
-    let mut needed = 0;
-    while needed < 40 && gives_up(rt.alloc(), needed)? {
-        needed += 1;
+    let mut needed = 0u64;
+    for budget in 0..40u64 {
+        if gives_up(rt.alloc(), budget)? {
+            assert_eq!(rt; needed, budget);
+            needed = budget + 1;
+        } else {
+            assert!(rt; answers(rt.alloc(), budget)?, "{budget}");
+        }
     }
-    assert!(rt; needed > 0);
-    for budget in needed..needed + 3 {
-        assert!(rt; answers(rt.alloc(), budget)?, "{budget}");
-    }
+    assert!(rt; needed > 0 && needed < 40);
     assert!(rt; answers(rt.alloc(), u64::MAX)?);
     Ok(())
 }
