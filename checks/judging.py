@@ -89,8 +89,9 @@ class Prover:
             for placed in text.placed:
                 self.add_line(where, placed)
         for v in self.listed:
-            place = 1 + [w for w in self.listed if w.package == v.package].index(v)
-            for bit in range(2):
+            of = [w for w in self.listed if w.package == v.package]
+            place = 1 + of.index(v)
+            for bit in range(max(2, len(of).bit_length())):
                 self.rules.append((f"digit {v} place {place} bit {bit}", None,
                                    [(("v", v), False), (("bit", v.package, bit), bool(place >> bit & 1))]))
             self.rules.append((f"any {v}", None, [(("v", v), False), (("any", v.package), True)]))
