@@ -49,6 +49,13 @@ class Project:
     listed: dict[int, str] = default(default_factory=dict)
     fits: list[bool] = default(default_factory=list)
     found: dict[str, tuple[int, ...]] = default(default_factory=dict)
+    provided: Optional[set[str]] = None
+
+    def extras(self) -> set[str]:
+        """The extras that some version provides."""
+        if self.provided is None:
+            self.provided = {canonical(extra) for wheel in self.wheels for extra in wheel_extras(wheel)}
+        return self.provided
 
 
 # ---- reading
@@ -246,7 +253,7 @@ class PypiIndex:
         """All projects, with the extras that they provide."""
         for name, project in self.projects.items():
             yield name
-            for extra in {canonical(e) for wheel in project.wheels for e in wheel_extras(wheel)}:
+            for extra in project.extras():
                 yield f"{name}[{extra}]"
 
     def listed(self, package: str) -> dict[int, str]:
@@ -303,10 +310,11 @@ class PypiIndex:
         return project.found[str(wanted)]
 
     def needs(self, source: str, requirement: Any) -> list[Rule]:
-        """The rules of a requirement: one for each extra, or one for the project."""
+        """The rules of a requirement: one for each extra, or one for the project. An extra that no version provides adds nothing, as in pip."""
         name = canonical(requirement.name)
         numbers = self.match(name, requirement.specifier)
-        packages = [f"{name}[{extra}]" for extra in sorted({canonical(each) for each in requirement.extras})]
+        provided = self.projects[name].extras() if name in self.projects else set()
+        packages = [f"{name}[{extra}]" for extra in sorted({canonical(each) for each in requirement.extras} & provided)]
         return [Needs(source, (Match(package, numbers),)) for package in packages or [name]]
 
 

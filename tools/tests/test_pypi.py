@@ -36,11 +36,11 @@ class Pypi(FolderCase):
 
     def test_runs_extras_and_yanked(self):
         wanted = (
-            "#p app-one_x5b_q_x5d_ app-one[q]\n#p more_x5b_z_x5d_ more[z]\n"
+            "#p app-one_x5b_q_x5d_ app-one[q]\n"
             "version app-one 1\n#v 1.0\nneeds lib 2..4\n"
-            "version app-one_x5b_q_x5d_ 1\n#v 1.0\nneeds app-one\nneeds more_x5b_z_x5d_\n"
+            "version app-one_x5b_q_x5d_ 1\n#v 1.0\nneeds app-one\nneeds more\n"
             "version lib 1\n#v 1.1\nversion lib 2\n#v 1.9\nexclude lib 2 yanked\nversion lib 3\n#v 1.10\nversion lib 4\n#v 2.0rc1\n"
-            "version more 1\n#v 1\nversion more_x5b_z_x5d_ 1\n#v 1\nneeds more\n"
+            "version more 1\n#v 1\n"
         )
         self.assertEqual(self.catalogue(INDEX, "--closure", "App.One[q]"), wanted)
         self.assertEqual(self.catalogue(INDEX, "--closure", "more"), "version more 1\n#v 1\n")
@@ -48,7 +48,7 @@ class Pypi(FolderCase):
     def test_requests(self):
         rows = {
             "lib": "needs lib 1..4", "lib!=1.9": "needs lib 3 | lib 1", "lib>=2": "needs lib 0", "lib>=2.0a1": "needs lib 4",
-            "LIB==1.*": "needs lib 1..4", "old": "needs old", "old>=1": "needs old 1", "none>1": "needs none",
+            "LIB==1.*": "needs lib 1..4", "old": "needs old", "old>=1": "needs old 1", "none>1": "needs none", "more[z]": "needs more",
             "lib ; python_version < '3'": "# lib ; python_version < '3': its marker doesn't hold",
         }
         for text, line in rows.items():
