@@ -169,10 +169,12 @@ class CondaIndex:
         return self.tables[package]
 
     def release(self, package: str, number: int) -> Release:
-        """What one build asks: `depends` are needs, `constrains` are limits."""
+        """What one build asks: `depends` are needs, `constrains` are limits. One of the build's own package says nothing, as in libsolv: no other
+        build of it can be beside this one."""
         record = self.records[package][number - 1]
         rules: list[Rule] = [Needs(f"depends: {text}", (self.match(text, record.where),)) for text in record.depends]
-        rules += [Limits(f"constrains: {text}", self.match(text, record.where)) for text in record.constrains]
+        limits = [Limits(f"constrains: {text}", self.match(text, record.where)) for text in record.constrains]
+        rules += [limit for limit in limits if limit.match.package != package]
         return Release(tuple(rules))
 
     def match(self, text: str, where: Where) -> Match:
