@@ -27,7 +27,7 @@ yes_text = codes "yes" ++ newline
 abbrev pub no_text : ℕ → List ℕ
 no_text n = codes "no line " ++ (decimal n ++ newline)
 
--- how a verdict is told
+-- how a verdict is reported
 abbrev pub TellsVerdict : Verdict → Checked → List ℕ → Type 0
 TellsVerdict verdict.Yes checked output = (checked ≡ Yes) × (output ≡ yes_text)
 TellsVerdict (verdict.No n) checked output = (checked ≡ No) × (output ≡ no_text n)
@@ -74,7 +74,7 @@ abbrev pub StopsCheck : RunFault → Device → Device → Device → Device →
 StopsCheck Writer catalogue request report writer = writer.Failed × ((checked : Checked) × (output : List ℕ) × ChecksTexts catalogue.before request.before report.before checked output × TakesFront writer.before writer.after output)
 StopsCheck e catalogue request report writer = StopsBeforeCheck e catalogue request report × (writer.after ≡ writer.before)
 
--- A faulty line is told; every other fault is the check's, by its own name.
+-- A faulty line is reported as such; every other fault is the check's, by its own name.
 abbrev pub TellsFaulty : ReadFault → List ℕ → Result Told RunFault → Type 0
 TellsFaulty (read.Fault n) which told = IfOk told (λ answer. (answer.checked ≡ Faulty) × (answer.text.items ≡ fault_text which n)) × IfErr told (λ e. e ≡ Memory)
 TellsFaulty read.Reader which told = told ≡ Err Reader

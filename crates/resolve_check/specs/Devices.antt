@@ -6,7 +6,7 @@ use Rattle.resolvo_text.specs.Texts.{IsGrammatical, IsFaultyAt, IsTextFault}
 use Rattle.resolvo_text.specs.declared.lines.ReadFault.{ReadFault}
 use Rattle.resolvo_catalogue_core.specs.Grammar.{IsCatalogueLine, IsRequestLine}
 
--- A reader or a writer, before a run and after it: its bytes, where it tells them, and the fact that it failed.
+-- A reader or a writer, before a run and after it: its bytes, where it knows them, and the fact that it failed.
 pub record Device : Type 1 where
   pub before : Option (List ℕ)
   pub after : Option (List ℕ)

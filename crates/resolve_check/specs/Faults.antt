@@ -1,4 +1,4 @@
--- What is told of a text that was not read, and what a fault is called.
+-- What is reported of a text that was not read, and what a fault is called.
 use Rattle.std.specs.Prelude.{◌≡◌, ℕ, List, Result, Err, IfOk, IfErr}
 use Rattle.resolvo_text.specs.declared.lines.ReadFault.{ReadFault}
 use Rattle.resolvo_text.specs.declared.lines.ReadFault.TheVariants as read
@@ -15,7 +15,7 @@ abbrev pub fault_of : Want → RunFault
 fault_of want.Memory = Memory
 fault_of want.Ids = Ids
 
--- A faulty line is told; every other fault is the run's, by its own name.
+-- A faulty line is reported as such; every other fault is the run's, by its own name.
 abbrev pub TellsFault : ReadFault → List ℕ → Result Written RunFault → Type 0
 TellsFault (read.Fault n) which told = IfOk told (λ answer. (answer.outcome ≡ outcome.Faulty) × (answer.text.items ≡ fault_text which n)) × IfErr told (λ e. e ≡ Memory)
 TellsFault read.Reader which told = told ≡ Err Reader

@@ -63,7 +63,7 @@ pub record Serve (catalogue request : List Line) (turns : List Turn) (steps : Li
   pub reached : (k : ℕ) → k < length turns → AreReached catalogue request (chosen_before catalogue turns (suc k)) (wishes_in (turns_of (listed catalogue) (take (suc k) turns)))
   -- the step of a wish that is left out bars it, with what the turns before it chose; so it isn't chosen
   pub barred : (k : ℕ) (wish : ℕ × VersionNo) (step : ℕ) → slice_get turns k ≡ Some (LeftOut wish step) → IsTrue (step_bars catalogue request steps (chosen_before catalogue turns k) (nth (listed catalogue) wish.1) step)
-  -- each step may stand after those before it, in a report that may rest on each line
+  -- each step is allowed after those before it, in a report that may rest on each line
   pub proof : IsProof catalogue request every_line every_line steps
   -- each step has a text, and so has its number
   pub texts : AllByRecursion IsStep steps
@@ -87,6 +87,6 @@ pub record IsInstallOf (catalogue request : List Line) (turns : List Turn) (step
   -- the judge accepts it, so what it claims is true
   pub accepted : IsAccepted catalogue request (report_lines r)
   pub claim : IsClaimTrue catalogue request r
-  -- its lines stand in listing order, and its entries are what was chosen
+  -- its lines are in listing order, and its entries are what was chosen
   pub order : AreTurns catalogue request [] [] (turns_of (listed catalogue) turns) (map answer_of lines)
   pub entries : (v : Version) → Contains (all_chosen catalogue turns) v ↔ Contains (entries_of (map answer_of lines)) v

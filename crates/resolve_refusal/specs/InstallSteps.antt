@@ -29,7 +29,7 @@ pub record IsBarAt (catalogue : List Line) (steps : List (ProofStep NameId Solva
   pub derived : slice_get steps k ≡ Some (Derived literals causes)
   pub denies : (l : ProofLiteral NameId SolvableId) → Contains literals.items l → DeniesOneOf catalogue entries wish l
 
--- The steps tell those of a proof, one by one. Each has a text, and may stand after those before it where each line may be
+-- The steps write those of a proof, one by one. Each has a text, and is allowed after those before it where each line may be
 -- rested on. One that denies a wish and entries bars the wish, whatever steps follow.
 pub record AreInstallSteps (catalogue request : List Line) (ids : Ids) (steps : List (ProofStep NameId SolvableId)) (written : List Step) : Type 0 where
   pub each : AllZip (IsToldBy catalogue ids request) steps written
@@ -42,7 +42,7 @@ pub record AreInstallSteps (catalogue request : List Line) (ids : Ids) (steps : 
 abbrev pub IsBarredBefore : List Line → Version → Step → Type 0
 IsBarredBefore catalogue v step = (line : ℕ) × (IsLockStep catalogue v step line ⊎ IsExclusionStep catalogue v step line)
 
--- The step bars the version so. It has a text, may stand anywhere in an install report, and bars the version as a wish there.
+-- The step bars the version so. It has a text, is allowed anywhere in an install report, and bars the version as a wish there.
 pub record IsBarringStep (catalogue : List Line) (v : Version) (step : Step) : Type 0 where
   pub bars : IsBarredBefore catalogue v step
   pub text : IsStep step

@@ -1,4 +1,4 @@
--- The line of a place by which a need or a limit is told, and the line by which a version is barred.
+-- The line of a place that states a need or a limit, and the line that bars a version.
 use Rattle.std.specs.Prelude.{◌≡◌, ◌⊎◌, ◌<◌, ◌≤◌, ◌+◌, ℕ, Bool, true, false, List, length, slice_index_or, slice_get, Option, None, Some, Contains}
 use Rattle.resolvo_text.specs.Line.{Version, Spec, Cond, Line, Skipped, Listed, Needs, Limits, Unknown, Lock, Favour, Exclude, Wish}
 use Rattle.resolvo_text.specs.Cases.{condition_cases}
@@ -36,7 +36,7 @@ abbrev pub IsLeast : Option ℕ → (ℕ → Type 0) → Type 0
 IsLeast None P = (n : ℕ) → P n → ⊥
 IsLeast (Some n) P = P n × ((m : ℕ) → m < n → P m → ⊥)
 
--- the text that a place stands in: a version stands in the catalogue, and no version is the request
+-- the text of a place: a version is in the catalogue, and no version is the request
 abbrev pub text_of : List Line → List Line → Option VersionNo → List Line
 text_of catalogue request None = request
 text_of catalogue request (Some v) = catalogue
@@ -46,7 +46,7 @@ abbrev pub IsLineOf : List Line → List Line → Option VersionNo → ℕ → T
 IsLineOf catalogue request None n = (1 ≤ n) × (n ≤ length request)
 IsLineOf catalogue request (Some v) n = SaysOf (listed catalogue) catalogue v.0 BelongsTo n
 
--- Line n of a text says this.
+-- Line n of a text has this content.
 abbrev pub SaysAt : List Line → Line → ℕ → Type 0
 SaysAt lines line n = line_at lines n ≡ Some line
 
@@ -95,7 +95,7 @@ locks (Wish v) = false
 abbrev pub ExcludesAt : List Line → Version → List ℕ → ℕ → Type 0
 ExcludesAt catalogue v word n = line_at catalogue n ≡ Some (Exclude v word)
 
--- Line n says with this word that the version's needs are unknown.
+-- Line n marks the version's needs as unknown, with this word.
 abbrev pub MarksUnknownAt : List Line → Version → List ℕ → ℕ → Type 0
 MarksUnknownAt catalogue v word n = (line_at catalogue n ≡ Some (Unknown word)) × (owner_of catalogue n ≡ Some v)
 
@@ -103,7 +103,7 @@ MarksUnknownAt catalogue v word n = (line_at catalogue n ≡ Some (Unknown word)
 abbrev pub BarsAs : List Line → Version → List ℕ → ℕ → Type 0
 BarsAs catalogue v word n = ExcludesAt catalogue v word n ⊎ MarksUnknownAt catalogue v word n
 
--- It is the first line that bars the version with this word, by what it says; or none does.
+-- It is the first line that bars the version with this word, by its content; or none does.
 abbrev pub IsWordLine : List Line → Version → List ℕ → Option WordLine → Type 0
 IsWordLine catalogue v word None = (m : ℕ) → BarsAs catalogue v word m → ⊥
 IsWordLine catalogue v word (Some (with_word.Exclude n)) = ExcludesAt catalogue v word n × ((m : ℕ) → m < n → BarsAs catalogue v word m → ⊥)

@@ -50,7 +50,7 @@ module _ (catalogue : List Line) (ids : Ids) where
   abbrev pub IsName : NameId → Type 0
   IsName n = (name : List ℕ) × IsPackage ids n name
 
-  -- The id stands for a name, a SPEC or alternatives that a line can spell.
+  -- The id is that of a name, a SPEC or alternatives that a line can spell.
   abbrev pub IsSpelledName : NameId → Type 0
   IsSpelledName n = (name : List ℕ) × IsPackage ids n name × IsTrue (is_name name)
 
@@ -68,7 +68,7 @@ module _ (catalogue : List Line) (ids : Ids) where
   IsKnownAtom (atom.Outside v) = IsSpelledSet v
   IsKnownAtom (atom.Bit n bit) = IsSpelledName n × (bit < 32)
 
-  -- The step's SPEC can be spelled, and so can the atoms of its literals. What other steps name is told by the rules.
+  -- The step's SPEC can be spelled, and so can the atoms of its literals. The rules give what other steps name.
   abbrev pub IsKnownStep : ProofStep NameId SolvableId → Type 0
   IsKnownStep (Rule (NeedsRule parent r case)) = ⊤
   IsKnownStep (Rule (GateOf s r)) = ⊤
@@ -81,7 +81,7 @@ module _ (catalogue : List Line) (ids : Ids) where
   IsKnownStep (Rule (AtLeastOne n s)) = ⊤
   IsKnownStep (Derived literals causes) = (l : ProofLiteral NameId SolvableId) → Contains literals.items l → IsKnownAtom l.atom
 
--- ---- how steps are told
+-- ---- how steps are written
 
 -- The step bars the version by this line, which locks another version of its package.
 abbrev pub IsLockStep : List Line → Version → Step → ℕ → Type 0
@@ -91,20 +91,20 @@ IsLockStep catalogue v step line = (step ≡ told.Lock line v) × LineIs catalog
 abbrev pub IsExclusionStep : List Line → Version → Step → ℕ → Type 0
 IsExclusionStep catalogue v step line = (step ≡ told.Exclude line) × ((m : ℕ) → LineIs catalogue m (LocksAnother v) → ⊥) × LineIs catalogue line (Excludes v)
 
--- The step bars the version by a line that locks another version of its package, excludes it, or says that its needs are unknown.
+-- The step bars the version by a line that locks another version of its package, excludes it, or marks its needs as unknown.
 abbrev pub IsBarredBy : List Line → Version → Step → Type 0
 IsBarredBy catalogue v step = (line : ℕ) × (IsLockStep catalogue v step line ⊎ (((step ≡ told.Exclude line) × LineIs catalogue line (Excludes v)) ⊎ ((step ≡ told.Unknown line) × LineIs catalogue line (MarksUnknownOf v))))
 
--- It bars the version with this word, by the first line that does: one that excludes it, or one that says that its needs are unknown.
+-- It bars the version with this word, by the first line that does: one that excludes it, or one that marks its needs as unknown.
 abbrev pub IsBarredAs : List Line → Version → List ℕ → Step → Type 0
 IsBarredAs catalogue v word step = (line : ℕ) × (((step ≡ told.Exclude line) × ExcludesAt catalogue v word line) ⊎ ((step ≡ told.Unknown line) × MarksUnknownAt catalogue v word line)) × ((m : ℕ) → m < line → BarsAs catalogue v word m → ⊥)
 
 module _ (catalogue : List Line) where
-  -- line n of the place says this
+  -- line n of the place has this content
   abbrev pub PlaceSays : List Line → Place → Line → ℕ → Type 0
   PlaceSays request place said n = line_of catalogue request place n ≡ Some said
 
-  -- The line says it, and none of the place before it does.
+  -- The line has it, and none of the place before it does.
   pub record IsFirst (request : List Line) (place : Place) (said : Line) (n : ℕ) : Type 0 where
     pub says : PlaceSays request place said n
     pub first : (m : ℕ) → m < n → PlaceSays request place said m → ⊥
@@ -119,7 +119,7 @@ module _ (catalogue : List Line) where
     pub says : IsOfPlace request place (NeedsAs alternatives case k) n
     pub first : (m : ℕ) → m < n → IsOfPlace request place (NeedsIn alternatives case) m → ⊥
 
-  -- The step tells its rule by the first line that states it, a need by the first of its cases too. A package is locked by one line
+  -- The step names its rule by the first line that states it, a need by the first of its cases too. A package is locked by one line
   -- at most; an exclusion and an unknown mark of one version state one rule where their words are the same.
   abbrev pub TellsFirst : List Line → Step → Type 0
   TellsFirst request (told.Need place line k) = (alternatives case : List Spec) × IsFirstNeed request place alternatives case line k
@@ -155,7 +155,7 @@ module _ (catalogue : List Line) (ids : Ids) where
   abbrev pub AreLiterals : List (ProofLiteral NameId SolvableId) → List Literal → Type 0
   AreLiterals literals written = (l : Literal) → Contains written l ↔ ((k : ProofLiteral NameId SolvableId) × Contains literals k × (l ≡ literal_at k))
 
-  -- The step tells the proof's step: a rule by the first line that states it, a need by its first such case too; a lock by the line
+  -- The step writes the proof's step: a rule by the first line that states it, a need by its first such case too; a lock by the line
   -- that locks another version, what bars a version with a word by that word; a derived clause by its literals and the numbers of
   -- its causes.
   abbrev pub IsToldBy : List Line → ProofStep NameId SolvableId → Step → Type 0

@@ -1,4 +1,4 @@
--- How the steps of a proof over a provider's ids are told in a report.
+-- How a report writes the steps of a proof over a provider's ids.
 use Rattle.std.specs.Prelude.{◌≡◌, ℕ, ◌+◌, ◌⊎◌, nat_lt, if◌then◌else◌, List, [], map, length, slice_index_or, Option, Some, None}
 use Rattle.std.specs.List.{AllZip}
 use Rattle.resolvo_text.specs.Line.{Version, Line}
@@ -31,7 +31,7 @@ number_of place = if nat_lt place 4294967295 then place + 1 else 4294967295
 abbrev pub HasWord : Step → Type 0
 HasWord step = (line : ℕ) × ((step ≡ told.Exclude line) ⊎ (step ≡ told.Unknown line))
 
--- The step tells what the proof's step does, by the versions, SPECs and places of its ids, and a rule by some line.
+-- The step writes the proof's step, by the versions, SPECs and places of its ids, and a rule by some line.
 abbrev pub IsWritten : List Line → Ids → ProofStep NameId SolvableId → Step → Type 0
 IsWritten catalogue ids (Rule (Needs parent r case)) step = (line k : ℕ) × (step ≡ told.Need (place_at catalogue parent) line k)
 IsWritten catalogue ids (Rule (GateOf s r)) step = (line : ℕ) × (step ≡ told.Gate (version_at catalogue s) line)

@@ -1,4 +1,4 @@
--- By which line and case a need is told, by which line a limit and a bar, and by which literals a derived clause.
+-- The line and case by which a step names a need, the line of a limit and of a bar, and the literals of a derived clause.
 use Rattle.std.specs.Prelude.{◌≡◌, ℕ, ⊤, IsTrue, IfSome, List, map, Option, Some, None, unwrap_or, slice_get}
 use Rattle.std.specs.Option.{option_map}
 use Rattle.resolvo_text.specs.Line.{Version, Line}
@@ -28,7 +28,7 @@ use Rattle.resolve_refusal.specs.Refusal.{AreLiterals, HaveForm}
 abbrev pub version_no : SolvableId → VersionNo
 version_no s = record { 0 = s.raw }
 
--- The line is the first of the place that says this; 0 stands for none.
+-- The line is the first of the place with this content; 0 is none.
 abbrev pub IsFirstLine : List Line → List Line → Option VersionNo → Line → ℕ → Type 0
 IsFirstLine catalogue request place said line = (found : Option ℕ) × (line ≡ unwrap_or found 0) × IsLeast found (λ n. IsLineOf catalogue request place n × SaysAt (text_of catalogue request place) said n)
 
@@ -36,15 +36,15 @@ IsFirstLine catalogue request place said line = (found : Option ℕ) × (line �
 abbrev pub IsNeedLineOf : List Line → List Line → Ids → Option SolvableId → Requirement → List VersionSetId → Option NeedLine → Type 0
 IsNeedLineOf catalogue request ids parent r case found = IsNeedLine (IsLineOf catalogue request (option_map version_no parent)) (text_of catalogue request (option_map version_no parent)) (alternatives_at ids r) (map (spec_at ids) case) found
 
--- The step tells the need by that line and case, where there is one.
+-- The step names the need by that line and case, where there is one.
 abbrev pub TellsNeed : List Line → List Line → Ids → Option SolvableId → Requirement → List VersionSetId → Step → Type 0
 TellsNeed catalogue request ids parent r case step = (found : Option NeedLine) × IsNeedLineOf catalogue request ids parent r case found × IfSome found (λ l. IsNumber l.case × (step ≡ told.Need (place_at catalogue parent) l.line l.case))
 
--- The step tells a lock by the line that locks another version of the solvable's package; or none does.
+-- The step names a lock by the line that locks another version of the solvable's package; or none does.
 abbrev pub TellsLock : List Line → SolvableId → Step → Type 0
 TellsLock catalogue s step = (found : Option ℕ) × (step ≡ told.Lock (unwrap_or found 0) (version_at catalogue s)) × ((v : Version) → slice_get (listed catalogue) s.raw ≡ Some v → IsLockLine catalogue v found)
 
--- what is told by the line that bars a version with a word; an exclusion at line 0 where none does
+-- the rule of the line that bars a version with a word; an exclusion at line 0 where none does
 abbrev pub word_step : Option WordLine → Step
 word_step None = told.Exclude 0
 word_step (Some (with_word.Exclude n)) = told.Exclude n
@@ -54,7 +54,7 @@ word_step (Some (with_word.Unknown n)) = told.Unknown n
 abbrev pub TellsWord : List Line → Ids → SolvableId → StringId → Step → Type 0
 TellsWord catalogue ids s reason step = (found : Option WordLine) × (step ≡ word_step found) × ((v : Version) → slice_get (listed catalogue) s.raw ≡ Some v → IsWordLine catalogue v (word_text ids reason) found)
 
--- What a step tells beside `IsWritten`: a need, a limit and a bar with a word by the first line that states it, a lock by its line,
+-- What a step names beside `IsWritten`: a need, a limit and a bar with a word by the first line that states it, a lock by its line,
 -- a place by a number that has a text, and a derived clause by its literals in the order of their texts.
 abbrev pub Tells : List Line → List Line → Ids → ProofStep NameId SolvableId → Step → Type 0
 Tells catalogue request ids (Rule (Needs parent r case)) step = TellsNeed catalogue request ids parent r case.items step

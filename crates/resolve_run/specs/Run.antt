@@ -48,7 +48,7 @@ IsLack Ids catalogue request = Unit {0}
 IsLack TooLong catalogue request = HaveLongReport catalogue request
 IsLack _ catalogue request = ⊥
 
--- Why nothing is written: neither text's fault nor its line is told here.
+-- Why nothing is written: neither text's fault nor its line is reported here.
 abbrev pub StopsBefore : RunFault → Device → Device → Type 0
 StopsBefore Reader catalogue request = StopsReading read.Reader catalogue request
 StopsBefore TooLong catalogue request = StopsReading read.TooLong catalogue request ⊎ ((are : AreRead catalogue request) × HaveLongReport are.catalogue_lines are.request_lines)

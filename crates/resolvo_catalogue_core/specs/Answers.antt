@@ -41,7 +41,7 @@ IsReason catalogue request earlier v (ForRequest n) = IsNeededBy earlier (line_a
 IsReason catalogue request earlier v (ForVersion w n) = Contains earlier w × (owner_of catalogue n ≡ Some w) × IsNeededBy earlier (line_at catalogue n) v
 IsReason catalogue request earlier v (Wished n) = line_at request n ≡ Some (Wish v)
 
--- No version stands twice, and each entry has the reason that it names.
+-- No version is listed twice, and each entry has the reason that it names.
 abbrev pub IsReasoned : List Line → List Line → Set → List Answer → Type 0
 IsReasoned catalogue request earlier [] = ⊤
 IsReasoned catalogue request earlier (LeftOut v n step ∷ answers) = IsReasoned catalogue request earlier answers

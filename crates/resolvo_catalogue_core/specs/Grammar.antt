@@ -1,4 +1,4 @@
--- The grammar of a catalogue and of a request: which line may stand after which lines.
+-- The grammar of a catalogue and of a request: which line may follow which lines.
 use Rattle.std.specs.Prelude.{◌≡◌, ℕ, zero, suc, ⊤, List, [], ◌∷◌, take, Option, Some, None, slice_get, Contains}
 use Rattle.resolvo_text.specs.Line.{Version, Line, Skipped, Listed, Needs, Limits, Unknown, Lock, Favour, Exclude, Wish}
 use Rattle.resolvo_text.specs.Spelling.{SaysLine}
@@ -31,9 +31,9 @@ owner_below (line ∷ lines) = later (version_of line) (owner_below lines)
 abbrev pub owner_of : List Line → ℕ → Option Version
 owner_of lines n = owner_below (lines_above lines n)
 
--- ---- what may stand after the lines before it
+-- ---- what may follow the lines before it
 
--- Line n says that nothing is known of what the version needs.
+-- Line n marks the version's needs as unknown.
 abbrev pub MarksUnknown : List Line → ℕ → Version → Type 0
 MarksUnknown lines n v = (reason : List ℕ) × (line_at lines n ≡ Some (Unknown reason)) × (owner_of lines n ≡ Some v)
 
@@ -64,7 +64,7 @@ MayFollowInRequest catalogue before (Exclude v reason) = ⊥
 
 -- ---- the two grammars
 
--- After these lines the text says this line.
+-- After these lines the text spells this line.
 pub record IsCatalogueLine (before : List Line) (text : List ℕ) (line : Line) : Type 0 where
   pub says : SaysLine text line
   pub place : MayFollow before line
@@ -75,7 +75,7 @@ pub record IsRequestLine (catalogue before : List Line) (text : List ℕ) (line 
 
 -- ---- lines that were read
 
--- Each line is one that some text says after the lines above it.
+-- Each line is one that some text spells after the lines above it.
 abbrev pub AreCatalogueLines : List Line → Type 0
 AreCatalogueLines lines = (n : ℕ) (line : Line) → slice_get lines n ≡ Some line → (text : List ℕ) × IsCatalogueLine (take n lines) text line
 

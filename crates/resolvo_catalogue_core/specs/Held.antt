@@ -20,7 +20,7 @@ abbrev pub said_rule : Option Rule → LineKind
 said_rule None = said.Nothing
 said_rule (Some r) = said.Rule r
 
--- what the line says of which this is held
+-- the line in whose place this is kept
 abbrev pub said_in : List Rule → StoredLine → LineKind
 said_in rules StoredLine.Nothing = said.Nothing
 said_in rules (StoredLine.Listed v) = said.Listed v
@@ -35,7 +35,7 @@ abbrev pub held_at : List StoredLine → ℕ → Option StoredLine
 held_at held zero = None
 held_at held (suc n) = slice_get held n
 
--- what line n says, from 1
+-- line n, from 1
 abbrev pub said_at : List LineKind → ℕ → Option LineKind
 said_at saids zero = None
 said_at saids (suc n) = slice_get saids n

@@ -1,4 +1,4 @@
--- Lists that stand one after the other in one list.
+-- Lists that are kept one after the other in one list.
 use Rattle.std.specs.Prelude.{◌≡◌, ℕ, suc, ◌≤◌, List, [], map, length, Some, slice_get, slice_index_or}
 use Rattle.std.specs.List.{slice_range}
 use Rattle.resolvo_catalogue_core.specs.declared.lines_by_version.Place.{Place}

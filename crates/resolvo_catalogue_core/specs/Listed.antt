@@ -17,7 +17,7 @@ listed lines = filter_map version_of lines
 abbrev pub version_at : List Line → ℕ → Option Version
 version_at lines n = slice_get (listed lines) n
 
--- The versions of these numbers, as a set. A number that no version has stands for none.
+-- The versions of these numbers, as a set. A number that no version has gives none.
 abbrev pub members : List Version → List VersionNo → Set
 members versions numbers = flat_map (λ n. option_to_list (slice_get versions n.0)) numbers
 

@@ -24,7 +24,7 @@ abbrev pub IsSought : Option (BTreeMap ℕ VersionNo) → List ℕ → List Vers
 IsSought None ns vs = AreRising ns
 IsSought (Some m) ns vs = (k : ℕ) → get nat_cmp m k ≡ beside ns vs k
 
--- each version stands beside its number, and is found by it
+-- each version is beside its number, and is found by it
 pub record IsNumbered (p : Package) : Type 0 where
   pub paired : length p.numbers.items ≡ length p.versions.items
   pub sought : IsSought p.by_number p.numbers.items p.versions.items

@@ -10,11 +10,11 @@ use Rattle.resolvo_catalogue_core.specs.declared.rule.VersionNo.{VersionNo}
 use Rattle.resolvo_catalogue_core.specs.Questions.{number_of}
 use Rattle.resolvo_catalogue_core.specs.Numbered.{beside}
 
--- Version n stands beside a number that passes.
+-- Version n has a number that passes.
 abbrev pub IsAmong : List ℕ → List VersionNo → (ℕ → Bool) → ℕ → Type 0
 IsAmong ns vs t n = (k : ℕ) × (t k ≡ true) × (option_map number_of (beside ns vs k) ≡ Some n)
 
--- Version n stands at one of these places.
+-- Version n is at one of these places.
 abbrev pub IsPlaced : List VersionNo → ℕ → ℕ → ℕ → Type 0
 IsPlaced vs first last n = (i : ℕ) × (v : VersionNo) × (first ≤ i) × (i < last) × (slice_get vs i ≡ Some v) × (v.0 ≡ n)
 

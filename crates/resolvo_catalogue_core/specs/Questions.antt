@@ -30,7 +30,7 @@ IsOfPackage versions name n = (v : Version) × (slice_get versions n ≡ Some v)
 
 -- ---- lines
 
--- Line n has the property, which is told of a line and its owner.
+-- Line n has the property, which is one of a line and its owner.
 abbrev pub LineIs : List Line → ℕ → (Option Version → Line → Type 0) → Type 0
 LineIs lines n Q = (line : Line) × (line_at lines n ≡ Some line) × Q (owner_of lines n) line
 
@@ -72,7 +72,7 @@ abbrev pub IsWish : Option Version → Line → Type 0
 IsWish owner (Wish w) = ⊤
 IsWish owner _ = ⊥
 
--- a line that says this of version k
+-- a line of version k with this content
 abbrev pub SaysOf : List Version → List Line → ℕ → (Version → Option Version → Line → Type 0) → ℕ → Type 0
 SaysOf versions lines k Q n = (v : Version) × (slice_get versions k ≡ Some v) × LineIs lines n (Q v)
 
@@ -95,7 +95,7 @@ Bars lines v n = LineIs lines n (LocksAnother v) ⊎ (((m : ℕ) → LineIs line
 
 -- ---- requests
 
--- What a request says: its lines, and its wishes as lines and numbers of versions of its catalogue.
+-- A request: its lines, and its wishes as lines and numbers of versions of its catalogue.
 pub record ReadRequest : Type 0 where
   pub lines : List Line
   pub wishes : List (ℕ × VersionNo)
@@ -118,7 +118,7 @@ abbrev pub IsOwner : List Version → Option VersionNo → Option Version → Ty
 IsOwner versions None owner = owner ≡ None
 IsOwner versions (Some n) owner = (v : Version) × (slice_get versions n.0 ≡ Some v) × (owner ≡ Some v)
 
--- The rule is what a line with this owner states, versions being told by their numbers.
+-- The rule is what a line with this owner states, versions being named by their numbers.
 abbrev pub States : List Version → Rule → Option Version → Line → Type 0
 States versions (rule.Needs of alternatives condition) owner line = (line ≡ Needs (specs_of alternatives.items) (condition_of condition)) × IsOwner versions of owner
 States versions (rule.Limits of spec) owner line = (line ≡ Limits (spec_of spec)) × IsOwner versions of owner

@@ -1,4 +1,4 @@
--- What a provider says of its packages, and the candidates that it offers.
+-- A provider's packages, and the candidates that it offers.
 use Rattle.std.specs.Prelude.{◌≡◌, Bool, false, List, Option, map}
 use Rattle.std.specs.List.{AllByRecursion}
 use Rattle.resolvo_pool_core.specs.declared.id.ConditionId.{ConditionId}
@@ -11,7 +11,7 @@ use Rattle.resolvo_pool_core.specs.Text.{alternatives_of}
 use Rattle.resolvo_pool_core.specs.RuleKeeping.{Packages, is_in, is_outside, meets}
 use Rattle.resolvo_packages.specs.declared.package_source.Offered.{Offered}
 
--- what a provider says of its packages, by its ghost members
+-- a provider's packages, by its ghost members
 abbrev pub packages_by : {P N S : Type 0} → (P → S → N) → (P → VersionSetId → N) → (P → VersionSetUnionId → List VersionSetId) → (P → ConditionId → Condition) → (P → N → Option (Listing S)) → (P → VersionSetId → S → Bool) → (P → S → Needs) → P → Packages N S
 packages_by name_of_solvable name_of_version_set members_of condition_of candidates_of matches dependencies_of p = record {
   package_of = name_of_solvable p;

@@ -83,7 +83,7 @@ pub record Extends {P N S : Type 0} (same_name : N → N → Bool) (same : S →
   pub unions : (u : VersionSetUnionId) → among same_union old.unions u ≡ true → among same_union new.unions u ≡ true
   pub solvables : (s : S) → among same old.solvables s ≡ true → among same new.solvables s ≡ true
 
--- the candidates of packages alone may have come to what was kept
+-- nothing but candidates of packages may have been added to the cache
 pub record AddsNames {P N S : Type 0} (old new : Cached P N S) : Type 0 where
   pub provider : new.provider ≡ old.provider
   pub matching : new.matching ≡ old.matching

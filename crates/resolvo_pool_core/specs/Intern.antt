@@ -15,6 +15,6 @@ pub record Interned (V VS N : Type 0) : Type 0 where
   pub unions : List (List VersionSetId)
   pub conditions : List Condition
 
--- the operands of each condition stand before it
+-- the operands of each condition precede it
 abbrev pub AreBelow : List Condition → Type 0
 AreBelow cs = (i : ℕ) (c : Condition) → slice_get cs i ≡ Some c → OperandsBelow c (record { 0 = i })

@@ -9,7 +9,7 @@ pub record Literal (A : Type 0) : Type 0 where
   pub atom : A
   pub positive : Bool
 
--- what a clause says once its false literals are left out: nothing, one literal (perhaps named twice), or more
+-- what is left of a clause without its false literals: nothing, one literal (perhaps named twice), or more
 pub data Rest (A : Type 0) : Type 0 where
   broken : Rest A
   last : Literal A → Rest A
@@ -47,7 +47,7 @@ module _ {A : Type 0} (same : A → A → Bool) where
   abbrev pub same_literal : Literal A → Literal A → Bool
   same_literal l m = same l.atom m.atom && beq l.positive m.positive
 
-  -- the literal stands in the clause
+  -- the clause holds the literal
   abbrev pub has : List (Literal A) → Literal A → Bool
   has clause l = list_any (λ x. same_literal x l) clause
 
@@ -91,7 +91,7 @@ module _ {A : Type 0} (same : A → A → Bool) where
   abbrev pub RefutesFrom : List (Literal A) → List (List (Literal A)) → Type 0
   RefutesFrom clause causes = (known : A → Option Bool) → IsFalseUnder known clause → refutes known causes ≡ true
 
-  -- no literal stands in the clause beside its opposite
+  -- no literal and its negation are both in the clause
   abbrev pub HasNoOpposites : List (Literal A) → Type 0
   HasNoOpposites clause = (l : Literal A) → has clause l ≡ true → has clause (negate l) ≡ false
 

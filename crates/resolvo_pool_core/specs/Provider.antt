@@ -103,12 +103,12 @@ IsTried {S} sorts eq favored matching tried = (ys : List S) × sorts matching ys
 abbrev pub IsTriedFor : {S : Type 0} → (List S → List S → Type 0) → (S → S → Bool) → (VersionSetId → Option S) → (VersionSetId → List S) → List VersionSetId → List S → Type 0
 IsTriedFor {S} sorts eq first matching sets tried = (order : VersionSetId → List S) × All (λ v. IsTried sorts eq (first v) (matching v) (order v)) sets × (tried ≡ flat_map order sets)
 
--- the hint on these candidates says that the dependencies of s are at hand
+-- the hint on these candidates lists s as one whose dependencies are available
 abbrev pub hints_at : {S : Type 0} → (S → S → Bool) → List S → Hint S → S → Bool
 hints_at eq xs none s = false
 hints_at eq xs all s = list_any (eq s) xs
 hints_at eq xs (some ys) s = list_any (eq s) ys
 
--- the listing says that the dependencies of s are at hand
+-- the hint of some listing lists s as one whose dependencies are available
 abbrev pub hints : {S : Type 0} → (S → S → Bool) → Listing S → S → Bool
 hints eq l s = hints_at eq l.candidates l.hint s

@@ -12,7 +12,7 @@ use Rattle.resolvo_pool_core.specs.declared.requirement.Requirement.{Requirement
 use Rattle.resolvo_pool_core.specs.Provider.{Listing, Needs, known, unknown, listed, listing_or_empty, OperandsBelow, AreOf}
 use Rattle.resolvo_pool_core.specs.Text.{alternatives_of}
 
--- what a provider says of its packages: its ghost members, in one record
+-- a provider's packages: its ghost members, in one record
 pub record Packages (N S : Type 0) : Type 0 where
   pub package_of : S → N
   pub set_package : VersionSetId → N
@@ -41,7 +41,7 @@ abbrev pub is_unknown : Needs → Bool
 is_unknown (known requirements constraints) = false
 is_unknown (unknown why) = true
 
--- what a condition says, by what its operands say
+-- the truth of a condition, by that of its operands
 abbrev pub says : (VersionSetId → Bool) → (ConditionId → Bool) → Condition → Bool
 says met below (Requirement v) = met v
 says met below (Binary And a b) = below a && below b
@@ -52,7 +52,7 @@ abbrev pub locks_out : {S : Type 0} → (S → S → Bool) → Option S → S �
 locks_out same None s = false
 locks_out same (Some l) s = not (same l s)
 
--- `same` tells two solvables apart; sets are lists; a parent is a solvable, or None for the root
+-- `same` compares two solvables; sets are lists; a parent is a solvable, or None for the root
 module _ {N S : Type 0} (same : S → S → Bool) (p : Packages N S) where
   abbrev pub is_in : List S → S → Bool
   is_in xs s = list_any (λ x. same x s) xs
@@ -76,7 +76,7 @@ module _ {N S : Type 0} (same : S → S → Bool) (p : Packages N S) where
   abbrev pub is_met : List S → VersionSetId → Bool
   is_met chosen v = list_any (is_match v) chosen
 
-  -- the condition holds in the set, as far as n steps down tell; its operands have smaller ids, so its own id and one are enough
+  -- the condition holds in the set, looked at n steps down; its operands have smaller ids, so its own id and one are enough
   abbrev pub holds_within : ℕ → List S → ConditionId → Bool
   holds_within zero chosen c = false
   holds_within (suc n) chosen c = says (is_met chosen) (holds_within n chosen) (p.condition_of c)

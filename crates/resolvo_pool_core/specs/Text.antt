@@ -13,7 +13,7 @@ abbrev pub solvable_of : {S : Type 0} → SolvableIdOrRoot S → Option S
 solvable_of Root = None
 solvable_of (Solvable s) = Some s
 
--- membership in a set that says of the root by a flag
+-- membership in a set that has a flag for the root
 abbrev pub has_or_root : {S : Type 0} → Bool → (S → Bool) → SolvableIdOrRoot S → Bool
 has_or_root root has Root = root
 has_or_root root has (Solvable s) = has s

@@ -18,20 +18,20 @@ use Rattle.resolvo_proof.specs.declared.step.ProofStep.{ProofStep}
 use Rattle.resolvo_proof.specs.declared.step.ProofStep.TheVariants.{Rule, Derived}
 use Rattle.resolvo_proof.specs.Steps.{literal_in, rule_under, clause_at}
 
--- `same_atom` and `same` tell atoms and solvables apart
+-- `same_atom` and `same` compare atoms and solvables
 module _ {N S : Type 0} (same_atom : Atom N S → Atom N S → Bool) (same : S → S → Bool) (p : Packages N S) (root : Rules) (steps : List (ProofStep N S)) where
-  -- There are causes, they stand before the step, and one pass over their clauses, in this order, refutes its denied literals.
+  -- There are causes, they precede the step, and one pass over their clauses, in this order, refutes its denied literals.
   pub record IsRefuted (place : ℕ) (literals : List (ProofLiteral N S)) (causes : List ℕ) : Type 0 where
     pub some : 0 < length causes
     pub earlier : (cause : ℕ) → Contains causes cause → cause < place
     pub refuted : one_pass same_atom (map literal_in literals) (map (clause_at same p steps) causes) ≡ true
 
-  -- the step may stand at this place
+  -- the step is allowed at this place
   abbrev pub IsStep : ℕ → ProofStep N S → Type 0
   IsStep place (Rule r) = (condition : Option ConditionId) × IsRule same p root (rule_under condition r)
   IsStep place (Derived literals causes) = IsRefuted place literals.items causes.items
 
-  -- each step may stand at its place
+  -- each step is allowed at its place
   abbrev pub IsProof : Type 0
   IsProof = (place : ℕ) (step : ProofStep N S) → slice_get steps place ≡ Some step → IsStep place step
 
@@ -43,11 +43,12 @@ pub record EndsEmpty {N S : Type 0} (steps : List (ProofStep N S)) : Type 0 wher
   pub ends : steps ≡ earlier ++ Derived literals causes ∷ []
   pub empty : literals.items ≡ []
 
--- the places of solvables have the digits that the steps tell
+-- the places of solvables have the digits that the steps name
 abbrev pub HaveDigits : {N S : Type 0} → List (ProofStep N S) → (S → ℕ → Bool) → Type 0
 HaveDigits {N} {S} steps bits = (n : ℕ) (s : S) (place : ℕ) (bit : ℕ) → slice_get steps n ≡ Some (Rule (Digit s place bit)) → bits s bit ≡ digit place bit
 
--- What such a list says: where it is a proof, ends with the empty clause, and some places have its digits, no set keeps the rules.
+-- The law of such a list: a proof that ends with the empty clause, whose digits some places have, shows that
+-- no set keeps the rules.
 abbrev pub Convinces : {N S : Type 0} → List (ProofStep N S) → Type 0
 Convinces {N} {S} steps = (same_atom : Atom N S → Atom N S → Bool) → IsExact same_atom → (same : S → S → Bool) → IsExact same → (same_name : N → N → Bool) → IsExact same_name → (p : Packages N S) (root : Rules)
     → IsProof same_atom same p root steps → EndsEmpty steps → (bits : S → ℕ → Bool) → HaveDigits steps bits → (chosen : List S) → IsRuleKeeping same p root chosen → ⊥

@@ -51,7 +51,7 @@ abbrev pub Keeps : {N S : Type 0} → Bool → List ℕ → ProofStep N S → Li
 Keeps {N} {S} true numbers step old new = (numbered : ProofStep N S) × IsNumbered numbers step numbered × (new ≡ old ++ numbered ∷ [])
 Keeps {N} {S} false numbers step old new = new ≡ old
 
--- The step that stood at this place, where these were kept: a rule as it was, a derived one with its causes renumbered.
+-- The old step of this place, where these were kept: a rule as it was, a derived one with its causes renumbered.
 abbrev pub IsRenumbered : {N S : Type 0} → List ℕ → ℕ → ProofStep N S → ProofStep N S → Type 0
 IsRenumbered from place (Rule r) new = new ≡ Rule r
 IsRenumbered from place (Derived literals causes) new = (renumbered : Vec ℕ Global) × (new ≡ Derived literals renumbered) × AllZip (λ cause number. cause < place → slice_get from number ≡ Some cause) causes.items renumbered.items
@@ -74,7 +74,7 @@ IsLast xs place = suc place ≡ length xs
 abbrev pub IsTrimmed : {N S : Type 0} → List (ProofStep N S) → List (ProofStep N S) → Type 0
 IsTrimmed steps kept = IsTrimmedTo (IsLast steps) steps kept
 
--- The kept steps are so, and the number of each old place is how many of them stood before it. A wanted step stands at
+-- The kept steps are so, and the number of each old place is how many of them preceded it. A wanted step is at
 -- its number, with its causes renumbered.
 pub record IsTrimmedWith {N S : Type 0} (Wanted : ℕ → Type 0) (steps kept : List (ProofStep N S)) (numbers : List ℕ) : Type 0 where
   pub trimmed : IsTrimmedTo Wanted steps kept

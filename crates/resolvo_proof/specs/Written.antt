@@ -19,7 +19,7 @@ use Rattle.resolvo_proof.specs.declared.step.ProofStep.{ProofStep}
 use Rattle.resolvo_proof.specs.declared.step.ProofStep.TheVariants.{Rule, Derived}
 use Rattle.resolvo_proof.specs.Steps.{literal_in}
 
--- what the variable stands for; the root's stands for nothing
+-- the atom of the variable; the root's has none
 abbrev pub atoms_of : {N S : Type 0} → List (ProofAtom N S) → ℕ → Option (ProofAtom N S)
 atoms_of atoms zero = None
 atoms_of atoms (suc k) = slice_get atoms k

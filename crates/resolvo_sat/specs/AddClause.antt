@@ -1,4 +1,4 @@
--- A clause comes, and waits until it watches two of its literals.
+-- A new clause is pending until it watches two of its literals.
 use Rattle.std.specs.Prelude.{◌≡◌, ◌≤◌, ◌&&◌, Bool, true, false, not, [], ◌∷◌, ◌++◌, List, length, None}
 use Rattle.resolvo_pool_core.specs.declared.id.ClauseId.{ClauseId}
 use Rattle.resolvo_store_core.specs.Signed.{Signed}
@@ -31,13 +31,13 @@ pub record Begins (x : UnitClause) (is_long is_rule : Bool) (old new : WatchList
   pub assertions : new.assertions.items ≡ with_last (not is_long && is_rule) x old.assertions.items
   pub learnt : new.learnt.items ≡ with_last (not is_long && not is_rule) x old.learnt.items
 
--- the clause came behind the others, and the watches know of it
+-- the clause was added behind the others, and the watch lists note it
 pub record Comes (c : SatClause) (id : ClauseId) (old : SatState) (v : WatchLists) (new : SatState) (w : WatchLists) : Type 0 where
   pub adds : Adds c id old new
   pub ready : IsReady new w
   pub covered : AreCovered new w
 
--- The search jumped to the level of what was learnt, the clause came, and its asserted literal was made true.
+-- The search jumped back to the backjump level, the learnt clause was added, and its asserting literal was assigned.
 pub record Learns (x : Learnt) (id : ClauseId) (old new : SatState) (w : WatchLists) : Type 0 where
   pub ready : IsReady new w
   pub covered : AreCovered new w

@@ -29,7 +29,7 @@ pub record Seen (literals : List Signed) (old new : List Bool) : Type 0 where
   pub takes : (l : Signed) → has literals l ≡ true → (l.variable.0 ≡ 0) ⊎ (slice_index_or new l.variable.0 false ≡ true)
   pub only : (v : ℕ) → slice_index_or new v false ≡ true → (slice_index_or old v false ≡ true) ⊎ ((v ≡ 0 → ⊥) × ((l : Signed) × (has literals l ≡ true) × (l.variable.0 ≡ v)))
 
--- no marked entry stands above the level, which is not above the last entry's
+-- no marked entry is above the level, which is not above the last entry's
 pub record IsMarkedLevel (seen : List Bool) (h : List Entry) (level : ℕ) : Type 0 where
   pub bounds : (l : Signed) → has (denied seen h) l ≡ true → (k : ℕ) × (k ≤ level) × StandsAt h (negation l) k
   pub low : level ≤ top_level h
@@ -39,7 +39,7 @@ abbrev pub IsAssertion : SatState → List Bool → Entry → List Entry → Opt
 IsAssertion s seen e older None = s.base_level < e.level → top_level older < e.level → ⊥
 IsAssertion s seen e older (Some below) = (s.base_level < e.level) × (below < e.level) × IsMarkedLevel seen older below
 
--- the variable stands for a solvable
+-- the variable represents a solvable
 abbrev pub IsSolvable : SatState → ℕ → Type 0
 IsSolvable s v = slice_get s.variables.items v ≡ Some Solvable
 
@@ -61,7 +61,7 @@ DenyKept s literals = (l : Signed) → has literals l ≡ true → DeniesKept s 
 abbrev pub DenyKeptBut : SatState → List Signed → List Signed → Type 0
 DenyKeptBut s these literals = (l : Signed) → has literals l ≡ true → (has these l ≡ true) ⊎ DeniesKept s l
 
--- each literal stands in some clause
+-- each literal is in some clause
 abbrev pub AreFromClauses : SatState → List Signed → Type 0
 AreFromClauses s literals = (l : Signed) → has literals l ≡ true → (n : ℕ) × (has (clause_at (clauses_of s) n) l ≡ true)
 
@@ -79,21 +79,22 @@ pub record IsLearnt (s : SatState) (x : Learnt) : Type 0 where
   pub fell : (k : ℕ) × (x.level < k) × StandsAt (history s) (negation x.asserting) k
   pub low : s.base_level ≤ x.level
 
--- the clause follows from its causes, in which its literals stand, and denies kept choices alone
+-- the clause follows from its causes, which hold its literals, and denies kept decisions alone
 pub record IsRefusal (s : SatState) (literals : List Signed) (causes : List ClauseId) : Type 0 where
   pub derived : IsDerived (clauses_of s) literals causes
   pub caused : 0 < length causes
   pub from : AreFromClauses s literals
   pub denies : DenyKept s literals
 
--- why a literal holds: the clause follows from its causes, in which its literals stand, and denies kept choices but for this literal
+-- Why a literal holds: the clause follows from its causes, which hold its literals.
+-- But for this literal it denies kept decisions alone.
 pub record IsReason (s : SatState) (l : Signed) (literals : List Signed) (causes : List ClauseId) : Type 0 where
   pub derived : IsDerived (clauses_of s) literals causes
   pub caused : 0 < length causes
   pub from : AreFromClauses s literals
   pub denies : DenyKeptBut s (l ∷ []) literals
 
--- the clause follows from its causes, in which its literals stand, and it only denies
+-- the clause follows from its causes, which hold its literals, and it only denies
 pub record IsBar (s : SatState) (literals : List Signed) (causes : List ClauseId) : Type 0 where
   pub derived : IsDerived (clauses_of s) literals causes
   pub caused : 0 < length causes
@@ -119,7 +120,7 @@ abbrev pub IsKeptOrForced : SatState → Entry → List Entry → Bool → Type 
 IsKeptOrForced s e older true = (e.decision.value ≡ true) × (((e.level < s.base_level) × IsSolvable s e.decision.variable.0) ⊎ IsChoice e older)
 IsKeptOrForced s e older false = IsPropagated (clauses_of s) e older
 
--- The walk back along the trail has come to this place: one pass over the causes, the newest first,
+-- The walk back along the trail is at this place: one pass over the causes, the newest first,
 -- refutes whatever denies the marked entries before it and makes the kept literals false. These deny kept choices, but for
 -- the literals from which the walk began.
 pub record Walks (s : SatState) (begun : List Signed) (place : ℕ) (seen : List Bool) (kept : List Signed) (causes : List ClauseId) : Type 0 where

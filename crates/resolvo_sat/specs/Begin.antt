@@ -11,7 +11,7 @@ use Rattle.resolvo_sat.specs.declared.watch_lists.WatchLists.{WatchLists}
 use Rattle.resolvo_sat.specs.State.{IsState}
 use Rattle.resolvo_sat.specs.Propagation.{IsReady, AreCovered}
 
--- the one clause says that the root is true, and follows from nothing
+-- the one clause is the unit clause of the root, and follows from nothing
 abbrev pub IsRootClause : List SatClause → Type 0
 IsRootClause [] = ⊥
 IsRootClause (c ∷ []) = (c.literals.items ≡ yes root ∷ []) × (c.causes.items ≡ [])
@@ -30,7 +30,7 @@ pub record Begun (s : SatState) (w : WatchLists) : Type 0 where
   pub trail : s.tracker.trail ≡ root_entry ∷ []
   pub base_level : s.base_level ≡ 1
 
--- the variable came behind the others
+-- the variable was added behind the others
 pub record AddsVariable (kind : VariableKind) (v : VariableId) (old new : SatState) : Type 0 where
   pub state : IsState new
   pub number : v.0 ≡ length old.variables.items

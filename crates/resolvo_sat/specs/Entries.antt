@@ -9,7 +9,7 @@ use Rattle.resolvo_sat.specs.Known.{IsUndecided, IsForced, clause_at}
 abbrev pub literal_of : Entry → Signed
 literal_of e = record { variable = e.decision.variable; positive = e.decision.value }
 
--- the clause that an entry came from
+-- the reason clause of an entry
 abbrev pub reason_of : Entry → ℕ
 reason_of e = e.decision.derived_from.0
 
@@ -32,7 +32,7 @@ pub record IsChoice (e : Entry) (older : List Entry) : Type 0 where
   pub opens : e.level ≡ suc (top_level older)
   pub positive : e.decision.value ≡ true
 
--- any other entry is forced by its clause, and stands at the level of the one before
+-- any other entry is forced by its clause, and has the level of the one before
 pub record IsPropagated (clauses : List (List Signed)) (e : Entry) (older : List Entry) : Type 0 where
   pub level : e.level ≡ top_level older
   pub forced : IsForced (clause_at clauses (reason_of e)) (literal_of e) (made_true older)
@@ -56,7 +56,7 @@ abbrev pub StandsAt : List Entry → Signed → ℕ → Type 0
 StandsAt [] l k = ⊥
 StandsAt (e ∷ older) l k = ((literal_of e ≡ l) × (e.level ≡ k)) ⊎ StandsAt older l k
 
--- the entry stands in the trail, with these before it
+-- the trail holds the entry, with these before it
 abbrev pub StandsOn : List Entry → Entry → List Entry → Type 0
 StandsOn [] e before_e = ⊥
 StandsOn (d ∷ older) e before_e = ((d ≡ e) × (older ≡ before_e)) ⊎ StandsOn older e before_e
@@ -76,7 +76,7 @@ IsUndone level (e ∷ older) new = (new ≡ e ∷ older) ⊎ ((level < e.level) 
 abbrev pub EndsWith : List Entry → List Entry → Type 0
 EndsWith base h = (p : List Entry) × (h ≡ p ++ base)
 
--- the trail's weight: an entry of a lower level weighs more than all that can stand above it
+-- the trail's weight: an entry of a lower level weighs more than all that can be above it
 abbrev pub weight : ℕ → List Entry → ℕ
 weight count [] = 0
 weight count (e ∷ older) = (count + 1) ^ (count + 1 - e.level) + weight count older

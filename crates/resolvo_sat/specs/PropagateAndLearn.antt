@@ -21,12 +21,12 @@ pub record Completes (old new : SatState) (w : WatchLists) : Type 0 where
   pub extends : Extends old new
   pub quiet : (n : ℕ) → n < length new.clauses → IsQuiet (made_true (history new)) (clause_at (clauses_of new) n)
 
--- what stood up to the level is the older part still
+-- the trail up to the level is unchanged
 abbrev pub KeepsUpTo : ℕ → SatState → SatState → Type 0
 KeepsUpTo level old new = (base : List Entry) → top_level base ≤ level → EndsWith base (history old) → EndsWith base (history new)
 
--- A clause came that follows from earlier ones, whose literals stand in them, and none beside its opposite; the trail is
--- heavier than before, each of its choices was there, and what stood before the turn stands still.
+-- A clause was learnt that follows from earlier ones. Its literals are among theirs, none beside its negation. The trail is
+-- heavier than before, each of its decisions was there, and what was assigned before the turn is unchanged.
 pub record Improves (id : ClauseId) (old new : SatState) (w : WatchLists) : Type 0 where
   pub ready : IsReady new w
   pub covered : AreCovered new w

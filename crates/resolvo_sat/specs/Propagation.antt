@@ -30,7 +30,7 @@ abbrev pub HasSingle : List UnitClause → UnitClause → Type 0
 HasSingle [] x = ⊥
 HasSingle (y ∷ ys) x = (y ≡ x) ⊎ HasSingle ys x
 
--- each stands for a clause of one literal
+-- each is a unit clause's note
 abbrev pub AreSingles : List (List Signed) → List UnitClause → Type 0
 AreSingles clauses [] = Unit {0}
 AreSingles clauses (x ∷ xs) = (x.clause.0 < length clauses) × IsOnly (clause_at clauses x.clause.0) x.literal × AreSingles clauses xs
@@ -39,7 +39,7 @@ AreSingles clauses (x ∷ xs) = (x.clause.0 < length clauses) × IsOnly (clause_
 abbrev pub HasTwo : List Signed → Type 0
 HasTwo clause = (l : Signed) × (m : Signed) × (has clause l ≡ true) × (has clause m ≡ true) × (same_literal l m ≡ false)
 
--- the clause came, and is still to watch two of its literals
+-- the clause was added, and is still to watch two of its literals
 abbrev pub Waits : ℕ → WatchLists → Type 0
 Waits n w = 0 < count n w.waiting.items
 
@@ -58,7 +58,7 @@ pub record Guards (fallen known : List Signed) (p : WatchedLiterals) : Type 0 wh
   pub first : has fallen (negation p.first) ≡ true → has known p.second ≡ true
   pub second : has fallen (negation p.second) ≡ true → has known p.first ≡ true
 
--- the literal stands among the entries, at this level or below, or else not above the guards' level
+-- the entries hold the literal, at this level or below, or else not above the guards' level
 abbrev pub IsGuard : ℕ → ℕ → List Entry → Signed → Type 0
 IsGuard g k all l = (j : ℕ) × (j ≤ max g k) × StandsAt all l j
 
@@ -89,14 +89,15 @@ pub record IsReady (s : SatState) (w : WatchLists) : Type 0 where
 abbrev pub IsNoted : ℕ → WatchLists → Type 0
 IsNoted n w = (x : UnitClause) × (x.clause.0 ≡ n) × (HasSingle w.assertions.items x ⊎ HasSingle w.learnt.items x)
 
--- a clause that watches nothing is the root's, which comes first, or is noted as one of one literal, or waits
+-- a clause that watches nothing is the root's, which is the first, or is noted as a unit clause, or is pending
 pub record AreCovered (s : SatState) (w : WatchLists) : Type 0 where
   pub assertions : AreSingles (clauses_of s) w.assertions.items
   pub learnt : AreSingles (clauses_of s) w.learnt.items
   pub covered : (n : ℕ) → n < length s.clauses → pair_at w.watched.items n ≡ None → (n ≡ 0) ⊎ (IsNoted n w ⊎ Waits n w)
   pub first : has (clause_at (clauses_of s) 0) (yes root) ≡ true
 
--- no clause stopped watching, and none came: what waited waits still or watches, and the clauses of one literal are the same
+-- No clause stopped watching, and none was added. What was pending is so still or watches, and the unit clauses
+-- are the same.
 pub record SameWatching (v w : WatchLists) : Type 0 where
   pub assertions : w.assertions ≡ v.assertions
   pub learnt : w.learnt ≡ v.learnt
@@ -118,7 +119,7 @@ pub record Extends (old new : SatState) : Type 0 where
   pub choices : KeepsChoices (history old) (history new)
   pub guard : old.guard_level ≤ new.guard_level
 
--- the walk over the literal, whose negation is entry k, has come to this place
+-- the walk over the watch list of the literal, whose negation is entry k, is at this place
 pub record IsVisiting (k : ℕ) (l : Signed) (place : ℕ) (old s : SatState) (v w : WatchLists) : Type 0 where
   pub fits : IsFit s w
   pub extends : Extends old s
@@ -159,7 +160,7 @@ pub record Breaks (n : ℕ) (s t : SatState) (w x : WatchLists) : Type 0 where
   pub same_watching : x ≡ w
   pub falls : IsFalseUnder (made_true (history s)) (clause_at (clauses_of s) n)
 
--- what came of the clause that was met
+-- the outcome of the visit to a clause
 abbrev pub IsMeeting : Signed → ℕ → ℕ → WatchedLiterals → SatState → WatchLists → SatState → WatchLists → WatchVisit → Type 0
 IsMeeting l place n p s w t x WatchVisit.Kept = Keeps l p s t w x
 IsMeeting l place n p s w t x WatchVisit.Moved = Replaces l place n s t w x
@@ -237,7 +238,7 @@ abbrev pub IsNextFallen : SatState → Option Signed → Type 0
 IsNextFallen s None = length s.tracker.trail ≤ s.front
 IsNextFallen s (Some l) = FellAt l s.front s
 
--- propagation has come to this entry of the trail, and no clause waits
+-- all entries before this one are propagated, and no clause is pending
 pub record Running (old s : SatState) (v w : WatchLists) : Type 0 where
   pub watching : SameWatching v w
   pub settled : (n : ℕ) → Waits n w → ⊥

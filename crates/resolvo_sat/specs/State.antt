@@ -1,4 +1,4 @@
--- What the search stands on: variables, clauses with their causes, and the trail.
+-- The state of the SAT core: variables, clauses with their causes (antecedents), and the trail.
 use Rattle.std.specs.Prelude.{◌≡◌, ℕ, ◌^◌, ◌<◌, ◌≤◌, true, List, [], ◌∷◌, map, reverse, length}
 use Rattle.std.specs.List.{AllByRecursion}
 use Rattle.resolvo_pool_core.specs.declared.id.ClauseId.{ClauseId}
@@ -33,17 +33,17 @@ named clauses places = map (λ c. clause_at clauses c.0) places
 abbrev pub AllBelow : ℕ → List ClauseId → Type 0
 AllBelow n places = AllByRecursion (λ place. place.0 < n) places
 
--- the clause follows from its causes, which stand among these clauses: one pass over them refutes
+-- the clause follows from its causes, which are among these clauses: one pass over them refutes
 -- whatever makes its literals false and the root true
 pub record IsDerived (earlier : List (List Signed)) (literals : List Signed) (causes : List ClauseId) : Type 0 where
   pub in_range : AllBelow (length earlier) causes
   pub refuted : Refutes (no root ∷ literals) (named earlier causes)
 
--- no literal stands beside its opposite, nor does the root
+-- no literal and its negation are both here, nor is the root
 abbrev pub AreApart : List Signed → Type 0
 AreApart literals = (l : Signed) → has (no root ∷ literals) l ≡ true → has (no root ∷ literals) (negation l) ≡ true → ⊥
 
--- each clause with causes, newest first, follows from them, and they stand before it
+-- each clause with causes, newest first, follows from them, and they precede it
 abbrev pub AreDerived : List SatClause → Type 0
 AreDerived [] = Unit {0}
 AreDerived (c ∷ older) = (0 < length c.causes.items → IsDerived (lists (reverse older)) c.literals.items c.causes.items) × AreDerived older

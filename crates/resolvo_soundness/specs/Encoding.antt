@@ -14,7 +14,7 @@ use Rattle.resolvo_pool_core.specs.Text.{alternatives_of}
 use Rattle.resolvo_pool_core.specs.RuleKeeping.{Packages, Rules, rules_of, is_in, is_outside, is_met, listing_for, is_barred, rules_for}
 use Rattle.resolvo_store_core.specs.Cases.{cases}
 
--- the test tells any two values apart, and holds of each with itself
+-- the test holds of each value with itself, and of no two different ones
 pub record IsExact {X : Type 0} (same : X → X → Bool) : Type 0 where
   pub one : (x y : X) → same x y ≡ true → x ≡ y
   pub own : (x : X) → same x x ≡ true
@@ -138,7 +138,7 @@ module _ {N S : Type 0} (same : S → S → Bool) (p : Packages N S) where
   abbrev pub IsImplied : (Rule N S → Type 0) → List (Literal (Atom N S)) → Type 0
   IsImplied rules clause = (v : Atom N S → Bool) → ((r : Rule N S) → rules r → clause_true v (literals_of r) ≡ true) → clause_true v clause ≡ true
 
-  -- no rule bars a member, and the digits of members are those that the rules tell
+  -- no rule bars a member, and the digits of members are those in the rules
   pub record Fits (rules : Rule N S → Type 0) (digits : N → ℕ → Bool) (chosen : List S) : Type 0 where
     pub unbarred : (w : Bar S) (s : S) → rules (Rule.bars w s) → is_in same p chosen s ≡ false
     pub told : (s : S) (bit : ℕ) (b : Bool) → rules (Rule.has_digit s bit b) → is_in same p chosen s ≡ true → digits (p.package_of s) bit ≡ b
@@ -174,6 +174,6 @@ module _ {N S : Type 0} (same : S → S → Bool) (p : Packages N S) where
 abbrev pub HasBar : {N S : Type 0} → (Rule N S → Type 0) → S → Type 0
 HasBar {N} {S} rules s = (w : Bar S) × rules (Rule.bars w s)
 
--- the places have the digits that the rules tell
+-- the places have the digits that the rules name
 abbrev pub AgreeWith : {N S : Type 0} → (Rule N S → Type 0) → (S → ℕ → Bool) → Type 0
 AgreeWith {N} {S} rules bits = (s : S) (bit : ℕ) (b : Bool) → rules (Rule.has_digit s bit b) → bits s bit ≡ b

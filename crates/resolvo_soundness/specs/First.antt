@@ -10,12 +10,12 @@ use Rattle.resolvo_pool_core.specs.RuleKeeping.{Packages, Rules, is_in, is_match
 use Rattle.resolvo_soundness.specs.Encoding.{Atom, Rule, plus, minus}
 use Rattle.resolvo_soundness.specs.SearchEnd.{IsAsked}
 
--- the solvable comes first
+-- the solvable is the first
 abbrev pub IsFirst : {S : Type 0} → List S → S → Type 0
 IsFirst [] s = ⊥
 IsFirst (x ∷ xs) s = x ≡ s
 
--- the one is tried before the other: it stands in the list, and the other neither there nor before it
+-- the one is tried before the other: the list holds it, and the other neither there nor before it
 pub record IsTriedBefore {S : Type 0} (list : List S) (s other : S) : Type 0 where
   pub before : List S
   pub after : List S
@@ -49,7 +49,7 @@ module _ {N S : Type 0} (same : S → S → Bool) (p : Packages N S) (tried : Ve
       pub keeping : IsRuleKeeping same p root first
       pub alone : (parent : Option S) (need : ConditionalRequirement) → is_member same p root first parent ≡ true → Contains (rules_for same p root parent).requirements need → binds same p first need ≡ true → (v : VersionSetId) × (alternatives_of p.members_of need.requirement ≡ v ∷ [])
 
--- `orders` tells in which orders the candidates of a requirement may be tried
+-- `orders` gives the orders in which the candidates of a requirement may be tried
 module _ {N S : Type 0} (same : S → S → Bool) (p : Packages N S) (orders : Requirement → List S → Type 0) where
   -- the solvable is the first candidate that is not known to be false
   pub record TakesFirst (known : List (Literal (Atom N S))) (r : Requirement) (s : S) : Type 0 where

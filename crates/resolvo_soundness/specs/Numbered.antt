@@ -14,7 +14,7 @@ use Rattle.resolvo_sat.specs.State.{lists, AreDerived}
 use Rattle.resolvo_soundness.specs.Encoding.{Atom, Rule, plus, minus, literals_of}
 use Rattle.resolvo_soundness.specs.SearchEnd as Ending
 
--- `origin` tells what each variable was made for; the root's variable, number 0, has no atom
+-- `origin` gives what each variable was made for; the root's variable, number 0, has no atom
 module _ {N S : Type 0} (origin : ℕ → Atom N S) where
   abbrev pub meaning : Signed → Literal (Atom N S)
   meaning l = record { atom = origin l.variable.0; positive = l.positive }
@@ -46,7 +46,7 @@ module _ {N S : Type 0} (origin : ℕ → Atom N S) where
     pub only : (l : Signed) → has clause l ≡ true → (l ≡ no root_variable) ⊎ ((0 < l.variable.0) × Contains literals (meaning l))
     pub each : (m : Literal (Atom N S)) → Contains literals m → (l : Signed) × (has clause l ≡ true) × Means l m
 
-  -- each choice, but the root's, was made for what is said of it and of what was known before
+  -- each decision, but the root's, has its reason in what was known before
   abbrev pub AreCalledFor : (List (Literal (Atom N S)) → Literal (Atom N S) → Type 0) → List Entry → Type 0
   AreCalledFor choice h = (e : Entry) (older : List Entry) → StandsOn h e older → IsChoice e older → 0 < e.decision.variable.0 → choice (known_of older) (meaning (literal_of e))
 
@@ -55,11 +55,11 @@ module _ {N S : Type 0} (origin : ℕ → Atom N S) where
   Denies same p list clause = (l : Signed) → has clause l ≡ true → (l ≡ no root_variable) ⊎ ((s : S) × Means l (minus (Atom.solvable s)) × (is_in same p list s ≡ true))
 
   module _ (same : S → S → Bool) (p : Packages N S) (rules : Rule N S → Type 0) where
-    -- the clause has causes from which it follows, says that the root is true, or states a rule
+    -- the clause has causes from which it follows, is the root's unit clause, or states a rule
     abbrev pub IsAccounted : SatClause → Type 0
     IsAccounted c = (0 < length c.causes.items) ⊎ ((has c.literals.items (yes root_variable) ≡ true) ⊎ ((r : Rule N S) × rules r × Spells c.literals.items (literals_of same p r)))
 
-    -- What holds of the first variables and of the clauses, whatever stands on the trail.
+    -- What holds of the first variables and of the clauses, whatever the trail is.
     pub record AreCoded (registered : S → Type 0) (count : ℕ) (clauses : List SatClause) : Type 0 where
       pub once : IsOnce count
       pub in_range : (n : ℕ) (l : Signed) → has (clause_at (lists clauses) n) l ≡ true → l.variable.0 < count

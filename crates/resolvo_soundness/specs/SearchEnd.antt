@@ -25,11 +25,11 @@ abbrev pub IsTrueParent : {N S : Type 0} → List (Literal (Atom N S)) → Optio
 IsTrueParent known None = Unit {0}
 IsTrueParent known (Some s) = Contains known (plus (Atom.solvable s))
 
--- two digits tell the solvables apart
+-- the solvables differ in some digit
 abbrev pub AreTold : {N S : Type 0} → (Rule N S → Type 0) → S → S → Type 0
 AreTold rules s t = (bit : ℕ) × (b : Bool) × rules (Rule.has_digit s bit b) × rules (Rule.has_digit t bit (not b))
 
--- `rules` are those that clauses state, `registered` the solvables whose digits are told
+-- `rules` are those that clauses state, `registered` the solvables whose digits have clauses
 module _ {N S : Type 0} (same : S → S → Bool) (p : Packages N S) (rules : Rule N S → Type 0) where
   -- the clause of a need asks for a match of the requirement: its parent is chosen, and its condition's literals are false
   pub record IsAskedByNeed (known : List (Literal (Atom N S))) (r : Requirement) : Type 0 where
@@ -96,7 +96,7 @@ module _ {N S : Type 0} (same : S → S → Bool) (p : Packages N S) (rules : Ru
     IsTrail choice [] = Unit {0}
     IsTrail choice (l ∷ known) = Follows choice l known × IsTrail choice known
 
-  -- What holds of the clauses, whatever stands on the trail.
+  -- What holds of the clauses, whatever the trail is.
   pub record AreRegistered (root : Rules) (registered : S → Type 0) (wishes : List S) : Type 0 where
     -- each rule is one of the problem
     pub rule : (r : Rule N S) → rules r → IsRule same p root r
@@ -104,10 +104,10 @@ module _ {N S : Type 0} (same : S → S → Bool) (p : Packages N S) (rules : Ru
     pub wish : (s : S) → is_in same p wishes s ≡ true → registered s
     pub candidate : (r : Requirement) (s : S) → HasClause r → meets same p r s ≡ true → registered s
     pub out : (parent : Option S) (need : ConditionalRequirement) (case : List VersionSetId) (v : VersionSetId) (s : S) → rules (Rule.needs parent need case) → Contains case v → is_outside same p v s ≡ true → registered s
-    -- a registered solvable is a candidate, and told from the others of its package
+    -- a registered solvable is a candidate, and differs in some digit from the others of its package
     pub candidates : (s : S) → registered s → is_in same p (listed (p.candidates_of (p.package_of s))) s ≡ true
     pub told : (s t : S) → registered s → registered t → p.package_of s ≡ p.package_of t → (s ≡ t) ⊎ AreTold rules s t
-    -- where a condition names its package, a clause says that it is there
+    -- where a condition names its package, an at-least-one clause holds it
     pub there : (parent : Option S) (need : ConditionalRequirement) (case : List VersionSetId) (v : VersionSetId) (s : S) → rules (Rule.needs parent need case) → Contains case v → registered s → p.package_of s ≡ p.set_package v → rules (Rule.is_there (p.set_package v) s)
     -- the candidates of requirements that have a clause are barred where a lock or an exclusion bars them
     pub bar : (r : Requirement) (v : VersionSetId) (s : S) → HasClause r → Contains (alternatives_of p.members_of r) v → IsBarredIn same p (p.set_package v) s → HasBar rules s

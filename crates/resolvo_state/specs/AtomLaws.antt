@@ -9,7 +9,7 @@ use Rattle.resolvo_pool_core.specs.declared.requirement.Requirement.TheVariants.
 use Rattle.resolvo_state.specs.declared.atom.ProofAtom.{ProofAtom}
 use Rattle.resolvo_state.specs.declared.atom.ProofAtom.TheVariants.{Solvable, AtLeastOne, Gate, Outside, Bit}
 
--- a test of requirements holds of one requirement alone, by what it says of each kind
+-- a test of requirements holds of one requirement alone, by its answer for each kind
 pub one_requirement : (eq : Requirement → Requirement → Bool)
     → ((v w : VersionSetId) → eq (Single v) (Single w) ≡ true → v.0 ≡ w.0)
     → ((v w : VersionSetUnionId) → eq (Union v) (Union w) ≡ true → v.0 ≡ w.0)
@@ -20,7 +20,7 @@ one_requirement eq single union apart (Single v) (Union w) h = absurd (both_ways
 one_requirement eq single union apart (Union v) (Single w) h = absurd (both_ways _ (apart w v).1 h)
 one_requirement eq single union apart (Union v) (Union w) h = ap (λ n. Union (record { 0 = n })) (union v w h)
 
--- a test of atoms holds of one atom alone, by what it says of each kind and of different ones
+-- a test of atoms holds of one atom alone, by its answer for each kind and for different ones
 pub one_atom : {N S : Type 0} (eq : ProofAtom N S → ProofAtom N S → Bool)
     → ((s t : S) → eq (Solvable s) (Solvable t) ≡ true → s ≡ t)
     → ((m n : N) → eq (AtLeastOne m) (AtLeastOne n) ≡ true → m ≡ n)

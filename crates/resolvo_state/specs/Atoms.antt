@@ -1,4 +1,4 @@
--- What variables stand for.
+-- The atoms of variables.
 use Rattle.std.specs.Prelude.{◌≡◌, ℕ, zero, suc, List, [], ◌∷◌, Option, Some, None, slice_get}
 use Rattle.resolvo_pool_core.specs.declared.id.VariableId.{VariableId}
 use Rattle.resolvo_pool_core.specs.declared.requirement.Requirement.TheVariants.{Single}
@@ -8,7 +8,7 @@ use Rattle.resolvo_soundness.specs.Encoding.{Atom}
 use Rattle.resolvo_state.specs.declared.atom.ProofAtom.{ProofAtom}
 use Rattle.resolvo_state.specs.declared.atom.ProofAtom.TheVariants.{Solvable, AtLeastOne, Gate, Outside, Bit}
 
--- the atom that the value stands for
+-- the atom of the value
 abbrev pub atom_of : {N S : Type 0} → ProofAtom N S → Atom N S
 atom_of (Solvable s) = Atom.solvable s
 atom_of (AtLeastOne n) = Atom.any_of n
@@ -16,7 +16,7 @@ atom_of (Gate r) = Atom.gate r
 atom_of (Outside v) = Atom.outside v
 atom_of (Bit n bit) = Atom.digit n bit
 
--- what the search is told of the variable
+-- what the SAT core knows of the variable
 abbrev pub kind_of : {N S : Type 0} → ProofAtom N S → VariableKind
 kind_of (Solvable s) = Kinds.Solvable
 kind_of (AtLeastOne n) = Kinds.Helper
@@ -24,7 +24,7 @@ kind_of (Gate r) = Kinds.Helper
 kind_of (Outside v) = Kinds.Helper
 kind_of (Bit n bit) = Kinds.Helper
 
--- an atom for what stands for none
+-- an atom for what has none
 abbrev pub no_atom : {N S : Type 0} → Atom N S
 no_atom = Atom.gate (Single (record { 0 = 0 }))
 
@@ -39,7 +39,7 @@ abbrev pub origin : {N S : Type 0} → List (ProofAtom N S) → ℕ → Atom N S
 origin atoms zero = no_atom
 origin atoms (suc k) = atom_at atoms k
 
--- the variable stands for the atom
+-- the variable represents the atom
 abbrev pub StandsFor : {N S : Type 0} → List (ProofAtom N S) → VariableId → ProofAtom N S → Type 0
 StandsFor atoms v a = (k : ℕ) × (v.0 ≡ suc k) × (slice_get atoms k ≡ Some a)
 
@@ -57,7 +57,7 @@ solvable_in (Some (Gate r)) = None
 solvable_in (Some (Outside v)) = None
 solvable_in (Some (Bit n bit)) = None
 
--- the solvable that a variable stands for
+-- the solvable that a variable represents
 abbrev pub solvable_of : {N S : Type 0} → List (ProofAtom N S) → ℕ → Option S
 solvable_of atoms zero = None
 solvable_of atoms (suc k) = solvable_in (slice_get atoms k)
@@ -71,7 +71,7 @@ bit_in (Some (Gate r)) = None
 bit_in (Some (Outside v)) = None
 bit_in (Some (Bit n bit)) = Some bit
 
--- the place of the digit that a variable stands for
+-- the place of the digit that a variable represents
 abbrev pub bit_of : {N S : Type 0} → List (ProofAtom N S) → ℕ → Option ℕ
 bit_of atoms zero = None
 bit_of atoms (suc k) = bit_in (slice_get atoms k)

@@ -22,11 +22,11 @@ use Rattle.resolvo_state.specs.SolverState.{IsCoding, Grows, SameTrail}
 abbrev pub same_variable : VariableId → VariableId → Bool
 same_variable v w = v.0 == w.0
 
--- the literals of a clause that tells a digit of a solvable's place
+-- the literals of a clause that ties a solvable to a digit of its place
 abbrev pub digit_literals : {N S : Type 0} → N → S → ℕ → Bool → List (Literal (Atom N S))
 digit_literals {N} {S} name s bit value = minus (Atom.solvable s) ∷ (let l : Literal (Atom N S) = record { atom = Atom.digit name bit; positive = value } in l) ∷ []
 
--- The tracker of a package: its variables stand for solvables, its helpers for the digits in order, as many as tell the
+-- The tracker of a package: its variables represent solvables, its helpers the digits in order, as many as distinguish the
 -- places apart and fewer than 32, and a clause states each digit of each place.
 pub record IsTied {N S : Type 0} (name : N) (t : Tracking VariableId) (c : SolverState N S) : Type 0 where
   pub solvables : (v : VariableId) → Contains t.variables v → (s : S) × StandsFor c.atoms.keys v (Solvable s)
@@ -36,7 +36,7 @@ pub record IsTied {N S : Type 0} (name : N) (t : Tracking VariableId) (c : Solve
   pub once : AreOnce t.variables
   pub told : (place i : ℕ) (v : VariableId) (s : S) → slice_get t.variables place ≡ Some v → StandsFor c.atoms.keys v (Solvable s) → i < length t.helpers → rules_in c.stated.items (Rule.has_digit s i (digit place i))
 
--- at this place of the package's tracker stands the solvable's variable
+-- at this place of the package's tracker is the solvable's variable
 pub record IsPlaced {N S : Type 0} (r : Registry N) (c : SolverState N S) (name : N) (place : ℕ) (s : S) : Type 0 where
   pub number : ℕ
   pub tracker : Tracking VariableId
@@ -70,7 +70,7 @@ pub record IsNothing {N : Type 0} (r : Registry N) : Type 0 where
   pub names : r.names.keys ≡ []
   pub trackers : r.trackers.items ≡ []
 
--- the clause of this number tells a digit of a registered solvable of the package, one of 32
+-- the clause of this number ties a registered solvable of the package to a digit, one of 32
 pub record IsDigitClause {N S : Type 0} (r : Registry N) (c : SolverState N S) (name : N) (n : ℕ) : Type 0 where
   pub solvable : S
   pub place : ℕ
@@ -80,7 +80,7 @@ pub record IsDigitClause {N S : Type 0} (r : Registry N) (c : SolverState N S) (
   pub stated : stated_at c.stated.items n ≡ Some (Digit name solvable place bit)
   pub spells : Spells (origin c.atoms.keys) (clause_at (clauses_of c.search) n) (digit_literals name solvable bit (digit place bit))
 
--- The solvable is registered, with this variable; no other one came. Each clause that came tells a digit.
+-- The solvable is registered, with this variable; no other one was added. Each new clause ties a solvable to a digit.
 pub record Registers {N S : Type 0} (name : N) (s : S) (v : VariableId) (r : Registry N) (old : SolverState N S) (t : Registry N) (new : SolverState N S) : Type 0 where
   pub coding : IsCoding new
   pub grows : Grows old new
@@ -93,7 +93,7 @@ pub record Registers {N S : Type 0} (name : N) (s : S) (v : VariableId) (r : Reg
   pub digits : (n : ℕ) → length old.search.clauses ≤ n → n < length new.search.clauses → IsDigitClause t new name n
   pub same : IsRegistered r old name s → new ≡ old
 
--- the place is the package's; if it is another one, it came behind the others, with nothing tracked
+-- the place is the package's; a new one was added behind the others, with nothing tracked
 pub record PlacesName {N : Type 0} (name : N) (place : ℕ) (old new : Registry N) : Type 0 where
   pub names : IsFrontOf old.names.keys new.names.keys
   pub trackers : IsFrontOf old.trackers.items new.trackers.items
@@ -112,7 +112,7 @@ pub record GivesDigit {N S : Type 0} (name : N) (count : ℕ) (given : Option Va
   pub stands : (v : VariableId) → given ≡ Some v → StandsFor new.atoms.keys v (Bit name count)
   pub same : given ≡ None → new ≡ old
 
--- the place that the first tie is of: the first one where a helper came, else that of the variable that comes
+-- the place of the first tie: the first one where a helper was added, else that of the new variable
 abbrev pub first_of : {V : Type 0} → Option V → ℕ → ℕ
 first_of None count = count
 first_of (Some v) count = 0
@@ -121,7 +121,7 @@ first_of (Some v) count = 0
 abbrev pub place_from : ℕ → ℕ → ℕ → ℕ
 place_from first last i = min (first + i) last
 
--- the two variables stand for a solvable and for a digit of the package, one of 32, and the value is that of the place's digit
+-- the two variables represent a solvable and a digit of the package, one of 32, and the value is that of the place's digit
 pub record IsTie {N S : Type 0} (name : N) (atoms : List (ProofAtom N S)) (place : ℕ) (tie : VariableId × VariableId × Bool) : Type 0 where
   pub solvable : S
   pub bit : ℕ
@@ -136,7 +136,7 @@ pub record StatesTie {N S : Type 0} (name : N) (place : ℕ) (tie : VariableId �
   pub stated : stated_at c.stated.items n ≡ Some (Digit name is.solvable place is.bit)
   pub clause : clause_at (clauses_of c.search) n ≡ no tie.0 ∷ (let l : Signed = record { variable = tie.1; positive = tie.2 } in l) ∷ []
 
--- the tie came as a clause
+-- the tie was added as a clause
 pub record StatesOne {N S : Type 0} (name : N) (place : ℕ) (tie : VariableId × VariableId × Bool) (old new : SolverState N S) : Type 0 where
   pub coding : IsCoding new
   pub grows : Grows old new
@@ -145,7 +145,7 @@ pub record StatesOne {N S : Type 0} (name : N) (place : ℕ) (tie : VariableId �
   pub states : StatesTie name place tie new (length old.search.clauses)
   pub one : length new.search.clauses ≡ length old.search.clauses + 1
 
--- each tie came as a clause, and nothing else came
+-- each tie was added as a clause, and nothing else was
 pub record StatesAll {N S : Type 0} (name : N) (ties : List (VariableId × VariableId × Bool)) (first last : ℕ) (old new : SolverState N S) : Type 0 where
   pub coding : IsCoding new
   pub grows : Grows old new
@@ -155,7 +155,7 @@ pub record StatesAll {N S : Type 0} (name : N) (ties : List (VariableId × Varia
   pub only : (n : ℕ) → length old.search.clauses ≤ n → n < length new.search.clauses → (i : ℕ) × (tie : VariableId × VariableId × Bool) × (slice_get ties i ≡ Some tie) × StatesTie name (place_from first last i) tie new n
   pub same : ties ≡ [] → new ≡ old
 
--- The variable is tracked, behind the others, and no other one came. Each clause that came tells a digit of a tracked one,
+-- The variable is tracked, behind the others, and no other one was added. Each new clause ties a tracked one to a digit,
 -- by its place.
 pub record Tracks {N S : Type 0} (name : N) (v : VariableId) (t : Tracking VariableId) (old : SolverState N S) (u : Tracking VariableId) (new : SolverState N S) : Type 0 where
   pub coding : IsCoding new

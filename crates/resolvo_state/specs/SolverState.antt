@@ -1,4 +1,4 @@
--- The search, with what its variables stand for and what its clauses state, and how it goes on.
+-- The solver's state: the SAT core, the atoms of its variables, the rules of its clauses, and its steps.
 use Rattle.std.specs.Prelude.{◌≡◌, ℕ, ◌<◌, true, List, [], ◌∷◌, ◌++◌, length, map, slice_get, Some}
 use Rattle.resolvo_pool_core.specs.declared.id.ClauseId.{ClauseId}
 use Rattle.resolvo_pool_core.specs.declared.id.VariableId.{VariableId}
@@ -21,9 +21,9 @@ use Rattle.resolvo_state.specs.Atoms.{kind_of, StandsFor}
 use Rattle.resolvo_state.specs.Keys.{AreOnce}
 use Rattle.resolvo_state.specs.Statements.{stated_at}
 
--- What holds between calls: the search is ready, each variable but the root's stands for an atom, no two for one, and each
--- clause states something. The root's clause comes first and names no other variable; what is learnt has causes, no literal
--- beside its opposite, and none that stands in no earlier clause.
+-- What holds between calls. The core is ready. Each variable but the root's has an atom, no two the same. Each
+-- clause has a rule. The root's clause is the first and names no other variable. A learnt clause has causes, no literal
+-- beside its negation, and only literals of earlier clauses.
 pub record IsCoding {N S : Type 0} (c : SolverState N S) : Type 0 where
   pub ready : IsReady c.search c.watching
   pub covered : AreCovered c.search c.watching
@@ -42,7 +42,7 @@ pub data LacksNumber {N S : Type 0} (c : SolverState N S) : Type 0 where
   variables : count_of c.search ≡ 2147483647 → LacksNumber c
   clauses : length c.search.clauses ≡ 4294967295 → LacksNumber c
 
--- Atoms, clauses and what these state came behind the others.
+-- Atoms, clauses and their rules were added behind the others.
 pub record Grows {N S : Type 0} (old new : SolverState N S) : Type 0 where
   pub atoms : IsFrontOf old.atoms.keys new.atoms.keys
   pub clauses : IsFrontOf old.search.clauses new.search.clauses
@@ -62,7 +62,7 @@ pub record IsBegun {N S : Type 0} (c : SolverState N S) : Type 0 where
   pub trail : c.search.tracker.trail ≡ root_entry ∷ []
   pub base_level : c.search.base_level ≡ 1
 
--- The variable stands for the atom. If one did before, nothing changed; else the atom came behind the others.
+-- The variable represents the atom. If one did before, nothing changed; else the atom was added behind the others.
 pub record Gives {N S : Type 0} (atom : ProofAtom N S) (v : VariableId) (old new : SolverState N S) : Type 0 where
   pub coding : IsCoding new
   pub stands : StandsFor new.atoms.keys v atom
@@ -73,7 +73,7 @@ pub record Gives {N S : Type 0} (atom : ProofAtom N S) (v : VariableId) (old new
   pub clauses : new.search.clauses ≡ old.search.clauses
   pub stated : new.stated ≡ old.stated
 
--- A clause of these literals, which has no causes, came behind the others.
+-- A clause of these literals, which has no causes, was added behind the others.
 pub record States {N S : Type 0} (x : Stated N S) (spelled : List Signed) (id : ClauseId) (old new : SolverState N S) : Type 0 where
   pub coding : IsCoding new
   pub atoms : new.atoms ≡ old.atoms
@@ -86,7 +86,7 @@ pub record States {N S : Type 0} (x : Stated N S) (spelled : List Signed) (id : 
   pub grows : Grows old new
   pub trail : SameTrail old new
 
--- A clause came behind the others that follows from its causes.
+-- A clause was added behind the others that follows from its causes.
 pub record Bars {N S : Type 0} (denies : List Signed) (by : List ClauseId) (id : ClauseId) (old new : SolverState N S) : Type 0 where
   pub coding : IsCoding new
   pub atoms : new.atoms ≡ old.atoms
@@ -114,7 +114,7 @@ pub record Advances {N S : Type 0} (old new : SolverState N S) (p : StepResult) 
   pub stated : new.stated.items ≡ old.stated.items ++ learnt_by p
   pub grows : Grows old new
 
--- variables, clauses, and what they stand for and state, are what they were
+-- variables with their atoms, and clauses with their rules, are unchanged
 pub record KeepsCode {N S : Type 0} (old new : SolverState N S) : Type 0 where
   pub coding : IsCoding new
   pub atoms : new.atoms ≡ old.atoms

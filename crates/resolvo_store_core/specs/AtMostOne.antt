@@ -1,4 +1,4 @@
--- At most one of some variables is true, said by the binary digits of their places.
+-- At most one of some variables is true, encoded by the binary digits of their places.
 use Rattle.std.specs.Prelude.{◌≡◌, ℕ, zero, suc, ◌+◌, ◌/◌, ◌%◌, ◌^◌, ◌<◌, ◌≤◌, ◌==◌, ◌&&◌, Bool, true, false, not, cond, List, [], ◌∷◌, ◌++◌, map, length, slice_index_or, Option, Some, None}
 use Rattle.std.specs.Option.{option_to_list}
 use Rattle.std.specs.List.{list_any}
@@ -8,7 +8,7 @@ pub record Tracking (V : Type 0) : Type 0 where
   pub variables : List V
   pub helpers : List V
 
--- the least number of digits that tell n places apart
+-- the least number of digits that distinguish n places
 abbrev pub IsLeastCount : ℕ → ℕ → Type 0
 IsLeastCount h n = (n ≤ 2 ^ h) × ((j : ℕ) → n ≤ 2 ^ j → h ≤ j)
 
@@ -40,7 +40,7 @@ module _ {V : Type 0} (eq : V → V → Bool) where
   abbrev pub among : Tracking V → V → Bool
   among t x = list_any (eq x) t.variables
 
-  -- the variable is new, and the helpers tell no more places apart
+  -- the variable is new, and the helpers distinguish no more places
   abbrev pub needs_helper : Tracking V → V → Bool
   needs_helper t x = not (among t x) && (length t.variables == 2 ^ length t.helpers)
 
@@ -60,6 +60,6 @@ IsFrontOf {X} xs ys = (zs : List X) × (ys ≡ xs ++ zs)
 abbrev pub IsMet : {V : Type 0} → (V → Bool) → (ℕ → Bool) → Tracking V → Type 0
 IsMet {V} value helper t = (k i : ℕ) (d : V) → k < length t.variables → i < length t.helpers → value (slice_index_or t.variables k d) ≡ true → helper i ≡ digit k i
 
--- at most one of the variables is true, told apart by their places
+-- at most one of the variables is true, as their places differ in some digit
 abbrev pub IsAtMostOne : {V : Type 0} → (V → Bool) → List V → Type 0
 IsAtMostOne {V} value xs = (j k : ℕ) (d : V) → j < length xs → k < length xs → value (slice_index_or xs j d) ≡ true → value (slice_index_or xs k d) ≡ true → j ≡ k

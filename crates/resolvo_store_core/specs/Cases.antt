@@ -19,7 +19,7 @@ cases_by below (Requirement v) = (v ∷ []) ∷ []
 cases_by below (Binary And a b) = pairs (below a) (below b)
 cases_by below (Binary Or a b) = below a ++ below b
 
--- the cases, as far as n steps down tell; a condition's operands have smaller ids, so its own id and one are enough
+-- the cases, looked at n steps down; a condition's operands have smaller ids, so its own id and one are enough
 abbrev pub cases_within : (ConditionId → Condition) → ℕ → ConditionId → List (List VersionSetId)
 cases_within condition_of zero c = []
 cases_within condition_of (suc n) c = cases_by (cases_within condition_of n) (condition_of c)
@@ -27,7 +27,7 @@ cases_within condition_of (suc n) c = cases_by (cases_within condition_of n) (co
 abbrev pub cases : (ConditionId → Condition) → ConditionId → List (List VersionSetId)
 cases condition_of c = cases_within condition_of (suc c.0) c
 
--- what a condition says where these version sets are met, as far as n steps down tell
+-- the truth of a condition where these version sets are met, looked at n steps down
 abbrev pub says_within : (VersionSetId → Bool) → (ConditionId → Condition) → ℕ → ConditionId → Bool
 says_within met condition_of zero c = false
 says_within met condition_of (suc n) c = says met (says_within met condition_of n) (condition_of c)

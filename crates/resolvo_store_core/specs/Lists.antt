@@ -86,14 +86,14 @@ pub record FixesCandidates {N : Type 0} (r : Requirement) (given : Vec (Candidat
   pub disjunctions : new.disjunctions ≡ old.disjunctions
   pub learnt : new.learnt ≡ old.learnt
 
--- the disjunction came under this number
+-- the disjunction was added under this number
 pub record FixesDisjunction {N : Type 0} (number : ℕ) (given : Disjunction) (old new : FixedLists N) : Type 0 where
   pub next : number ≡ length old.disjunctions
   pub put : new.disjunctions ≡ old.disjunctions ++ given ∷ []
   pub candidates : new.candidates ≡ old.candidates
   pub learnt : new.learnt ≡ old.learnt
 
--- the learnt literals came under this number
+-- the learnt literals were added under this number
 pub record FixesLearnt {N : Type 0} (number : ℕ) (given : Vec Signed Global) (old new : FixedLists N) : Type 0 where
   pub next : number ≡ length old.learnt
   pub put : new.learnt ≡ old.learnt ++ given ∷ []

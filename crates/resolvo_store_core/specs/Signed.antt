@@ -18,7 +18,7 @@ negation l = record { variable = l.variable; positive = not l.positive }
 abbrev pub same_literal : Signed → Signed → Bool
 same_literal a b = (a.variable.0 == b.variable.0) && beq a.positive b.positive
 
--- the literal stands in the list
+-- the list holds the literal
 abbrev pub has : List Signed → Signed → Bool
 has literals l = list_any (λ x. same_literal x l) literals
 

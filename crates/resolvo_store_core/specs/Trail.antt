@@ -13,11 +13,11 @@ abbrev pub level_or : Option Assignment → ℕ
 level_or None = 0
 level_or (Some a) = a.level
 
--- what an entry says of its variable
+-- the value that an entry gives its variable
 abbrev pub assignment_of : Entry → Assignment
 assignment_of e = record { value = e.decision.value; level = e.level }
 
--- what the trail says of the variable of this index
+-- the value that the trail gives the variable of this index
 abbrev pub assigned : List Entry → ℕ → Option Assignment
 assigned [] v = None
 assigned (e ∷ es) v = if e.decision.variable.0 == v then Some (assignment_of e) else assigned es v
@@ -26,7 +26,7 @@ assigned (e ∷ es) v = if e.decision.variable.0 == v then Some (assignment_of e
 abbrev pub value_in : List Entry → ℕ → Option Bool
 value_in es v = option_map (λ a. a.value) (assigned es v)
 
--- the clause that the variable's entry came from
+-- the reason clause of the variable's entry
 abbrev pub clause_for : List Entry → ℕ → Option ClauseId
 clause_for [] v = None
 clause_for (e ∷ es) v = if e.decision.variable.0 == v then Some e.decision.derived_from else clause_for es v
@@ -35,7 +35,7 @@ clause_for (e ∷ es) v = if e.decision.variable.0 == v then Some e.decision.der
 abbrev pub values_of : List Entry → List (VariableId × Bool)
 values_of es = map (λ e. (e.decision.variable, e.decision.value)) es
 
--- each variable stands at most once
+-- no variable is assigned twice
 abbrev pub EachOnce : List Entry → Type 0
 EachOnce [] = ⊤
 EachOnce (e ∷ es) = (assigned es e.decision.variable.0 ≡ None) × EachOnce es
@@ -71,7 +71,7 @@ pub record TakesAway (level : ℕ) (old new : Tracked) : Type 0 where
 abbrev pub Undoes : ℕ → Tracked → Tracked → Type 0
 Undoes level old new = TakesAway level old new × (last_level new.trail ≤ level)
 
--- the map says of each variable what the trail does, each variable stands once, and both numbers are within the trail
+-- the map agrees with the trail, no variable is assigned twice, and both numbers are within the trail
 pub record IsTrail (map : List (Option Assignment)) (trail : List Entry) (front floor : ℕ) : Type 0 where
   pub mapped : (v : ℕ) → at map v ≡ assigned trail v
   pub once : EachOnce trail

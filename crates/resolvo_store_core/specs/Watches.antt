@@ -46,17 +46,17 @@ abbrev pub one_if : Bool → ℕ
 one_if true = 1
 one_if false = 0
 
--- how often the clause of this number stands in the list
+-- how often the list holds the clause of this number
 abbrev pub count : ℕ → List ClauseId → ℕ
 count c [] = 0
 count c (x ∷ xs) = one_if (nat_eq c x.0) + count c xs
 
--- each clause stands once in the list of each of its two literals, which differ, and in no other
+-- each clause is once in the list of each of its two literals, which differ, and in no other
 pub record IsWatched (pairs : List (Option WatchedLiterals)) (view : Signed → List ClauseId) : Type 0 where
   pub once : (l : Signed) (c : ℕ) → count c (view l) ≡ one_if (watches (pair_at pairs c) l)
   pub differ : (c : ℕ) (p : WatchedLiterals) → pair_at pairs c ≡ Some p → same_literal p.first p.second ≡ false
 
--- the clause came to the front of the list
+-- the clause was added at the front of the list
 pub record PutsFirst (c : ClauseId) (l : Signed) (old new : Signed → List ClauseId) : Type 0 where
   pub put : new l ≡ c ∷ old l
   pub others : (m : Signed) → same_literal l m ≡ false → new m ≡ old m
@@ -66,7 +66,7 @@ pub record TakesOut (l : Signed) (place : ℕ) (old new : Signed → List Clause
   pub taken : new l ≡ take place (old l) ++ drop (suc place) (old l)
   pub others : (m : Signed) → same_literal l m ≡ false → new m ≡ old m
 
--- the clause stands at the front of the lists of its two literals
+-- the clause is at the front of the lists of its two literals
 pub record StartsIn (c : ClauseId) (p : WatchedLiterals) (old new : Signed → List ClauseId) : Type 0 where
   pub first : new p.first ≡ c ∷ old p.first
   pub second : new p.second ≡ c ∷ old p.second

@@ -1,4 +1,4 @@
--- What a device that gives or takes bytes tells of itself.
+-- What the contract of a device that gives or takes bytes knows of it.
 use Rattle.std.specs.Prelude.{◌≡◌, ℕ, ◌+◌, ◌<◌, ◌≤◌, ◌⊎◌, min, ◌==◌, if◌then◌else◌, List, ◌++◌, Option, Some, Result, Ok, Err}
 use Rattle.std.specs.Io.KnownBytes.{Appends}
 use Rattle.resolvo_text.specs.declared.device.IoFault.{IoFault}
@@ -34,7 +34,7 @@ CountsEmpty old new (Ok n) = new ≡ (if n == 0 then one_more old else old)
 CountsEmpty old new (Err e) = new ≡ old
 
 -- In a call that found the first count of failures and left the second, and this row of interruptions, the
--- device failed: the count rose or stood at the last, or more than 1,000 calls in a row were interrupted.
+-- device failed: the count rose or was at the last, or more than 1,000 calls in a row were interrupted.
 abbrev pub DeviceFailed : ℕ → ℕ → ℕ → Type 0
 DeviceFailed failures_before failures_now interruptions = (failures_before < failures_now) ⊎ (last ≤ failures_before) ⊎ (1000 < interruptions)
 

@@ -1,4 +1,4 @@
--- What a line of a catalogue or a request says.
+-- The lines of a catalogue and of a request.
 use Rattle.std.specs.Prelude.{ℕ, List, Option}
 use Rattle.resolvo_text.specs.declared.spec.Span.{Span}
 

@@ -3,7 +3,7 @@ use Rattle.std.specs.Prelude.{ℕ, Bool, List, [], ◌∷◌, ◌==◌, if◌the
 use Rattle.std.specs.List.{onto_first}
 
 -- A line ends at byte 10, which isn't part of it. The last newline may be absent. An empty text has no
--- line, and nothing stands after a final newline.
+-- line, and nothing follows a final newline.
 abbrev pub lines_of : List ℕ → List (List ℕ)
 lines_of [] = []
 lines_of (b ∷ bs) = if b == 10 then [] ∷ lines_of bs else onto_first b (lines_of bs)
@@ -14,6 +14,6 @@ is_newline b = b == 10
 abbrev pub newlines : List ℕ → ℕ
 newlines bytes = count_by is_newline bytes
 
--- The lines of the text that end among the bytes that came, which are the text's first.
+-- The lines of the text that end among the bytes read, which are the text's first.
 abbrev pub whole_lines : List ℕ → List ℕ → List (List ℕ)
 whole_lines text came = take (newlines came) (lines_of text)

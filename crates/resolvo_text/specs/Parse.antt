@@ -59,7 +59,7 @@ name_in word = if is_name word then Some word else None
 abbrev pub is_space : ℕ → Bool
 is_space b = b == 32
 
--- the words of what is left of a line, each of which stands behind a space
+-- the words of the rest of a line, each of which follows a space
 abbrev pub words_in : List ℕ → Words
 words_in [] = []
 words_in (b ∷ bs) = slice_split is_space bs
@@ -105,7 +105,7 @@ spec_at words = do
   name ← name_in first.0
   Some (record { name = name; span = (span_at first.1).0 }, (span_at first.1).1)
 
--- whether this word comes next, and the words after it
+-- whether this is the next word, and the words after it
 unfoldable pub skip : List ℕ → Words → Bool × Words
 skip k [] = (false, [])
 skip k (word ∷ words) = if bytes_eq word k then (true, words) else (false, word ∷ words)
@@ -141,7 +141,7 @@ abbrev pub join : Joint → Cond → Cond → Cond
 join joint.And left right = And left right
 join joint.Or left right = Or left right
 
--- joined to what stands before it
+-- joined to what precedes it
 abbrev pub joined : Joint → Option Cond → Cond → Cond
 joined j None right = right
 joined j (Some left) right = join j left right
@@ -168,7 +168,7 @@ parts_at j part (suc n) before room words = part room words >>= λ x.
 unfoldable pub parts_with : Joint → PartReader → PartReader
 parts_with j part room words = parts_at j part room None room words
 
--- what stands in parentheses that are at most so deep
+-- what is in parentheses that are at most so deep
 unfoldable pub group_at : ℕ → PartReader
 group_at zero room words = None
 group_at (suc depth) room words = parts_with joint.Or (parts_with joint.And (atom_with (group_at depth))) room words

@@ -11,7 +11,7 @@ use Rattle.resolvo_text.specs.declared.lines.ReadFault.TheVariants.{Fault, Reade
 abbrev pub unread : LineReader → List ℕ
 unread r = drop r.at (take r.end r.piece.items)
 
--- what is left of the text, where the device tells
+-- what is left of the text, where the device knows it
 abbrev pub left : LineReader → Option (List ℕ) → Option (List ℕ)
 left r told = prepend_known (unread r) told
 
@@ -39,7 +39,7 @@ abbrev pub EndsLine : Bool → Option (List ℕ) → ℕ → List ℕ → Option
 EndsLine true before room line after room_after = Consumes before after (line ++ 10 ∷ []) × (newlines line ≡ 0) × (room_after + (length line + 1) ≡ room)
 EndsLine false before room line after room_after = Consumes before after line × IfKnown before (λ bytes. bytes ≡ line) × (newlines line ≡ 0) × (room_after + length line ≡ room)
 
--- Some bytes came that had been left, and no line ends among them.
+-- Some of the bytes that were left were read, and no line ends among them.
 abbrev pub NoLineCame : Option (List ℕ) → Option (List ℕ) → Type 0
 NoLineCame before after = IfKnown before (λ bytes. (came : List ℕ) × (rest : List ℕ) × (after ≡ Some rest) × (bytes ≡ came ++ rest) × (newlines came ≡ 0))
 

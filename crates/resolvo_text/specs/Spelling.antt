@@ -108,7 +108,7 @@ IsWritten (Group w) = IsWritten w
 IsWritten (Both v w) = IsWritten v × IsWritten w × (looseness v ≤ 1) × (looseness w ≤ 0)
 IsWritten (Either v w) = IsWritten v × IsWritten w × (looseness w ≤ 1)
 
--- how deep parentheses stand in one another
+-- how deep parentheses are nested
 abbrev pub depth_of : Written → ℕ
 depth_of (Lone s) = 0
 depth_of (Group w) = depth_of w + 1
@@ -128,7 +128,7 @@ pub record IsCondition (w : Written) : Type 0 where
 
 -- ---- the text of a line
 
--- The words of a condition, where parentheses may stand that only group.
+-- The words of a condition, where parentheses may only group.
 pub record AreWordsOfCondition (words : Words) (c : Cond) : Type 0 where
   pub written : Written
   pub form : IsCondition written
@@ -169,7 +169,7 @@ HasForm (Favour v) = IsVersion v
 HasForm (Exclude v reason) = IsVersion v × IsTrue (is_name reason)
 HasForm (Wish v) = IsVersion v
 
--- The text says the line.
+-- The text spells the line.
 pub record SaysLine (text : List ℕ) (line : Line) : Type 0 where
   pub spelled : Spells text line
   pub form : HasForm line

@@ -1,4 +1,4 @@
--- Texts of which each line says something: when a text is grammatical, which line is its first faulty one, and
+-- Texts as lists of lines: when a text is grammatical, which line is its first faulty one, and
 -- when reading one may fail.
 use Rattle.std.specs.Prelude.{◌≡◌, ℕ, ◌+◌, ◌<◌, ⊤, List, [], ◌∷◌, ◌++◌, length, take, Option, Some}
 use Rattle.resolvo_text.specs.Lines.{lines_of, whole_lines}
@@ -6,11 +6,11 @@ use Rattle.resolvo_text.specs.Device.{IfKnown}
 use Rattle.resolvo_text.specs.declared.lines.ReadFault.{ReadFault}
 use Rattle.resolvo_text.specs.declared.lines.ReadFault.TheVariants.{Fault, Reader, TooLong, Memory, Ids}
 
--- a grammar: which line a text says after some lines
+-- a grammar: which line a text spells after some lines
 abbrev pub Grammar : Type 0 → Type 1
 Grammar L = List L → List ℕ → L → Type 0
 
--- Each text says its line, after the lines before it.
+-- Each text spells its line, after the lines before it.
 abbrev pub Reads : {L : Type 0} → Grammar L → List L → List (List ℕ) → List L → Type 0
 Reads Says before [] [] = ⊤
 Reads Says before [] (line ∷ lines) = ⊥
@@ -21,7 +21,7 @@ Reads Says before (text ∷ texts) (line ∷ lines) = Says before text line × R
 abbrev pub IsGrammatical : {L : Type 0} → Grammar L → List ℕ → List L → Type 0
 IsGrammatical Says text lines = Reads Says [] (lines_of text) lines
 
--- The text's line n is the first that says nothing after the lines before it.
+-- The text's line n is the first that spells no line after the lines before it.
 pub record IsFaultyAt {L : Type 0} (Says : Grammar L) (text : List ℕ) (n : ℕ) : Type 0 where
   pub above : List (List ℕ)
   pub faulty : List ℕ
@@ -32,11 +32,11 @@ pub record IsFaultyAt {L : Type 0} (Says : Grammar L) (text : List ℕ) (n : ℕ
   pub read : Reads Says [] above before
   pub none : (line : L) → Says before faulty line → ⊥
 
--- Each line that ends among the bytes that came says something after the lines before it.
+-- Each line that ends among the bytes read is grammatical after the lines before it.
 abbrev pub IsGoodSoFar : {L : Type 0} → Grammar L → List ℕ → List ℕ → Type 0
 IsGoodSoFar {L} Says text came = (lines : List L) × Reads Says [] (whole_lines text came) lines
 
--- Some bytes of the text came, these are left, and the lines that ended among those that came are good.
+-- Some bytes of the text were read, these are left, and the lines that ended among those read are grammatical.
 pub record CameGood {L : Type 0} (Says : Grammar L) (text : List ℕ) (after : Option (List ℕ)) : Type 0 where
   pub came : List ℕ
   pub rest : List ℕ
@@ -45,7 +45,7 @@ pub record CameGood {L : Type 0} (Says : Grammar L) (text : List ℕ) (after : O
   pub good : IsGoodSoFar Says text came
 
 -- When reading a text may fail so: what the device had left before and has left after, the most bytes that a
--- text may have, and that the device failed. All whole lines that have come are judged before the next read.
+-- text may have, and that the device failed. All whole lines that were read are judged before the next read.
 abbrev pub IsTextFault : {L : Type 0} → Grammar L → ReadFault → Option (List ℕ) → Option (List ℕ) → ℕ → Type 0 → Type 0
 IsTextFault Says (Fault n) before after limit failed = IfKnown before (λ text. IsFaultyAt Says text n)
 IsTextFault Says Reader before after limit failed = failed × IfKnown before (λ text. CameGood Says text after)
