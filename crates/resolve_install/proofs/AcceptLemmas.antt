@@ -27,7 +27,7 @@ use Rattle.resolve_install.proofs.FitLemmas.{AreRight, told_of, from_one, inside
 
 -- ---- places in two lists
 
--- An item of two lists is one of the first, with what stands above it, or stands behind it.
+-- An item of two lists is one of the first, with what is above it, or is behind it.
 get_parts : {X : Type 0} (xs ys : List X) (n : ℕ) (x : X) → slice_get (xs ++ ys) n ≡ Some x
     → ((slice_get xs n ≡ Some x) × (take n (xs ++ ys) ≡ take n xs)) ⊎ ((m : ℕ) × (slice_get ys m ≡ Some x) × (take n (xs ++ ys) ≡ xs ++ take m ys))
 get_parts [] ys n x e = inr (n, e, refl)

@@ -130,7 +130,7 @@ module _ (catalogue request : List Line) (steps : List Step) (set : Set) (lines 
     may_be_entry : (v : Version) → Contains set v → (Contains (entries_of before) v → ⊥) → may_enter catalogue before v ≡ true
     may_be_entry v inside new = and_from _ _ (listed_in catalogue v (single.listed v inside)) (and_from _ _ (ap not (alone v inside new)) (ap not (member_none (left_out before) v (kept v inside))))
 
-    -- a wish stands in its turn
+    -- a wish is in its turn
     is_a_wish : (v : Version) (n : ℕ) → wish_line_of a ≡ n ∷ [] → line_at request n ≡ Some (Wish v) → is_wish request before n v ≡ true
     is_a_wish v n one at = and_from _ _ (ap (λ (o : Option Line). wishes o v) at ∙ same_own v)
         (rising_seam (wish_lines before) (wish_lines below) n 0

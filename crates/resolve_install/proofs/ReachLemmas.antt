@@ -43,7 +43,7 @@ number s = record { 0 = s.raw }
 abbrev numbered : List Version → VersionNo → List Version
 numbered versions n = option_to_list (slice_get versions n.0)
 
--- where each solvable has a version, the solvables stand for the set of these
+-- where each solvable has a version, the solvables represent the set of these
 pub members_stand : (versions : List Version) (chosen : List SolvableId) → ((s : SolvableId) → Contains chosen s → (v : Version) × (slice_get versions s.raw ≡ Some v)) → StandsFor versions chosen (members versions (numbers_of chosen))
 members_stand versions chosen has = record {
   each = λ s c. let v = has s c in (v.0, v.1, flat_to (numbered versions) (numbers_of chosen) (number s) v.0 (map_element number chosen s c) (option_to (slice_get versions s.raw) v.0 v.1));
@@ -164,7 +164,7 @@ module _ (p : Provider) (catalogue request : List Line) (over : IsOver catalogue
         matches = given;
       }
 
-    -- solvables that are reached from the root and the wishes stand for versions that are
+    -- solvables that are reached from the root and the wishes represent versions that are
     pub reached_alike : ((s : SolvableId) → is_in same (packages_of p) chosen s ≡ true → IsReached same (packages_of p) root wishes chosen s) → AreReached catalogue request set wished
     reached_alike all part closed v c =
         let xs = part_of (listed catalogue) chosen part in

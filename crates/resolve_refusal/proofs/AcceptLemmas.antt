@@ -31,7 +31,7 @@ use Rattle.resolve_refusal.proofs.FollowLemmas.{zip_right, rests, lines_in, line
 
 -- ---- lists, place by place
 
--- an item of two lists is one of the first, or stands behind it
+-- an item of two lists is one of the first, or is behind it
 get_parts : {X : Type 0} (xs ys : List X) (n : ℕ) (x : X) → slice_get (xs ++ ys) n ≡ Some x → Contains xs x ⊎ ((m : ℕ) × (slice_get ys m ≡ Some x) × (take n (xs ++ ys) ≡ xs ++ take m ys))
 get_parts [] ys n x e = inr (n, e, refl)
 get_parts (y ∷ xs) ys zero x e = (let same : y ≡ x = one_some e in inl (contains_from_at (y ∷ xs) x zero (ap (λ z. Some z) same)))
@@ -90,7 +90,7 @@ module _ (in_catalogue in_request : List ℕ) (earlier : List Step) where
   steps_told = three step_in (map (λ n. CatalogueLine n) in_catalogue) (map (λ n. RequestLine n) in_request) (numbered 1 earlier)
       ∙ rw (each_none step_in (λ n. CatalogueLine n) (λ n. refl) in_catalogue, each_none step_in (λ n. RequestLine n) (λ n. refl) in_request) (steps_numbered 1 earlier)
 
--- a step passes below these lines where it may stand after the steps of them
+-- a step passes below these lines where it is allowed after the steps of them
 step_passes : (catalogue request : List Line) (above : List ReportLine) (in_catalogue in_request : List ℕ) (earlier : List Step) (n : ℕ) (t : Step) → catalogue_lines_in above ≡ in_catalogue → request_lines_in above ≡ in_request → steps_in above ≡ earlier
     → may_stand catalogue request (is_named in_catalogue) (is_named in_request) earlier t ≡ true → passes catalogue request (RefusedHead ∷ above) (Numbered n t) ≡ true
 step_passes catalogue request above in_catalogue in_request earlier n t c r s may =

@@ -333,7 +333,7 @@ no_exclusion catalogue number v word line has at barred tells e m says =
     let (none, out, alone) = its_bar catalogue number v (barring.Exclude line) at barred in
     false≢true (sym e ∙ tells.1 (subst (ExcludesAt catalogue v word) (alone m (Exclude v word, says, refl)) says))
 
--- an exclusion stands behind so many lines
+-- an exclusion is behind so many lines
 pub excluded_behind : (catalogue : List Line) (v : Version) (word : List ℕ) (m : ℕ) → ExcludesAt catalogue v word m → (k : ℕ) × (m ≡ k + 1) × (k < length catalogue)
 excluded_behind catalogue v word zero says = absurd cc
 excluded_behind catalogue v word (suc k) says = (k, omega arith, slice_get_within catalogue k (Exclude v word) says)

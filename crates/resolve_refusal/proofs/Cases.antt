@@ -1,4 +1,4 @@
--- The cases of conditions: those of ids stand for those of lines, and none asks for nothing.
+-- The cases of conditions: those of ids represent those of lines, and none asks for nothing.
 use Rattle.std.proofs.Common.{◌≡◌, ◌<◌, inl, inr, ℕ, zero, suc, List, [], ◌∷◌, ◌++◌, map, Option, Some, None, refl, sym, ◌∙◌, ap, subst, arith}
 use Rattle.std.specs.Prelude.{Contains, slice_get}
 use Rattle.std.specs.List.{flat_map}
@@ -97,7 +97,7 @@ module _ (ids : Ids) (below : AreBelow ids.conditions) where
       subst (λ (q : Condition). AreEach (AreEach (IsSpec ids)) (cases_by (cases_within (condition_at ids) n) q) (cases (Or a b))) (sym (condition_is c (Binary joins.Or i j) at))
       (each_more (AreEach (IsSpec ids)) (cases_within (condition_at ids) n i) (cases_within (condition_at ids) n j) (cases a) (cases b) (within_each n i a (omega (arith, fits, first)) left) (within_each n j b (omega (arith, fits, second)) right))
 
-  -- the version sets of a case stand for the SPECs of one of the line's
+  -- the version sets of a case represent the SPECs of one of the line's
   pub case_said : (condition : Option ConditionId) (said : Option Cond) → IsConditionOf ids condition said → (case : List VersionSetId) → Contains (cases_under (condition_at ids) condition) case → (specs : List Spec) × Contains (condition_cases said) specs × AreEach (IsSpec ids) case specs
   case_said None None h case among = each_from_left (AreEach (IsSpec ids)) ([] ∷ []) ([] ∷ []) (tt, tt) case among
   case_said None (Some said) h case among = absurd h

@@ -58,7 +58,7 @@ digit_bit : (k i : ℕ) → digit k i ≡ (bit_at k i == 1)
 digit_bit k zero = ap (λ (n : ℕ). n == 1) (sym (bit_at_lowest k))
 digit_bit k (suc i) = digit_bit (k / 2) i ∙ ap (λ (n : ℕ). n == 1) (sym (bit_at-suc k i))
 
--- what stands for each element of a list
+-- the image of each element of a list
 each_contained : {X Y : Type 0} (R : X → Y → Type 0) (xs : List X) (ys : List Y) → AreEach R xs ys → (x : X) → Contains xs x → (y : Y) × R x y
 each_contained R [] ys each x h = absurd (contains_none x h)
 each_contained R (z ∷ xs) [] each x h = absurd each

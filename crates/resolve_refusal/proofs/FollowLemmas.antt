@@ -1,4 +1,4 @@
--- The steps that tell a proof are one of the judge: each may stand after those before it.
+-- The steps that write a proof are one of the judge: each is allowed after those before it.
 use Rattle.std.proofs.Common.{◌≡◌, ℕ, zero, suc, ◌<◌, Bool, true, false, List, [], ◌∷◌, ◌++◌, map, take, length, Option, Some, None, refl, sym, ap, subst, ◌∙◌, arith, cond, Vec, Global}
 use Rattle.std.specs.Prelude.{◌||◌, ◌==◌, not, unwrap_or, is_some, Contains, slice_get}
 use Rattle.std.specs.List.{AllZip}
@@ -262,7 +262,7 @@ module _ (catalogue : List Line) (said : ReadRequest) (provider : Provider) (ste
         (causes_alike n t there causes.items refutes.earlier)
         ∙ refutes.refuted)
 
-    -- the step may stand after those before it, where the lines are named that it rests on
+    -- the step is allowed after those before it, where the lines are named that it rests on
     pub stands : (c r : ℕ → Bool) (n : ℕ) (t : told.Step) → slice_get written n ≡ Some t → rests_on_named c r t ≡ true → may_stand catalogue said.lines c r (take n written) t ≡ true
     stands c r n t there rested =
         let (s, at, tells) = zip_right (IsToldBy catalogue provider.ids said.lines) steps written each n t there in

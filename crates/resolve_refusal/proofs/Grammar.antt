@@ -31,7 +31,7 @@ each_as : {X : Type 0} (P Q : X → Type 0) → ((x : X) → P x → Q x) → (x
 each_as P Q f [] h = tt
 each_as P Q f (x ∷ xs) h = (f x h.0, each_as P Q f xs h.1)
 
--- where each text stands before the next one, each stands before all that follow
+-- where each text is before the next one, each is before all that follow
 pub rising_sorted : (ts : List (List ℕ)) → are_rising ts ≡ true → IsStrictlySortedBy (slice_cmp nat_cmp) ts
 unfolding IsStrictlySortedBy
 rising_sorted [] e = tt
@@ -58,7 +58,7 @@ any_fails f xs h = go (list_any f xs) refl
     go false e = refl
     go true e = (let (x, c, t) = any_contained f xs e in absurd (h x c t))
 
--- no text stands before itself
+-- no text is before itself
 never_before : (t : List ℕ) → slice_cmp nat_cmp t t ≡ Less → ⊥
 never_before t e = (let twice : Less ≡ Greater = sym e ∙ (nat_list_cmp_total.antisymm t t ∙ ap ordering_reverse e) in absurd cc)
 
@@ -66,7 +66,7 @@ never_before t e = (let twice : Less ≡ Greater = sym e ∙ (nat_list_cmp_total
 one_atom : (a b : told.Atom) → IsAtom a → IsAtom b → atom_text a ≡ atom_text b → a ≡ b
 one_atom a b fits suits is = ap (λ (l : Literal). l.atom) (one_literal (record { atom = a; positive = true }) (record { atom = b; positive = true }) fits suits is)
 
--- literals in order of their texts, no atom with both signs: each atom stands once
+-- literals in order of their texts, no atom with both signs: each atom is there once
 pub atoms_once : (ls : List Literal) → ((l : Literal) → Contains ls l → IsAtom l.atom) → ((l m : Literal) → Contains ls l → Contains ls m → l.atom ≡ m.atom → l.positive ≡ m.positive)
     → IsStrictlySortedBy (slice_cmp nat_cmp) (map literal_text ls) → are_once (map (λ l. atom_text l.atom) ls) ≡ true
 unfolding IsStrictlySortedBy

@@ -1,4 +1,4 @@
--- The steps that tell a proof stand in an install report, and so does a step that bars a wish without a search.
+-- The steps that tell a proof are in an install report, and so does a step that bars a wish without a search.
 use Rattle.std.proofs.Common.{◌≡◌, ◌⊎◌, inl, inr, ◌<◌, ℕ, zero, suc, Bool, true, false, List, [], ◌∷◌, ◌++◌, map, length, Option, Some, Result, Ok, Err, refl, sym, ap, subst, ◌∙◌}
 use Rattle.std.specs.Prelude.{◌&&◌, not, is_some, IfOk, Contains, slice_get}
 use Rattle.std.specs.List.{AllZip}
@@ -91,7 +91,7 @@ module _ (catalogue : List Line) (said : ReadRequest) (provider : Provider) (ste
       let clause = ap (judge.clause_of catalogue said.lines) is ∙ derived_spelled catalogue provider proves.over said.lines bar.literals.items w (map suc bar.causes.items) (proves.known k _ bar.derived) are in
       step_there catalogue said.lines (written ++ others) entries wish k t (map judge.literal_of w) (get_front written others k t at) clause (literals_bar catalogue provider bar.literals.items w entries wish are bar.denies)
 
-  -- steps that are written so stand in an install report
+  -- steps that are written so are in an install report
   pub installed : length steps < 4294967296 → length catalogue < 4294967296 → length said.lines < 4294967296 → (written : List told.Step) → AllZip (Tells catalogue said.lines provider.ids) steps written → AllZip (IsWritten catalogue provider.ids) steps written
       → AreInstallSteps catalogue said.lines provider.ids steps written
   installed few long asked written tells wrote = record {
@@ -114,7 +114,7 @@ barred_by : (catalogue : List Line) (v : Version) (t : told.Step) → IsBarredBe
 barred_by catalogue v t (line, inl lock) = (line, inl lock)
 barred_by catalogue v t (line, inr (is, none, out)) = (line, inr (inl (is, out)))
 
--- a step that bars a listed version so stands anywhere in an install report, and bars it there
+-- a step that bars a listed version so is allowed anywhere in an install report, and bars it there
 pub barring_step : (catalogue : List Line) → AreCatalogueLines catalogue → length catalogue < 4294967296 → (number : ℕ) (v : Version) (t : told.Step) → slice_get (listed catalogue) number ≡ Some v → IsBarredBefore catalogue v t → IsBarringStep catalogue v t
 barring_step catalogue grammatical long number v t at before = record {
   bars = before;

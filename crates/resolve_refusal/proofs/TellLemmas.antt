@@ -83,7 +83,7 @@ limit_in_lines ids vs ls each v has =
     let (l, here, says) = flat_from limit_in ls spec among in
     subst (λ (x : Line). Contains ls x) (limit_from l spec says ∙ ap (λ (x : Spec). Limits x) (sym (spec_stands ids v spec is))) here
 
--- the line stands in the request
+-- the line is in the request
 pub request_line : (lines : List Line) (l : Line) → Contains lines l → (m : ℕ) × ((1 ≤ m) × (m ≤ length lines)) × (line_at lines m ≡ Some l)
 request_line lines l has = (let (k, there) = at_from_contains lines l has in let b : k < length lines = slice_get_within lines k l there in (suc k, (omega arith, omega (arith, b)), there))
 
@@ -152,14 +152,14 @@ module _ (catalogue : List Line) (ids : Ids) (request : List Line) (s : Solvable
   own_version : version_at catalogue s ≡ v
   own_version = get_or_from_slice_get (listed catalogue) s.raw v (record { name = []; number = 0 }) listed_at
 
-  -- a line of the version stands at its place
+  -- a line of the version is at its place
   placed : (said : Line) → IsOwned said → (n : ℕ) → SaysOf (listed catalogue) catalogue s.raw BelongsTo n → line_at catalogue n ≡ Some said → PlaceSays catalogue request (OfVersion (version_at catalogue s)) said n
   placed said own n (w, at, (l, stands, has)) e =
       let same : l ≡ said = (let both : Some l ≡ Some said = sym stands ∙ e in cc) in
       let owner : owner_of catalogue n ≡ Some (version_at catalogue s) = (own w (owner_of catalogue n)).0 (subst (λ (x : Line). BelongsTo w (owner_of catalogue n) x) same has) ∙ ap (λ (x : Version). Some x) (sym (get_or_from_slice_get (listed catalogue) s.raw w (record { name = []; number = 0 }) at)) in
       subst (λ (b : Bool). (if b then line_at catalogue n else None) ≡ Some said) (sym (is_own (version_at catalogue s) (owner_of catalogue n) owner)) e
 
-  -- what stands at its place is a line of the version
+  -- what is at its place is a line of the version
   of_place : (said : Line) → IsOwned said → (n : ℕ) → PlaceSays catalogue request (OfVersion (version_at catalogue s)) said n → SaysOf (listed catalogue) catalogue s.raw BelongsTo n × (line_at catalogue n ≡ Some said)
   of_place said own n e =
       let (mine, is) = taken (is_owner (version_at catalogue s) (owner_of catalogue n)) (line_at catalogue n) said e in

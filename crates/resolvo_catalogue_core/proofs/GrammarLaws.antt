@@ -1,4 +1,4 @@
--- In both grammars a text says one line at most after given lines.
+-- In both grammars a text spells one line at most after given lines.
 use Rattle.std.proofs.Common.{◌≡◌, ℕ, List, []}
 use Rattle.resolvo_text.specs.Line.{Line}
 use Rattle.resolvo_text.specs.Lines.{lines_of}

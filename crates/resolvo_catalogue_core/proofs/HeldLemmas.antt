@@ -1,4 +1,4 @@
--- What lines say whose rules stand apart: one more rule changes none of the others.
+-- The content of lines whose rules are kept apart: one more rule changes none of the others.
 use Rattle.std.proofs.Common.{◌≡◌, ◌<◌, ◌+◌, if◌then◌else◌, ℕ, zero, suc, Bool, true, false, List, [], ◌∷◌, ◌++◌, length, Option, Some, None, option_map, refl, ap, ◌∙◌, arith}
 use Rattle.std.specs.Prelude.{nat_lt, slice_get, option_and_then}
 use Rattle.std.proofs.lemmas.Bool.{and_parts, and_from}

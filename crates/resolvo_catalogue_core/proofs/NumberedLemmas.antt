@@ -15,7 +15,7 @@ use Rattle.resolvo_catalogue_core.specs.Numbered.{beside, AreRising, IsAbove, Is
 use Rattle.resolvo_catalogue_core.specs.Questions.{number_of}
 use Rattle.resolvo_catalogue_core.specs.Table.{AddsNumber}
 
--- a number that stands nowhere
+-- a number that is nowhere
 pub absent : (ns : List ℕ) (vs : List VersionNo) (k : ℕ) → ((j : ℕ) → j < length ns → get_or ns j 0 ≢ k) → beside ns vs k ≡ None
 absent [] vs k not = refl
 absent (n ∷ ns) [] k not = refl

@@ -71,7 +71,7 @@ no_place vs first s n = (λ h. inl h, λ h. elim h [ inl a ↦ a | inr p ↦ abs
 
 -- ---- numbers that rise
 
--- where a version stands beside its number
+-- where a version is beside its number
 beside_at : (ns : List ℕ) (vs : List VersionNo) (k : ℕ) (v : VersionNo) → beside ns vs k ≡ Some v → (i : ℕ) × (i < length ns) × (get_or ns i 0 ≡ k) × (slice_get vs i ≡ Some v)
 beside_at [] vs k v e = absurd cc
 beside_at (n ∷ ns) [] k v e = absurd cc

@@ -1,4 +1,4 @@
--- Whether a line may stand below those of a table, as its maps tell.
+-- Whether a line is allowed below those of a table, by its maps.
 use Rattle.std.proofs.Common.{◌≡◌, is_some, true, false, ℕ, zero, suc, ◌-◌, ◌<◌, ◌≤◌, List, length, get_or, take, Option, Some, None, refl, sym, ap, subst, ◌∙◌, arith, option_map}
 use Rattle.std.specs.Prelude.{Contains, slice_get, Result, Ok, Err, IfOk, OnErr, is_ok}
 use Rattle.std.specs.BTreeMap.{get, get_by_text}

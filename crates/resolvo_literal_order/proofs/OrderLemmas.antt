@@ -1,4 +1,4 @@
--- Texts that rise, and texts of which none stands twice, as far as a loop has come.
+-- Texts that rise, and texts of which none is there twice, as far as a loop has come.
 use Rattle.std.proofs.Common.{◌≡◌, ℕ, zero, suc, Bool, true, false, not, cond, ◌&&◌, ◌||◌, drop, Bor, List, [], ◌∷◌, ◌+◌, ◌<◌, ◌≤◌, length, map, get_or, subst, arith, refl, sym, ap, ◌∙◌}
 use Rattle.resolvo_literal_order.specs.Order.{texts_of, is_before, are_rising, are_once, atom_part}
 use Rattle.std.specs.Str.{bytes_eq}
@@ -16,7 +16,7 @@ rising_on before t ts all e h = ap (λ (b : Bool). b && are_rising (t ∷ ts)) (
 pub rising_stops : (before t : List ℕ) (ts : List (List ℕ)) (all : Bool) → are_rising (before ∷ t ∷ ts) ≡ all → is_before before t ≡ false → false ≡ all
 rising_stops before t ts all e h = ap (λ (b : Bool). b && are_rising (t ∷ ts)) (sym h) ∙ e
 
--- a part of the texts of which one stands twice
+-- a part of the texts of which one is there twice
 pub once_part : (x : List ℕ) (xs : List (List ℕ)) → are_once (x ∷ xs) ≡ true → are_once xs ≡ true
 once_part x xs e = (and_parts (not (list_any (λ y. bytes_eq y x) xs)) (are_once xs) e).1
 

@@ -22,7 +22,7 @@ all_behind P [] ys h k = k
 all_behind P (x ∷ xs) ys (h, hs) k = (h, all_behind P xs ys hs k)
 
 module _ {N S : Type 0} (same : S → S → Bool) (exact : (x y : S) → same x y ≡ true → x ≡ y) (p : Packages N S) where
-  -- what stands in either list stands in both
+  -- what is in either list is in both
   in_left : (s : S) (xs ys : List (Barred S)) → is_in same p (barred_solvables xs) s ≡ true → is_in same p (barred_solvables (xs ++ ys)) s ≡ true
   in_left s [] ys h = absurd (both_ways false refl h)
   in_left s (x ∷ xs) ys h = elim (or_cases (same x.solvable s) (is_in same p (barred_solvables xs) s) h) [

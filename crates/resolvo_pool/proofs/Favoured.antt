@@ -34,7 +34,7 @@ module _ {S : Type 0} (p : S → Bool) (d : S) where
       let n : length (before ++ d ∷ []) - 1 ≡ length before = omega (arith, length-append before (d ∷ [])) in
       rw (r, e, n, drop-append_seam, take-append_seam) refl
 
-  -- the favoured one, which stands at i, in front of the others
+  -- the favoured one, which is at i, in front of the others
   pub in_front : (xs : List S) (i : ℕ) (new : List S) → position p xs ≡ Some i → ((x : S) → p x ≡ true → x ≡ d) → (whole : List S) → whole ≡ take (i + 1) xs → new ≡ drop (length whole - 1) whole ++ take (length whole - 1) whole → new ++ drop (i + 1) xs ≡ cond (list_any p xs) (d ∷ remove_key p xs) xs
   in_front xs i new at exact whole e r =
       let (h, t, f) = position-Some p xs i d at in
@@ -45,7 +45,7 @@ module _ {S : Type 0} (p : S → Bool) (d : S) where
       let gone : remove_key p xs ≡ take i xs ++ drop (i + 1) xs = rw next (removed xs i h t f) in
       rw (passes xs i h t, gone, turned) refl
 
-  -- where one passes, the first that does stands within the list
+  -- where one passes, the first that does is within the list
   within : (xs : List S) → list_any p xs ≡ true → position_or_len p xs < length xs
   within [] h = absurd (false≢true h)
   within (x ∷ xs) h = go (p x) h (within xs)

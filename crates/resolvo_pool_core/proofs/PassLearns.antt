@@ -52,7 +52,7 @@ module _ {A : Type 0} (same : A → A → Bool) (exact : (a b : A) → same a b 
   has_later : (x : Literal A) (xs : List (Literal A)) (l : Literal A) → has same xs l ≡ true → has same (x ∷ xs) l ≡ true
   has_later x xs l h = or_right _ _ h
 
-  -- a literal that is left stands in the clause, and is not false
+  -- a literal that is left is in the clause, and is not false
   left_from : (known : A → Option Bool) (c : List (Literal A)) (l : Literal A) → has same (without_false known c) l ≡ true → (has same c l ≡ true) × (is_denied (known l.atom) l.positive ≡ false)
   left_from known [] l h = absurd (false≢true h)
   left_from known (x ∷ xs) l h = go (is_denied (known x.atom) x.positive) refl (left_from known xs l) h
@@ -94,7 +94,7 @@ module _ {A : Type 0} (same : A → A → Bool) (exact : (a b : A) → same a b 
       go (Some v) e f = (ap (λ o. is_denied o (not p.positive)) e ∙ denies_other v p.positive f, λ l h. h)
 
   -- Resolution. The pass over cs refutes whatever makes the old clause false. If each literal of the
-  -- old one but not p, and each literal of c but p, stands in the new one, then c and cs refute
+  -- old one but not p, and each literal of c but p, is in the new one, then c and cs refute
   -- whatever makes the new one false.
   pub resolve_step : (old new c : List (Literal A)) (p : Literal A) (cs : List (List (Literal A)))
       → ((l : Literal A) → has same old l ≡ true → (l ≡ negate p) ⊎ (has same new l ≡ true))
@@ -133,7 +133,7 @@ module _ {A : Type 0} (same : A → A → Bool) (exact : (a b : A) → same a b 
       untouched (assign same known (negate l)) a ls (λ m h. other m (has_later l ls m h))
       ∙ ap (λ b. cond b (Some (not l.positive)) (known a)) (other l (has_here l ls))
 
-  -- a literal and its opposite are all the literals of an atom
+  -- a literal and its negation are all the literals of an atom
   two_signs : (l m : Literal A) → l.atom ≡ m.atom → (m ≡ l) ⊎ (m ≡ negate l)
   two_signs l m e = go l.positive m.positive refl refl
     where

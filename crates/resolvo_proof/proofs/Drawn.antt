@@ -1,4 +1,4 @@
--- The literals of derived steps stand in earlier steps, and an atom has one sign among them.
+-- The literals of derived steps are in earlier steps, and an atom has one sign among them.
 use Rattle.std.proofs.Common.{◌≡◌, ℕ, zero, suc, ◌+◌, ◌<◌, ◌⊎◌, inl, inr, Bool, true, false, not, List, [], ◌∷◌, map, length, Some, Vec, Global, refl, sym, ◌∙◌, ap, subst, arith}
 use Rattle.std.specs.Prelude.{slice_get, Contains}
 use Rattle.std.proofs.lemmas.Option.{slice_get_within}
@@ -49,7 +49,7 @@ same_literals a b x y h = cc
 opposite : (x y : Signed) → x.variable.0 ≡ y.variable.0 → y.positive ≡ not x.positive → y ≡ negation x
 opposite x y same sign = let back = sym same in λ i. record { variable = record { 0 = back i }; positive = sign i }
 
--- in what literals mean that stand apart, an atom has one sign
+-- in what literals mean that are distinct, an atom has one sign
 one_sign : {N S : Type 0} (of : ℕ → Atom N S) (count : ℕ) → IsOnce of count → (literals : List Signed) → AreInRange count literals → AreApart literals → HaveOneSign (meanings of literals)
 one_sign {N} {S} of count once literals in_range apart l m a b same =
     let (x, h, (other, is)) = stands_meaning of literals l a in
@@ -83,7 +83,7 @@ module _ {N S : Type 0} (c : SolverState N S) (coding : IsCoding c) where
         let (x, there) = get_below steps k (omega arith) in
         (x, there, are.each k x there)
 
-    -- what a literal of a clause means stands in the clause's step, unless the literal is the root's
+    -- what a literal of a clause means is in the clause's step, unless the literal is the root's
     stands_in_step : (n : ℕ) (x : Signed) (m : ℕ) → m < suc n → 0 < x.variable.0 → has (clause_at (clauses_of c.search) m) x ≡ true → (k : ℕ) × (k < n) × Contains (step_at same p steps k) (meaning (origin c.atoms.keys) x)
     stands_in_step n x zero below other h = (let z : x.variable.0 ≡ 0 = coding.alone x h in absurd (omega arith))
     stands_in_step n x (suc k) below other h = elim ((spells_step same p c coding spelled steps each k (place_in_range (clauses_of c.search) (suc k) x h)).only x h) [
@@ -91,7 +91,7 @@ module _ {N S : Type 0} (c : SolverState N S) (coding : IsCoding c) where
       | inr (o, here) ↦ (k, omega arith, here)
     ]
 
-    -- each literal of a derived step stands in an earlier step
+    -- each literal of a derived step is in an earlier step
     pub steps_drawn : AreDrawn same p steps
     steps_drawn n literals causes here l a =
         let at = are.each n (Derived literals causes) here in
@@ -123,7 +123,7 @@ module _ {N S : Type 0} (c : SolverState N S) (coding : IsCoding c) where
         let (x, at) = get_below are.earlier m below in
         step_clause same p are.earlier m x at ∙ sym (step_clause same p steps m x (subst (λ (xs : List (ProofStep N S)). slice_get xs m ≡ Some x) (sym are.ends) (get_front are.earlier (are.final ∷ []) m x at)))
 
-    -- the literals stand in earlier steps where the refusal denies the root alone
+    -- the literals are in earlier steps where the refusal denies the root alone
     pub refusal_drawn : DenyRoot spelled → (same : S → S → Bool) (p : Packages N S) → Spelled same p c → AreDrawn same p steps
     refusal_drawn deny same p spells n literals causes here l a = elim (derived_split n literals causes here) [
       | inl old ↦

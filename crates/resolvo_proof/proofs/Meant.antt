@@ -139,7 +139,7 @@ module _ {N S : Type 0} (same : Atom N S → Atom N S → Bool) (exact : IsExact
         | inr i ↦ falls (meaning origin (at (suc v) b)) (contained_any (λ x. Pass.same_literal same x (meaning origin (at (suc v) b))) (meaning origin (at (suc v) b)) (meanings origin literals) (meaning_stands origin literals (at (suc v) b) i (omega arith)) (literal_own same exact.one exact.own (meaning origin (at (suc v) b))))
       ]
 
-  -- no literal's meaning stands beside its opposite
+  -- no literal's meaning is beside its negation
   no_opposites : (literals : List Signed) → ((l : Signed) → has literals l ≡ true → l.variable.0 < count) → AreApart literals → HasNoOpposites same (meanings origin literals)
   no_opposites literals below apart m h = elim (cases_Bool (Pass.has same (meanings origin literals) (negate m))) [
     | inr f ↦ f

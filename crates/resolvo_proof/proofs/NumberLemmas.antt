@@ -133,7 +133,7 @@ kept_more {N} {S} steps flags done numbers kept old step leads at is number are 
     most : (place n : ℕ) → slice_get (numbers ++ length kept ∷ []) place ≡ Some n → n ≤ length (kept ++ step ∷ [])
     most place n h = (let m = (numbers_before steps flags done numbers kept are place n h).0 in let longer = length-append kept (step ∷ []) in omega (arith, m, longer))
 
-    -- the new step stands behind each that has a number, and its place is none before it
+    -- the new step is behind each that has a number, and its place is none before it
     last_not : (place n k : ℕ) → slice_get (numbers ++ length kept ∷ []) place ≡ Some n → k ≡ length are.from → k < n → ⊥
     last_not place n k h e less = (let m = (numbers_before steps flags done numbers kept are place n h).0 in let c : length kept ≡ length are.from = are.count in omega (arith, m, c, e, less))
 

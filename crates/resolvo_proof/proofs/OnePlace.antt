@@ -60,7 +60,7 @@ module _ {N S : Type 0} (c : SolverState N S) (r : Registry N) (coding : IsCodin
   registered : (name : N) (k : ℕ) (s : S) → IsPlaced r c name k s → IsRegistered r c name s
   registered name k s p = (p.variable, p.means, record { place = p.number; tracker = p.tracker; named = p.named; tracked = p.tracked; stands = get_contains p.tracker.variables k p.variable p.stands })
 
-  -- a solvable stands at one place
+  -- a solvable is at one place
   stands_at_one : (m n : N) (k l : ℕ) (s : S) → IsPlaced r c m k s → IsPlaced r c n l s → k ≡ l
   stands_at_one m n k l s p q =
       let same : m ≡ n = named m s (registered m k s p) ∙ sym (named n s (registered n l s q)) in

@@ -73,13 +73,13 @@ places-append (c ∷ cs) ys = go c.0 (places-append cs ys)
     go zero e = e
     go (suc n) e = ap (λ zs. n ∷ zs) e
 
--- a literal that is read stands in the clause
+-- a literal that is read is in the clause
 pub has_read : (xs : List Signed) (i : ℕ) (d : Signed) → i < length xs → has xs (get_or xs i d) ≡ true
 has_read [] i d below = absurd (omega arith)
 has_read (x ∷ xs) zero d below = has_here x xs x refl
 has_read (x ∷ xs) (suc i) d below = has_later x xs (get_or xs i d) (has_read xs i d (omega arith))
 
--- an item that is read stands at its place
+-- an item that is read is at its place
 pub get_read : {X : Type 0} (xs : List X) (i : ℕ) (d : X) → i < length xs → slice_get xs i ≡ Some (get_or xs i d)
 get_read [] i d below = absurd (omega arith)
 get_read (x ∷ xs) zero d below = refl

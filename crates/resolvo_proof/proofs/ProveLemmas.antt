@@ -69,7 +69,7 @@ below_more : (m n : ℕ) (causes : List ClauseId) → m ≤ n → AllBelow m cau
 below_more m n [] le below = tt
 below_more m n (c ∷ causes) le below = ((let one : c.0 < m = below.0 in omega arith), below_more m n causes le below.1)
 
--- A clause with causes follows from them, and they stand before it.
+-- A clause with causes follows from them, and they are before it.
 derived_at : (cs : List SatClause) (n : ℕ) (c : SatClause) → AreDerived (reverse cs) → slice_get cs n ≡ Some c → 0 < length c.causes.items → AllBelow n c.causes.items × Refutes (no root_variable ∷ c.literals.items) (named (lists cs) c.causes.items)
 derived_at cs n c derived at some =
     let (front, rest, e, long) = split_at cs n c at in
@@ -89,7 +89,7 @@ kept_false s literals denies l h =
 pub refusal_in_range : (s : SatState) (literals : List Signed) (causes : List ClauseId) → IsState s → IsRefusal s literals causes → AreInRange (count_of s) literals
 refusal_in_range s literals causes state refusal l h = known_in_range (count_of s) (clauses_of s) (history s) (negation l) state.trail (kept_false s literals refusal.denies l h)
 
--- literals that stand apart are spelled by what they mean
+-- literals that are distinct are spelled by what they mean
 apart_spells : {N S : Type 0} (of : ℕ → Atom N S) (literals : List Signed) → AreApart literals → Spells of literals (meanings of literals)
 apart_spells of literals apart = record {
   only = λ l h. elim (root_or_other l.variable.0) [
@@ -198,7 +198,7 @@ module _ {N S : Type 0} (same : S → S → Bool) (p : Packages N S) where
           goes = subst (λ xs. one_pass same_atom (map literal_in d.literals.items) (map (step_at same p steps) xs) ≡ true) (sym d.read)
               (subst (λ xs. one_pass same_atom xs (map (step_at same p steps) (places causes)) ≡ true) (sym d.means) meant)
 
-      -- the step of a clause may stand at its place
+      -- the step of a clause is allowed at its place
       clause_step : ((r : Encoder.Rule N S) → rules_in c.stated.items r → IsRule same p root r) → (place : ℕ) (step : ProofStep N S) → suc place < length c.search.clauses → IsStepAt c (suc place) step → IsStep same_atom same p root steps place step
       clause_step rule place step below at = go at.writes
         where

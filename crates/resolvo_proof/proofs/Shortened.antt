@@ -71,7 +71,7 @@ module _ {N S : Type 0} {Wanted : ℕ → Type 0} (steps kept : List (ProofStep 
           | inr b ↦ numbers_earlier k place cs ns at (λ cause d. earlier cause (contains_later cause c cs d)) rest n b
         ]
 
-    -- what may stand at its old place may stand at its number
+    -- a step that is allowed at its old place is allowed at its number
     stands : (k place : ℕ) (old step : ProofStep N S) → slice_get trimmed.from k ≡ Some place → IsRenumbered trimmed.from place old step → IsStep same_atom same p root steps place old → IsStep same_atom same p root kept k step
     stands k place (Rule r) step at is may = subst (IsStep same_atom same p root kept k) (sym is) may
     stands k place (Derived literals causes) step at (renumbered, is, zip) may =
@@ -90,7 +90,7 @@ module _ {N S : Type 0} {Wanted : ℕ → Type 0} (steps kept : List (ProofStep 
 pub trimmed_proves : {N S : Type 0} {Wanted : ℕ → Type 0} (steps kept : List (ProofStep N S)) → IsTrimmedTo Wanted steps kept → StaysProof steps kept
 trimmed_proves steps kept trimmed same_atom same p root proof = trimmed_proof steps kept trimmed same_atom same p root proof
 
--- a list is what stands before its last item, and that item
+-- a list is what is before its last item, and that item
 split_last : {X : Type 0} (xs : List X) (k : ℕ) (x : X) → slice_get xs k ≡ Some x → length xs ≡ suc k → (front : List X) × (xs ≡ front ++ x ∷ [])
 split_last [] k x at long = absurd cc
 split_last (y ∷ []) zero x at long = ([], let e : Some y ≡ Some x = at in cc)

@@ -1,4 +1,4 @@
--- Literals that are false on the trail stand apart.
+-- Literals that are false on the trail are distinct.
 use Rattle.std.proofs.Common.{◌≡◌, inl, inr, true, List, ◌∷◌, subst}
 use Rattle.resolvo_store_core.specs.Signed.{Signed, negation, has}
 use Rattle.resolvo_store_core.specs.Clauses.{no, root}

@@ -84,7 +84,7 @@ cases_number a b = elim (cases_Bool (a == b)) [ inl q ↦ inl (eqb-true a b q) |
 below_other : (n a b : ℕ) → n < b → b ≡ a + 1 → (n ≡ a → ⊥) → n < a
 below_other n a b below long differ = elim (cases_number n a) [ inl f ↦ absurd (differ f) | inr f ↦ grind (arith, f) ]
 
--- how often a clause stands in a list with one clause more
+-- how often a clause is in a list with one clause more
 pub count_push : (n : ℕ) (xs : List ClauseId) (c : ClauseId) → count n (xs ++ c ∷ []) ≡ count n xs + one_if (eqb n c.0)
 count_push n xs c = let all : count n (xs ++ c ∷ []) ≡ count n xs + count n (c ∷ []) = count-append n xs (c ∷ []) in omega arith
 
@@ -211,7 +211,7 @@ clause_comes c id literal is_long is_rule s t v w ready covers another adds begu
     pair : (n : ℕ) → pair_at w.watched.items n ≡ pair_at v.watched.items n
     pair n = ap (λ (ps : List (Option WatchedLiterals)). pair_at ps n) begun.watched ∙ none_more v.watched.items n
 
-    -- what waits waited before, or is the clause that came
+    -- what waits waited before, or is the clause that was added
     waits : (n : ℕ) → Waits n w → (Waits n v) ⊎ ((is_long ≡ true) × (n ≡ id.0))
     waits n h = waits_cases n is_long id v.waiting.items (subst (λ (cs : List ClauseId). 0 < count n cs) begun.waiting h)
 
@@ -242,7 +242,7 @@ clause_comes c id literal is_long is_rule s t v w ready covers another adds begu
           absurd (omega arith)));
     }
 
-    -- the clause that came waits, or is noted
+    -- the clause that was added waits, or is noted
     newest : (b : Bool) → is_long ≡ b → IsNoted id.0 w ⊎ Waits id.0 w
     newest true is = inr (subst (λ (cs : List ClauseId). 0 < count id.0 cs) (sym (begun.waiting ∙ ap (λ a. with_last a id v.waiting.items) is)) (waits_last id v.waiting.items))
     newest false is = inl (

@@ -40,7 +40,7 @@ singles_more xs i x o s t h is sets (e, front, stands) = record {
   set = subst (AllTrue (made_true (history t))) (sym (take_more xs i x h)) (all_true_push (made_true (history t)) (take i xs) (get_or xs i x) (all_true_more s t (take i xs) e sets.set) (subst (λ (y : UnitClause). has (made_true (history t)) y.literal ≡ true) is stands));
 }
 
--- the one at a place stands for a clause of one literal
+-- the one at a place represents a clause of one literal
 pub single_at : (cs : List (List Signed)) (xs : List UnitClause) (i : ℕ) (x : UnitClause) → AreSingles cs xs → i < length xs → x ≡ get_or xs i x → (x.clause.0 < length cs) × IsOnly (clause_at cs x.clause.0) x.literal
 single_at cs xs i x a h is = subst (λ (y : UnitClause). (y.clause.0 < length cs) × IsOnly (clause_at cs y.clause.0) y.literal) (sym is) (go xs i a h)
   where

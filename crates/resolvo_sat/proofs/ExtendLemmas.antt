@@ -82,10 +82,10 @@ stands_later (x ∷ xs) ys l k h = inr (stands_later xs ys l k h)
 pub stands_in_more : (xs ys : List Entry) (l : Signed) (k : ℕ) → StandsAt (reverse xs) l k → StandsAt (reverse (xs ++ ys)) l k
 stands_in_more xs ys l k h = subst (λ (zs : List Entry). StandsAt zs l k) (sym (reverse-append xs ys)) (stands_later (reverse ys) (reverse xs) l k h)
 
--- what stands on the trail stands there still
+-- what is on the trail is there still
 pub still_stands : (s t : SatState) (l : Signed) (k : ℕ) → Extends s t → StandsAt (history s) l k → StandsAt (history t) l k
 still_stands s t l k e h = subst (λ (xs : List Entry). StandsAt (reverse xs) l k) (sym e.added) (stands_in_more s.tracker.trail e.more l k h)
 
--- what stands among the first entries stands on the trail
+-- what is among the first entries is on the trail
 pub stands_by_now : (xs : List Entry) (n : ℕ) (l : Signed) (k : ℕ) → StandsAt (before xs n) l k → StandsAt (reverse xs) l k
 stands_by_now xs n l k h = subst (λ (ys : List Entry). StandsAt (reverse ys) l k) (take-append-drop n xs) (stands_in_more (take n xs) (drop n xs) l k h)

@@ -38,7 +38,7 @@ pub extends_heavier : (s t : SatState) (count : ℕ) → Extends s t → weight 
 extends_heavier s t count e =
     subst (λ (h : List Entry). weight count (history s) ≤ weight count h) (sym (ap reverse e.added ∙ reverse-append s.tracker.trail e.more)) (weight-append count (reverse e.more) (history s))
 
--- the learnt literals are false on the trail, so they stand apart
+-- the learnt literals are false on the trail, so they are distinct
 learnt_apart : (s : SatState) (x : Learnt) → IsState s → IsLearnt s x → AreApart x.literals.items
 learnt_apart s x state learnt = false_apart s x.literals.items state (λ l h. elim (learnt.others l h) [
   | inl e ↦
@@ -47,7 +47,7 @@ learnt_apart s x state learnt = false_apart s x.literals.items state (λ l h. el
   | inr (level, low, stands) ↦ known_from_stands (history s) (negation l) level stands
 ])
 
--- what stood up to the turn's first level stands under what was set behind it
+-- what was up to the turn's first level is under what was set behind it
 pub extends_earlier : (s t : SatState) (base : List Entry) → Extends s t → EndsWith base (history s) → EndsWith base (history t)
 extends_earlier s t base e (p, is) = (reverse e.more ++ p, (ap reverse e.added ∙ reverse-append s.tracker.trail e.more) ∙ ap (λ (h : List Entry). reverse e.more ++ h) is ∙ sym (append_assoc (reverse e.more) p base))
 
@@ -80,13 +80,13 @@ learning_improves s m b w x id e learnt l =
       earlier = λ base low ends. learns_earlier m b w x id learnt l base (subst (λ (n : ℕ). top_level base ≤ n) (sym e.same.base_level) low) (extends_earlier s m base e ends);
     }
 
--- what stood stands under a choice
+-- what was there is under a decision
 pub choice_earlier : (s t : SatState) (v : VariableId) (c : ClauseId) (base : List Entry) → Chooses v c s t → EndsWith base (history s) → EndsWith base (history t)
 choice_earlier s t v c base chosen (p, is) =
     let d : Entry = choice_entry v c (history s) in
     (d ∷ p, (ap reverse chosen.pushed ∙ reverse_push s.tracker.trail d) ∙ ap (λ (h : List Entry). d ∷ h) is)
 
--- what stood up to the level stands after entries above it are taken away
+-- what was up to the level remains after entries above it are taken away
 pub undo_earlier : (s t : SatState) (level : ℕ) (base : List Entry) → Undoes level s t → top_level base ≤ level → EndsWith base (history s) → EndsWith base (history t)
 undo_earlier s t level base undoes low (p, is) = undone_ends level (count_of s) (clauses_of s) p base (history t) (subst (λ (h : List Entry). IsUndone level h (history t)) is undoes.undone) low
 

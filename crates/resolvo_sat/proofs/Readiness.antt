@@ -45,7 +45,7 @@ walked_more s t k w more added higher low walked n p is =
     (subst (λ (h : List Entry). GuardsTo t.guard_level h (reverse (s.tracker.trail ++ more)) p) (sym (ap reverse (take-append-le k s.tracker.trail more low)))
     (guards_more s.guard_level t.guard_level (before s.tracker.trail k) (history s) (reverse (s.tracker.trail ++ more)) p higher (λ l j h. stands_in_more s.tracker.trail more l j h) (walked n p is)))
 
--- entries came, and the clauses are the same
+-- entries were added, and the clauses are the same
 pub ready_more : (s t : SatState) (w : WatchLists) (more : List Entry) → IsReady s w → IsState t → t.clauses ≡ s.clauses → t.tracker.trail ≡ s.tracker.trail ++ more → t.front ≡ s.front → s.guard_level ≤ t.guard_level → IsReady t w
 ready_more s t w more ready state clauses added front higher = record {
   state = state;
@@ -64,7 +64,7 @@ ready_extends s t w ready e front = ready_more s t w e.more ready e.state e.same
 pub ready_same : (s t : SatState) (w : WatchLists) → IsReady s w → IsState t → t.clauses ≡ s.clauses → t.tracker ≡ s.tracker → t.front ≡ s.front → t.guard_level ≡ s.guard_level → IsReady t w
 ready_same s t w ready state clauses tracker front guard = ready_more s t w [] ready state clauses (ap (λ (x : Tracked). x.trail) tracker ∙ sym (append-nil s.tracker.trail)) front (omega arith)
 
--- entries above the level were taken away, and no guard stood above it that has to stay
+-- entries above the level were taken away, and no guard was above it that has to stay
 walked_undone : (s t : SatState) (w : WatchLists) (level : ℕ) → Undoes level s t → IsState s → s.guard_level ≤ level → t.guard_level ≡ s.guard_level → t.front ≤ s.front → t.front ≤ length t.tracker.trail → IsWalkedTo s.front s w → IsWalkedTo t.front t w
 walked_undone s t w level undoes state low same front within walked n p is =
     let (gone, old) = undone_older level (history s) (history t) undoes.undone in

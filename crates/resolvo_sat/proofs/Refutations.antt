@@ -35,12 +35,12 @@ refutes_more old new cs more r known denied = r known (λ l h. denied l (has-sai
 pub refutes_broken : (c new : List Signed) → ((l : Signed) → has c l ≡ true → has new l ≡ true) → Refutes new (c ∷ [])
 refutes_broken c new inside = refutes_more c new (c ∷ []) inside (broken_refutes nat_eq exact own (said_all c))
 
--- the literal is this one, or it stands in the clause
+-- the literal is this one, or it is in the clause
 cases_said : (new : List Signed) (l : Pass.Literal ℕ) (p : Signed) → (unsaid l ≡ p) ⊎ (has new (unsaid l) ≡ true) → (l ≡ said p) ⊎ (Pass.has nat_eq (said_all new) l ≡ true)
 cases_said new l p (inl e) = inl (ap said e)
 cases_said new l p (inr e) = inr (has-said new (unsaid l) ∙ e)
 
--- Resolution: if each literal of the old clause but not p, and each literal of c but p, stands in the
+-- Resolution: if each literal of the old clause but not p, and each literal of c but p, is in the
 -- new clause, then c and the causes of the old one refute the new one.
 pub refutes_step : (old new c : List Signed) (p : Signed) (cs : List (List Signed))
     → ((l : Signed) → has old l ≡ true → (l ≡ negation p) ⊎ (has new l ≡ true))

@@ -49,7 +49,7 @@ last_taken_off c xs ys last rest =
     ∙ ap (λ (zs : List ClauseId). take (length xs - 1) xs ++ c ∷ zs) (nothing_left xs (suc (length xs - 1)) (get_past xs (suc (length xs - 1)) (omega arith)))
     ∙ ap (λ (zs : List ClauseId). zs ++ c ∷ []) (sym rest)
 
--- a clause that watched nothing stands once in each of its lists
+-- a clause that watched nothing is once in each of its lists
 pub started_at : (ps : List (Option WatchedLiterals)) (old new : Signed → List ClauseId) (c : ClauseId) (p : WatchedLiterals) → IsWatched ps old → c.0 < length ps → pair_at ps c.0 ≡ None → same_literal p.first p.second ≡ false → StartsIn c p old new → IsWatched (set ps c.0 (Some p)) new
 started_at ps old new c p well within none differ starts = record { once = λ l d. go l d (cases_Bool (watches (Some p) l)) (eqb_tells d c.0); differ = λ d q e. differs d q e (eqb_tells d c.0) }
   where
@@ -224,7 +224,7 @@ count_reverse n (x ∷ xs) =
     let same : count n (reverse xs) ≡ count n xs = count_reverse n xs in
     omega arith
 
--- the clauses that wait stand in another order
+-- the clauses that wait are in another order
 pub turned : (s : SatState) (v w : WatchLists) → IsReady s v → w ≡ record v { waiting = w.waiting } → w.waiting.items ≡ reverse v.waiting.items → Settles s s v w
 turned s v w ready rest back =
     subst (λ (x : WatchLists). Settles s s v x) (sym rest) (record {

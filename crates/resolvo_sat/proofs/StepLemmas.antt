@@ -88,7 +88,7 @@ last_is_top es = go (reverse es) es (sym (reverse-reverse es))
     go [] es e = ap Store.last_level e
     go (d ∷ older) es e = ap Store.last_level (e ∙ reverse-append (d ∷ []) older) ∙ StoreTrails.last_level_end (reverse older) d
 
--- entries above the level stand before what is left
+-- entries above the level are before what is left
 undone_over : (level : ℕ) (h base : List Entry) → ((i : ℕ) (d : Entry) → i < length h → level < (get_or h i d).level) → IsUndone level (h ++ base) base
 undone_over level [] base above = undone_all level base
 undone_over level (e ∷ h) base above = inr (above 0 e (omega arith), undone_over level h base (λ i d lt. above (suc i) d (omega arith)))

@@ -49,14 +49,14 @@ stands_from_known (d ∷ older) l e =
       | inr i ↦ let (k, s) = stands_from_known older l i in (k, inr s)
     ]
 
--- an entry stands at the level of the one before it, or one above
+-- an entry is at the level of the one before it, or one above
 pub level_steps : (count : ℕ) (cs : List (List Signed)) (d : Entry) (older : List Entry) → Follows count cs d older → (top_level older ≤ d.level) × (d.level ≤ top_level older + 1)
 level_steps count cs d older f = elim f.reasoned [
   | inl c ↦ let e : d.level ≡ suc (top_level older) = c.opens in (omega arith, omega arith)
   | inr p ↦ let e : d.level ≡ top_level older = p.level in (omega arith, omega arith)
 ]
 
--- no entry stands above the last one
+-- no entry is above the last one
 pub level_le_last : (count : ℕ) (cs : List (List Signed)) (h : List Entry) (l : Signed) (k : ℕ) → IsTrail count cs h → StandsAt h l k → k ≤ top_level h
 level_le_last count cs [] l k t s = absurd s
 level_le_last count cs (d ∷ older) l k t (inl s) = let e : d.level ≡ k = s.1 in omega arith
@@ -72,7 +72,7 @@ level_le_length count cs (d ∷ older) t =
     let b : d.level ≤ top_level older + 1 = (level_steps count cs d older t.0).1 in
     omega arith
 
--- what stands at or below the level is kept
+-- what is at or below the level is kept
 pub kept : (j : ℕ) (old new : List Entry) (l : Signed) (k : ℕ) → IsUndone j old new → StandsAt old l k → k ≤ j → StandsAt new l k
 kept j [] new l k u s le = absurd s
 kept j (d ∷ older) new l k (inl u) s le = subst (λ (h : List Entry). StandsAt h l k) (sym u) s
@@ -213,7 +213,7 @@ stands_from_entry [] d older e = absurd e
 stands_from_entry (x ∷ xs) d older (inl e) = inl (ap literal_of e.0, ap (λ (y : Entry). y.level) e.0)
 stands_from_entry (x ∷ xs) d older (inr e) = inr (stands_from_entry xs d older e)
 
--- what stood before a jump to the level or above it, and not above the level, is the older part still
+-- what was before a jump to the level or above it, and not above the level, is the older part still
 pub undone_ends : (j count : ℕ) (cs : List (List Signed)) (p base new : List Entry) → IsUndone j (p ++ base) new → top_level base ≤ j → EndsWith base new
 undone_ends j count cs [] [] new u low = ([], u)
 undone_ends j count cs [] (b ∷ bs) new (inl u) low = ([], u)

@@ -45,7 +45,7 @@ standing_on : (p base : List Entry) (e : Entry) (older : List Entry) → StandsO
 standing_on [] base e older s = s
 standing_on (d ∷ p) base e older s = inr (standing_on p base e older s)
 
--- what stands before a place stands in the trail
+-- what is before a place is in the trail
 pub inside : (xs : List Entry) (n : ℕ) (l : Signed) (k : ℕ) → StandsAt (before xs n) l k → StandsAt (reverse xs) l k
 inside xs n l k s = subst (λ (h : List Entry). StandsAt h l k) (sym (whole_trail xs n)) (standing (reverse (drop n xs)) (before xs n) l k s)
 
@@ -162,7 +162,7 @@ not_before h d l u f e = elim (same_or_negated (negation l) (literal_of d) e) [
   | inr i ↦ both_ways _ u.not_false (subst (λ (x : Signed). has (made_true h) x ≡ true) i f)
 ]
 
--- what is newly denied stands in the reason
+-- what is newly denied is in the reason
 from_reason : (s : SatState) (p : ℕ) (d : Entry) (c : List Signed) (old new : List Bool) → Meets s p d → IsForced c (literal_of d) (made_true (before s.tracker.trail p)) → Seen c old new
     → (l : Signed) → has (denied new (before s.tracker.trail p)) l ≡ true → (has (denied old (before s.tracker.trail p)) l ≡ true) ⊎ (has c l ≡ true)
 from_reason s p d c old new m forced marked l h =
@@ -398,7 +398,7 @@ pub no_denial : (d : Entry) (v : VariableId) → (nat_eq d.decision.variable.0 v
 no_denial d v (inl other) is = both_ways (nat_eq d.decision.variable.0 v.0) other (subst (λ (x : ℕ). nat_eq d.decision.variable.0 x ≡ true) (ap (λ (l : Signed). l.variable.0) is) (own d.decision.variable.0))
 no_denial d v (inr rose) is = both_ways d.decision.value (ap (λ (l : Signed). l.positive) is) rose
 
--- what is true before an entry is no other literal, or stands before it
+-- what is true before an entry is no other literal, or is before it
 pub true_before : (s : SatState) (p : ℕ) (d : Entry) (l : Signed) → before s.tracker.trail (p + 1) ≡ d ∷ before s.tracker.trail p → (literal_of d ≡ l → ⊥) → has (made_true (before s.tracker.trail (p + 1))) l ≡ true → has (made_true (before s.tracker.trail p)) l ≡ true
 true_before s p d l next other h = elim (has-cons (literal_of d) (made_true (before s.tracker.trail p)) l (subst (λ (x : List Entry). has (made_true x) l ≡ true) next h)) [ inl e ↦ absurd (other e) | inr r ↦ r ]
 
@@ -406,7 +406,7 @@ true_before s p d l next other h = elim (has-cons (literal_of d) (made_true (bef
 pub entry_true : (s : SatState) (p : ℕ) (d : Entry) → Meets s p d → has (made_true (history s)) (literal_of d) ≡ true
 entry_true s p d m = known_from_stands (history s) (literal_of d) d.level (stands_from_entry (history s) d (before s.tracker.trail p) (inside_on s.tracker.trail (p + 1) d (before s.tracker.trail p) (subst (λ (x : List Entry). StandsOn x d (before s.tracker.trail p)) (sym m.next) (inl (refl, refl)))))
 
--- an entry is a choice exactly where it stands above the one before
+-- an entry is a choice exactly where it is above the one before
 pub kept_or_forced : (s : SatState) (p : ℕ) (d : Entry) (level : ℕ) → Meets s p d → level ≡ top_level (before s.tracker.trail p) → IsKeptOrForced s d (before s.tracker.trail p) (nat_lt level d.level)
 kept_or_forced s p d level m same = go (nat_lt level d.level) refl m.follows.reasoned
   where

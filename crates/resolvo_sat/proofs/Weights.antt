@@ -51,7 +51,7 @@ outweighs count n x h one = let a : n * x ≤ count * x = mul_le n count x h in 
 power_rises : (count j low : ℕ) → suc j ≤ count + 1 → low ≤ j → (count + 1) ^ suc (count + 1 - suc j) ≤ (count + 1) ^ (count + 1 - low)
 power_rises count j low h le = pow-le-pow_right (omega arith) (omega arith)
 
--- A jump: what stood above the level goes, one entry comes at the level that is left.
+-- A backjump: what was above the level goes, one entry is added at the level that is left.
 pub weight_jump :
     (count j : ℕ) (cs : List (List Signed)) (old new : List Entry) (l : Signed) (k : ℕ)
     → IsTrail count cs old → IsUndone j old new → top_level new ≤ j → StandsAt old l k → j < k

@@ -25,13 +25,13 @@ use Rattle.resolvo_soundness.specs.First.{IsFirstPick}
 use Rattle.resolvo_soundness.specs.Numbered.{meaning, Means, meanings, known_of, IsOnce, Spells, AreCalledFor, IsAccounted, AreCoded}
 use Rattle.resolvo_soundness.proofs.Lists.{contains_none, contains_cases, contains_one, contains_parts}
 
--- an entry of a trail, with what stands before it, is one
+-- an entry of a trail, with what is before it, is one
 stands_trail : (count : ℕ) (cs : List (List Signed)) (h : List Entry) (e : Entry) (older : List Entry) → IsTrail count cs h → StandsOn h e older → IsTrail count cs (e ∷ older)
 stands_trail count cs [] e older t s = absurd s
 stands_trail count cs (d ∷ rest) e older t (inl (same, before)) = subst (λ (xs : List Entry). IsTrail count cs (e ∷ xs)) before (subst (λ (x : Entry). IsTrail count cs (x ∷ rest)) same t)
 stands_trail count cs (d ∷ rest) e older t (inr s) = stands_trail count cs rest e older t.1 s
 
--- a clause that is held stands at some place
+-- a clause that is held is at some place
 pub place_of_held : (cs : List SatClause) (c : SatClause) → Contains cs c → (n : ℕ) × (n < length cs) × (clause_at (lists cs) n ≡ c.literals.items)
 place_of_held [] c h = absurd (contains_none c h)
 place_of_held (d ∷ cs) c h = elim (contains_cases c d cs h) [
@@ -39,13 +39,13 @@ place_of_held (d ∷ cs) c h = elim (contains_cases c d cs h) [
   | inr a ↦ let (n, below, e) = place_of_held cs c a in (suc n, omega arith, e)
 ]
 
--- a literal of a clause stands in one of the old clauses, or in one of those that came
+-- a literal of a clause is in one of the old clauses, or in one of those that came
 has_in_more : (xs ys : List (List Signed)) (n : ℕ) (l : Signed) → has (clause_at (xs ++ ys) n) l ≡ true → (has (clause_at xs n) l ≡ true) ⊎ ((k : ℕ) × (has (clause_at ys k) l ≡ true))
 has_in_more [] ys n l h = inr (n, h)
 has_in_more (x ∷ xs) ys zero l h = inl h
 has_in_more (x ∷ xs) ys (suc n) l h = has_in_more xs ys n l h
 
--- the old clauses stand at their places
+-- the old clauses are at their places
 pub clause_stays : (xs ys : List (List Signed)) (n : ℕ) → n < length xs → clause_at (xs ++ ys) n ≡ clause_at xs n
 clause_stays [] ys n below = absurd (omega arith)
 clause_stays (x ∷ xs) ys zero below = refl
@@ -75,7 +75,7 @@ pub called_choice : {N S : Type 0} (origin : ℕ → Atom N S) (choice : List (L
 called_choice origin choice e h now called d older (inl (same, before)) is other = subst (λ (xs : List Entry). choice (known_of origin xs) (meaning origin (literal_of d))) before (subst (λ (x : Entry). choice (known_of origin h) (meaning origin (literal_of x))) same now)
 called_choice origin choice e h now called d older (inr stands) is other = called d older stands is other
 
--- variables came, and the first ones are for what they were
+-- variables were added, and the first ones are for what they were
 module _ {N S : Type 0} (origin other : ℕ → Atom N S) (count : ℕ) (agree : (n : ℕ) → 0 < n → n < count → origin n ≡ other n) where
   meaning_agrees : (l : Signed) → 0 < l.variable.0 → l.variable.0 < count → meaning origin l ≡ meaning other l
   meaning_agrees l a b = ap (λ (x : Atom N S). let m : Literal (Atom N S) = record { atom = x; positive = l.positive } in m) (agree l.variable.0 a b)
@@ -140,7 +140,7 @@ module _ {N S : Type 0} (origin other : ℕ → Atom N S) (count : ℕ) (agree :
           let stays : clause_at (lists (cs ++ ds)) n ≡ clause_at (lists cs) n = ap (λ (xs : List (List Signed)). clause_at xs n) (lists-append cs ds) ∙ clause_stays (lists cs) (lists ds) n (omega arith) in
           (n, omega arith, subst (λ (x : List Signed). Spells other x (literals_of same p r)) (sym stays) (spells_agree (clause_at (lists cs) n) (literals_of same p r) (coded.in_range n) spells))
 
--- A learnt clause, each literal of which stands in a clause before it, leaves all coded.
+-- A learnt clause, each literal of which is in a clause before it, leaves all coded.
 pub coded_learnt : {N S : Type 0} (origin : ℕ → Atom N S) (same : S → S → Bool) (p : Packages N S) (rules : Rule N S → Type 0) (registered : S → Type 0) (count : ℕ) (cs : List SatClause) (c : SatClause)
     → 0 < length c.causes.items → ((l : Signed) → has c.literals.items l ≡ true → (n : ℕ) × (has (clause_at (lists cs) n) l ≡ true)) → AreDerived (reverse (cs ++ c ∷ []))
     → AreCoded origin same p rules registered count cs → AreCoded origin same p rules registered count (cs ++ c ∷ [])

@@ -75,7 +75,7 @@ not_zero : (n : ℕ) → 0 < n → (n == 0) ≡ false
 not_zero n h = elim (cases_Bool (n == 0)) [ inl e ↦ (let z : n ≡ 0 = eqb-true n 0 e in absurd (omega arith)) | inr e ↦ e ]
 
 module _ {N S : Type 0} (origin : ℕ → Atom N S) where
-  -- a literal that stands among others, by what it means
+  -- a literal that is among others, by what it means
   pub meaning_stands : (ls : List Signed) (l : Signed) → has ls l ≡ true → 0 < l.variable.0 → Contains (meanings origin ls) (meaning origin l)
   meaning_stands [] l h other = absurd (both_ways false refl h)
   meaning_stands (x ∷ xs) l h other = go (x.variable.0 == 0) refl (has-cons x xs l h) (λ a. meaning_stands xs l a other)

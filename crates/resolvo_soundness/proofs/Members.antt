@@ -66,7 +66,7 @@ module _ {A : Type 0} where
   pub negate-negate : (l : Literal A) → negate (negate l) ≡ l
   negate-negate l = ap (λ (b : Bool). let r : Literal A = record { atom = l.atom; positive = b } in r) (twice l.positive)
 
-  -- a literal and its opposite are not both true
+  -- a literal and its negation are not both true
   pub not_both : (v : A → Bool) (l : Literal A) → is_true_at v l ≡ true → is_true_at v (negate l) ≡ true → ⊥
   not_both v l h k = go (v l.atom) l.positive h k
     where

@@ -118,7 +118,7 @@ module _ {N S : Type 0} (same : S → S → Bool) (exact : IsExact same) (p : Pa
       not_same true q = both_ways false refl q
       not_same false q = both_ways true q refl
 
-      -- no literal stands on a trail with its opposite
+      -- no literal is on a trail with its negation
       pub consistent : (choice : List (Literal (Atom N S)) → Literal (Atom N S) → Type 0) (known : List (Literal (Atom N S))) (l : Literal (Atom N S)) → IsTrail same p rules registered choice known → Contains known l → Contains known (negate l) → ⊥
       consistent choice [] l t a b = contains_none l a
       consistent choice (e ∷ older) l t a b = go (contains_cases l e older a) (contains_cases (negate l) e older b) (consistent choice older l t.1)

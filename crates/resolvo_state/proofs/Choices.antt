@@ -1,4 +1,4 @@
--- What a trail chooses, in its order: none stands twice, and what was chosen stays in front where the trail goes on.
+-- What a trail chooses, in its order: none is there twice, and what was chosen stays in front where the trail goes on.
 use Rattle.std.proofs.Common.{◌≡◌, ℕ, zero, suc, ◌<◌, Bool, true, false, cond, List, [], ◌∷◌, ◌++◌, reverse, length, Option, Some, None, refl, sym, ◌∙◌, ap, subst, append-nil, arith}
 use Rattle.std.specs.Prelude.{slice_get}
 use Rattle.std.specs.List.{cons_option}
@@ -48,12 +48,12 @@ module _ {N S : Type 0} where
       step None h = subst AreOnce (sym (is None h ∙ append-nil before)) c
       step (Some s) h = subst AreOnce (sym (is (Some s) h)) (once_push before s c (fresh s h))
 
-  -- no solvable stands twice in what a trail chooses
+  -- no solvable is there twice in what a trail chooses
   pub choices_once : (atoms : List (ProofAtom N S)) (count : ℕ) (clauses : List (List Signed)) (history : List Entry) → AreOnce atoms → IsTrail count clauses history → AreOnce (choices atoms (reverse history))
   choices_once atoms count clauses [] once t = once_none (choices atoms (reverse [])) refl
   choices_once atoms count clauses (e ∷ older) once (follows, t) = once_then atoms count clauses e older once follows (choices_once atoms count clauses older once t)
 
-  -- atoms that come behind the others leave what a variable stands for as it is
+  -- atoms that come behind the others leave what a variable represents as it is
   solvable_kept : (atoms more : List (ProofAtom N S)) (n : ℕ) → n < suc (length atoms) → IsFrontOf atoms more → solvable_of more n ≡ solvable_of atoms n
   solvable_kept atoms more zero low front = refl
   solvable_kept atoms more (suc k) low front = let (x, at) = get_below atoms k (omega arith) in ap solvable_in (front_get atoms more k x front at ∙ sym at)

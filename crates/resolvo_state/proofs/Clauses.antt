@@ -34,14 +34,14 @@ use Rattle.resolvo_state.specs.Statements.{rule_of, stated_at}
 use Rattle.resolvo_state.specs.SolverState.{IsCoding, States, Bars, Advances}
 use Rattle.resolvo_state.proofs.Positions.{get_front, get_old, get_last, get_push, front_equal}
 
--- a literal of one of the first clauses stands in it among more
+-- a literal of one of the first clauses is in it among more
 stands_before : (old more : List SatClause) (m : ℕ) (l : Signed) → has (clause_at (lists old) m) l ≡ true → has (clause_at (lists (old ++ more)) m) l ≡ true
 stands_before old more m l h =
     let within : m < length (lists old) = clause_in_range (lists old) m l h in
     subst (λ (ls : List Signed). has ls l ≡ true) (sym (ap (λ (cs : List (List Signed)). clause_at cs m) (lists-append old more) ∙ clause_stays (lists old) (lists more) m within)) h
 
 -- A clause and what it states came behind the others: neither is the root's, and a learnt one has causes, no literal beside
--- its opposite, and none but those of the others.
+-- its negation, and none but those of the others.
 pub one_more : {N S : Type 0} (old new : SolverState N S) (x : Stated N S) (clause : SatClause) → IsCoding old → IsReady new.search new.watching → AreCovered new.search new.watching
     → new.atoms ≡ old.atoms → new.search.variables ≡ old.search.variables → new.search.clauses ≡ old.search.clauses ++ clause ∷ [] → new.stated.items ≡ old.stated.items ++ x ∷ []
     → (x ≡ Root → ⊥) → (x ≡ Learnt → 0 < length clause.causes.items) → (x ≡ Learnt → AreApart clause.literals.items) → (x ≡ Learnt → AreFromClauses old.search clause.literals.items) → IsCoding new
@@ -138,7 +138,7 @@ learnt_is {N} {S} old new id coding improves atoms stated = record {
 pub bar_in_range : (s : SatState) (literals : List Signed) (causes : List ClauseId) → IsState s → IsBar s literals causes → AreInRange (count_of s) literals
 bar_in_range s literals causes state bar l h = let (n, stands) = bar.from l h in state.in_range n l stands
 
--- literals that only deny stand apart
+-- literals that only deny are distinct
 negative_apart : (literals : List Signed) → ((l : Signed) → has literals l ≡ true → l.positive ≡ false) → AreApart literals
 negative_apart literals negative l a b = both_ways (not l.positive) (falls (negation l) b) (ap not (falls l a))
   where

@@ -54,7 +54,7 @@ trail_same c = record { tracker = refl }
 pub trail_then : {N S : Type 0} (a b c : SolverState N S) → SameTrail a b → SameTrail b c → SameTrail a c
 trail_then a b c f g = record { tracker = g.tracker ∙ f.tracker }
 
--- variables, and what they stand for, stay
+-- variables, and what they represent, stay
 pub stands_grow : {N S : Type 0} (old new : SolverState N S) (v : VariableId) (a : ProofAtom N S) → Grows old new → StandsFor old.atoms.keys v a → StandsFor new.atoms.keys v a
 stands_grow old new v a grows stands = stands_front old.atoms.keys new.atoms.keys v a grows.atoms stands
 
@@ -100,14 +100,14 @@ pub rules_split : {N S : Type 0} (old new : SolverState N S) → IsCoding old �
     → rules_in old.stated.items r ⊎ ((n : ℕ) × (length old.search.clauses ≤ n) × (n < length new.search.clauses) × (rule_at new.stated.items n ≡ Some r))
 rules_split old new before after grows r (n, h) = elim (rule_split old new before after grows n r h) [ inl a ↦ inl (n, a) | inr (a, b) ↦ inr (n, a, b, h) ]
 
--- the old clauses stand at their places
+-- the old clauses are at their places
 pub clause_grows : {N S : Type 0} (old new : SolverState N S) → Grows old new → (n : ℕ) → n < length old.search.clauses → clause_at (clauses_of new.search) n ≡ clause_at (clauses_of old.search) n
 clause_grows old new grows n below =
     let (more, e) = grows.clauses in
     let long : length (lists old.search.clauses) ≡ length old.search.clauses = length-lists old.search.clauses in
     ap (λ (cs : List SatClause). clause_at (lists cs) n) e ∙ ap (λ (ls : List (List Signed)). clause_at ls n) (lists-append old.search.clauses more) ∙ clause_stays (lists old.search.clauses) (lists more) n (omega arith)
 
--- the old variables stand for what they did
+-- the old variables represent what they did
 pub origin_grows : {N S : Type 0} (old new : SolverState N S) → IsCoding old → Grows old new → (n : ℕ) → 0 < n → n < count_of old.search → origin old.atoms.keys n ≡ origin new.atoms.keys n
 origin_grows old new coding grows n a b = let c : count_of old.search ≡ suc (length old.atoms.keys) = count_is old coding in origin_front old.atoms.keys new.atoms.keys n grows.atoms a (omega arith)
 
@@ -119,7 +119,7 @@ rule_within c n r coding h =
     let long : length c.stated.items ≡ length c.search.clauses = coding.each in
     omega arith
 
--- Where the clauses that came have the literals of the rules that they state, all have.
+-- Where the clauses that were added have the literals of the rules that they state, all have.
 pub spelled_grows : {N S : Type 0} (same : S → S → Bool) (p : Packages N S) (old new : SolverState N S) → IsCoding old → IsCoding new → Grows old new → Spelled same p old
     → ((n : ℕ) (r : Rule N S) → length old.search.clauses ≤ n → n < length new.search.clauses → rule_at new.stated.items n ≡ Some r → Spells (origin new.atoms.keys) (clause_at (clauses_of new.search) n) (literals_of same p r))
     → Spelled same p new
@@ -231,6 +231,6 @@ coding_coded {N} {S} same p registered c coding spelled positive = record {
         let (x, said) = get_below c.stated.items n (omega arith) in
         account clause n at x said (rule_of x) refl
 
--- a variable that stands for an atom is one of the search's
+-- a variable that represents an atom is one of the search's
 pub stands_in_range : {N S : Type 0} (c : SolverState N S) (v : VariableId) (a : ProofAtom N S) → IsCoding c → StandsFor c.atoms.keys v a → v.0 < count_of c.search
 stands_in_range c v a coding stands = let count : count_of c.search ≡ suc (length c.atoms.keys) = count_is c coding in let below : v.0 < suc (length c.atoms.keys) = stands_below c.atoms.keys v a stands in omega arith

@@ -1,4 +1,4 @@
--- Lemmas on what variables stand for.
+-- Lemmas on what variables represent.
 use Rattle.std.proofs.Common.{◌≡◌, ℕ, zero, suc, ◌<◌, true, List, [], ◌∷◌, length, map, Option, Some, None, refl, sym, ◌∙◌, ap, subst, arith}
 use Rattle.std.specs.Prelude.{slice_get}
 use Rattle.std.proofs.lemmas.Option.{slice_get_within}
@@ -51,7 +51,7 @@ atom_at_place [] k a h = absurd cc
 atom_at_place (b ∷ atoms) zero a h = let e : b ≡ a = cc in ap atom_of e
 atom_at_place (b ∷ atoms) (suc k) a h = atom_at_place atoms k a h
 
--- what a variable was made for is the atom that it stands for
+-- what a variable was made for is the atom that it represents
 pub origin_stands : {N S : Type 0} (atoms : List (ProofAtom N S)) (v : VariableId) (a : ProofAtom N S) → StandsFor atoms v a → origin atoms v.0 ≡ atom_of a
 origin_stands atoms v a (k, e, at) = ap (origin atoms) e ∙ atom_at_place atoms k a at
 
@@ -64,7 +64,7 @@ stands_below atoms v a (k, e, at) = let below : k < length atoms = slice_get_wit
 pub stands_front : {N S : Type 0} (atoms more : List (ProofAtom N S)) (v : VariableId) (a : ProofAtom N S) → IsFrontOf atoms more → StandsFor atoms v a → StandsFor more v a
 stands_front atoms more v a f (k, e, at) = (k, e, front_get atoms more k a f at)
 
--- a variable stands for one atom
+-- a variable represents one atom
 pub stands_same : {N S : Type 0} (atoms : List (ProofAtom N S)) (v : VariableId) (a b : ProofAtom N S) → StandsFor atoms v a → StandsFor atoms v b → a ≡ b
 stands_same atoms v a b (j, d, at) (k, e, bt) =
     let same : j ≡ k = omega arith in
@@ -78,7 +78,7 @@ one_variable atoms v w a once (j, d, at) (k, e, bt) =
     let number : v.0 ≡ w.0 = d ∙ ap suc same ∙ sym e in
     λ i. record { 0 = number i }
 
--- each variable but the root's stands for an atom
+-- each variable but the root's represents an atom
 pub stands_some : {N S : Type 0} (atoms : List (ProofAtom N S)) (n : ℕ) → 0 < n → n < suc (length atoms) → (k : ℕ) × (a : ProofAtom N S) × (n ≡ suc k) × (slice_get atoms k ≡ Some a)
 stands_some atoms zero a b = absurd (omega arith)
 stands_some atoms (suc k) a b = let (x, at) = get_below atoms k (omega arith) in (k, x, refl, at)
@@ -103,7 +103,7 @@ once_origin atoms count long once m n a b c d same =
 pub coding_once : {N S : Type 0} (c : SolverState N S) → IsCoding c → IsOnce (origin c.atoms.keys) (count_of c.search)
 coding_once c coding = once_origin c.atoms.keys (count_of c.search) (count_is c coding) coding.distinct
 
--- the solvable of a variable that stands for one
+-- the solvable of a variable that represents one
 pub solvable_stands : {N S : Type 0} (atoms : List (ProofAtom N S)) (v : VariableId) (s : S) → StandsFor atoms v (Solvable s) → solvable_of atoms v.0 ≡ Some s
 solvable_stands atoms v s (k, e, at) = ap (solvable_of atoms) e ∙ ap solvable_in at
 
@@ -122,7 +122,7 @@ stands_solvable {N} {S} atoms v s h = go v.0 refl h
     go zero e i = absurd cc
     go (suc k) e i = (k, e, inside (slice_get atoms k) i)
 
--- the place of the digit of a variable that stands for one
+-- the place of the digit of a variable that represents one
 pub bit_stands : {N S : Type 0} (atoms : List (ProofAtom N S)) (v : VariableId) (name : N) (bit : ℕ) → StandsFor atoms v (Bit name bit) → bit_of atoms v.0 ≡ Some bit
 bit_stands atoms v name bit (k, e, at) = ap (bit_of atoms) e ∙ ap bit_in at
 
@@ -132,7 +132,7 @@ atom_at_solvable [] k s h = absurd cc
 atom_at_solvable (b ∷ atoms) zero s h = ap Some (atom_of_one b (Solvable s) (sym h))
 atom_at_solvable (b ∷ atoms) (suc k) s h = atom_at_solvable atoms k s h
 
--- a literal that means that a solvable is chosen is positive, and its variable stands for the solvable
+-- a literal that means that a solvable is chosen is positive, and its variable represents the solvable
 pub means_solvable : {N S : Type 0} (atoms : List (ProofAtom N S)) (l : Signed) (s : S) → Means (origin atoms) l (plus (Atom.solvable s)) → (l.positive ≡ true) × StandsFor atoms l.variable (Solvable s)
 means_solvable {N} {S} atoms l s (other, e) = (sym (ap (λ (m : Literal (Atom N S)). m.positive) e), go l.variable.0 refl other)
   where
@@ -140,7 +140,7 @@ means_solvable {N} {S} atoms l s (other, e) = (sym (ap (λ (m : Literal (Atom N 
     go zero i below = absurd (omega arith)
     go (suc k) i below = (k, i, atom_at_solvable atoms k s (ap (λ (m : Literal (Atom N S)). m.atom) e ∙ ap (origin atoms) i))
 
--- a literal whose variable stands for an atom means it, with its sign
+-- a literal whose variable represents an atom means it, with its sign
 pub means_atom : {N S : Type 0} (atoms : List (ProofAtom N S)) (l : Signed) (a : ProofAtom N S) → StandsFor atoms l.variable a → Means (origin atoms) l (record { atom = atom_of a; positive = l.positive })
 means_atom {N} {S} atoms l a stands = (stands_other atoms l.variable a stands, ap (λ (x : Atom N S). let m : Literal (Atom N S) = record { atom = x; positive = l.positive } in m) (sym (origin_stands atoms l.variable a stands)))
 

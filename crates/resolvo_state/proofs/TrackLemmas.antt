@@ -39,7 +39,7 @@ ties_at k x [] i tie h = absurd cc
 ties_at k x (w ∷ vs) zero tie h = let e : (x, w, k % 2 == 1) ≡ tie = cc in (ap (λ (t : Tie). t.0) (sym e), ap (λ (t : Tie). Some t.1) e, ap (λ (t : Tie). t.2) (sym e))
 ties_at k x (w ∷ vs) (suc i) tie h = ties_at (k / 2) x vs i tie h
 
--- the tie's variable stands at the place, and its helper tells a digit of that
+-- the tie's variable is at the place, and its helper tells a digit of that
 record IsTieAt (xs vs : List VariableId) (place : ℕ) (tie : Tie) : Type 0 where
   stands : slice_get xs place ≡ Some tie.0
   bit : ℕ
@@ -146,7 +146,7 @@ few_digits h small = elim (below_or_not h 31) [ inl below ↦ below | inr past �
 abbrev longer : Tracking VariableId → VariableId → Option VariableId → Tracking VariableId
 longer t x o = record { variables = t.variables ++ x ∷ []; helpers = t.helpers ++ option_to_list o }
 
--- the helpers tell the places apart
+-- the helpers distinguish the places
 room_more : (t : Tracking VariableId) (x : VariableId) (o : Option VariableId) → length t.variables ≤ 2 ^ length t.helpers → is_some o ≡ (length t.variables == 2 ^ length t.helpers) → length (t.variables ++ x ∷ []) ≤ 2 ^ length (t.helpers ++ option_to_list o)
 room_more t x None few full =
     let long : length (t.variables ++ x ∷ []) ≡ length t.variables + 1 = length-append t.variables (x ∷ []) in
@@ -202,7 +202,7 @@ module _ {N S : Type 0} (name : N) (x : VariableId) (s : S) (t : Tracking Variab
       let (u, f) = longer_solvables tie.0 (get_contains (t.variables ++ x ∷ []) _ tie.0 q.stands) in
       record { solvable = u; bit = q.bit; few = omega arith; stands = f; tells = longer_digits q.bit tie.1 q.tells; value = q.value }
 
-  -- a helper came where the helpers told no more places apart
+  -- a helper came where the helpers distinguished no more places
   come_full : (q : Bool) → is_some o ≡ (not q && (length t.variables == 2 ^ length t.helpers)) → is_some o ≡ true → length t.variables ≡ 2 ^ length t.helpers
   come_full true n some = absurd (both_ways _ n some)
   come_full false n some = eqb-true (length t.variables) (2 ^ length t.helpers) (sym n ∙ some)

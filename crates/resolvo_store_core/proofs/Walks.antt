@@ -13,7 +13,7 @@ use Rattle.resolvo_store_core.specs.SignLaws.{same_literal-self}
 use Rattle.resolvo_store_core.proofs.Watched.{cases_literal, pair_of_watcher}
 use Rattle.resolvo_store_core.proofs.ClauseLists.{count_at, in_range_from, drop_here, nothing_left, drop_taken}
 
--- the list around a clause that stands once in it is the list without that clause
+-- the list around a clause that is once in it is the list without that clause
 pub taken_out : (xs : List ClauseId) (place : ℕ) (c : ClauseId) → slice_get xs place ≡ Some c → count c.0 xs ≡ 1 → take place xs ++ drop (suc place) xs ≡ without c.0 xs
 taken_out [] place c at one = cc
 taken_out (x ∷ xs) zero c at one =

@@ -131,7 +131,7 @@ moved_differ p from to n = go (same_literal p.first from)
 pub not_same_watch : (p : WatchedLiterals) (from to : Signed) → watches (Some p) from ≡ true → watches (Some p) to ≡ false → same_literal from to ≡ false
 not_same_watch p from to w n = differs_from from to (λ e. both_ways _ n (subst (λ (l : Signed). watches (Some p) l ≡ true) e w))
 
--- a clause that moved stands once in its new lists
+-- a clause that moved is once in its new lists
 pub moved_well :
     (ps : List (Option WatchedLiterals)) (old new : Signed → List ClauseId) (cl : ClauseId) (p : WatchedLiterals) (from : Signed) (place : ℕ) (to : Signed)
     → IsWatched ps old → pair_at ps cl.0 ≡ Some p → watches (Some p) from ≡ true → watches (Some p) to ≡ false → MovesIn cl from place to old new
@@ -198,7 +198,7 @@ moved_well ps old new cl p from place to well is w n moves = record { once = λ 
         subst (λ (x : WatchedLiterals). same_literal x.first x.second ≡ false) same (moved_differ p from to n)
     differ d r e (inr k) = well.differ d r (sym (elsewhere d k.1) ∙ e)
 
--- a new clause stands once in each of its lists
+-- a new clause is once in each of its lists
 pub started_well : (ps : List (Option WatchedLiterals)) (old new : Signed → List ClauseId) (cl : ClauseId) (p : WatchedLiterals) → cl.0 ≡ length ps → IsWatched ps old → same_literal p.first p.second ≡ false → StartsIn cl p old new → IsWatched (ps ++ Some p ∷ []) new
 started_well ps old new cl p number well differ starts = record { once = λ l d. go l d (cases_Bool (watches (Some p) l)) (eqb_tells d (length ps)); differ = λ d q e. differs d q e (eqb_tells d (length ps)) }
   where

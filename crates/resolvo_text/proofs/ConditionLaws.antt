@@ -39,7 +39,7 @@ abbrev front : Joint → Option Written → Words → Words
 front j None words = words
 front j (Some v) words = written_words v ++ word_of j ∷ words
 
--- What stands before can be joined so.
+-- What is before can be joined so.
 abbrev MayStandBefore : Joint → ℕ → Option Written → Type 0
 MayStandBefore j deep None = ⊤
 MayStandBefore j deep (Some v) = IsWritten v × (looseness v ≤ suc (tightness j)) × (depth_of v ≤ deep)
@@ -94,7 +94,7 @@ lone_takes deep (suc room) words x e =
     subst (λ (p : Part). IsRead 0 deep (suc room) words p) (same_Some _ _ b.2)
     (record { written = Lone b.0.0; fits = record { form = t.1; binds = omega arith; depth = omega arith }; specs = omega arith; means = refl; spelled = t.0 })
 
--- the parts that were read, joined to what stands before them
+-- the parts that were read, joined to what is before them
 pub record IsJoined (j : Joint) (deep : ℕ) (before : Option Written) (room : ℕ) (words : Words) (x : Part) : Type 0 where
   pub written : Written
   pub fits : Fits (suc (tightness j)) deep written
@@ -130,7 +130,7 @@ parts_with_take j deep part takes room words x e =
     let r = parts_take j deep part takes room None tt room words x e in
     record { written = r.written; fits = r.fits; specs = omega (arith, r.specs); means = r.means; spelled = r.spelled }
 
--- what stands in parentheses is one less deep
+-- what is in parentheses is one less deep
 abbrev GroupTakes : ℕ → PartReader → Type 0
 GroupTakes deep group = (room : ℕ) (words : Words) (x : Part) → group room words ≡ Some x → (below : ℕ) × (deep ≡ suc below) × IsRead 2 below room words x
 
@@ -197,7 +197,7 @@ loosest (Either v w) = omega arith
 abbrev Again : ℕ → ℕ → PartReader → (Words → Type 0) → Type 0
 Again loose deep part Ends = (w : Written) → Fits loose deep w → (room left : ℕ) (rest : Words) → spec_count w + left ≡ room → Ends rest → part room (written_words w ++ rest) ≡ Some (meant w, left, rest)
 
--- what may stand behind a part
+-- what may be behind a part
 abbrev EndsPart : Joint → Words → Type 0
 EndsPart And rest = BeginsNoSpan rest
 EndsPart Or rest = BeginsNoSpan rest × BeginsNot (codes "and") rest

@@ -14,7 +14,7 @@ use Rattle.resolvo_text.proofs.PartLaws.{version_takes, version_again, reason_ta
 use Rattle.resolvo_text.proofs.SpanLaws.{not_a_span}
 use Rattle.resolvo_text.proofs.ConditionLaws.{behind_if_takes, behind_if_again}
 
--- what stands behind the alternatives of a line `needs`
+-- what is behind the alternatives of a line `needs`
 abbrev IsBehindNeeds : Words → Option Cond → Type 0
 IsBehindNeeds words None = words ≡ []
 IsBehindNeeds words (Some c) = (others : Words) × (words ≡ codes "if" ∷ others) × AreWordsOfCondition others c
@@ -72,7 +72,7 @@ unfolding condition_in
 condition_in_again words None is = ap condition_in is ∙ rw (no_skip (codes "if") [] tt) refl
 condition_in_again words (Some c) (others, is, spelled) = ap condition_in is ∙ rw (skip_is (codes "if") others, behind_if_again others c spelled) refl
 
--- what stands behind alternatives stands behind no span and no bar
+-- what is behind alternatives is behind no span and no bar
 ends_alternatives : (words : Words) (c : Option Cond) → IsBehindNeeds words c → BeginsNoSpan words × BeginsNot (codes "|") words
 ends_alternatives words None is = subst (λ (ws : Words). BeginsNoSpan ws × BeginsNot (codes "|") ws) (sym is) (tt, tt)
 ends_alternatives words (Some c) (others, is, spelled) = subst (λ (ws : Words). BeginsNoSpan ws × BeginsNot (codes "|") ws) (sym is) (no_span_if, refl)

@@ -33,7 +33,7 @@ no_newline_more line b none other =
     let one : newlines (line ++ b ∷ []) ≡ newlines line + cond (eqb b 10) 1 0 = sum_by_push (λ x. cond (is_newline x) 1 0) line b in
     one ∙ ap (λ (t : Bool). newlines line + cond t 1 0) other ∙ omega arith
 
--- no newline stands above the first one
+-- no newline is above the first one
 none_above : (xs : List ℕ) → newlines (take (position_or_len is_newline xs) xs) ≡ 0
 none_above [] = refl
 none_above (b ∷ bs) = by_test (is_newline b) refl (none_above bs)

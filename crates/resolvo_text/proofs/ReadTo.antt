@@ -26,7 +26,7 @@ pub record IsReadTo {L : Type 0} (Says : Grammar L) (text rest : List ℕ) (line
 abbrev pub ReadTo : {L : Type 0} → Grammar L → Option (List ℕ) → Option (List ℕ) → List L → ℕ → ℕ → ℕ → Type 0
 ReadTo Says known left lines number limit room = IfKnown known (λ text. (rest : List ℕ) × (left ≡ Some rest) × IsReadTo Says text rest lines number limit room)
 
--- A text says one line at most after given lines.
+-- A text spells one line at most after given lines.
 abbrev pub SaysOne : {L : Type 0} → Grammar L → Type 0
 SaysOne {L} Says = (before : List L) (text : List ℕ) (a b : L) → Says before text a → Says before text b → a ≡ b
 
@@ -146,7 +146,7 @@ module _ {L : Type 0} (Says : Grammar L) where
   read_fails Memory known left after lines number limit room failures failures_before failures_now interruptions so_far same h = tt
   read_fails Ids known left after lines number limit room failures failures_before failures_now interruptions so_far same h = absurd h
 
-  -- ---- laws of a grammar in which a text says one line at most
+  -- ---- laws of a grammar in which a text spells one line at most
 
   pub same_lines : SaysOne Says → (before : List L) (texts : List (List ℕ)) (xs ys : List L) → Reads Says before texts xs → Reads Says before texts ys → xs ≡ ys
   same_lines one before [] [] [] h k = refl

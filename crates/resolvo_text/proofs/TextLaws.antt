@@ -165,13 +165,13 @@ line_again text (Favour v) form (words, joined, is) = text_again text _ _ (versi
 line_again text (Exclude v reason) form (words, joined, is) = text_again text _ _ (version_words v ++ reason ∷ []) (Exclude v reason) refl (joined_of text words _ joined is) (by_test (codes "exclude") refl, both (version_words v) (reason ∷ []) (version_are_words v form.0) (name_has_no_space reason form.1, tt)) (said_again (codes "exclude") _ (Exclude v reason) form refl)
 line_again text (Wish v) form (words, joined, is) = text_again text _ _ (version_words v) (Wish v) refl (joined_of text words _ joined is) (by_test (codes "wish") refl, version_are_words v form) (said_again (codes "wish") _ (Wish v) form refl)
 
--- a text says one line at most
+-- a text spells one line at most
 pub one_line : (text : List ℕ) (a b : Line) → SaysLine text a → SaysLine text b → a ≡ b
 one_line text a b p q = same_Some a b (sym (line_again text a p.form p.spelled) ∙ line_again text b q.form q.spelled)
 
 some_is_none : (line : Line) → Some line ≡ None → ⊥
 some_is_none line e = cc
 
--- where nothing is read, the text says nothing
+-- where nothing is read, the text spells no line
 pub says_none : (text : List ℕ) → line_in text ≡ None → (line : Line) → SaysLine text line → ⊥
 says_none text none line p = some_is_none line (sym (line_again text line p.form p.spelled) ∙ none)

@@ -2,7 +2,7 @@ use Rattle.std.proofs.Common.{◌≡◌, ◌∙◌, sym, ap, slice_get, Some}
 use Rattle.std.specs.Option.{option_copied}
 use Rattle.resolvo_pool_core.proofs.pool.Pool.resolve_condition.Goals as goal
 
--- the conditions of a pool stand above their operands
+-- the conditions of a pool are above their operands
 pub returns-clause-below : goal.returns-clause-below
 returns-clause-below g c =
     let found : slice_get c.self.inside.conditions.keys c.to_index.result ≡ Some c.in-Some.condition.now = sym c.get_index.ensures.key ∙ ap option_copied c.in-Some.is in
