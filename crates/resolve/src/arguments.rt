@@ -1,4 +1,4 @@
-//! The program's arguments, each as a text where it is one.
+//! The program's arguments, each as a text where it is UTF-8.
 ghost use Rattle.std.specs.Prelude.{◌≡◌, IfOk, MatchOption, string_bytes};
 ghost use Rattle.std.specs.Str.{IsUtf8};
 
@@ -6,10 +6,12 @@ use resolve_check::outcome::RunFault;
 use std::alloc::Global;
 use std::env::{Env, FillError};
 
-/// So many bytes of an argument are asked for. A longer one is no word of the usage line, and no file is opened by such a name.
+/// The most bytes of an argument that are read. A longer one is no word of the usage line, and no
+/// file is opened by such a name.
 const MOST: usize = 4_096;
 
-/// The arguments behind the program's name. One that isn't UTF-8, or is too long for a path, is none.
+/// The arguments after the program's name. One that isn't UTF-8, or is too long for a path, is
+/// `None`.
 pub fn read_arguments(rt: &HostRuntime) -> Result<Vec<Option<String>>, RunFault> {
     let mut words = Vec::new(rt.alloc());
     let mut bytes = [0u8; MOST];
@@ -23,7 +25,7 @@ pub fn read_arguments(rt: &HostRuntime) -> Result<Vec<Option<String>>, RunFault>
     Ok(words)
 }
 
-/// The text that these bytes are, if they are UTF-8.
+/// The bytes as a text, if they are UTF-8.
 fn text_of(alloc: Global, bytes: &[u8]) -> Result<Option<String>, RunFault>
     ensures { IfOk result (λ t. MatchOption t (¬ (IsUtf8 bytes.now)) (λ s. string_bytes s ≡ bytes.now)) }
 {

@@ -1,5 +1,6 @@
-//! `resolve solve CATALOGUE REQUEST`, and `resolve` alone for standard input: writes the report, or why there is none.
-//! `resolve judge CATALOGUE REQUEST REPORT`: writes whether the report holds, or where it doesn't.
+//! `resolve solve CATALOGUE REQUEST`, and `resolve` alone for standard input: writes the report, or
+//! why there is none. `resolve judge CATALOGUE REQUEST REPORT`: writes whether the report holds, or
+//! where it doesn't.
 #![tactic(auto)]
 
 mod arguments;
@@ -18,7 +19,7 @@ use std::process::ExitCode;
 const USAGE: &str =
     "usage: resolve solve CATALOGUE REQUEST, or resolve judge CATALOGUE REQUEST REPORT";
 
-/// Opens a file. A name that isn't UTF-8 is that of no file that can be opened here.
+/// Opens a file. It fails on a name that isn't UTF-8.
 fn open(rt: &HostRuntime, name: &Option<String>) -> Option<File> {
     match name {
         Some(name) => File::open(rt, name.as_str()).ok(),
@@ -44,7 +45,8 @@ fn solve_files(
     run(rt.alloc(), &mut catalogue, &mut request, &mut writer)
 }
 
-/// Judges the report of a file over the texts of two others, which are all opened before any is read.
+/// Judges the report of a file over the texts of two others, which are all opened before any is
+/// read.
 fn judge_files(
     rt: &HostRuntime,
     catalogue: &Option<String>,
@@ -69,7 +71,7 @@ fn judge_files(
     )
 }
 
-/// Solves standard input: the catalogue above the first line `---`, the request below it.
+/// Solves standard input: the catalogue before the first line `---`, the request after it.
 fn solve_input(rt: &HostRuntime) -> Result<Outcome, RunFault> {
     let mut source = Counted::new(rt.stdin());
     let input = read_input(rt.alloc(), &mut source, INPUT_LIMIT)?;
@@ -99,7 +101,7 @@ fn is_word(argument: &Option<String>, word: &str) -> bool {
     }
 }
 
-/// Does what the arguments ask for: the status, and the line that is printed last.
+/// Runs the command of the arguments; returns the status, and the last line.
 fn answer(rt: &HostRuntime, words: &[Option<String>]) -> (u8, &'static str) {
     match words.len() {
         0 => run_ending(&solve_input(rt)),

@@ -1,4 +1,4 @@
-//! The numbers that say how a call ended.
+//! The numbers that encode how a call ended.
 
 ghost use Rattle.std.specs.Prelude.{◌≡◌};
 ghost use Rattle.resolve_c.specs.Endings.{ending_of, check_ending_of, fault_ending_of, growing, growing_within, stop_ending_of};
@@ -28,7 +28,7 @@ pub(crate) fn check_ending_of(checked: Checked) -> u32
     }
 }
 
-/// The same fault, but no memory where the sink refused: one that grows refuses for nothing else.
+/// The same fault, or `Memory` where the sink refused: one that grows refuses for no other reason.
 pub(crate) fn growing(fault: RunFault) -> RunFault
     ensures { result ≡ growing fault }
 {
@@ -51,7 +51,7 @@ pub(crate) fn fault_ending_of(fault: RunFault) -> u32
     }
 }
 
-/// The same of a run that may have a budget.
+/// The same for a run that may have a budget.
 pub(crate) fn growing_within(stop: RunStop) -> RunStop
     ensures { result ≡ growing_within stop }
 {

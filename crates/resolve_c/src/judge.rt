@@ -12,7 +12,7 @@ use resolve_check::outcome::{Checked, RunFault};
 use resolvo_text::GrowingSink;
 use std::alloc::Global;
 
-/// What `check` writes: how it ends, and the text.
+/// The outcome of `check`, and the text that it writes.
 #[derive(Drop)]
 struct Judged {
     checked: Checked,
@@ -46,7 +46,7 @@ fn verdict_of(
     }
 }
 
-/// Writes the front of what `resolve judge` prints for the three texts.
+/// Writes what `resolve judge` prints for the three texts, as much as fits.
 #[unsafe(no_mangle)]
 pub extern "C" fn resolve_judge(
     alloc: Global,

@@ -4,7 +4,7 @@ ghost use Rattle.std.specs.Prelude.{◌≡◌, ◌≤◌, ◌<◌, ◌++◌, [],
 
 use resolvo_text::{IoFault, Source};
 
-/// Copies as much as fits, and answers how much.
+/// Copies as much as fits, and returns how many bytes.
 fn copy_front(buf: &mut [u8], bytes: &[u8]) -> usize
     ensures within { result ≤ length buf.new }
     ensures front { bytes.now ≡ take result buf.new ++ drop result bytes.now }

@@ -1,8 +1,8 @@
-//! The solver and the judge for C and whatever calls C: from the bytes of texts to those of a
-//! report or a verdict.
+//! The solver and the judge for C and whatever calls C. They turn the bytes of texts into those of
+//! a report or a verdict.
 //!
-//! No call keeps anything, and all memory that it is passed is the caller's. docs/EMBEDDING.md has
-//! the C declarations.
+//! No call keeps anything, and all memory that is passed to it is the caller's. docs/EMBEDDING.md
+//! has the C declarations.
 #![tactic(auto)]
 
 mod endings;

@@ -38,7 +38,7 @@ fn answer_of(
     }
 }
 
-/// Writes the front of what `resolve solve` prints for the two texts.
+/// Writes what `resolve solve` prints for the two texts, as much as fits.
 #[unsafe(no_mangle)]
 pub extern "C" fn resolve_solve(
     alloc: Global,
@@ -54,7 +54,7 @@ pub extern "C" fn resolve_solve(
     }
 }
 
-/// The same, or it gives up: where the solver asks so many times, and once more, whether to stop.
+/// The same, or it gives up: where the solver asks more than `budget` times whether to stop.
 #[unsafe(no_mangle)]
 pub extern "C" fn resolve_solve_within(
     alloc: Global,

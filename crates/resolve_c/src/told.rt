@@ -1,4 +1,4 @@
-//! What a call returns beside the bytes in the caller's room.
+//! What a call returns beside the bytes in the caller's buffer.
 
 ghost use Rattle.resolve_c.specs.Told.{Leaves};
 
@@ -10,7 +10,7 @@ pub struct Told {
     pub length: u64,
 }
 
-/// Writes the front of the text that fits into the caller's room, and nothing else there.
+/// Writes as much of the text as fits into the caller's buffer, and nothing else there.
 pub(crate) fn tell(ending: u32, text: &[u8], room: &mut [u8]) -> Told
     ensures { Leaves ending text.now room.old room.new result }
 {

@@ -1,4 +1,5 @@
-//! From the bytes of a catalogue, a request and a report to whether the report holds. `main` and the tests call `check`.
+//! Checks a report, from the bytes of a catalogue, a request and the report. `main` and the tests
+//! call `check`.
 
 ghost use Rattle.std.specs.Prelude.{◌≡◌, IfOk, IfErr};
 ghost use Rattle.resolvo_text.specs.Device.{DeviceFailed, WriterFailed};
@@ -11,7 +12,7 @@ use resolvo_catalogue_core::{Catalogue, ReadFault, Request, Sink, Source, write_
 use resolvo_judge::{JudgeFault, Verdict, judge};
 use std::alloc::Global;
 
-/// What is written: how the check ends, and the text.
+/// The outcome of the check, and the text to write.
 #[derive(Drop)]
 struct Told {
     checked: Checked,
@@ -38,7 +39,7 @@ fn verdict_told(alloc: Global, verdict: Verdict) -> Result<Told, RunFault>
     }
 }
 
-/// What is written where a text was not read: its faulty line, or nothing.
+/// What to write where a text was not read: its faulty line, or nothing.
 fn fault_told(alloc: Global, which: &str, fault: ReadFault) -> Result<Told, RunFault>
     ensures { TellsFaulty fault which.now result }
 {
@@ -51,7 +52,7 @@ fn fault_told(alloc: Global, which: &str, fault: ReadFault) -> Result<Told, RunF
     }
 }
 
-/// What is written for three texts, which are read in this order.
+/// What to write for three texts, which are read in this order.
 fn answer<C: Source, R: Source, P: Source>(
     alloc: Global,
     catalogue: &mut C,
@@ -95,8 +96,9 @@ fn answer<C: Source, R: Source, P: Source>(
     }
 }
 
-/// Reads the catalogue to its end, then the request, judges the report, and writes `yes`, or the line from which it
-/// doesn't hold, or the first faulty line of the texts before it. The texts behind a faulty one aren't read.
+/// Reads the catalogue to its end, then the request, and judges the report. It writes `yes`, or the
+/// line from which the report doesn't hold, or the first faulty line of the texts before it. The
+/// texts after a faulty one aren't read.
 pub fn check<C: Source, R: Source, P: Source, W: Sink>(
     alloc: Global,
     catalogue: &mut C,

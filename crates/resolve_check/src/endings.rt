@@ -1,11 +1,11 @@
-//! The program's status, and the line that it prints after what was written. `main` asks it last.
+//! The program's status, and the line that it prints after the text. `main` calls it last.
 
 ghost use Rattle.std.specs.Prelude.{◌≡◌};
 ghost use Rattle.resolve_check.specs.Endings.{status_of, last_line_of, fault_line_of, check_status_of, check_last_line_of};
 
 use crate::outcome::{Checked, Outcome, RunFault};
 
-/// The status of the process, and the line that is printed last, without its newline (empty where there is none).
+/// The status of the process, and its last line, without the newline (empty where there is none).
 pub fn run_ending(ended: &Result<Outcome, RunFault>) -> (u8, &'static str)
     ensures status { result.0 ≡ status_of ended.now }
     ensures line { result.1.now ≡ last_line_of ended.now }
@@ -31,7 +31,7 @@ pub fn check_ending(ended: &Result<Checked, RunFault>) -> (u8, &'static str)
     }
 }
 
-/// The line that is printed last after a fault.
+/// The last line after a fault.
 fn last_line(fault: RunFault) -> &'static str
     ensures { result.now ≡ fault_line_of fault }
 {

@@ -1,4 +1,5 @@
-//! Reads standard input whole, and parts it into a catalogue and a request. `main` calls it where no file is named.
+//! Reads the whole standard input, and splits it into a catalogue and a request. `main` calls it
+//! where no file is named.
 
 ghost use Rattle.std.specs.Prelude.{◌≡◌, ◌==◌, ◌≤◌, ◌<◌, true, false, IfOk, OnOk, MatchResult, vec_len, length, take, ⊤};
 ghost use Rattle.std.specs.Option.{option_map};
@@ -20,7 +21,7 @@ const MOST_INTERRUPTIONS: u32 = 1000;
 /// How many bytes the reader is asked for at once.
 const PIECE: usize = 4_096;
 
-/// Gets bytes to the front of the buffer, none only at the end.
+/// Reads bytes into the front of the buffer, and returns how many: 0 only at the end.
 fn read_some<S: Source>(source: &mut S, buffer: &mut [u8]) -> Result<usize, RunFault>
     requires { 0 < length buffer.old }
     ensures within { IfOk result (λ n. n ≤ length buffer.new) }
@@ -45,7 +46,7 @@ fn read_some<S: Source>(source: &mut S, buffer: &mut [u8]) -> Result<usize, RunF
     Err(RunFault::Reader)
 }
 
-/// All bytes up to the end, of which there are at most `limit`.
+/// Reads all bytes up to the end, at most `limit` of them.
 pub fn read_input<S: Source>(
     alloc: Global,
     source: &mut S,
@@ -81,7 +82,7 @@ fn newline_in(text: &[u8]) -> Option<usize>
     text.iter().position(|b| *b == b'\n')
 }
 
-/// The first line, and the text below its newline, where it has one.
+/// The first line, and the text after its newline, where it has one.
 fn first_line(text: &[u8]) -> (&[u8], Option<&[u8]>)
     ensures { IsFirstLine text.now result.0.now (option_map (λ r. r.now) result.1) }
 {
@@ -91,7 +92,7 @@ fn first_line(text: &[u8]) -> (&[u8], Option<&[u8]>)
     }
 }
 
-/// Whether the line parts the catalogue and the request.
+/// Whether the line separates the catalogue and the request.
 fn is_parting(line: &[u8]) -> bool
     ensures yes { result ≡ true → line.now ≡ parting }
     ensures no { result ≡ false → line.now ≡ parting → ⊥ }

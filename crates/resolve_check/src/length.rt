@@ -1,6 +1,7 @@
-//! How many bytes the text of a report has. `run` asks it before it makes the text.
+//! How many bytes the text of a report has. `run` calls it before it makes the text.
 //!
-//! Each line is made alone, counted and let go. A count stays at the last number of 64 bits.
+//! Each line is made alone, counted and dropped. A count saturates at the largest number of 64
+//! bits.
 
 ghost use Rattle.std.specs.Prelude.{◌≡◌, map, IfOk, codes};
 ghost use Rattle.resolvo_report.specs.Value as says;

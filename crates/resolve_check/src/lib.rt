@@ -1,5 +1,5 @@
-//! What the program `resolve` does without the solver: from the bytes of texts and of a report to those of a verdict, how
-//! standard input is parted, what is written of a text that was not read, and how the program ends.
+//! What the program `resolve` does without the solver. It checks a report, splits standard input,
+//! names the faulty line of a text, and has the statuses and last lines of the program.
 #![tactic(auto)]
 
 pub mod check;

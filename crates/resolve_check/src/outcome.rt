@@ -1,4 +1,4 @@
-//! How a run or a check ends: what was written, or why nothing whole was.
+//! The outcome of a run or a check: what was written, or why no whole text was.
 
 use resolvo_catalogue_core::WriteFault;
 use resolvo_pool_core::want::Want;
@@ -20,7 +20,7 @@ pub enum Outcome {
 pub enum Checked {
     /// The report holds.
     Yes,
-    /// It doesn't, from the line that was written on.
+    /// It doesn't hold, from the line on that was written.
     No,
     /// The first faulty line of the catalogue, or else of the request.
     Faulty,
@@ -33,9 +33,9 @@ pub enum RunFault {
     Reader,
     /// A text has more bytes than a text may have.
     TooLong,
-    /// A growth was refused.
+    /// An allocation was refused.
     Memory,
-    /// A number was refused.
+    /// All numbers are used up.
     Ids,
     /// The writer failed, was interrupted more than 1,000 times in a row, or took no byte.
     Writer,

@@ -1,4 +1,4 @@
-//! What is written of a text that was not read. `run` and `check` ask it.
+//! What to write where a text was not read. `run` and `check` call it.
 
 ghost use Rattle.std.specs.Prelude.{◌≡◌, IfOk, IfErr};
 ghost use Rattle.resolve_check.specs.Texts.{fault_text};
@@ -8,7 +8,7 @@ use crate::outcome::{Outcome, RunFault};
 use resolvo_catalogue_core::ReadFault;
 use std::alloc::{AllocError, Global};
 
-/// What is written: how the run ends, and the text.
+/// The outcome of the run, and the text to write.
 #[derive(Drop)]
 pub struct Written {
     pub outcome: Outcome,
@@ -23,7 +23,7 @@ fn fault_text(alloc: Global, which: &str, line: u32) -> Result<Vec<u8>, AllocErr
     Ok(Vec::from_slice(alloc, text.as_bytes())?)
 }
 
-/// The faulty line of a text.
+/// What to write for a faulty text.
 pub fn faulty(alloc: Global, which: &str, line: u32) -> Result<Written, RunFault>
     ensures ok { IfOk result
         (λ answer.
@@ -36,7 +36,7 @@ pub fn faulty(alloc: Global, which: &str, line: u32) -> Result<Written, RunFault
     })
 }
 
-/// What is written where a text was not read: its faulty line, or nothing.
+/// What to write where a text was not read: its faulty line, or nothing.
 pub fn not_read(alloc: Global, which: &str, fault: ReadFault) -> Result<Written, RunFault>
     ensures { TellsFault fault which.now result }
 {

@@ -1,7 +1,8 @@
-//! The report of the turns of a search: chosen versions with the lines that asked for them, and wishes that are left out.
+//! The install report of the turns of a search: chosen versions with the lines that asked for them,
+//! and wishes that are left out.
 //!
-//! `list` of the crate below decides the order and the lines; here its answers become the lines of a report. Called by
-//! the program, with the turns of the solver over a catalogue's provider.
+//! `list` of the crate below decides the order and the lines; here its answers become the lines of
+//! a report. The program calls it with the turns of the solver over a catalogue's provider.
 
 ghost use Rattle.std.specs.Prelude.{◌≡◌, map, IfOk};
 ghost use Rattle.std.specs.List.{AllByRecursion};
@@ -20,7 +21,7 @@ use resolvo_catalogue_core::{Catalogue, Request, Version, VersionNo};
 use resolvo_report::{AnswerLine, Place, Report, Step};
 use std::alloc::{AllocError, Global};
 
-/// The version of this number. A number of no version gives a version without a name.
+/// The version of this number; one without a name where there is none.
 fn version_at(
     alloc: Global,
     catalogue: &Catalogue,
@@ -40,7 +41,7 @@ fn version_at(
     }
 }
 
-/// What an entry says in a report.
+/// The report line of an entry.
 fn entry_line(alloc: Global, catalogue: &Catalogue, entry: Entry) -> Result<AnswerLine, AllocError>
     ensures says { IfOk result
         (λ line.
@@ -67,7 +68,7 @@ fn entry_line(alloc: Global, catalogue: &Catalogue, entry: Entry) -> Result<Answ
     }
 }
 
-/// What an entry or a wish that is left out says in a report.
+/// The report line of an entry, or of a wish that is left out.
 fn answer_line(
     alloc: Global,
     catalogue: &Catalogue,
@@ -91,7 +92,7 @@ fn answer_line(
     }
 }
 
-/// What answers say in a report.
+/// The report lines of answers.
 fn answer_lines(
     alloc: Global,
     catalogue: &Catalogue,
@@ -111,9 +112,9 @@ fn answer_lines(
     Ok(lines)
 }
 
-/// The report of the turns of a search: each chosen version with the line that asked for it, in listing order, and the
-/// wishes that are left out, each by its step. Where the turns serve the request, it is the install report that a judge
-/// accepts.
+/// The install report of the turns of a search. It lists each chosen version with the line that
+/// asked for it, in listing order. Each wish that is left out has its step. Where the turns serve
+/// the request, it is the install report that a judge accepts.
 pub fn install_report(
     alloc: Global,
     catalogue: &Catalogue,

@@ -1,4 +1,4 @@
-//! The numbers of the versions of solvables. Called by who has the solvables of a search's turns.
+//! The version numbers of solvables. Called with the solvables of a search's turns.
 
 ghost use Rattle.std.specs.Prelude.{◌≡◌, IfOk};
 ghost use Rattle.resolve_install.specs.Numbers.{numbers_of};
@@ -7,7 +7,7 @@ use resolvo_catalogue_core::VersionNo;
 use resolvo_pool_core::id::SolvableId;
 use std::alloc::{AllocError, Global};
 
-/// The numbers of the solvables' versions.
+/// The numbers of the versions that the solvables represent.
 pub fn numbers_of(alloc: Global, chosen: &[SolvableId]) -> Result<Vec<VersionNo>, AllocError>
     ensures { IfOk result (λ numbers. numbers.items ≡ numbers_of chosen.now) }
 {

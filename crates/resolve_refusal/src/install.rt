@@ -1,5 +1,5 @@
-//! Steps of an install report: those of a proof by which wishes are left out, and the step by which a wish is barred
-//! without a search.
+//! Steps of an install report: those of a proof by which wishes are left out, and the step that
+//! bars a wish without a search.
 
 ghost use Rattle.std.specs.Prelude.{IfOk};
 ghost use Rattle.std.specs.Option.{option_map};
@@ -18,8 +18,9 @@ use resolvo_proof::step::ProofStep;
 use resolvo_report::Step;
 use std::alloc::Global;
 
-/// The steps of a proof as an install report has them: each rule by the first line that states it, a need also by
-/// the first of its cases. `Ids` where there are more steps, or more cases of a line, than numbers.
+/// The steps of a proof, written for an install report. Each rule is named by the first line that
+/// states it, a need also by the first of its cases. `Ids` where there are more steps, or more
+/// cases of a line, than numbers.
 pub fn install_steps(
     alloc: Global,
     catalogue: &Catalogue,
@@ -36,20 +37,21 @@ pub fn install_steps(
     if steps.len() > 4_294_967_295 {
         return Err(Want::Ids);
     }
-    // Lines are counted in 32 bits, so each that a step rests on has a number with a text.
+    // Lines are counted in 32 bits, so each line that a step cites has a number that can be
+    // written.
     let _lines = catalogue.line_count();
     let _asked = request.line_count();
     let texts = Texts { catalogue, request };
     write_steps(alloc, texts, provider, steps)
 }
 
-/// The step by which a version is barred before a search: by the lock of another version of its package, else by its
-/// exclusion. None where neither is there.
+/// The step that bars a version before a search: the lock of another version of its package, else
+/// its exclusion. None where there is neither.
 pub fn barring_step(alloc: Global, catalogue: &Catalogue, version: VersionNo) -> R<Option<Step>>
     ensures { IfOk result (λ found. IsBarringStepOf catalogue.now version.0
         (option_map step_of found)) }
 {
-    // What holds of each catalogue: its versions have texts, and its lines are counted in 32 bits.
+    // Facts of each catalogue: its versions have texts, and its lines are counted in 32 bits.
     catalogue.lines_are_in_place();
     let _lines = catalogue.line_count();
     match barred_line(catalogue, version) {

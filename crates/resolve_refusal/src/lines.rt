@@ -1,5 +1,5 @@
-//! The first line of a text that states a rule. The lines of a place are looked through in order, those of the request
-//! or those of a version; where several state the rule, the first one is found.
+//! The first line of a text that states a rule. The lines of a place, the request or a version, are
+//! searched in order. Where several state the rule, the first one is found.
 
 ghost use Rattle.std.specs.Prelude.{◌≡◌, ◌<◌, ℕ, List, IfOk, IfSome, IfNone, Option, Some, None, false, slice_get};
 ghost use Rattle.std.specs.Bool.{Decides};
@@ -28,21 +28,21 @@ pub(crate) struct NeedLine {
     pub case: u32,
 }
 
-/// A line by which a version is barred before a search.
+/// A line that bars a version before a search.
 #[derive(Clone, Copy, Debug)]
 pub(crate) enum BarringLine {
     Lock(u32),
     Exclude(u32),
 }
 
-/// A line by which a version is barred with a word.
+/// A line that bars a version with a word.
 #[derive(Clone, Copy, Debug)]
 pub(crate) enum WordLine {
     Exclude(u32),
     Unknown(u32),
 }
 
-/// The numbers of the lines of a place, rising: all up to this one, or these.
+/// The numbers of the lines of a place, in rising order: all up to this one, or these.
 #[derive(Clone, Copy)]
 enum PlaceLines<'a> {
     UpTo(u32),
@@ -72,7 +72,8 @@ impl PlaceLines<'_> {
 }
 
 impl<'a> Texts<'a> {
-    /// What line `line` of a place states, if it states a rule. The place is a version, or none for the request.
+    /// The rule that line `line` of a place states, if it states one. The place is a version, or
+    /// none for the request.
     fn rule(self, place: Option<VersionNo>, line: u32) -> Option<&'a Rule>
         ensures stated { IfSome result
             (λ r.
@@ -136,7 +137,8 @@ impl<'a> Texts<'a> {
         }
     }
 
-    /// The first line of a place that needs these alternatives in this case, and the first such case of it.
+    /// The first line of a place that needs these alternatives in this case, and the first such
+    /// case of it.
     pub fn need_line(
         self,
         alloc: Global,
@@ -159,7 +161,8 @@ impl<'a> Texts<'a> {
         Ok(None)
     }
 
-    /// The number of the first case of line `line` of a place that is this one, if the line needs these alternatives.
+    /// The number of the first case of line `line` of a place that equals this one, if the line
+    /// needs these alternatives.
     fn case_number(
         self,
         alloc: Global,
@@ -208,7 +211,8 @@ impl<'a> Texts<'a> {
         }
     }
 
-    /// The first line that bars the version with this word: one that excludes it, or one that says that its needs are unknown.
+    /// The first line that bars the version with this word: one that excludes it, or one that marks
+    /// its needs as unknown.
     pub fn word_line(self, version: VersionNo, word: &str) -> Option<WordLine>
         ensures { (v : says.Version)
             → slice_get (listed self.entry.catalogue.now) version.0 ≡ Some v
@@ -219,7 +223,7 @@ impl<'a> Texts<'a> {
         earlier(excludes, unknown)
     }
 
-    /// The first line of a version that says with this word that its needs are unknown.
+    /// The first line of a version that marks its needs as unknown with this word.
     fn unknown_line(self, version: VersionNo, word: &str) -> Option<u32>
         ensures { IsLeast result
             (λ n.
@@ -236,7 +240,7 @@ impl<'a> Texts<'a> {
         None
     }
 
-    /// Whether this line of the catalogue says with this word that something's needs are unknown.
+    /// Whether this line of the catalogue marks a version's needs as unknown with this word.
     fn is_unknown(self, line: u32, word: &str) -> bool
         ensures { Decides result (SaysAt self.entry.catalogue.now (says.Unknown word.now) line) }
     {
@@ -246,7 +250,8 @@ impl<'a> Texts<'a> {
         }
     }
 
-    /// The line that excludes the version with this word. Where a lock bars the version too, it is looked for among all lines.
+    /// The line that excludes the version with this word. Where a lock bars the version too, all
+    /// lines are searched for it.
     fn exclusion_line(self, version: VersionNo, word: &str) -> Option<u32>
         ensures { (v : says.Version)
             → slice_get (listed self.entry.catalogue.now) version.0 ≡ Some v
@@ -341,8 +346,8 @@ pub(crate) fn lock_line(catalogue: &Catalogue, version: VersionNo) -> Option<u32
     }
 }
 
-/// The line that bars the version before a search: one that locks another version of its package, else one that
-/// excludes it.
+/// The line that bars the version before a search: one that locks another version of its package,
+/// else one that excludes it.
 pub(crate) fn barred_line(catalogue: &Catalogue, version: VersionNo) -> Option<BarringLine>
     ensures { IsBarredLineOf catalogue.now version.0 result }
 {
@@ -364,8 +369,8 @@ fn is_lock(catalogue: &Catalogue, line: u32) -> bool
     }
 }
 
-/// The number of the first case of a need, from 1, that is this one, if the need has these alternatives. `Ids` where there
-/// are more cases than numbers.
+/// The number of the first case of a need, from 1, that equals this one, if the need has these
+/// alternatives. `Ids` where there are more cases than numbers.
 fn need_case(alloc: Global, rule: &Rule, alternatives: &[Spec], case: &[Spec]) -> R<Option<u32>>
     ensures { IfOk result
         (λ found.
@@ -386,7 +391,7 @@ fn need_case(alloc: Global, rule: &Rule, alternatives: &[Spec], case: &[Spec]) -
     Ok(Some(place as u32 + 1))
 }
 
-/// The place of the first of these cases that is this one.
+/// The index of the first of these cases that equals this one.
 fn place_of(cases: &[Vec<Spec>], case: &[Spec]) -> Option<usize>
     ensures { IsLeast result (λ k. slice_get (cases_of cases.now) k ≡ Some (specs_of case.now)) }
 {
@@ -438,7 +443,7 @@ fn locks(rule: &Rule) -> bool
     }
 }
 
-/// Whether the rule says with this word that a version's needs are unknown.
+/// Whether the rule marks a version's needs as unknown with this word.
 fn marks_unknown(rule: &Rule, word: &str) -> bool
     ensures { (versions : List says.Version) (owner : Option says.Version) (line : says.Line)
         → States versions rule.now owner line

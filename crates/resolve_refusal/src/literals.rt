@@ -1,5 +1,5 @@
-//! Atoms by their texts, and the literals of a derived clause as a report has them: in the order of their texts,
-//! each once.
+//! Atoms by their texts, and the literals of a derived clause as they are in a report: in the order
+//! of their texts, each once.
 
 ghost use Rattle.std.specs.Prelude.{◌≡◌, IfOk, IsTrue, map};
 ghost use Rattle.resolvo_text.specs.View.{version_of};
@@ -48,7 +48,7 @@ pub(crate) fn sorted_literals(
     Ok(sorted)
 }
 
-/// What an atom is about, in the words of a report.
+/// The atom, in the words of a report.
 fn atom_of(
     alloc: Global,
     catalogue: &Catalogue,
@@ -77,7 +77,7 @@ fn atom_of(
     }
 }
 
-/// The version of a solvable; one of no name where the catalogue lists none.
+/// The version of a solvable; one without a name where the catalogue lists none.
 pub(crate) fn version_of(alloc: Global, catalogue: &Catalogue, solvable: SolvableId) -> R<Version>
     ensures { IfOk result (λ v. version_of v ≡ version_at catalogue.now solvable) }
 {

@@ -1,4 +1,4 @@
-//! The lines that steps rest on.
+//! The lines that steps cite.
 
 ghost use Rattle.std.specs.Prelude.{◌≡◌, ◌<◌, ◌⊎◌, ℕ, IfOk, length, suc};
 ghost use Rattle.resolvo_catalogue_core.specs.Questions.{AreAll};
@@ -16,7 +16,7 @@ pub(crate) enum Text {
     Request,
 }
 
-/// The lines of a text, of this number of lines, that the steps rest on: each once, rising.
+/// The lines that the steps cite, of a text with `count` lines: each once, in rising order.
 pub(crate) fn named_lines(alloc: Global, text: Text, count: u32, steps: &[Step]) -> R<Vec<u32>>
     ensures { IfOk result (λ v. AreAll v.items (IsNamedBy text count (steps_of steps.now))) }
 {
@@ -25,7 +25,7 @@ pub(crate) fn named_lines(alloc: Global, text: Text, count: u32, steps: &[Step])
     Ok(lines)
 }
 
-/// A flag for each line of a text, set where a step rests on the line.
+/// A flag for each line of a text, set where a step cites the line.
 fn flag_lines(alloc: Global, text: Text, count: u32, steps: &[Step]) -> R<Vec<bool>>
     ensures { IfOk result (λ v. AreFlagged text count (steps_of steps.now) v.items) }
 {
@@ -55,7 +55,7 @@ fn flag(flags: &mut Vec<bool>, line: u32)
     }
 }
 
-/// The numbers of the lines whose flags are set, rising.
+/// The numbers of the lines whose flags are set, in rising order.
 fn flagged(alloc: Global, flags: &[bool]) -> R<Vec<u32>>
     requires { length flags.now < 4294967296 }
     ensures { IfOk result (λ v. AreAll v.items (IsFlaggedLine flags.now (length flags.now))) }
@@ -69,7 +69,7 @@ fn flagged(alloc: Global, flags: &[bool]) -> R<Vec<u32>>
     Ok(lines)
 }
 
-/// The line of a text that a step rests on, if it rests on one.
+/// The line of a text that a step cites, if it cites one.
 fn line_in(text: Text, step: &Step) -> Option<u32>
     ensures { result ≡ line_in text (step_of step.now) }
 {

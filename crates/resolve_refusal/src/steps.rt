@@ -1,4 +1,4 @@
-//! Steps of a proof, written as those of a report.
+//! Writes the steps of a proof as those of a report.
 
 ghost use Rattle.std.specs.Prelude.{◌≡◌, ℕ, [], Some, None, IfOk, map};
 ghost use Rattle.std.specs.Option.{option_map};
@@ -24,8 +24,8 @@ use resolvo_proof::step::{ProofRule, ProofStep};
 use resolvo_report::{Place, Step};
 use std::alloc::Global;
 
-/// What steps are written with: the two texts, and the provider of their ids. A rule that no line states is written with
-/// line 0, which no text has.
+/// The context for writing steps: the two texts, and the provider of their ids. A rule that no line
+/// states is written with line 0, which no text has.
 #[derive(Clone, Copy)]
 pub(crate) struct Writing<'a> {
     pub alloc: Global,
@@ -34,7 +34,7 @@ pub(crate) struct Writing<'a> {
 }
 
 impl Writing<'_> {
-    /// The step as a report has it.
+    /// The report's step of a step of the proof.
     pub fn step(self, step: &ProofStep<NameId, SolvableId>) -> R<Step>
         ensures tells { IfOk result
             (λ w.
@@ -153,7 +153,8 @@ impl Writing<'_> {
         Ok(Some(NeedLine { line, case: 1 }))
     }
 
-    /// The first line of a parent that needs the requirement in this case, and the first such case of it.
+    /// The first line of a parent that needs the requirement in this case, and the first such case
+    /// of the line.
     fn need_in_case(
         self,
         parent: Option<SolvableId>,
@@ -266,8 +267,8 @@ impl Writing<'_> {
         Ok(Step::Lock { line, version })
     }
 
-    /// The step that bars a version with the word of a reason, by the first line that does: one that excludes it, or one that
-    /// says that its needs are unknown.
+    /// The step that bars a version with the word of a reason, by the first line that does. The
+    /// line excludes the version, or marks its needs as unknown.
     fn exclusion(self, solvable: SolvableId, reason: StringId) -> Step
         ensures tells { TellsWord self.entry.texts.catalogue.now self.entry.provider.now.ids
             solvable reason (step_of result) }

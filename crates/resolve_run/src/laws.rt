@@ -1,4 +1,5 @@
-//! What an answer of two texts shows, for those who rest on it. Each is a function that does nothing.
+//! Theorems about the answer to two texts, for callers whose proofs need them. Each is a function
+//! that does nothing.
 ghost use Rattle.std.specs.Prelude.{◌≡◌, ◌↔◌, ℕ, List, Option, Some};
 ghost use Rattle.resolvo_text.specs.Line.{Line};
 ghost use Rattle.resolvo_text.specs.Matches.{Set};
@@ -14,15 +15,17 @@ ghost use Rattle.resolve_check.specs.declared.outcome.Outcome.TheVariants.{Fault
 ghost use Rattle.resolve_check.specs.Check.{IsCheck, yes_text};
 ghost use Rattle.resolve_run.specs.Answer.{IsAnswer, IsAnswerOfLines};
 
-/// Of the lines of grammatical texts a run installs exactly if some set of versions keeps the rules of both.
+/// Over the lines of grammatical texts, a run installs exactly if some set of versions keeps the
+/// rules of both.
 pub fn installs_exactly_if_some_set_keeps_the_rules()
     ensures { (catalogue request : List Line) (ended : Outcome) (output : List ℕ)
         → IsAnswerOfLines catalogue request ended output
         → (ended ≡ Installed) ↔ ((set : Set) × IsRuleKeeping catalogue request set) }
 {}
 
-/// The judge accepts each report that a run wrote: over its texts it answers yes, and finds the report neither refused nor too long.
-/// A check writes `yes` for what a run wrote of two texts without a fault.
+/// The judge accepts each report that a run wrote over the same texts. It answers yes, refuses no
+/// line, and doesn't find the report too long. A check writes `yes` for what a run wrote over two
+/// texts without a fault.
 pub fn the_judge_accepts_each_report()
     ensures judged { (catalogue request : List Line) (ended : Outcome) (output : List ℕ) (verdict : Verdict)
         → IsAnswerOfLines catalogue request ended output

@@ -1,4 +1,5 @@
-//! What the program `resolve` does with the solver: from the bytes of two texts to the bytes of a report.
+//! What the program `resolve` does with the solver: it turns the bytes of two texts into those of a
+//! report.
 #![tactic(auto)]
 
 pub mod laws;

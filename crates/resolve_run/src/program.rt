@@ -1,4 +1,5 @@
-//! From the bytes of a catalogue and a request to the bytes of a report. `main` and the tests call `run`.
+//! Turns the bytes of a catalogue and a request into those of a report. `main` and the tests call
+//! `run`.
 
 ghost use Rattle.std.specs.Prelude.{◌≡◌, ◌≤◌, None, length, IfOk, IfErr};
 ghost use Rattle.resolvo_text.specs.Device.{DeviceFailed, WriterFailed};
@@ -25,7 +26,7 @@ use std::alloc::Global;
 /// The most bytes that a report may have, as for the judge.
 const MOST_BYTES: u64 = 1 << 30;
 
-/// How a run ends that writes this report.
+/// The outcome of a run that writes this report.
 fn outcome_of(report: &Report) -> Outcome
     ensures { result ≡ outcome_of (report_of report.now) }
 {
@@ -54,7 +55,7 @@ fn written(alloc: Global, report: &Report) -> Result<Written, RunFault>
     })
 }
 
-/// The same end, of a run that may have a budget.
+/// The same result, of a run that may have a budget.
 fn within(ended: Result<Written, RunFault>) -> Result<Written, RunStop>
     ensures { result ≡ within ended }
 {
@@ -86,7 +87,8 @@ fn report(
     within(written(alloc, &report))
 }
 
-/// What is written for two texts. The catalogue is read to its end first; where it is refused the request isn't read.
+/// What to write for two texts. The catalogue is read to its end first; where it is refused, the
+/// request isn't read.
 fn answer<C: Source, R: Source>(
     alloc: Global,
     catalogue: &mut C,
@@ -119,8 +121,9 @@ fn answer<C: Source, R: Source>(
     report(alloc, &catalogue, &request, budget)
 }
 
-/// The same as `run`, but that it may give up where it has a budget, with nothing written: where the solver asks so many times, and once
-/// more, whether to stop. It asks before each propagation, and before each question about candidates or dependencies that it asked never before.
+/// The same as `run`, except that it may give up where it has a budget, with nothing written. It
+/// gives up where the solver asks more than so many times whether to stop. The solver asks so
+/// before each propagation, and before each new query for candidates or dependencies.
 pub fn run_within<C: Source, R: Source, W: Sink>(
     alloc: Global,
     catalogue: &mut C,
@@ -166,8 +169,8 @@ pub fn run_within<C: Source, R: Source, W: Sink>(
     }
 }
 
-/// Reads the catalogue to its end, then the request, and writes the report, or the first faulty line. The text is whole
-/// before its first byte is written.
+/// Reads the catalogue to its end, then the request, and writes the report, or the first faulty
+/// line. The text is whole before its first byte is written.
 pub fn run<C: Source, R: Source, W: Sink>(
     alloc: Global,
     catalogue: &mut C,

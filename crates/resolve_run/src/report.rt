@@ -1,4 +1,4 @@
-//! The text of a report. `run` builds it before the first write.
+//! The text of a report. `run` builds all of it before the first write.
 
 ghost use Rattle.std.specs.Prelude.{◌≡◌, IfOk};
 ghost use Rattle.resolvo_report.specs.Text.{report_text};

@@ -1,4 +1,4 @@
-//! Why a run that may have a budget ends without its whole text.
+//! Why a run that may have a budget wrote no whole text.
 
 use resolve_answer::stop::Stop;
 use resolve_check::outcome::RunFault;
@@ -6,7 +6,7 @@ use resolve_check::outcome::RunFault;
 /// Why no text was written, or not all of it.
 #[derive(Clone, Copy, Debug, PartialEq, Eq)]
 pub enum RunStop {
-    /// As without a budget.
+    /// A fault, as without a budget.
     Fault(RunFault),
     /// The budget was used up. Nothing was written.
     GivenUp,

@@ -1,5 +1,6 @@
 //! A catalogue: the versions that its lines list, and the rules that they state.
-//! Its model is the list of what its lines say. Read once, then asked by the resolver and the judge.
+//! Its model is the list of its parsed lines. It is read once, then queried by the resolver and the
+//! judge.
 
 ghost use Rattle.std.specs.Prelude.{◌≡◌};
 
@@ -59,14 +60,14 @@ impl Catalogue {
     ghost use Rattle.resolvo_catalogue_core.specs.Questions.{IsOnly, AreAll, IsOfPackage, SaysOf, BelongsTo, States, LineIs, IsFavour, FavoursAt, Bars, is_rule, cases_of_line, number_of};
     ghost use Rattle.resolvo_catalogue_core.specs.Picked.{IsPicked};
 
-    /// What holds of the lines of each catalogue. It does nothing.
+    /// A lemma on the lines of each catalogue; the function does nothing.
     pub fn lines_are_in_place(&self)
         ensures { AreCatalogueLines self.now }
     {
         let _table = &self.table;
     }
 
-    /// The listed versions in line order. The place of a version is its number.
+    /// The listed versions in line order. The index of a version is its number.
     pub fn versions(&self) -> &[(String, u32)]
         ensures listed { pair_versions result.now ≡ listed self.now }
         ensures distinct { AreDistinct (listed self.now) }
@@ -91,14 +92,15 @@ impl Catalogue {
         self.table.listed(version)
     }
 
-    /// The versions of a package. There are none of a package that isn't listed.
+    /// The versions of a package; none where it isn't listed.
     pub fn versions_of(&self, name: &str) -> &[VersionNo]
         ensures { AreAll (map number_of result.now) (IsOfPackage (listed self.now) name.now) }
     {
         self.table.versions_of(name)
     }
 
-    /// The versions of the SPEC's package that it matches, or else those that it doesn't. The others aren't walked.
+    /// The versions of the SPEC's package that it matches; with `outside`, those that it doesn't.
+    /// The others aren't visited.
     pub fn picked(
         &self,
         alloc: Global,
@@ -125,7 +127,8 @@ impl Catalogue {
         self.table.lines_of(version)
     }
 
-    /// The line that bars the version: one that locks another version of its package, or else its `exclude` line.
+    /// The line that bars the version: one that locks another version of its package, or else its
+    /// `exclude` line.
     pub fn barred(&self, version: VersionNo) -> Option<u32>
         ensures { IsOnly result
             (λ n.
@@ -140,7 +143,7 @@ impl Catalogue {
         self.table.said.len() as u32
     }
 
-    /// What the line states, if it states a rule.
+    /// The rule of the line, if it states one.
     pub fn rule(&self, line: u32) -> Option<&Rule>
         ensures stated { IfSome result
             (λ r.
@@ -162,7 +165,8 @@ impl Catalogue {
         }
     }
 
-    /// The cases of a `needs` line; a line without condition has one, which is empty. Other lines have none.
+    /// The cases of a `needs` line; a line without condition has one, which is empty. Other lines
+    /// have none.
     pub fn cases(&self, alloc: Global, line: u32) -> Result<Vec<Vec<Spec>>, AllocError>
         ensures { IfOk result (λ v. cases_of v.items ≡ cases_of_line (line_at self.now line)) }
     {
@@ -182,7 +186,8 @@ impl Catalogue {
         &self.table.favours
     }
 
-    /// Reads a catalogue. There is none where its text has a faulty line, or where the device fails.
+    /// Reads a catalogue. There is none where its text has a faulty line, or where the device
+    /// fails.
     pub fn read<S: Source>(alloc: Global, source: &mut S) -> Result<Self, ReadFault>
         ensures ok { IfOk result
             (λ catalogue.

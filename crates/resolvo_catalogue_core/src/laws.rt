@@ -1,4 +1,5 @@
-//! Laws of the two grammars, for those who rest on them. Each is a function that does nothing.
+//! Laws of the two grammars, for callers whose proofs need them. Each is a function that does
+//! nothing.
 
 ghost use Rattle.std.specs.Prelude.{◌≡◌, ℕ, List};
 ghost use Rattle.resolvo_text.specs.Line.{Line};

@@ -1,5 +1,5 @@
-//! What each line says, with the rules apart: a line that states none takes little room.
-//! `said_list` is the list of what the lines say. Used by `table`.
+//! The parsed lines, with the rules in a list of their own: a line that states none takes little
+//! memory. The model is `said_list`, the list of the parsed lines. Used by `table`.
 
 ghost use Rattle.std.specs.Prelude.{◌≡◌, ◌++◌, ◌∷◌, [], length, true, OnOk, option_and_then, option_copied, slice_get};
 ghost use Rattle.resolvo_catalogue_core.specs.Held.{is_held, are_held, held_at, said_in, said_list, said_at, rule_of};
@@ -8,7 +8,7 @@ ghost use Rattle.resolvo_catalogue_core.specs.declared.line_table.LineKind.TheVa
 use crate::rule::{Rule, VersionNo};
 use std::alloc::{AllocError, Global};
 
-/// What one line says.
+/// A parsed line.
 #[derive(Debug, Drop)]
 pub enum LineKind {
     Nothing,
@@ -17,7 +17,7 @@ pub enum LineKind {
     Rule(Rule),
 }
 
-/// What is held of a line: of a rule, its place among the rules.
+/// What is stored for a line: for a rule, its index among the rules.
 #[derive(Clone, Copy, Debug)]
 pub enum StoredLine {
     Nothing,
@@ -50,7 +50,7 @@ impl LineTable {
         self.held.len()
     }
 
-    /// One more line.
+    /// Adds a line.
     pub fn push(&mut self, said: LineKind) -> Result<(), AllocError>
         ensures { OnOk result
             (said_list self.new.rules.items self.new.held.items
@@ -89,7 +89,7 @@ impl LineTable {
         Ok(())
     }
 
-    /// What is held of the line of this number, from 1.
+    /// What is stored for the line of this number, from 1.
     fn held_at(&self, line: u32) -> Option<&StoredLine>
         ensures { option_copied result ≡ held_at self.now.held.items line }
     {

@@ -1,5 +1,6 @@
-//! The lines that belong to each version, one list after the other: a line belongs to the version that was listed last.
-//! The model is a list of lines for each version. Used by `table`.
+//! The lines that belong to each version, one list after the other. A line belongs to the last
+//! version that was listed before it. The model is a list of lines for each version. Used by
+//! `table`.
 
 ghost use Rattle.std.specs.Prelude.{◌≡◌, ℕ, ◌+◌, [], ◌∷◌, ◌++◌, ◌==◌, if◌then◌else◌, length, OnOk};
 ghost use Rattle.resolvo_catalogue_core.specs.LinesByVersion.{kept_of};
@@ -42,7 +43,7 @@ impl LinesByVersion {
         }
     }
 
-    /// The lines of a version. There are none of a number that no version has.
+    /// The lines of a version; none of a number that no version has.
     pub fn lines_of(&self, version: VersionNo) -> &[u32]
         ensures { result.now ≡ kept_of self.now version.0 }
     {
@@ -52,7 +53,7 @@ impl LinesByVersion {
         }
     }
 
-    /// One more version, without lines.
+    /// Adds a version, without lines.
     pub fn add_version(&mut self) -> Result<(), AllocError>
         ensures { OnOk result (self.new ≡ self.old ++ [] ∷ []) }
     {
@@ -61,7 +62,7 @@ impl LinesByVersion {
         Ok(())
     }
 
-    /// One more line of the version that was added last.
+    /// Adds a line to the version that was added last.
     pub fn add_line(&mut self, version: VersionNo, line: u32) -> Result<(), AllocError>
         requires { version.0 + 1 ≡ length self.old }
         ensures same { OnOk result (length self.new ≡ length self.old) }

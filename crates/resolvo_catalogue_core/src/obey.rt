@@ -1,5 +1,6 @@
-//! Whether a set of versions, told by their numbers, obeys a rule.
-//! The set is seen as its members among the listed versions. Asked by `keeps` of catalogue and request.
+//! Whether a set of versions, given by their numbers, obeys a rule.
+//! The model of the set is its members among the listed versions. Used by `keeps` of catalogue and
+//! request.
 
 ghost use Rattle.std.specs.Prelude.{◌≡◌, ◌==◌, ◌||◌, ◌<◌, not, length, slice_get, Some, None, Option, List, true, false};
 ghost use Rattle.std.specs.List.{list_any, list_all};

@@ -1,6 +1,7 @@
 //! The versions of a package, in line order and by their numbers.
-//! Most catalogues list them from the least number on: as long as they rise, they are sought among themselves, and only where one
-//! comes that is not above the last is a map made. Used by `table`.
+//! Most catalogues list them in rising order, so they are found by binary search while they rise. A
+//! map is made only when a version is added whose number is not above the last one. Used by
+//! `table`.
 
 ghost use Rattle.std.specs.Prelude.{◌≡◌, ℕ, [], None, Some, IsTrue, IfOk, OnOk, length, not, is_some, slice_get, true, false};
 ghost use Rattle.std.specs.BTreeMap.{get};
@@ -56,7 +57,7 @@ impl Package {
         }
     }
 
-    /// Adds the versions whose numbers lie between the bounds.
+    /// Adds the versions whose numbers are between the bounds.
     fn add_between(
         &self,
         start: Bound<u32>,
@@ -96,7 +97,7 @@ impl Package {
         }
     }
 
-    /// The versions whose numbers the span has, or else those whose numbers it hasn't.
+    /// The versions whose numbers are in the span; with `outside`, the others.
     pub fn picked(
         &self,
         alloc: Global,
@@ -110,7 +111,7 @@ impl Package {
     {
         let mut out = BTreeSet::new(alloc);
         self.add_picked(span, outside, &mut out)?;
-        // The proof rests on what this says: the set is in order.
+        // The proof needs the invariant that this call gives: the set is in order.
         let _count = out.len();
         Ok(out)
     }
@@ -157,7 +158,7 @@ impl Package {
         }
     }
 
-    /// Adds a version, if the package has none of this number; whether it was added.
+    /// Adds a version, if the package has none of this number; returns whether it was added.
     pub fn add(&mut self, number: u32, version: VersionNo) -> Result<bool, AllocError>
         requires { IsNumbered self.old }
         ensures new { IfOk result
@@ -177,7 +178,7 @@ impl Package {
         Ok(true)
     }
 
-    /// Whether the numbers rise, and go on rising with this one.
+    /// Whether the numbers rise, and still rise with this one.
     fn goes_on(&self, number: u32) -> bool
         requires { IsNumbered self.now }
         ensures unmapped { IsTrue result → self.now.by_number ≡ None }
@@ -192,7 +193,7 @@ impl Package {
         }
     }
 
-    /// Adds a version whose number is above the others, which rise.
+    /// Adds a version whose number is above all others, which rise.
     fn push(&mut self, number: u32, version: VersionNo) -> Result<(), AllocError>
         requires numbered { IsNumbered self.old }
         requires unmapped { self.old.by_number ≡ None }
@@ -204,7 +205,8 @@ impl Package {
         Ok(())
     }
 
-    /// The map, which is made where there is none. It is to be put back with what comes to it.
+    /// Takes the map, which is made where there is none. The caller puts it back with its
+    /// additions.
     fn take_map(&mut self) -> Result<BTreeMap<u32, VersionNo>, AllocError>
         requires { IsNumbered self.old }
         ensures map { IfOk result (λ map. IsSought (Some map) self.old.numbers.items self.old.versions.items) }
@@ -220,7 +222,7 @@ impl Package {
         }
     }
 
-    /// Adds a version of a new number, which may be any: it goes to the map, which is made where there is none.
+    /// Adds a version of any new number to the map, which is made where there is none.
     fn map(&mut self, number: u32, version: VersionNo) -> Result<(), AllocError>
         requires numbered { IsNumbered self.old }
         requires new { beside self.old.numbers.items self.old.versions.items number ≡ None }
@@ -235,7 +237,7 @@ impl Package {
     }
 }
 
-/// The version beside a number, where the numbers rise.
+/// The version at the index of a number, where the numbers rise.
 fn version_beside(numbers: &[u32], versions: &[VersionNo], number: u32) -> Option<VersionNo>
     requires paired { length numbers.now ≡ length versions.now }
     requires rising { AreRising numbers.now }

@@ -1,5 +1,5 @@
-//! The versions of a package whose numbers a span has, or hasn't. Those that aren't picked are not walked.
-//! Used by `package`.
+//! The versions of a package whose numbers are in a span, or aren't. Those that aren't picked are
+//! not visited. Used by `package`.
 
 ghost use Rattle.std.specs.Prelude.{◌≡◌, ℕ, ◌<◌, ◌≤◌, ◌||◌, ◌==◌, not, nat_lt, slice_index_or, length, OnOk};
 ghost use Rattle.std.specs.List.{list_any};
@@ -38,7 +38,7 @@ fn is_past(end: Bound<u32>, number: u32) -> bool
     }
 }
 
-/// Adds the versions at these places.
+/// Adds the versions at the indexes from `first` to below `last`.
 fn add_places(
     versions: &[VersionNo],
     first: usize,
@@ -55,7 +55,7 @@ fn add_places(
     Ok(())
 }
 
-/// The place of the first number that isn't below the start. The numbers rise.
+/// The index of the first number that isn't below the start. The numbers rise.
 fn first_from(numbers: &[u32], start: Bound<u32>) -> usize
     requires { AreRising numbers.now }
     ensures within { result ≤ length numbers.now }
@@ -66,7 +66,7 @@ fn first_from(numbers: &[u32], start: Bound<u32>) -> usize
     numbers.partition_point(|number| !is_from(start, *number))
 }
 
-/// The place behind the last number that isn't past the end. The numbers rise.
+/// The index after the last number that isn't past the end. The numbers rise.
 fn past_last(numbers: &[u32], end: Bound<u32>) -> usize
     requires { AreRising numbers.now }
     ensures within { result ≤ length numbers.now }
@@ -77,7 +77,7 @@ fn past_last(numbers: &[u32], end: Bound<u32>) -> usize
     numbers.partition_point(|number| !is_past(end, *number))
 }
 
-/// Adds the versions whose numbers, which rise, lie between the bounds.
+/// Adds the versions whose numbers, which rise, are between the bounds.
 pub fn add_rising(
     numbers: &[u32],
     versions: &[VersionNo],
@@ -99,7 +99,7 @@ pub fn add_rising(
     Ok(())
 }
 
-/// Adds the versions of a map whose numbers lie between the bounds.
+/// Adds the versions of a map whose numbers are between the bounds.
 pub fn add_mapped(
     map: &BTreeMap<u32, VersionNo>,
     start: Bound<u32>,

@@ -1,5 +1,6 @@
 //! A request: needs and limits that always bind, and wishes for versions of a catalogue.
-//! Its model is what its lines say, with the numbers of the wished versions. Read once, then asked.
+//! Its model is the list of its parsed lines, with the numbers of the wished versions. It is read
+//! once, then queried.
 
 use crate::catalogue::{Catalogue, MOST_BYTES};
 use crate::obey;
@@ -59,7 +60,7 @@ impl Request {
         self.asks.asks.len() as u32
     }
 
-    /// What the line states, if it states a rule.
+    /// The rule of the line, if it states one.
     pub fn rule(&self, line: u32) -> Option<&Rule>
         ensures stated { IfSome result
             (λ r.
@@ -72,7 +73,8 @@ impl Request {
         self.asks.rule(line)
     }
 
-    /// Whether the set of these versions of the catalogue obeys the line. A line that states no rule is obeyed.
+    /// Whether the set of these versions of the catalogue obeys the line. A line that states no
+    /// rule is obeyed.
     pub fn keeps(&self, catalogue: &Catalogue, line: u32, set: &[VersionNo]) -> bool
         ensures { result ≡ keeps_in_request self.now.lines line (members (listed catalogue.now) set.now) }
     {
@@ -82,7 +84,8 @@ impl Request {
         }
     }
 
-    /// The cases of a `needs` line; a line without condition has one, which is empty. Other lines have none.
+    /// The cases of a `needs` line; a line without condition has one, which is empty. Other lines
+    /// have none.
     pub fn cases(&self, alloc: Global, line: u32) -> Result<Vec<Vec<Spec>>, AllocError>
         ensures { IfOk result (λ v. cases_of v.items ≡ cases_of_line (line_at self.now.lines line)) }
     {
@@ -92,7 +95,7 @@ impl Request {
         }
     }
 
-    /// The version that the line wishes, if it wishes one.
+    /// The version that the line wishes for, if it is a wish.
     pub fn wish(&self, line: u32) -> Option<&Version>
         ensures { option_map version_of (option_copied result) ≡ wished_in (line_at self.now.lines line) }
     {

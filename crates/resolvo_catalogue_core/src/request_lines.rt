@@ -1,5 +1,6 @@
-//! The lines of a request as they are kept, and its wishes.
-//! The model is the list of lines, `asked_lines`; `AreAsks` says that map and wishes fit it. Used by `request`.
+//! The stored lines of a request, and its wishes.
+//! The model is the list of lines, `asked_lines`; `AreAsks` is the invariant that map and wishes
+//! agree with it. Used by `request`.
 
 ghost use Rattle.std.specs.Prelude.{◌≡◌, ℕ, ◌+◌, ◌∷◌, ◌++◌, [], option_and_then, option_copied, length, is_some, slice_get, OnOk, IfOk, OnErr, Contains, Err, Some, List};
 ghost use Rattle.std.specs.BTreeMap.{get};
@@ -16,7 +17,7 @@ use resolvo_text::{Cond, Line, LineFault, Spec, Version, line_in};
 use std::alloc::Global;
 use std::collections::BTreeMap;
 
-/// What one line asks.
+/// A parsed line of a request.
 #[derive(Debug, Drop)]
 pub enum RequestLine {
     Nothing,
@@ -27,7 +28,7 @@ pub enum RequestLine {
 pub struct RequestLines {
     pub asks: Vec<RequestLine>,
     pub wishes: Vec<(u32, VersionNo)>,
-    /// The line that wishes the version.
+    /// The line that wishes for the version.
     pub wished: BTreeMap<u32, u32>,
 }
 
@@ -74,7 +75,7 @@ impl RequestLines {
         }
     }
 
-    /// The version that the line wishes, if it wishes one.
+    /// The version that the line wishes for, if it is a wish.
     pub fn wished_at(&self, line: u32) -> Option<&Version>
         ensures { option_copied result ≡ option_and_then wish_asked (ask_at self.now.asks.items line) }
     {
@@ -153,7 +154,7 @@ impl RequestLines {
         Ok(())
     }
 
-    /// Adds the line of this number, if it may stand below those that are kept.
+    /// Adds the line of this number, if it may follow the stored ones.
     fn add(&mut self, catalogue: &Catalogue, number: u32, line: Line) -> Result<(), LineFault>
         requires asks { AreAsks (listed catalogue.now) self.old }
         requires number { number ≡ length (asked_lines self.old) + 1 }
@@ -179,7 +180,7 @@ impl RequestLines {
         }
     }
 
-    /// Adds what the text of a line says.
+    /// Parses the text of a line, and adds the line.
     pub fn read_line(
         &mut self,
         alloc: Global,

@@ -1,4 +1,4 @@
-//! What a line of a catalogue or a request states, with versions by their numbers.
+//! The rule that a line of a catalogue or a request states, with versions by their numbers.
 //! Made by the readers of `table` and `request`; read by all who ask for `rule`.
 
 ghost use Rattle.std.specs.Prelude.{◌≡◌, Option, List, Some, IfOk};
@@ -46,7 +46,7 @@ impl Rule {
     ghost use Rattle.resolvo_catalogue_core.specs.Questions.{States, cases_of_line};
     ghost use Rattle.resolvo_catalogue_core.specs.Table.{is_lock_of_another};
 
-    /// The cases of a need. Another rule has none.
+    /// The cases of a need; another rule has none.
     pub fn cases(&self, alloc: Global) -> Result<Vec<Vec<Spec>>, AllocError>
         ensures { IfOk result
             (λ v.

@@ -1,5 +1,6 @@
-//! The lines of a catalogue as they are kept, and the maps by which questions are answered.
-//! The model is the list of lines, `lines_in`; `IsTable` says that the maps fit it. Used by `catalogue`.
+//! The stored lines of a catalogue, and the maps by which queries are answered.
+//! The model is the list of lines, `lines_in`; `IsTable` is the invariant that the maps agree with
+//! it. Used by `catalogue`.
 
 ghost use Rattle.std.specs.Prelude.{◌≡◌, ℕ, ◌+◌, ◌<◌, ◌==◌, ◌∷◌, ◌++◌, [], if◌then◌else◌, not, option_map, option_and_then, option_copied, map, is_some, length, slice_get, Contains, IsTrue, OnOk, OnErr, IfOk, Err, Some, None, List, true, false};
 ghost use Rattle.std.specs.BTreeMap.{get, get_by_text};
@@ -59,7 +60,7 @@ impl Drop for Table {
     }
 }
 
-/// Adds a version to those of its package, if it isn't listed; whether it was added.
+/// Adds a version to those of its package, if it isn't listed; returns whether it was added.
 fn add_version(
     packages: &mut BTreeMap<String, Package>,
     alloc: Global,
@@ -128,7 +129,7 @@ impl Table {
         }
     }
 
-    /// The versions of the SPEC's package that it matches, or else those that it doesn't.
+    /// The versions of the SPEC's package that it matches; with `outside`, those that it doesn't.
     pub fn picked(
         &self,
         alloc: Global,
@@ -437,7 +438,7 @@ impl Table {
         Ok(())
     }
 
-    /// Adds the line of this number, if it may stand below those of the table.
+    /// Adds the line of this number, if it may follow those of the table.
     pub fn add(&mut self, alloc: Global, number: u32, line: Line) -> Result<(), LineFault>
         requires table { IsTable self.old }
         requires number { number ≡ length (lines_in self.old) + 1 }
@@ -463,7 +464,7 @@ impl Table {
         }
     }
 
-    /// Adds what the text of a line says.
+    /// Parses the text of a line, and adds the line.
     pub fn read_line(&mut self, alloc: Global, number: u32, text: &[u8]) -> Result<(), LineFault>
         requires table { IsTable self.old }
         requires number { number ≡ length (lines_in self.old) + 1 }

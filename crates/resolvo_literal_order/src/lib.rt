@@ -1,4 +1,5 @@
-//! The order of the literals of a clause in a report: their texts rise in byte order, and no atom stands twice.
+//! The order of the literals of a clause in a report: their texts rise in byte order, and no atom
+//! is named twice.
 //!
 //! So one clause has one spelling. The reader of reports asks `are_in_order` of each clause.
 #![tactic(auto)]

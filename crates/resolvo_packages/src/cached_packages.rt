@@ -32,7 +32,7 @@ impl<D: DependencyProvider> Model for CachedPackages<D> {
 }
 
 impl<D: DependencyProvider> CachedPackages<D> {
-    /// The answers of a provider that was asked nothing yet.
+    /// An empty cache over a provider.
     pub fn new(alloc: Global, provider: D) -> CachedPackages<D>
         ensures { result ≡ provider }
     {
@@ -163,7 +163,7 @@ impl<D: DependencyProvider> PackageSource for CachedPackages<D> {
     }
 }
 
-/// The same dependencies again.
+/// A copy of the dependencies.
 fn copy_of(alloc: Global, found: &Dependencies) -> R<Dependencies>
     ensures { IfOk result (λ d. needs_of d ≡ needs_of found.now) }
 {
@@ -176,7 +176,7 @@ fn copy_of(alloc: Global, found: &Dependencies) -> R<Dependencies>
     }
 }
 
-/// What its lock and its exclusions keep out of a package.
+/// The candidates that the package's lock and exclusions forbid.
 fn bars_of<S: Copy + Exact + Hash + Debug>(
     alloc: Global,
     found: &Candidates<S>,
@@ -188,7 +188,7 @@ fn bars_of<S: Copy + Exact + Hash + Debug>(
     Ok(barred)
 }
 
-/// The candidates that a lock keeps out.
+/// The candidates that a lock forbids.
 fn barred_by<S: Copy + Exact + Hash + Debug>(
     alloc: Global,
     lock: Option<S>,
@@ -212,7 +212,7 @@ fn barred_by<S: Copy + Exact + Hash + Debug>(
     Ok(barred)
 }
 
-/// Puts what is excluded behind the others.
+/// Appends the excluded candidates.
 fn add_excluded<S: Copy + Exact + Hash + Debug>(
     barred: &mut Vec<Barred<S>>,
     excluded: &[(S, StringId)],

@@ -1,5 +1,5 @@
-//! What the encoder asks of packages, each asked for once: candidates, dependencies, forbidden
-//! versions; no part of CDCL itself. In resolvo: `src/solver/cache.rs`, as `src/solver/encoding.rs`
+//! The encoder's queries about packages, each cached: candidates, dependencies, forbidden versions.
+//! It is no part of CDCL itself. In resolvo: `src/solver/cache.rs`, as `src/solver/encoding.rs`
 //! calls it.
 #![tactic(auto)]
 

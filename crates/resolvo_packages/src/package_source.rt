@@ -1,4 +1,4 @@
-//! What a solver asks of packages, answered by value.
+//! A solver's queries about packages, answered by value.
 ghost use Rattle.std.specs.Prelude.{◌≡◌, List, IfOk, IfErr, map};
 ghost use Rattle.resolvo_pool_core.specs.Provider.{needs_of};
 ghost use Rattle.resolvo_pool.specs.Cached.{IsCancelledBy};
@@ -24,42 +24,42 @@ pub struct Offered<N, S> {
     pub name: N,
 }
 
-/// Why a solvable is kept out of its package.
+/// Why a solvable is forbidden.
 #[derive(Clone, Copy, Debug)]
 pub enum Why<S> {
-    /// Another one of its package is locked.
+    /// Another solvable of its package is locked.
     Locked { locked: S },
     /// It is excluded, for this reason.
     Excluded { reason: StringId },
 }
 
-/// A solvable that a lock or an exclusion keeps out of its package.
+/// A solvable that a lock or an exclusion forbids.
 #[derive(Clone, Copy, Debug)]
 pub struct Barred<S> {
     pub solvable: S,
     pub why: Why<S>,
 }
 
-/// Answers to a solver's questions of packages. Each question is answered with the same value whenever it is
-/// asked; any question may be cancelled.
+/// Answers to a solver's queries about packages. Each query has the same answer whenever it is
+/// asked; any query may be cancelled.
 pub trait PackageSource {
     type NameId: Copy + Exact + Hash + Debug;
 
     type SolvableId: Copy + Exact + Hash + Debug;
 
-    /// What is handed out where a question is cancelled.
+    /// The value that is returned where a query is cancelled.
     type Cancel;
 
-    /// What the answers say of the packages.
+    /// The packages that the answers describe.
     ghost packages: { Self → Packages Self.NameId Self.SolvableId };
 
     /// In which orders the candidates of a requirement may be tried.
     ghost orders: { Self → Requirement → List Self.SolvableId → Type 0 };
 
-    /// With which values a question may be cancelled.
+    /// With which values a query may be cancelled.
     ghost may_cancel: { Self → Self.Cancel → Type 0 };
 
-    /// Tells that the solver shall stop, if it shall.
+    /// Fails with the value of the cancellation where the solver shall stop.
     fn check(&self) -> Result<(), CacheFault<Self::Cancel>>
         ensures cancelled { IfErr result (IsCancelledBy (may_cancel self.now)) };
 
@@ -94,11 +94,12 @@ pub trait PackageSource {
     fn set_package(&self, version_set: VersionSetId) -> Self::NameId
         ensures { result ≡ (packages self.now).set_package version_set };
 
-    /// The cases of a condition, in order. It holds exactly if all version sets of some case are met.
+    /// The cases of a condition, in order. It holds exactly if all version sets of some case are
+    /// met.
     fn cases(&self, condition: ConditionId) -> R<Vec<Vec<VersionSetId>>>
         ensures { IfOk result (λ v. cases_of v.items ≡ cases (packages self.now).condition_of condition) };
 
-    /// What locks and exclusions keep out of a package.
+    /// The solvables of a package that locks and exclusions forbid.
     fn barred(
         &mut self,
         name: Self::NameId,
@@ -116,7 +117,8 @@ pub trait PackageSource {
         ensures outside { IfOk result (λ v. AreOutside Self.SolvableId.eq (packages self.old) version_set v.items) }
         ensures cancelled { IfErr result (IsCancelledBy (may_cancel self.old)) };
 
-    /// Whether a solvable's dependencies are at hand. It decides when they are asked for, not what they are.
+    /// Whether a solvable's dependencies are at hand. It decides when they are asked for, not what
+    /// they are.
     fn are_dependencies_available_for(&self, solvable: Self::SolvableId) -> bool;
 
     /// A condition's operands have smaller ids, and candidates have the name of their package.

@@ -1,9 +1,9 @@
 //! A provider's answers, each asked for once.
-//! The model is the provider with the keys whose answers are kept, and the sorted lists; what is
-//! kept at a key is the provider's answer. The solver asks the provider through it alone. Each
-//! answer comes by two calls, one that sees to it that the answer is kept and one that looks; the
-//! `get_or_cache` calls are both in one. Which solvables kept candidates hint is kept as a set, so
-//! that whether one is hinted is one look-up.
+//! The model is the provider with the keys whose answers are cached, and the sorted lists; the
+//! value at a key is the provider's answer. The solver asks the provider through it alone. Each
+//! answer takes two calls: one makes sure that it is cached, the other reads it. The `get_or_cache`
+//! calls do both. The solvables that cached candidates hint are kept as a set, so that whether one
+//! is hinted is one look-up.
 ghost use Rattle.std.specs.Prelude.{◌≡◌, ◌||◌, ◌&&◌, [], ◌∷◌, true, false, not, All, None, Some, List, IfOk, IfErr, IsErrOf, IsOk, IsOkUnless, OnErr, OnOk, ⊤, IfSome, length, position, ◌<◌};
 ghost use Rattle.std.specs.List.{flat_map};
 ghost use Rattle.std.specs.Map.{lookup};
@@ -29,7 +29,7 @@ use thiserror::Error;
 /// Why a question to the cache has no answer.
 #[derive(Debug, Drop, Error)]
 pub enum CacheFault<C> {
-    /// A growth was refused.
+    /// An allocation was refused.
     #[error("no memory")]
     Memory,
     /// The provider's ids are used up.
@@ -114,7 +114,7 @@ impl<D: DependencyProvider> Model for SolverCache<D> {
 }
 
 impl<D: DependencyProvider> SolverCache<D> {
-    /// A cache that has asked nothing.
+    /// An empty cache.
     #[tactic(auto, using(crate::proofs::HintedLemmas::hinted_none))]
     pub fn new(alloc: Global, provider: D) -> SolverCache<D>
         ensures { result
@@ -141,14 +141,14 @@ impl<D: DependencyProvider> SolverCache<D> {
         &self.provider
     }
 
-    /// Whether the candidates of a package are kept.
+    /// Whether the candidates of a package are cached.
     pub fn has_candidates(&self, name: D::NameId) -> bool
         ensures { result ≡ among D.NameId.eq self.now.names name }
     {
         self.lists.contains_key(&name)
     }
 
-    /// The kept candidates of a package.
+    /// The cached candidates of a package.
     pub fn candidates(&self, name: D::NameId) -> &Candidates<D::SolvableId>
         requires { among D.NameId.eq self.now.names name ≡ true }
         ensures { listing result.now ≡ listing_or_empty (D.candidates_of self.now.provider name) }
@@ -159,7 +159,7 @@ impl<D: DependencyProvider> SolverCache<D> {
         }
     }
 
-    /// Sees to it that the candidates of a package are kept.
+    /// Makes sure that the candidates of a package are cached.
     pub fn cache_candidates(&mut self, name: D::NameId) -> Result<(), CacheFault<D::Cancel>>
         ensures there { OnOk result (among D.NameId.eq self.new.names name ≡ true) }
         ensures cached { among D.NameId.eq self.old.names name ≡ true → IsOk result × (self.new ≡ self.old) }
@@ -175,7 +175,7 @@ impl<D: DependencyProvider> SolverCache<D> {
         self.ask_candidates(name)
     }
 
-    /// Asks for the candidates of a package, and keeps them.
+    /// Asks for the candidates of a package, and caches them.
     fn ask_candidates(&mut self, name: D::NameId) -> Result<(), CacheFault<D::Cancel>>
         ensures there { OnOk result (among D.NameId.eq self.new.names name ≡ true) }
         ensures extends { Extends D.NameId.eq D.SolvableId.eq self.old self.new }
@@ -208,14 +208,14 @@ impl<D: DependencyProvider> SolverCache<D> {
         Ok(self.candidates(name))
     }
 
-    /// Whether the candidates of a version set's package that match it are kept.
+    /// Whether the candidates of a version set's package that match it are cached.
     pub fn has_matching_candidates(&self, version_set: VersionSetId) -> bool
         ensures { result ≡ among same_set self.now.matching version_set }
     {
         self.matching.contains_key(&version_set)
     }
 
-    /// The kept candidates of a version set's package that match it.
+    /// The cached candidates of a version set's package that match it.
     pub fn matching_candidates(&self, version_set: VersionSetId) -> &[D::SolvableId]
         requires { among same_set self.now.matching version_set ≡ true }
         ensures { result.now
@@ -228,7 +228,7 @@ impl<D: DependencyProvider> SolverCache<D> {
         }
     }
 
-    /// Sees to it that the candidates of a version set's package that match it are kept.
+    /// Makes sure that the candidates of a version set's package that match it are cached.
     pub fn cache_matching_candidates(
         &mut self,
         version_set: VersionSetId,
@@ -251,7 +251,7 @@ impl<D: DependencyProvider> SolverCache<D> {
         Ok(())
     }
 
-    /// Filters the kept candidates of a version set's package, and keeps those that match it.
+    /// Filters the cached candidates of a version set's package, and caches those that match it.
     fn keep_matching(&mut self, version_set: VersionSetId) -> R<()>
         requires { among D.NameId.eq self.old.names (D.name_of_version_set self.old.provider version_set)
             ≡ true }
@@ -285,14 +285,14 @@ impl<D: DependencyProvider> SolverCache<D> {
         Ok(self.matching_candidates(version_set))
     }
 
-    /// Whether the candidates of a version set's package that don't match it are kept.
+    /// Whether the candidates of a version set's package that don't match it are cached.
     pub fn has_non_matching_candidates(&self, version_set: VersionSetId) -> bool
         ensures { result ≡ among same_set self.now.non_matching version_set }
     {
         self.non_matching.contains_key(&version_set)
     }
 
-    /// The kept candidates of a version set's package that don't match it.
+    /// The cached candidates of a version set's package that don't match it.
     pub fn non_matching_candidates(&self, version_set: VersionSetId) -> &[D::SolvableId]
         requires { among same_set self.now.non_matching version_set ≡ true }
         ensures { result.now
@@ -305,7 +305,7 @@ impl<D: DependencyProvider> SolverCache<D> {
         }
     }
 
-    /// Sees to it that the candidates of a version set's package that don't match it are kept.
+    /// Makes sure that the candidates of a version set's package that don't match it are cached.
     pub fn cache_non_matching_candidates(
         &mut self,
         version_set: VersionSetId,
@@ -327,7 +327,8 @@ impl<D: DependencyProvider> SolverCache<D> {
         Ok(())
     }
 
-    /// Filters the kept candidates of a version set's package, and keeps those that don't match it.
+    /// Filters the cached candidates of a version set's package, and caches those that don't match
+    /// it.
     fn keep_non_matching(&mut self, version_set: VersionSetId) -> R<()>
         requires { among D.NameId.eq self.old.names (D.name_of_version_set self.old.provider version_set)
             ≡ true }
@@ -360,7 +361,8 @@ impl<D: DependencyProvider> SolverCache<D> {
         Ok(self.non_matching_candidates(version_set))
     }
 
-    /// What the provider keeps of the kept candidates of a version set's package.
+    /// The cached candidates of a version set's package that match it; with `inverse`, those that
+    /// don't.
     fn filtered(&self, version_set: VersionSetId, inverse: bool) -> R<Vec<D::SolvableId>>
         requires { among D.NameId.eq self.now.names (D.name_of_version_set self.now.provider version_set)
             ≡ true }
@@ -382,7 +384,7 @@ impl<D: DependencyProvider> SolverCache<D> {
         )
     }
 
-    /// Whether the sorted candidates of a requirement are kept.
+    /// Whether the sorted candidates of a requirement are cached.
     pub fn has_sorted_candidates(&self, requirement: Requirement) -> bool
         ensures { result ≡ has_sorted self.now requirement }
     {
@@ -392,7 +394,7 @@ impl<D: DependencyProvider> SolverCache<D> {
         }
     }
 
-    /// The kept sorted candidates of a requirement.
+    /// The cached sorted candidates of a requirement.
     pub fn sorted_candidates(&self, requirement: Requirement) -> &[D::SolvableId]
         requires { has_sorted self.now requirement ≡ true }
         ensures in_order { result.now
@@ -411,7 +413,7 @@ impl<D: DependencyProvider> SolverCache<D> {
         }
     }
 
-    /// The kept sorted candidates of a version set.
+    /// The cached sorted candidates of a version set.
     fn sorted_of_set(&self, version_set: VersionSetId) -> &[D::SolvableId]
         requires { is_sorted self.now.sorted version_set ≡ true }
         ensures kept { lookup (same_set version_set) self.now.sorted ≡ Some result.now }
@@ -429,7 +431,7 @@ impl<D: DependencyProvider> SolverCache<D> {
         }
     }
 
-    /// The kept sorted candidates of a union.
+    /// The cached sorted candidates of a union.
     fn sorted_of_union(&self, union: VersionSetUnionId) -> &[D::SolvableId]
         requires { among same_union self.now.unions union ≡ true }
         ensures in_order { result.now ≡ flat_map (sorted_of self.now.sorted) (D.members_of self.now.provider union) }
@@ -446,7 +448,7 @@ impl<D: DependencyProvider> SolverCache<D> {
         }
     }
 
-    /// Sees to it that the sorted candidates of a version set are kept.
+    /// Makes sure that the sorted candidates of a version set are cached.
     pub fn cache_sorted_candidates_for_version_set(
         &mut self,
         version_set: VersionSetId,
@@ -469,7 +471,7 @@ impl<D: DependencyProvider> SolverCache<D> {
         Ok(())
     }
 
-    /// Sorts the kept matching candidates of a version set, and keeps the list.
+    /// Sorts the cached matching candidates of a version set, and caches the list.
     fn keep_sorted(&mut self, version_set: VersionSetId) -> R<()>
         requires matching { among same_set self.old.matching version_set ≡ true }
         requires listed { among D.NameId.eq self.old.names (D.name_of_version_set self.old.provider version_set)
@@ -488,7 +490,7 @@ impl<D: DependencyProvider> SolverCache<D> {
         Ok(())
     }
 
-    /// The kept matching candidates of a version set in the order in which they are tried.
+    /// The cached matching candidates of a version set in the order in which they are tried.
     fn sorted_list(&self, version_set: VersionSetId) -> R<Vec<D::SolvableId>>
         requires matching { among same_set self.now.matching version_set ≡ true }
         requires listed { among D.NameId.eq self.now.names (D.name_of_version_set self.now.provider version_set)
@@ -514,8 +516,8 @@ impl<D: DependencyProvider> SolverCache<D> {
         Ok(list)
     }
 
-    /// The candidates that match a version set, in the order in which they are tried: sorted by the
-    /// provider, and then the favoured one in front.
+    /// The candidates that match a version set, in the order in which they are tried. The provider
+    /// sorts them; then the favoured one is moved to the front.
     pub fn get_or_cache_sorted_candidates_for_version_set(
         &mut self,
         version_set: VersionSetId,
@@ -542,7 +544,7 @@ impl<D: DependencyProvider> SolverCache<D> {
         Ok(self.sorted_of_set(version_set))
     }
 
-    /// Sees to it that the sorted candidates of a requirement are kept.
+    /// Makes sure that the sorted candidates of a requirement are cached.
     pub fn cache_sorted_candidates(
         &mut self,
         requirement: Requirement,
@@ -565,7 +567,7 @@ impl<D: DependencyProvider> SolverCache<D> {
         }
     }
 
-    /// Sees to it that the sorted candidates of a union are kept.
+    /// Makes sure that the sorted candidates of a union are cached.
     fn cache_sorted_union(&mut self, union: VersionSetUnionId) -> Result<(), CacheFault<D::Cancel>>
         ensures there { OnOk result (among same_union self.new.unions union ≡ true) }
         ensures extends { Extends D.NameId.eq D.SolvableId.eq self.old self.new }
@@ -579,7 +581,7 @@ impl<D: DependencyProvider> SolverCache<D> {
         Ok(())
     }
 
-    /// Sees to it that the sorted candidates of each of these version sets are kept.
+    /// Makes sure that the sorted candidates of each of these version sets are cached.
     fn cache_sorted_members(
         &mut self,
         members: &[VersionSetId],
@@ -596,7 +598,7 @@ impl<D: DependencyProvider> SolverCache<D> {
         Ok(())
     }
 
-    /// Joins the kept sorted lists of a union's version sets, and keeps the whole.
+    /// Joins the cached sorted lists of a union's version sets, and caches the whole.
     fn keep_union(&mut self, union: VersionSetUnionId) -> R<()>
         requires { All (λ v. is_sorted self.old.sorted v ≡ true) (D.members_of self.old.provider union) }
         ensures there { OnOk result (among same_union self.new.unions union ≡ true) }
@@ -609,7 +611,7 @@ impl<D: DependencyProvider> SolverCache<D> {
         Ok(())
     }
 
-    /// The kept sorted lists of these version sets, one after another.
+    /// The cached sorted lists of these version sets, one after another.
     fn joined(&self, members: &[VersionSetId]) -> R<Vec<D::SolvableId>>
         requires { All (λ v. is_sorted self.now.sorted v ≡ true) members.now }
         ensures joined { IfOk result (λ v. v.items ≡ flat_map (sorted_of self.now.sorted) members.now) }
@@ -650,14 +652,14 @@ impl<D: DependencyProvider> SolverCache<D> {
         Ok(self.sorted_candidates(requirement))
     }
 
-    /// Whether the dependencies of a solvable are kept.
+    /// Whether the dependencies of a solvable are cached.
     pub fn has_dependencies(&self, solvable: D::SolvableId) -> bool
         ensures { result ≡ among D.SolvableId.eq self.now.solvables solvable }
     {
         self.dependencies.contains_key(&solvable)
     }
 
-    /// The kept dependencies of a solvable.
+    /// The cached dependencies of a solvable.
     pub fn dependencies(&self, solvable: D::SolvableId) -> &Dependencies
         requires { among D.SolvableId.eq self.now.solvables solvable ≡ true }
         ensures { needs_of result.now ≡ D.dependencies_of self.now.provider solvable }
@@ -668,7 +670,7 @@ impl<D: DependencyProvider> SolverCache<D> {
         }
     }
 
-    /// Sees to it that the dependencies of a solvable are kept.
+    /// Makes sure that the dependencies of a solvable are cached.
     pub fn cache_dependencies(
         &mut self,
         solvable: D::SolvableId,
@@ -687,7 +689,7 @@ impl<D: DependencyProvider> SolverCache<D> {
         self.ask_dependencies(solvable)
     }
 
-    /// Asks for the dependencies of a solvable, and keeps them.
+    /// Asks for the dependencies of a solvable, and caches them.
     fn ask_dependencies(&mut self, solvable: D::SolvableId) -> Result<(), CacheFault<D::Cancel>>
         ensures there { OnOk result (among D.SolvableId.eq self.new.solvables solvable ≡ true) }
         ensures extends { Extends D.NameId.eq D.SolvableId.eq self.old self.new }
@@ -717,8 +719,8 @@ impl<D: DependencyProvider> SolverCache<D> {
         Ok(self.dependencies(solvable))
     }
 
-    /// Whether the dependencies of a solvable are kept, or the kept candidates of its package say
-    /// that the provider has them at hand.
+    /// Whether the dependencies of a solvable are cached, or the cached candidates of its package
+    /// hint that the provider has them at hand.
     pub fn are_dependencies_available_for(&self, solvable: D::SolvableId) -> bool
         ensures { result
             ≡ (among D.SolvableId.eq self.now.solvables solvable ||
@@ -737,7 +739,7 @@ impl<D: DependencyProvider> SolverCache<D> {
     }
 }
 
-/// The candidates of a package, of which a package that the provider does not have has none.
+/// The candidates of a package, or none of a package that the provider does not have.
 fn candidates_from<D: DependencyProvider>(
     provider: &D,
     alloc: Global,
@@ -761,7 +763,7 @@ fn favour<S: Copy + Exact>(list: &mut [S], favored: S)
     }
 }
 
-/// The place of a solvable in a list.
+/// The index of a solvable in a list.
 fn place_of<S: Copy + Eq>(list: &[S], solvable: S) -> Option<usize>
     ensures place { result ≡ position (λ s. S.eq s solvable) list.now }
     ensures bounded { IfSome result (λ i. i < length list.now) }

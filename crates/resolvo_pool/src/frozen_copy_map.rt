@@ -1,5 +1,5 @@
-//! Values that are copied out, by key. Its model is the list of pairs that the hashed map shows.
-//! Kept for callers that cache small answers by key.
+//! Values that are copied out, by key. Its model is the list of pairs of the hashed map. It is for
+//! callers that cache small answers by key.
 ghost use Rattle.std.specs.Prelude.{◌≡◌, [], OnOk, OnErr, IsOkUnless};
 ghost use Rattle.std.specs.Map.{lookup};
 ghost use Rattle.resolvo_pool_core.specs.declared.want.Want.TheVariants.{Memory};
@@ -26,7 +26,7 @@ impl<K: Eq + Hash, V, S: BuildHasher> Model for FrozenCopyMap<K, V, S> {
 }
 
 impl<K: Copy + Eq + Hash, V: Copy, S: BuildHasher + Default> FrozenCopyMap<K, V, S> {
-    /// A map with no value.
+    /// An empty map.
     pub fn new(alloc: Global) -> FrozenCopyMap<K, V, S>
         ensures { result ≡ [] }
     {
@@ -42,7 +42,7 @@ impl<K: Copy + Eq + Hash, V: Copy, S: BuildHasher + Default> FrozenCopyMap<K, V,
         self.map.get(key).copied()
     }
 
-    /// Puts a value in, in the place of the key's value before.
+    /// Inserts a value, which replaces the key's previous one.
     pub fn insert_copy(&mut self, key: K, value: V) -> R<()>
         ensures put { OnOk result (PutsKey K.eq self.old self.new key value) }
         ensures err { OnErr result (self.new ≡ self.old) }

@@ -1,5 +1,5 @@
-//! The solvables whose dependencies a provider has at hand, as a set. The cache puts a package's
-//! hinted solvables in before it keeps the package's candidates, and afterwards asks the set.
+//! The solvables whose dependencies a provider has at hand, as a set. The cache inserts a package's
+//! hinted solvables before it caches the package's candidates, and afterwards asks the set.
 //! Of a list that hints solvables of other packages too, only those of the asked package count.
 ghost use Rattle.std.specs.Prelude.{OnOk, IsOkUnless};
 ghost use Rattle.resolvo_pool_core.specs.declared.want.Want.TheVariants.{Memory};
@@ -11,7 +11,8 @@ use resolvo_pool_core::provider::{Candidates, DependencyProvider, HintDependenci
 use resolvo_pool_core::solver_id::SolverId;
 use resolvo_pool_core::want::R;
 
-/// Puts the solvables of a package in that its candidates hint. A refusal may leave some of them in.
+/// Inserts the solvables of a package that its candidates hint. After a refusal some of them may be
+/// in the set.
 pub fn put_hinted<D: DependencyProvider>(
     set: &mut <D::SolvableId as SolverId>::Set,
     provider: &D,
@@ -36,7 +37,7 @@ pub fn put_hinted<D: DependencyProvider>(
     }
 }
 
-/// Puts those of the solvables in that are of a package.
+/// Inserts those of the solvables that are of a package.
 fn put_own<D: DependencyProvider>(
     set: &mut <D::SolvableId as SolverId>::Set,
     provider: &D,

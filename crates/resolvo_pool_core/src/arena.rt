@@ -1,6 +1,6 @@
-//! Values, each under a new id; nothing is ever taken out alone.
-//! Its model is the list of values, whose places are the ids' indexes. The solver keeps its clauses
-//! and learnt lists in arenas.
+//! Values, each under a new id; no value is ever removed alone.
+//! Its model is the list of values, in which a value's position is the index of its id. The solver
+//! keeps its clauses and learnt lists in arenas.
 ghost use Rattle.std.specs.Prelude.{◌≡◌, ◌<◌, ◌≤◌, ◌+◌, ◌++◌, ◌∷◌, [], IfOk, OnOk, OnErr, IsErrOf, OnSome, IfSome, length, slice_get, Some};
 ghost use Rattle.std.specs.Borrow.{sem};
 ghost use Rattle.std.specs.Iterator.{YieldsFirstBy, item_count, at_most};
@@ -34,7 +34,7 @@ impl<TId, TValue> Model for Arena<TId, TValue> {
 }
 
 impl<TId: DenseIndex, TValue> Arena<TId, TValue> {
-    /// An arena with no value.
+    /// An empty arena.
     pub fn new(alloc: Global) -> Arena<TId, TValue>
         ensures { result ≡ [] }
     {
@@ -44,7 +44,7 @@ impl<TId: DenseIndex, TValue> Arena<TId, TValue> {
         }
     }
 
-    /// An arena with no value, and with room for `capacity` of them.
+    /// An empty arena with room for `capacity` values.
     pub fn with_capacity(alloc: Global, capacity: usize) -> R<Arena<TId, TValue>>
         ensures { IfOk result (λ a. a ≡ []) }
     {
@@ -54,7 +54,7 @@ impl<TId: DenseIndex, TValue> Arena<TId, TValue> {
         })
     }
 
-    /// Takes all values out.
+    /// Removes all values.
     pub fn clear(&mut self)
     where
         TValue: Drop,
@@ -70,7 +70,7 @@ impl<TId: DenseIndex, TValue> Arena<TId, TValue> {
         self.items.len()
     }
 
-    /// Puts a value in, under a new id.
+    /// Inserts a value under a new id.
     pub fn alloc(&mut self, value: TValue) -> R<TId>
     where
         TValue: Drop,
@@ -135,7 +135,7 @@ impl<TId: DenseIndex, TValue> IndexMut<TId> for Arena<TId, TValue> {
     }
 }
 
-/// A walk over the ids and values of an arena.
+/// Iterates over the ids and values of an arena.
 #[derive(Drop)]
 pub struct ArenaIter<'a, TId, TValue> {
     pub rest: &'a [TValue],
@@ -160,7 +160,7 @@ impl<'a, TId: DenseIndex, TValue> Iterator for ArenaIter<'a, TId, TValue> {
     }
 }
 
-/// A walk over the ids and values of an arena; the values can be changed.
+/// Iterates over the ids of an arena and mutable references to its values.
 #[derive(Drop)]
 pub struct ArenaIterMut<'a, TId, TValue> {
     pub rest: slice::IterMut<'a, TValue>,

@@ -1,5 +1,5 @@
-//! Conditions on what is chosen, as trees whose nodes are ids. A condition hangs on a requirement
-//! and is read by the encoder.
+//! Conditions on what is chosen, as trees whose nodes are ids. A requirement may have a condition,
+//! and the encoder reads it.
 
 use crate::id::{ConditionId, VersionSetId};
 

@@ -43,7 +43,7 @@ pub trait DenseIndex: Copy + Eq {
         ensures index { result ≡ index_of self }
         ensures bounded { result < 2 ^ 32 };
 
-    /// An index in range comes back.
+    /// The id of an index in range has that index.
     ghost round_trip: { (i : ℕ) → i < 4294967295 → index_of (id_at i) ≡ i };
 
     /// Ids with one index are one id.
@@ -53,7 +53,7 @@ pub trait DenseIndex: Copy + Eq {
     ghost eq_by_index: { (x y : Self) → Self.eq x y ≡ (index_of x == index_of y) };
 }
 
-/// The index that follows `count` of them, unless all were given.
+/// The next index after `count` of them, unless all are used up.
 pub fn next_index(count: usize) -> R<usize>
     ensures index { IfOk result (λ i. (i ≡ count) × (i < 4294967295)) }
     ensures ids { IsErr result ↔ (4294967295 ≤ count) }
@@ -93,7 +93,7 @@ pub struct DenseId<Tag, Repr = u32> {
 }
 
 impl<Tag, Repr> DenseId<Tag, Repr> {
-    /// The id that is kept as `raw`.
+    /// The id with the raw value `raw`.
     pub fn from_raw(raw: Repr) -> DenseId<Tag, Repr>
         ensures { result.raw ≡ raw }
     {
@@ -105,7 +105,7 @@ impl<Tag, Repr> DenseId<Tag, Repr> {
 }
 
 impl<Tag, Repr: Copy> DenseId<Tag, Repr> {
-    /// What this id is kept as.
+    /// The raw value of this id.
     pub fn into_raw(self) -> Repr
         ensures { result ≡ self.raw }
     {
@@ -145,7 +145,7 @@ pub struct SparseId<Tag, Repr = u32, H = BuildHasherDefault<FoldHasher>> {
 }
 
 impl<Tag, Repr, H> SparseId<Tag, Repr, H> {
-    /// The id that is kept as `raw`.
+    /// The id with the raw value `raw`.
     pub fn from_raw(raw: Repr) -> SparseId<Tag, Repr, H>
         ensures { result.raw ≡ raw }
     {
@@ -157,7 +157,7 @@ impl<Tag, Repr, H> SparseId<Tag, Repr, H> {
 }
 
 impl<Tag, Repr: Copy, H> SparseId<Tag, Repr, H> {
-    /// What this id is kept as.
+    /// The raw value of this id.
     pub fn into_raw(self) -> Repr
         ensures { result ≡ self.raw }
     {
@@ -199,10 +199,10 @@ pub type LearntClauseId = DenseId<LearntClauseTag>;
 /// A condition's case, as a list of literals.
 pub type DisjunctionId = DenseId<DisjunctionTag>;
 
-/// A kept list of candidates.
+/// A cached list of candidates.
 pub type CandidatesId = DenseId<CandidatesTag>;
 
-/// A kept answer on a solvable's dependencies.
+/// The cached dependencies of a solvable.
 pub type DependenciesId = DenseId<DependenciesTag>;
 
 /// A text of the interner, such as the reason of an exclusion.
@@ -253,7 +253,7 @@ impl DenseIndex for VersionSetId {
     }
 }
 
-/// A list of version sets, each of which will do.
+/// A list of version sets, where a match of any one is enough.
 #[derive(Clone, Copy, Debug, PartialEq, Eq, PartialOrd, Ord, Hash)]
 pub struct VersionSetUnionId(pub u32);
 
@@ -322,7 +322,7 @@ impl DenseIndex for ConditionId {
 pub struct VariableId(pub u32);
 
 impl VariableId {
-    /// The variable that stands for the problem itself.
+    /// The variable that represents the problem itself.
     pub fn root() -> VariableId
         ensures { result.0 ≡ 0 }
     {

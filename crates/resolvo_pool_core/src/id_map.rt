@@ -29,7 +29,7 @@ impl OneDefault for u64 {
     ghost only = { λ x h. h };
 }
 
-/// A number, or none: what a map keeps for an id that may have got a number.
+/// A number, or none: the value in a map for an id that may have a number.
 #[derive(Clone, Copy, Debug, PartialEq, Eq)]
 pub struct OptionalNumber(pub Option<u32>);
 
@@ -52,7 +52,7 @@ pub trait IdSet<K: Eq> {
     /// Whether an id is in it.
     ghost has: { Self → K → Bool };
 
-    /// A set with no id.
+    /// An empty set.
     fn new(alloc: Global) -> Self
         ensures { (k : K) → has result k ≡ false };
 
@@ -60,7 +60,7 @@ pub trait IdSet<K: Eq> {
     fn contains(&self, id: K) -> bool
         ensures { result ≡ has self.now id };
 
-    /// Puts an id in; true where it was new.
+    /// Inserts an id; true where it was new.
     fn insert(&mut self, id: K) -> R<bool>
         ensures added { IfOk result (λ new. new ≡ not (has self.old id)) }
         ensures put { OnOk result (Puts K.eq (has self.old) (has self.new) id true) }
@@ -88,10 +88,10 @@ pub trait IdMap<K: Eq, V: Copy + OneDefault> {
         ensures refusal { IsOkUnless result Memory };
 }
 
-/// Scores by id, which fade: a total map of its own, in which an id that was not set has 0.
+/// Scores by id, which decay. It is a total map of its own, in which an id that was not set has 0.
 ///
-/// It repeats the calls of `IdMap` at `u64` in place of standing on it: a struct with a model over
-/// two types of ids gets no proof at concrete types where each brings one more trait.
+/// It repeats the calls of `IdMap` at `u64` and doesn't extend that trait. A struct whose model is
+/// over two types of ids gets no proof at concrete types if each type brings one more trait.
 pub trait ScoreMap<K: Eq> {
     /// The score of an id.
     ghost score_of: { Self → K → ℕ };

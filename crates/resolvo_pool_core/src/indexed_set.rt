@@ -1,6 +1,6 @@
 //! A set of dense ids, kept as one flag for each index.
-//! Its model is the list of flags; an id beyond the list is not in the set. Dense ids have it as
-//! their set.
+//! Its model is the list of flags; an id beyond the list is not in the set. It is the set type of
+//! dense ids.
 ghost use Rattle.std.specs.Prelude.{◌≡◌, [], true, false, not, IfOk, OnOk, OnErr, IsOkUnless, slice_index_or};
 ghost use Rattle.resolvo_pool_core.specs.declared.want.Want.TheVariants.{Memory};
 ghost use Rattle.resolvo_pool_core.specs.Ids.{Puts};
@@ -27,7 +27,7 @@ impl<Id> Model for IndexedSet<Id> {
 }
 
 impl<Id: DenseIndex> IndexedSet<Id> {
-    /// A set with no id.
+    /// An empty set.
     pub fn new(alloc: Global) -> IndexedSet<Id>
         ensures { result ≡ [] }
     {
@@ -45,7 +45,7 @@ impl<Id: DenseIndex> IndexedSet<Id> {
         i < self.flags.len() && self.flags[i]
     }
 
-    /// Puts an id in; true where it was new.
+    /// Inserts an id; true where it was new.
     pub fn insert(&mut self, id: Id) -> R<bool>
         ensures added { IfOk result (λ new. new ≡ not (slice_index_or self.old (Id.index_of id) false)) }
         ensures put { OnOk result

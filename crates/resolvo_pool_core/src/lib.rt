@@ -1,5 +1,5 @@
-//! Ids, the containers that they index, interned names and version sets, and the traits of a
-//! provider: the ground on which the CDCL solver and its clauses stand. In resolvo these are
+//! Ids and the containers that they index, interned names and version sets, and the traits of a
+//! provider. The CDCL solver and its clauses are built on them. In resolvo these are
 //! `src/internal/` and the public `Pool`, `Interner` and `DependencyProvider`.
 #![tactic(auto)]
 

@@ -1,6 +1,6 @@
 //! Values by dense id, in slots that grow by whole chunks.
 //! Its model is the list of slots, read as a total map: an id beyond the list has no value. The
-//! requirement map and the solver's tables stand on it.
+//! requirement map and the solver's tables are built on it.
 ghost use Rattle.std.specs.Prelude.{◌≡◌, ◌<◌, ◌≤◌, ◌/◌, ◌%◌, ◌+◌, ◌*◌, ◌-◌, ◌++◌, ◌==◌, IfOk, OnOk, OnErr, IsErrOf, IsOkUnless, length, replicate, None, Some, MatchOption, vec_len, max};
 ghost use Rattle.std.specs.Option.{option_copied, option_copied_mut};
 ghost use Rattle.std.specs.Borrow.{sem};
@@ -44,7 +44,7 @@ impl<TId, TValue> Model for Mapping<TId, TValue> {
 }
 
 impl<TId, TValue> Mapping<TId, TValue> {
-    /// The chunk of an index, and its place there.
+    /// The chunk of an index, and its offset in the chunk.
     pub const fn chunk_and_offset(index: usize) -> (usize, usize)
         ensures { result ≡ (index / 128, index % 128) }
     {
@@ -53,7 +53,7 @@ impl<TId, TValue> Mapping<TId, TValue> {
 }
 
 impl<TId: DenseIndex, TValue> Mapping<TId, TValue> {
-    /// A mapping with no value, and with one chunk.
+    /// An empty mapping with one chunk.
     pub fn new(alloc: Global) -> R<Mapping<TId, TValue>>
     where
         TValue: Drop,
@@ -63,7 +63,7 @@ impl<TId: DenseIndex, TValue> Mapping<TId, TValue> {
         Mapping::with_capacity(alloc, 1)
     }
 
-    /// A mapping with no value, and with chunks for `capacity` indexes, one at least.
+    /// An empty mapping with chunks for `capacity` indexes, one chunk at least.
     pub fn with_capacity(alloc: Global, capacity: usize) -> R<Mapping<TId, TValue>>
     where
         TValue: Drop,
@@ -101,7 +101,7 @@ impl<TId: DenseIndex, TValue> Mapping<TId, TValue> {
         self.slots.len()
     }
 
-    /// How many slots the memory that it took has room for.
+    /// How many slots its memory has room for.
     pub fn capacity(&self) -> usize
         ensures { length self.now ≤ result }
     {
@@ -120,7 +120,7 @@ impl<TId: DenseIndex, TValue> Mapping<TId, TValue> {
         }
     }
 
-    /// The value of an id, to be changed.
+    /// A mutable reference to the value of an id.
     pub fn get_mut(&mut self, id: TId) -> Option<&mut TValue>
         ensures* writes_back { sem 𝓛 (lends_slot TId.row TValue.row self.entry (TId.index_of id) result) }
         ensures value { option_copied_mut result ≡ at self.old (TId.index_of id) }
@@ -132,7 +132,7 @@ impl<TId: DenseIndex, TValue> Mapping<TId, TValue> {
         self.slots[index].as_mut()
     }
 
-    /// Puts a value in, and answers the one before it. New slots come by whole chunks.
+    /// Inserts a value, and returns the previous one. New slots are added by whole chunks.
     pub fn insert(&mut self, id: TId, value: TValue) -> R<Option<TValue>>
     where
         TValue: Drop,
@@ -155,7 +155,7 @@ impl<TId: DenseIndex, TValue> Mapping<TId, TValue> {
         Ok(old)
     }
 
-    /// The value of an id, to be changed, which `make` makes where there is none.
+    /// A mutable reference to the value of an id, which `make` creates where there is none.
     pub fn get_or_insert_with<F: FnOnce() -> TValue>(&mut self, id: TId, make: F) -> R<&mut TValue>
     where
         TValue: Drop,
@@ -177,7 +177,7 @@ impl<TId: DenseIndex, TValue> Mapping<TId, TValue> {
         }
     }
 
-    /// Takes the value of an id out.
+    /// Removes the value of an id, and returns it.
     pub fn unset(&mut self, id: TId) -> Option<TValue>
         ensures old { result ≡ at self.old (TId.index_of id) }
         ensures put { PutsSlot self.old self.new (TId.index_of id) None }
@@ -219,7 +219,7 @@ where
     Ok(())
 }
 
-/// Puts a value at an index, first with slots up to `wanted` where there are fewer.
+/// Sets the value at an index, after adding slots up to `wanted` where there are fewer.
 fn put_value<V>(slots: &mut Vec<Option<V>>, index: usize, wanted: usize, value: V) -> R<Option<V>>
 where
     V: Drop,
@@ -243,7 +243,7 @@ where
     Ok(old)
 }
 
-/// Takes the value at an index out, if there is one.
+/// Removes the value at an index, if there is one.
 fn take_value<V>(slots: &mut Vec<Option<V>>, index: usize) -> Option<V>
     ensures old { result ≡ at slots.old.items index }
     ensures put { PutsSlot slots.old.items slots.new.items index None }
@@ -257,7 +257,7 @@ fn take_value<V>(slots: &mut Vec<Option<V>>, index: usize) -> Option<V>
     }
 }
 
-/// A walk over the ids and values of a mapping.
+/// Iterates over the ids and values of a mapping.
 #[derive(Drop)]
 pub struct MappingIter<'a, TId, TValue> {
     pub slots: &'a [Option<TValue>],

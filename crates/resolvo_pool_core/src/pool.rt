@@ -33,9 +33,9 @@ pub trait PackageName: Eq + Hash {}
 
 impl<N: Eq + Hash> PackageName for N {}
 
-/// What a name of a package is made of.
+/// What a package name is made from.
 pub trait IntoPackageName<N: PackageName> {
-    /// Which names it may become.
+    /// Which names it may be converted to.
     ghost gives: { Self → N → Type 0 };
 
     /// The name.
@@ -99,7 +99,7 @@ impl<VS: VersionSet, N: PackageName> Model for Pool<VS, N> {
 }
 
 impl<VS: VersionSet, N: PackageName> Pool<VS, N> {
-    /// A pool that holds nothing.
+    /// An empty pool.
     pub fn new(alloc: Global) -> Pool<VS, N>
         ensures { result
             ≡ record
@@ -352,7 +352,7 @@ impl<VS: VersionSet, N: PackageName> Pool<VS, N> {
     }
 }
 
-/// The place of the key that is equal to `key`, which goes to the end where there is none.
+/// The index of the key that is equal to `key`; where there is none, `key` is appended.
 fn index_of_new<K: Eq + Hash>(keys: &mut IndexSet<K>, key: K) -> R<usize>
 where
     K: Drop,

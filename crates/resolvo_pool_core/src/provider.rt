@@ -24,8 +24,8 @@ use std::fmt;
 
 /// What the ids of a source of packages mean, and how they are written.
 ///
-/// Every call answers for every id; what it answers for an id that the source never handed out is
-/// its own affair. All calls take `&self`: a source that counts or notes does so in a cell.
+/// Every call answers for every id; the answer for an id that the source never issued is
+/// unspecified. All calls take `&self`: a source that counts or notes does so in a cell.
 pub trait Interner {
     type NameId: SolverId;
 
@@ -77,7 +77,7 @@ pub trait Interner {
     ) -> fmt::Result
         ensures { WritesOnOk W.write_str_gives f.old result (solvable_name_text self.now solvable) f.new };
 
-    /// Writes solvables of one package together, as a report that shows them as one.
+    /// Writes solvables of one package together, for a report that merges them.
     fn display_merged_solvables<W: fmt::Write>(
         &self,
         solvables: &[Self::SolvableId],
@@ -117,7 +117,7 @@ pub trait Interner {
     fn solvable_name(&self, solvable: Self::SolvableId) -> Self::NameId
         ensures { result ≡ name_of_solvable self.now solvable };
 
-    /// The version sets of a union, each of which will do.
+    /// The version sets of a union, where a match of any one is enough.
     fn version_sets_in_union(&self, union: VersionSetUnionId) -> &[VersionSetId]
         ensures { result.now ≡ members_of self.now union };
 
@@ -131,7 +131,7 @@ pub trait Interner {
 
 /// A source of packages.
 pub trait DependencyProvider: Interner {
-    /// What it hands out where it cancels.
+    /// The value that it returns where it cancels.
     type Cancel;
 
     /// Whether a solvable matches a version set.
@@ -149,7 +149,7 @@ pub trait DependencyProvider: Interner {
     /// With which values it may cancel.
     ghost may_cancel: { Self → Self.Cancel → Type 0 };
 
-    /// Whether its answers may want for ids.
+    /// Whether its calls may fail for lack of ids.
     ghost may_lack_ids: { Self → Type 0 };
 
     /// The candidates that match, in order; with `inverse` those that don't.
@@ -172,7 +172,7 @@ pub trait DependencyProvider: Interner {
         ensures listed { IfOk result (λ c. option_map listing c ≡ candidates_of self.now name) }
         ensures ids { IsErrOf result Ids → may_lack_ids self.now };
 
-    /// Sorts solvables of one package, the one to be tried first in front.
+    /// Sorts solvables of one package into the order in which they are tried.
     fn sort_candidates(&self, alloc: Global, candidates: &mut [Self::SolvableId]) -> R<()>
         ensures sorted { OnOk result (sorts self.now candidates.old candidates.new) }
         ensures err { OnErr result (IsPermutation candidates.old candidates.new) }
@@ -230,7 +230,7 @@ impl<S> Candidates<S> {
 }
 
 impl<S: Copy> Candidates<S> {
-    /// The same candidates again.
+    /// A copy of the candidates.
     pub fn clone(&self, alloc: Global) -> R<Candidates<S>>
     where
         S: Drop,
@@ -266,7 +266,7 @@ impl<S> Default for HintDependenciesAvailable<S> {
 impl<S: Copy> HintDependenciesAvailable<S> {
     ghost use Rattle.resolvo_pool_core.specs.Provider.{hint_of};
 
-    /// The same hint again.
+    /// A copy of the hint.
     pub fn clone(&self, alloc: Global) -> R<HintDependenciesAvailable<S>>
     where
         S: Drop,

@@ -27,7 +27,7 @@ pub enum Requirement {
     Union(VersionSetUnionId),
 }
 
-/// A requirement that may hang on a condition.
+/// A requirement that may have a condition.
 #[derive(Clone, Copy, Debug, PartialEq, Eq, Hash)]
 pub struct ConditionalRequirement {
     pub condition: Option<ConditionId>,
@@ -115,7 +115,7 @@ pub struct DisplayRequirement<'a, I: Interner> {
     pub interner: &'a I,
 }
 
-/// A version set behind its package's name, to be written.
+/// A version set after its package's name, to be written.
 #[derive(Drop)]
 struct DisplayAlternative<'a, I: Interner> {
     version_set: VersionSetId,
@@ -211,7 +211,7 @@ impl<V> Model for RequirementMap<V> {
 }
 
 impl<V: Drop> RequirementMap<V> {
-    /// A map with no value.
+    /// An empty map.
     pub fn new(alloc: Global) -> R<RequirementMap<V>>
         ensures empty { IfOk result (λ m. (r : Requirement) → slot_of m r ≡ None) }
         ensures refusal { IsOkUnless result Memory }
@@ -232,7 +232,7 @@ impl<V: Drop> RequirementMap<V> {
         }
     }
 
-    /// The value of a requirement, to be changed.
+    /// A mutable reference to the value of a requirement.
     pub fn get_mut(&mut self, requirement: Requirement) -> Option<&mut V>
         ensures* writes_back { sem 𝓛 (lends_requirement V.row self.entry requirement result) }
         ensures value { option_copied_mut result ≡ slot_of self.old requirement }
@@ -243,7 +243,7 @@ impl<V: Drop> RequirementMap<V> {
         }
     }
 
-    /// Puts a value in, and answers the one before it.
+    /// Inserts a value, and returns the previous one.
     pub fn insert(&mut self, requirement: Requirement, value: V) -> R<Option<V>>
         ensures old { IfOk result (λ old. old ≡ slot_of self.old requirement) }
         ensures put { OnOk result (PutsAt self.old self.new requirement value) }
@@ -258,7 +258,7 @@ impl<V: Drop> RequirementMap<V> {
 }
 
 impl<V: Drop> RequirementMap<V> {
-    /// The value of a requirement, to be changed, which `make` makes where there is none.
+    /// A mutable reference to the value of a requirement, which `make` creates where there is none.
     pub fn get_or_insert_with<F: FnOnce() -> V>(
         &mut self,
         requirement: Requirement,

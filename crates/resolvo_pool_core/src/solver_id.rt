@@ -1,5 +1,5 @@
-//! Ids that a solver takes, each with the collections that serve it, and a solvable or the root.
-//! Dense ids are kept in vectors, sparse ones in hashed maps; both are the same total maps.
+//! Ids that a solver takes, with the collections of each kind, and a solvable or the root. Dense
+//! ids are kept in vectors, sparse ones in hashed maps; both are the same total maps.
 ghost use Rattle.std.specs.Prelude.{◌≡◌, None, Some};
 ghost use Rattle.resolvo_pool_core.specs.Text.{root_or};
 ghost use Rattle.resolvo_pool_core.specs.declared.solver_id.SolvableIdOrRoot.TheVariants.{Root, Solvable};
@@ -15,7 +15,7 @@ use std::fmt;
 use std::fmt::Debug;
 use std::hash::{BuildHasher, Hash};
 
-/// A type of ids that a solver takes, with the collections that serve it.
+/// A type of ids that a solver takes, with its collections.
 pub trait SolverId: Copy + Exact + Hash + Debug {
     /// A number for some ids.
     type OptionalIds: IdMap<Self, OptionalNumber> + Drop;

@@ -1,5 +1,5 @@
-//! What a call may lack, and the answer of a call that may lack it. Every crate of the resolver
-//! that allocates or numbers things answers by `R`.
+//! What a call may lack, and the result type of such calls. Every crate of the resolver that
+//! allocates memory or issues ids returns an `R`.
 ghost use Rattle.std.specs.Prelude.{◌≡◌};
 ghost use Rattle.resolvo_pool_core.specs.declared.want.Want.TheVariants.{Memory};
 
@@ -9,15 +9,15 @@ use thiserror::Error;
 /// What a call lacked.
 #[derive(Clone, Copy, Debug, Drop, PartialEq, Eq, Error)]
 pub enum Want {
-    /// A growth was refused.
+    /// An allocation was refused.
     #[error("no memory")]
     Memory,
-    /// Every number was given already.
+    /// All ids are used up.
     #[error("no ids")]
     Ids,
 }
 
-/// An answer, or what was lacking.
+/// A result, or what the call lacked.
 pub type R<T> = Result<T, Want>;
 
 impl From<AllocError> for Want {

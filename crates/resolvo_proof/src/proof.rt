@@ -22,7 +22,8 @@ use std::alloc::Global;
 use std::fmt::Debug;
 use std::hash::Hash;
 
-/// The steps of the clauses behind the root's, in their order, and of a refusal, where there is one.
+/// The steps of the clauses after the root's, in their order, and the last step of a refusal, where
+/// there is one.
 pub fn proof_of<N: Copy + Exact + Hash + Debug, S: Copy + Exact + Hash + Debug>(
     alloc: Global,
     coding: &SolverState<N, S>,
@@ -67,7 +68,7 @@ pub fn proof_of<N: Copy + Exact + Hash + Debug, S: Copy + Exact + Hash + Debug>(
     }
 }
 
-/// The steps of the clauses behind the root's.
+/// The steps of the clauses after the root's.
 fn steps_of<N: Copy + Exact + Hash + Debug, S: Copy + Exact + Hash + Debug>(
     alloc: Global,
     coding: &SolverState<N, S>,

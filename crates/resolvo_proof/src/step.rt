@@ -1,4 +1,5 @@
-//! The steps of a proof. A parent is a solvable, or none for the root, whose literal is never written.
+//! The steps of a proof. A parent is a solvable, or none for the root, whose literal is never
+//! written.
 
 use resolvo_pool_core::id::{StringId, VersionSetId};
 use resolvo_pool_core::requirement::Requirement;
@@ -22,7 +23,8 @@ pub enum ProofRule<N, S> {
     Shared {
         requirement: Requirement,
     },
-    /// The parent's version set keeps this solvable out, or, where none is named, whatever is outside it.
+    /// The parent's version set forbids this solvable, or, where none is named, whatever is outside
+    /// it.
     Limit {
         parent: Option<S>,
         version_set: VersionSetId,
@@ -33,12 +35,12 @@ pub enum ProofRule<N, S> {
         version_set: VersionSetId,
         solvable: S,
     },
-    /// Another solvable is locked, which keeps this one out.
+    /// Another solvable is locked, which forbids this one.
     Locked {
         locked: S,
         barred: S,
     },
-    /// An exclusion, or unknown dependencies, keep the solvable out.
+    /// An exclusion, or unknown dependencies, forbid the solvable.
     Excluded {
         solvable: S,
         reason: StringId,
@@ -68,7 +70,7 @@ pub struct ProofLiteral<N, S> {
 pub enum ProofStep<N, S> {
     /// A rule.
     Rule(ProofRule<N, S>),
-    /// A clause that follows from earlier steps, named by their places in the order of reading.
+    /// A clause that follows from earlier steps, named by their places in the order of a RUP check.
     Derived {
         literals: Vec<ProofLiteral<N, S>>,
         causes: Vec<usize>,

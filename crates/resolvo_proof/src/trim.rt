@@ -1,6 +1,7 @@
-//! Steps that don't lead to the wanted ones are left out of a proof. Those that do are found from the last
-//! one back, by their causes; what is left is numbered anew. Whoever writes a proof down trims it first: a
-//! refusal wants the last step alone, an answer each step by which a wish is left out.
+//! Proof trimming: steps that don't lead to the wanted ones are left out of a proof. The others are
+//! found from the last one back, by their antecedents, and renumbered. A proof is trimmed before it
+//! is written. A refusal wants the last step alone, an answer each step by which a wish is left
+//! out.
 ghost use Rattle.std.specs.Prelude.{◌≡◌, ◌≤◌, length, map, Contains, IfOk, OnOk, IsOkUnless};
 ghost use Rattle.resolvo_pool_core.specs.declared.want.Want.TheVariants.{Memory};
 ghost use Rattle.resolvo_proof.specs.Proof.{EndsEmpty};
@@ -19,11 +20,11 @@ use std::hash::Hash;
 #[derive(Debug, Drop)]
 pub struct Trimmed<N, S> {
     pub steps: Vec<ProofStep<N, S>>,
-    /// For each step's old place, how many of those that stay stood before it.
+    /// For each step's old place, how many kept steps precede it.
     pub numbers: Vec<usize>,
 }
 
-/// The steps that lead to the last one, in their order, with their causes renumbered.
+/// The steps that lead to the last one, in their order, with their antecedents renumbered.
 pub fn trim<N: Copy + Exact + Hash + Debug, S: Copy + Exact + Hash + Debug>(
     alloc: Global,
     steps: Vec<ProofStep<N, S>>,
@@ -43,8 +44,8 @@ pub fn trim<N: Copy + Exact + Hash + Debug, S: Copy + Exact + Hash + Debug>(
     Ok(steps)
 }
 
-/// The steps that lead to those at these places, in their order, with their causes renumbered. A place
-/// where no step stands is passed over.
+/// The steps that lead to those at these places, in their order, with their antecedents renumbered.
+/// A place without a step is skipped.
 pub fn trim_to<N: Copy + Exact + Hash + Debug, S: Copy + Exact + Hash + Debug>(
     alloc: Global,
     steps: Vec<ProofStep<N, S>>,
@@ -93,7 +94,7 @@ fn leading<N: Copy + Exact + Hash + Debug, S: Copy + Exact + Hash + Debug>(
     Ok(flags)
 }
 
-/// Flags the earlier steps that a step names.
+/// Flags the antecedents of a step.
 fn flag_causes<N, S>(step: &ProofStep<N, S>, place: usize, flags: &mut Vec<bool>)
     requires { place ≤ length flags.old.items }
     ensures { Flags (Names step.now) place flags.old.items flags.new.items }
@@ -103,7 +104,7 @@ fn flag_causes<N, S>(step: &ProofStep<N, S>, place: usize, flags: &mut Vec<bool>
     }
 }
 
-/// Flags the steps at those of these places that stand before this one.
+/// Flags the steps at those of these places that are before `end`.
 fn flag(places: &[usize], end: usize, flags: &mut Vec<bool>)
     requires { end ≤ length flags.old.items }
     ensures { Flags (Contains places.now) end flags.old.items flags.new.items }
@@ -115,7 +116,7 @@ fn flag(places: &[usize], end: usize, flags: &mut Vec<bool>)
     }
 }
 
-/// Puts the step behind those that are kept, where it leads to a wanted one.
+/// Appends a step to the kept ones, where it leads to a wanted one.
 fn keep<N: Copy + Exact + Hash + Debug, S: Copy + Exact + Hash + Debug>(
     kept: &mut Vec<ProofStep<N, S>>,
     numbers: &[usize],
@@ -132,7 +133,7 @@ fn keep<N: Copy + Exact + Hash + Debug, S: Copy + Exact + Hash + Debug>(
     Ok(())
 }
 
-/// The step with the numbers of its causes.
+/// The step with its antecedents renumbered.
 fn renumbered<N, S>(step: ProofStep<N, S>, numbers: &[usize]) -> ProofStep<N, S>
     ensures { IsNumbered numbers.now step result }
 {
@@ -148,7 +149,7 @@ fn renumbered<N, S>(step: ProofStep<N, S>, numbers: &[usize]) -> ProofStep<N, S>
     }
 }
 
-/// Gives causes their numbers; a place with no number stays.
+/// Renumbers antecedents; a place with no number stays.
 fn renumber(causes: &mut Vec<usize>, numbers: &[usize])
     ensures { causes.new.items ≡ map (number_of numbers.now) causes.old.items }
 {

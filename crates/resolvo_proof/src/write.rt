@@ -1,4 +1,4 @@
-//! Steps are written from clauses: a rule as it is stated, a derived clause with what its literals mean.
+//! Writes the steps of clauses: a rule as it is, a derived clause with the atoms of its literals.
 //! The root's literals and its clause are left out, so clause n is step n - 1.
 ghost use Rattle.std.specs.Prelude.{◌≡◌, ◌<◌, length, map, IfOk, IsOkUnless};
 ghost use Rattle.resolvo_pool_core.specs.declared.want.Want.TheVariants.{Memory};
@@ -21,7 +21,7 @@ use std::alloc::Global;
 use std::fmt::Debug;
 use std::hash::Hash;
 
-/// The step of a clause behind the root's.
+/// The step of a clause after the root's.
 pub(crate) fn write_step<N: Copy + Exact + Hash + Debug, S: Copy + Exact + Hash + Debug>(
     alloc: Global,
     coding: &SolverState<N, S>,
@@ -44,7 +44,7 @@ pub(crate) fn write_step<N: Copy + Exact + Hash + Debug, S: Copy + Exact + Hash 
     }
 }
 
-/// A derived step of these literals and causes.
+/// A derived step of these literals and antecedents.
 pub(crate) fn write_derived<N: Copy + Exact + Hash + Debug, S: Copy + Exact + Hash + Debug>(
     alloc: Global,
     coding: &SolverState<N, S>,
@@ -62,7 +62,7 @@ pub(crate) fn write_derived<N: Copy + Exact + Hash + Debug, S: Copy + Exact + Ha
     })
 }
 
-/// What literals mean, but for the root's.
+/// The literals by their atoms, except the root's.
 fn write_literals<N: Copy + Exact + Hash + Debug, S: Copy + Exact + Hash + Debug>(
     alloc: Global,
     coding: &SolverState<N, S>,
@@ -86,7 +86,7 @@ fn write_literals<N: Copy + Exact + Hash + Debug, S: Copy + Exact + Hash + Debug
     Ok(written)
 }
 
-/// What a variable stands for; the root's stands for nothing.
+/// The atom that a variable represents; the root's represents none.
 fn atom_of<N: Copy + Exact + Hash + Debug, S: Copy + Exact + Hash + Debug>(
     coding: &SolverState<N, S>,
     variable: VariableId,
@@ -97,7 +97,7 @@ fn atom_of<N: Copy + Exact + Hash + Debug, S: Copy + Exact + Hash + Debug>(
     coding.atoms.get_index(place).copied()
 }
 
-/// The causes as places of steps, but for the root's clause, which is no step.
+/// The antecedents as places of steps, except the root's clause, which is no step.
 fn write_causes(alloc: Global, causes: &[ClauseId]) -> R<Vec<usize>>
     ensures written { IfOk result (λ v. v.items ≡ places causes.now) }
     ensures refusal { IsOkUnless result Memory }
@@ -111,7 +111,7 @@ fn write_causes(alloc: Global, causes: &[ClauseId]) -> R<Vec<usize>>
     Ok(written)
 }
 
-/// The rule that is stated. The root's clause and a learnt one state none.
+/// The rule that a clause encodes. The root's clause and a learnt one encode none.
 fn write_rule<N: Copy + Exact + Hash + Debug, S: Copy + Exact + Hash + Debug>(
     stated: &Stated<N, S>,
 ) -> R<Option<ProofRule<N, S>>>

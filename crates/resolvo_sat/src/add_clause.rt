@@ -1,4 +1,4 @@
-//! A clause comes, and waits until it watches two of its literals.
+//! Adds a clause, which is pending until it watches two of its literals.
 ghost use Rattle.std.specs.Prelude.{◌≡◌, ◌<◌, length, true, not, IfOk, IsErrOf, IsOkUnless};
 ghost use Rattle.resolvo_pool_core.specs.declared.want.Want.TheVariants.{Memory, Ids};
 ghost use Rattle.resolvo_store_core.specs.Signed.{has};
@@ -14,8 +14,9 @@ use resolvo_pool_core::want::R;
 use resolvo_store_core::literal::Literal;
 
 impl SatState {
-    /// Adds a clause, a rule or one that follows from its causes. It waits until propagation lets it
-    /// watch two of its literals; a clause of one literal is noted as such, and watches nothing.
+    /// Adds a clause: a rule, or one that follows from its antecedents. It is pending until
+    /// propagation lets it watch two of its literals. A unit clause is listed as such, and watches
+    /// nothing.
     pub fn add_clause(&mut self, watching: &mut WatchLists, clause: SatClause) -> R<ClauseId>
         requires ready { IsReady self.old watching.old }
         requires covered { AreCovered self.old watching.old }
@@ -38,7 +39,7 @@ impl SatState {
     }
 }
 
-/// Whether a clause has a literal beside this one of its own.
+/// Whether a clause has a literal other than this one of its literals.
 fn has_another(literals: &[Literal], first: Literal) -> bool
     requires { has literals.now first ≡ true }
     ensures { HasAnother literals.now first result }
@@ -52,7 +53,7 @@ fn has_another(literals: &[Literal], first: Literal) -> bool
 }
 
 impl WatchLists {
-    /// Takes a clause that came behind the others: it waits, or has this one literal alone.
+    /// Lists a new clause: as pending, or as the unit clause of this literal.
     fn begin(&mut self, single: UnitClause, is_long: bool, is_rule: bool) -> R<()>
         ensures begun { IfOk result (λ _. Begins single is_long is_rule self.old self.new) }
         ensures refusal { IsOkUnless result Memory }
@@ -66,7 +67,7 @@ impl WatchLists {
         Ok(())
     }
 
-    /// Notes a clause of one literal.
+    /// Lists a unit clause, as a rule or as a learnt one.
     fn note(&mut self, single: UnitClause, is_rule: bool) -> R<()>
         ensures assertions { IfOk result
             (λ _. self.new.assertions.items ≡ with_last is_rule single self.old.assertions.items) }

@@ -1,4 +1,4 @@
-//! What is learnt from a broken clause: a walk back along the trail.
+//! Conflict analysis: what is learnt from a falsified clause, by a walk back along the trail.
 ghost use Rattle.std.specs.Prelude.{◌≡◌, ◌≤◌, ◌<◌, ◌+◌, ◌∷◌, length, max, IfOk, IsOkUnless};
 ghost use Rattle.resolvo_pool_core.specs.declared.want.Want.TheVariants.{Memory};
 ghost use Rattle.resolvo_store_core.specs.Signed.{has};
@@ -16,24 +16,25 @@ use resolvo_store_core::decision_map::DecisionMap;
 use resolvo_store_core::literal::Literal;
 use std::alloc::Global;
 
-/// Why a clause is broken.
+/// The result of a conflict analysis.
 #[derive(Debug, Drop)]
 pub enum Analysis {
-    /// What was chosen before the turn, and the choice that began it, can't stand together.
+    /// The choices before the turn, and the one that began it, contradict each other.
     Refused(FinalConflict),
-    /// Something follows that holds at a lower level of the turn.
+    /// A clause was learnt that asserts a literal at a lower level of the turn.
     Learnt(Learnt),
 }
 
-/// A clause that denies choices which can't stand together, with its causes in the order of reading.
+/// A clause that denies choices which contradict each other, with its antecedents in the order of a
+/// RUP check.
 #[derive(Debug, Drop)]
 pub struct FinalConflict {
     pub literals: Vec<Literal>,
     pub causes: Vec<ClauseId>,
 }
 
-/// A clause with its causes in the order of reading. After a jump to the level all its literals but
-/// the asserted one are false.
+/// A learnt clause, with its antecedents in the order of a RUP check. After a jump to the level,
+/// all its literals but the asserted one are false.
 #[derive(Debug, Drop)]
 pub struct Learnt {
     pub literals: Vec<Literal>,
@@ -42,7 +43,8 @@ pub struct Learnt {
     pub level: u32,
 }
 
-/// Marks the variables of the literals, but the root's. Gives how many of this level weren't marked.
+/// Marks the variables of the literals, except the root's. Returns how many of them are of this
+/// level and weren't marked before.
 pub(crate) fn mark_seen(
     seen: &mut IndexedSet<VariableId>,
     literals: &[Literal],
@@ -63,7 +65,7 @@ pub(crate) fn mark_seen(
     Ok(count)
 }
 
-/// The count, and one more where both hold.
+/// The count, plus one where both hold.
 fn counted(count: usize, is_new: bool, is_there: bool) -> usize {
     if is_new && is_there {
         count.saturating_add(1)
@@ -73,9 +75,10 @@ fn counted(count: usize, is_new: bool, is_there: bool) -> usize {
 }
 
 impl SatState {
-    /// Goes back along the trail from a broken clause. Each marked entry of the turn is resolved with
-    /// its reason, until one alone is left of its level: what then is denied is learnt. Where the walk
-    /// comes to the trail's front, only choices are left that can't stand together.
+    /// Walks back along the trail from a falsified clause. Each marked entry of the turn is
+    /// resolved with its reason, until only one is left of its level. The clause that denies the
+    /// marked entries is then learnt. Where the walk reaches the start of the trail, only choices
+    /// are left, which contradict each other.
     pub fn analyze(&self, alloc: Global, broken: ClauseId) -> R<Analysis>
         requires state { IsState self.now }
         requires in_range { broken.0 < length self.now.clauses }
@@ -117,9 +120,10 @@ impl SatState {
         }))
     }
 
-    /// The level of the last marked entry before a place, where the entry there is the last marked one
-    /// of its level, above the turn's first one. So many entries of the conflict's level are marked
-    /// from this one back: while there are others, no other is looked for.
+    /// The level of the last marked entry before a place. There is one where the entry at the place
+    /// is the last marked one of its level, above the turn's first level. `pending` is how many
+    /// entries of the conflict's level are marked from this one back: while there are others, none
+    /// is searched for.
     fn assertion_level(
         &self,
         place: usize,
@@ -144,7 +148,7 @@ impl SatState {
         Some(below)
     }
 
-    /// What is learnt where an entry is the last of its level that is marked.
+    /// The learnt clause, which asserts the negation of an entry, the last marked one of its level.
     fn learnt(
         &self,
         literals: Vec<Literal>,
@@ -173,7 +177,7 @@ impl SatState {
         }))
     }
 
-    /// Whether an entry is a choice that the search does not go behind.
+    /// Whether an entry is a choice, which the analysis does not resolve.
     pub(crate) fn is_kept(&self, place: usize, entry: Entry) -> bool
         requires state { IsState self.now }
         requires in_range { place < length self.now.tracker.trail }
@@ -188,7 +192,7 @@ impl SatState {
         self.level_before(place) < entry.level
     }
 
-    /// The negations of what the marked entries among the first `place` make true, from the newest on.
+    /// The negated literals of the marked entries among the first `place`, from the newest on.
     fn denied(&self, alloc: Global, place: usize, seen: &IndexedSet<VariableId>) -> R<Vec<Literal>>
         requires state { IsState self.now }
         requires in_range { place ≤ length self.now.tracker.trail }

@@ -1,4 +1,5 @@
-//! Why a variable is false before its turn: a walk back along the trail from the clause that made it so.
+//! Final analysis: why a variable is false before its turn, by a walk back along the trail from its
+//! reason.
 ghost use Rattle.std.specs.Prelude.{◌≡◌, ◌<◌, ◌+◌, ◌∷◌, length, false, IfOk, IsOkUnless};
 ghost use Rattle.resolvo_pool_core.specs.declared.want.Want.TheVariants.{Memory};
 ghost use Rattle.resolvo_sat.specs.Entries.{before, literal_of, top_level};
@@ -14,8 +15,9 @@ use resolvo_store_core::decision::Entry;
 use std::alloc::Global;
 
 impl SatState {
-    /// Why a variable is false, before a turn has set anything: a clause that denies it and choices of earlier turns, with
-    /// its causes in the order of reading. None where the variable isn't false.
+    /// Why a variable is false, before a turn has assigned anything. It is a clause that denies the
+    /// variable and choices of earlier turns, with its antecedents in the order of a RUP check.
+    /// None where the variable isn't false.
     pub fn analyze_final(&self, alloc: Global, variable: VariableId) -> R<Option<FinalConflict>>
         requires state { IsState self.now }
         requires above { top_level (history self.now) < self.now.base_level }
@@ -34,8 +36,8 @@ impl SatState {
         Ok(None)
     }
 
-    /// Goes back along the trail from the clause that forced an entry. Each marked entry is resolved with its reason, but
-    /// for choices, which the clause denies.
+    /// Walks back along the trail from the reason of an entry. Each marked entry is resolved with
+    /// its reason, except choices, which the clause denies.
     fn reason(&self, alloc: Global, place: usize, entry: Entry) -> R<FinalConflict>
         requires state { IsState self.now }
         requires above { top_level (history self.now) < self.now.base_level }

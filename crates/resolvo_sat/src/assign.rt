@@ -1,5 +1,4 @@
-//! The steps of the search: a literal is made true, a variable is chosen, entries are undone, a clause
-//! comes.
+//! The steps of the search: assign a literal, decide a variable, undo entries, add a clause.
 ghost use Rattle.std.specs.Prelude.{◌≡◌, ◌<◌, ◌≤◌, length, true, IfOk, IsErrOf, IsOkUnless};
 ghost use Rattle.resolvo_pool_core.specs.declared.want.Want.TheVariants.{Memory, Ids};
 ghost use Rattle.resolvo_store_core.specs.Signed.{negation, has};
@@ -32,7 +31,7 @@ impl SatState {
         literal.is_false(self.tracker.map())
     }
 
-    /// Makes the literal true that a clause forces.
+    /// Assigns the literal that a clause forces, at the current level.
     pub fn assign(&mut self, clause: ClauseId, literal: Literal) -> R<()>
         requires state { IsState self.old }
         requires forces { Forces (made_true (history self.old)) (clause_at (clauses_of self.old) clause.0) literal }
@@ -49,7 +48,7 @@ impl SatState {
         Ok(())
     }
 
-    /// Chooses a variable to be true, for a clause, at the next level.
+    /// Decides that a variable is true, for a clause, at the next level.
     pub fn choose(&mut self, variable: VariableId, clause: ClauseId) -> R<()>
         requires state { IsState self.old }
         requires in_range { variable.0 < count_of self.old }
@@ -67,8 +66,8 @@ impl SatState {
         Ok(())
     }
 
-    /// Takes the entries above a level away. Propagation goes on behind what is left; it begins anew
-    /// where a literal that guards a false one of a lower level may be gone.
+    /// Removes the entries above a level. Propagation continues after those that are left; it
+    /// restarts where a literal that guards a false one of a lower level may be unassigned.
     pub fn undo_until(&mut self, level: u32)
         requires state { IsState self.old }
         requires one { 1 ≤ level }
@@ -83,7 +82,7 @@ impl SatState {
         }
     }
 
-    /// Adds a clause: a rule, or one that follows from its causes.
+    /// Adds a clause: a rule, or one that follows from its antecedents.
     pub fn hold(&mut self, clause: SatClause) -> R<ClauseId>
         requires state { IsState self.old }
         requires follows { 0 < length clause.causes.items

@@ -1,4 +1,5 @@
-//! Clauses that wait begin to watch: each the two of its literals that fell last, or not at all.
+//! Pending clauses begin to watch: each the two of its literals that became false last, or that
+//! aren't false.
 ghost use Rattle.std.specs.Prelude.{◌≡◌, ◌-◌, ◌<◌, length, reverse, slice_get, false, IfOk, IsOkUnless};
 ghost use Rattle.resolvo_pool_core.specs.declared.want.Want.TheVariants.{Memory};
 ghost use Rattle.resolvo_store_core.specs.Signed.{same_literal};
@@ -16,8 +17,8 @@ use resolvo_store_core::literal::Literal;
 use resolvo_store_core::watched_literals::WatchedLiterals;
 
 impl SatState {
-    /// Lets the clauses that wait watch, in the order in which they came, and sets what they force; or
-    /// gives one of them that is wholly false, which goes on waiting.
+    /// Attaches the pending clauses, in the order of addition, and assigns what they force. Or it
+    /// returns one of them that is falsified, which remains pending.
     pub(crate) fn attach_pending(&mut self, watching: &mut WatchLists) -> R<Option<ClauseId>>
         requires ready { IsReady self.old watching.old }
         ensures settled { IfOk result (IsWaitingEnd self.old self.new watching.old watching.new) }
@@ -28,8 +29,8 @@ impl SatState {
         Ok(broken)
     }
 
-    /// Lets the clauses that wait watch, the last first, and sets what they force; or gives one of them
-    /// that is wholly false.
+    /// Attaches the pending clauses, the last one first, and assigns what they force; or returns
+    /// one of them that is falsified.
     fn attach_from_last(&mut self, watching: &mut WatchLists) -> R<Option<ClauseId>>
         requires ready { IsReady self.old watching.old }
         ensures settled { IfOk result (IsWaitingEnd self.old self.new watching.old watching.new) }
@@ -44,7 +45,8 @@ impl SatState {
         Ok(None)
     }
 
-    /// Lets the clause that waits last watch, and sets what it forces; false where it is wholly false.
+    /// Attaches the last pending clause, and assigns what it forces; returns false where it is
+    /// falsified.
     fn attach(&mut self, watching: &mut WatchLists, clause: ClauseId) -> R<bool>
         requires ready { IsReady self.old watching.old }
         requires last { IsLast clause watching.old.waiting.items }
@@ -61,7 +63,8 @@ impl SatState {
         }
     }
 
-    /// Makes the first of the two true where the clause forces it; false where the clause is wholly false.
+    /// Assigns the first of the two where the clause forces it; returns false where the clause is
+    /// falsified.
     fn assign_first(&mut self, clause: ClauseId, watched: &WatchedLiterals) -> R<bool>
         requires state { IsState self.old }
         requires best { IsBestPair (made_true (history self.old)) (clause_at (clauses_of self.old) clause.0)
@@ -84,7 +87,7 @@ impl SatState {
         Ok(true)
     }
 
-    /// The two literals for a clause to watch: those that aren't false, or that fell last.
+    /// The two literals for a clause to watch: those that aren't false, or that became false last.
     fn watch_pair(&self, clause: ClauseId) -> WatchedLiterals
         requires state { IsState self.now }
         requires two { HasTwo (clause_at (clauses_of self.now) clause.0) }
@@ -106,7 +109,7 @@ impl SatState {
         }
     }
 
-    /// The literal of a clause, beside this one, that isn't false, or that fell last.
+    /// The literal of a clause, other than this one, that isn't false, or that became false last.
     fn best_beside(&self, clause: ClauseId, beside: Literal) -> Option<Literal>
         requires state { IsState self.now }
         requires in_range { clause.0 < length self.now.clauses }
@@ -125,7 +128,7 @@ impl SatState {
         best
     }
 
-    /// The one of two literals that fell at the higher level.
+    /// The one of two literals that became false at the higher level.
     fn later(&self, best: Option<Literal>, literal: Literal) -> Literal
         ensures { IsEither best literal result }
     {
@@ -144,7 +147,7 @@ impl SatState {
 }
 
 impl WatchLists {
-    /// Turns the order of the clauses that wait, so that the first comes last.
+    /// Reverses the order of the pending clauses, so that the first one is the last.
     fn turn_waiting(&mut self)
         ensures turned { self.new.waiting.items ≡ reverse self.old.waiting.items }
         ensures rest { self.new ≡ record self.old { waiting = self.new.waiting } }
@@ -152,14 +155,14 @@ impl WatchLists {
         self.waiting.as_mut_slice().reverse();
     }
 
-    /// The clause that waits last.
+    /// The last pending clause.
     fn last_waiting(&self) -> Option<ClauseId>
         ensures { result ≡ slice_get self.now.waiting.items (length self.now.waiting.items - 1) }
     {
         self.waiting.as_slice().last().copied()
     }
 
-    /// Lets the clause that waits last watch two literals.
+    /// Lets the last pending clause watch two literals; it is then no longer pending.
     fn start(&mut self, clause: ClauseId, watched: WatchedLiterals) -> R<()>
         requires last { IsLast clause self.old.waiting.items }
         requires in_range { clause.0 < length self.old.watched.items }

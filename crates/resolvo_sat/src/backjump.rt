@@ -1,4 +1,5 @@
-//! What was learnt is added, after a jump to the level at which it asserts its literal.
+//! The backjump: a learnt clause is added, after a jump to the level at which it asserts its
+//! literal.
 ghost use Rattle.std.specs.Prelude.{◌≡◌, length, IfOk, IsErrOf};
 ghost use Rattle.resolvo_pool_core.specs.declared.want.Want.TheVariants.{Ids};
 ghost use Rattle.resolvo_sat.specs.Analysis.{IsLearnt};
@@ -12,8 +13,8 @@ use resolvo_pool_core::id::ClauseId;
 use resolvo_pool_core::want::R;
 
 impl SatState {
-    /// Jumps to the level of what was learnt, adds the clause, which waits, and makes its asserted
-    /// literal true.
+    /// Jumps to the level of a learnt clause, adds the clause as pending, and assigns its asserted
+    /// literal.
     pub fn learn(&mut self, watching: &mut WatchLists, learnt: Learnt) -> R<ClauseId>
         requires ready { IsReady self.old watching.old }
         requires covered { AreCovered self.old watching.old }

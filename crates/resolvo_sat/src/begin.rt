@@ -1,4 +1,4 @@
-//! The search at its start: the root is true, and there is no other variable.
+//! The initial state of the search: the root is true, and there is no other variable.
 ghost use Rattle.std.specs.Prelude.{◌≡◌, ◌∷◌, [], length, IfOk, IsErrOf, IsOkUnless};
 ghost use Rattle.resolvo_pool_core.specs.declared.want.Want.TheVariants.{Memory, Ids};
 ghost use Rattle.resolvo_sat.specs.State.{IsState, count_of, history};
@@ -16,8 +16,8 @@ use resolvo_store_core::literal::Literal;
 use resolvo_store_core::watch_map::WatchMap;
 use std::alloc::Global;
 
-/// The search at its start. The first clause says that the root, the first variable, is true; the
-/// trail begins with it, at level 1.
+/// The initial state of the search. The first clause asserts the root, which is the first variable
+/// and the first entry of the trail, at level 1.
 pub fn begin(alloc: Global) -> R<(SatState, WatchLists)>
     ensures begun { IfOk result (λ p. Begun p.0 p.1) }
     ensures refusal { IsOkUnless result Memory }
@@ -53,7 +53,7 @@ pub fn begin(alloc: Global) -> R<(SatState, WatchLists)>
     Ok((state, watching))
 }
 
-/// The clause that the root is true, alone.
+/// The clauses at the start: the one that asserts the root, alone.
 fn root_clause(alloc: Global) -> R<Arena<ClauseId, SatClause>>
     ensures clause { IfOk result IsRootClause }
     ensures refusal { IsOkUnless result Memory }
@@ -69,7 +69,7 @@ fn root_clause(alloc: Global) -> R<Arena<ClauseId, SatClause>>
 }
 
 impl SatState {
-    /// Adds a variable, the next one by number. There are 2,147,483,647 at most.
+    /// Adds a variable with the next number. There are 2,147,483,647 at most.
     pub fn add_variable(&mut self, kind: VariableKind) -> R<VariableId>
         requires { IsState self.old }
         ensures added { IfOk result (λ v. AddsVariable kind v self.old self.new) }

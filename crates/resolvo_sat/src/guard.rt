@@ -1,6 +1,7 @@
-//! The level of the true literals that guard false ones. A true literal that stands at no higher level
-//! than the false one beside it stays as long as that one. Clauses that came late may have a guard at
-//! a higher level, so the highest such level is noted: a jump to it, or above it, opens no clause.
+//! The level of the true literals that guard false ones. A true literal at no higher level than the
+//! false one beside it stays assigned as long as that one. A clause that was added late may have a
+//! guard at a higher level, so the highest such level is recorded. A jump to it, or above it,
+//! unassigns no guard without its false literal.
 ghost use Rattle.std.specs.Prelude.{◌≡◌, true};
 ghost use Rattle.resolvo_store_core.specs.Signed.{has};
 ghost use Rattle.resolvo_sat.specs.Entries.{made_true};
@@ -11,7 +12,7 @@ use crate::state::SatState;
 use resolvo_store_core::literal::Literal;
 
 impl SatState {
-    /// Notes the level of a true literal that guards a false one of a lower level.
+    /// Records the level of a true literal that guards a false one of a lower level.
     pub(crate) fn note_guard(&mut self, fallen: Literal, guard: Literal)
         requires state { IsState self.old }
         requires stands { has (made_true (history self.old)) guard ≡ true }

@@ -1,5 +1,6 @@
-//! What follows from the trail. Propagation goes on at the trail's front: in each clause one of whose
-//! watched literals fell before it, the other one is true. Clauses that came since wait for it.
+//! Unit propagation over the trail. It continues at the propagation head, `front`. In each clause
+//! with a watched literal that became false before the head, the other watched literal is true.
+//! Clauses that were added since are pending until it runs.
 ghost use Rattle.std.specs.Prelude.{◌≡◌, ◌<◌, ◌+◌, slice_get, length, Some, true, IfOk, IsOkUnless};
 ghost use Rattle.resolvo_pool_core.specs.declared.want.Want.TheVariants.{Memory};
 ghost use Rattle.resolvo_store_core.specs.Signed.{negation, has};
@@ -17,10 +18,10 @@ use resolvo_store_core::literal::Literal;
 use resolvo_store_core::watch_map::WatchMapCursor;
 use resolvo_store_core::watched_literals::WatchedLiterals;
 
-/// What became of a clause that was met.
+/// The outcome of visiting a clause.
 #[derive(Clone, Copy, Debug)]
 pub enum WatchVisit {
-    /// It watches what it watched; its other watched literal is true.
+    /// It keeps its watched literals; the other one is true.
     Kept,
     /// It watches another literal.
     Moved,
@@ -45,7 +46,7 @@ impl SatState {
         None
     }
 
-    /// Sees to the clause at a cursor, one of whose watched literals fell.
+    /// Visits the clause at a cursor, one of whose watched literals became false.
     fn visit_clause(
         &mut self,
         watching: &mut WatchLists,
@@ -87,8 +88,8 @@ impl SatState {
         }
     }
 
-    /// Walks over the clauses that watch a literal, which fell by the entry at the trail's front. Where
-    /// one of them is wholly false, the walk is left unfinished.
+    /// Walks over the clauses that watch a literal, which the entry at the propagation head makes
+    /// false. At a falsified clause the walk stops, and returns it.
     fn propagate_literal(
         &mut self,
         watching: &mut WatchLists,
@@ -115,7 +116,7 @@ impl SatState {
         Ok(None)
     }
 
-    /// Makes the literal of a clause of one literal true, unless it is false.
+    /// Assigns the literal of a unit clause; returns false where the literal is false.
     fn assign_unit(&mut self, single: UnitClause) -> R<bool>
         requires state { IsState self.old }
         requires alone { IsOnly (clause_at (clauses_of self.old) single.clause.0) single.literal }
@@ -131,7 +132,7 @@ impl SatState {
         Ok(true)
     }
 
-    /// Makes the literals of the clauses of one literal true, or gives one of them that is false.
+    /// Assigns the literals of the unit clauses, or returns one of the clauses that is falsified.
     fn assign_units(&mut self, singles: &[UnitClause]) -> R<Option<ClauseId>>
         requires state { IsState self.old }
         requires alone { AreSingles (clauses_of self.old) singles.now }
@@ -147,7 +148,7 @@ impl SatState {
         Ok(None)
     }
 
-    /// The literal that fell by the entry at the trail's front; none behind the last.
+    /// The literal that the entry at the propagation head makes false; none after the last entry.
     fn next_fallen(&self) -> Option<Literal>
         requires state { IsState self.now }
         ensures { IsNextFallen self.now result }
@@ -159,7 +160,7 @@ impl SatState {
         Some(Literal::new(decision.variable, decision.value))
     }
 
-    /// Goes behind the entry at the trail's front, which was propagated.
+    /// Advances the propagation head past its entry, which was propagated.
     fn pass_entry(&mut self)
         requires { self.old.front < usize.MAX }
         ensures { self.new ≡ record self.old { front = self.old.front + 1 } }
@@ -167,7 +168,7 @@ impl SatState {
         self.front += 1;
     }
 
-    /// Sets what the clauses force, from the trail's front on, or gives a clause that is wholly false.
+    /// Assigns what the clauses force, from the propagation head on, or returns a falsified clause.
     pub fn propagate(&mut self, watching: &mut WatchLists) -> R<Option<ClauseId>>
         requires ready { IsReady self.old watching.old }
         requires covered { AreCovered self.old watching.old }

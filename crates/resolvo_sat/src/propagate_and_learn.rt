@@ -1,4 +1,4 @@
-//! One step of the search: what follows is set, and what a broken clause teaches is learnt.
+//! One step of the search: unit propagation, and learning from a falsified clause.
 ghost use Rattle.std.specs.Prelude.{◌≡◌, length, IfOk, IsErrOf};
 ghost use Rattle.resolvo_pool_core.specs.declared.want.Want.TheVariants.{Ids};
 ghost use Rattle.resolvo_sat.specs.Propagation.{IsReady, AreCovered};
@@ -11,19 +11,20 @@ use resolvo_pool_core::id::ClauseId;
 use resolvo_pool_core::want::R;
 use std::alloc::Global;
 
-/// What one step of the search came to.
+/// The outcome of one step of the search.
 #[derive(Debug, Drop)]
 pub enum StepResult {
-    /// Nothing is left to set.
+    /// Nothing is left to propagate.
     Complete,
-    /// A clause was broken, and this one was learnt from it.
+    /// A clause was falsified, and this one was learnt from it.
     Learnt(ClauseId),
-    /// A clause was broken by choices that the turn does not go behind.
+    /// A clause was falsified by choices that the turn does not undo.
     Refused(FinalConflict),
 }
 
 impl SatState {
-    /// Sets what the clauses force; where one is broken, learns from it, or tells why the turn is refused.
+    /// Assigns what the clauses force; where one is falsified, learns from it, or returns why the
+    /// turn is refused.
     pub fn propagate_and_learn(&mut self, alloc: Global, watching: &mut WatchLists) -> R<StepResult>
         requires ready { IsReady self.old watching.old }
         requires covered { AreCovered self.old watching.old }

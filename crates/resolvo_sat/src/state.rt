@@ -1,4 +1,4 @@
-//! What the search stands on: the variables, the clauses with their causes, and the trail.
+//! State of the SAT core: variables, clauses with their antecedents, and the trail.
 ghost use Rattle.std.specs.Prelude.{◌≡◌, ◌<◌, ◌≤◌, ◌+◌, ◌∷◌, length};
 ghost use Rattle.std.specs.Bool.{Decides};
 ghost use Rattle.resolvo_sat.specs.Entries.{before, top_level};
@@ -12,7 +12,7 @@ use resolvo_store_core::decision::Entry;
 use resolvo_store_core::decision_tracker::DecisionTracker;
 use resolvo_store_core::literal::Literal;
 
-/// What a variable stands for.
+/// What a variable represents.
 #[derive(Clone, Copy, Debug, PartialEq, Eq)]
 pub enum VariableKind {
     /// The problem itself; always true.
@@ -23,18 +23,17 @@ pub enum VariableKind {
     Helper,
 }
 
-/// A clause: one of its literals is true. A rule has no causes; a learnt clause has those from which
-/// it follows, in the order of reading.
+/// A clause: one of its literals is true. A rule has no antecedents; a learnt clause has those from
+/// which it follows, in the order of a RUP check.
 #[derive(Debug, Drop)]
 pub struct SatClause {
     pub literals: Vec<Literal>,
     pub causes: Vec<ClauseId>,
 }
 
-/// The variables by their numbers, the clauses, the trail, and the first level of the turn: no jump
-/// goes below it. The first `front` entries of the trail were propagated. Where a watched literal
-/// fell by them, the true one that guards it stands at its level or below, or else not above
-/// `guard_level`.
+/// The variables by their numbers, the clauses, the trail, and the first level of the turn, below
+/// which no jump goes. The first `front` entries of the trail were propagated. Where they make a
+/// watched literal false, its true guard is at its level or below, or else not above `guard_level`.
 pub struct SatState {
     pub variables: Vec<VariableKind>,
     pub clauses: Arena<ClauseId, SatClause>,
@@ -69,7 +68,7 @@ impl SatState {
         self.tracker.stack()[place]
     }
 
-    /// The level at which the trail ends.
+    /// The level of the trail's last entry, or 0 where the trail is empty.
     pub fn top_level(&self) -> u32
         ensures { result ≡ top_level (history self.now) }
     {
@@ -87,7 +86,7 @@ impl SatState {
         self.clauses[clause].literals.as_slice()
     }
 
-    /// Whether a variable stands for a solvable.
+    /// Whether a variable represents a solvable.
     pub fn is_solvable(&self, variable: VariableId) -> bool
         ensures { Decides result (IsSolvable self.now variable.0) }
     {

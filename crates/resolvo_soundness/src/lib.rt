@@ -1,4 +1,4 @@
-//! Why CDCL over the encoded clauses is right for packages: definitions and lemmas alone, of what
-//! clauses mean and of what the end of a search shows. resolvo has no like of it; the clauses that
-//! it speaks of are those of `src/solver/clause.rs`.
+//! Soundness of CDCL over the encoded clauses: definitions and lemmas alone. They are of what
+//! clauses mean for packages, and of what the end of a search shows. resolvo has no counterpart;
+//! the clauses are those of its `src/solver/clause.rs`.
 #![tactic(auto)]

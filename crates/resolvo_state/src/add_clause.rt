@@ -1,4 +1,4 @@
-//! A clause comes that states a rule, or one that bars what can't stand together.
+//! Adds a clause that encodes a rule, or one that denies choices which contradict each other.
 ghost use Rattle.std.specs.Prelude.{◌≡◌, ◌<◌, length, IfOk, IsErrOf, IsSome};
 ghost use Rattle.resolvo_pool_core.specs.declared.want.Want.TheVariants.{Ids};
 ghost use Rattle.resolvo_sat.specs.State.{count_of};
@@ -18,7 +18,7 @@ use std::fmt::Debug;
 use std::hash::Hash;
 
 impl<N: Copy + Exact + Hash + Debug, S: Copy + Exact + Hash + Debug> SolverState<N, S> {
-    /// Adds a clause of some literals, which states a rule.
+    /// Adds a clause that encodes a rule.
     pub fn state(&mut self, stated: Stated<N, S>, literals: Vec<Literal>) -> R<ClauseId>
         requires coding { IsCoding self.old }
         requires rule { IsSome (rule_of stated) }
@@ -38,7 +38,7 @@ impl<N: Copy + Exact + Hash + Debug, S: Copy + Exact + Hash + Debug> SolverState
         Ok(clause)
     }
 
-    /// Adds a clause that follows from others, and only denies.
+    /// Adds a clause that follows from others, and has negative literals alone.
     pub fn bar(&mut self, refusal: FinalConflict) -> R<ClauseId>
         requires coding { IsCoding self.old }
         requires some { 0 < length refusal.literals.items }

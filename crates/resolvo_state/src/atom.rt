@@ -1,4 +1,4 @@
-//! What variables stand for.
+//! Atoms: what variables represent.
 ghost use Rattle.std.specs.Prelude.{◌≡◌, refl};
 ghost use Rattle.std.proofs.lemmas.Bool.{and_parts, eqb-true};
 ghost use Rattle.resolvo_state.specs.AtomLaws.{one_atom, one_requirement};
@@ -9,14 +9,14 @@ use resolvo_pool_core::id::{Exact, VersionSetId};
 use resolvo_pool_core::requirement::Requirement;
 use resolvo_sat::state::VariableKind;
 
-/// What a variable other than the root's stands for.
+/// What a variable other than the root's represents.
 #[derive(Clone, Copy, PartialEq, Eq, Hash, Debug)]
 pub enum ProofAtom<N, S> {
     /// The solvable is chosen.
     Solvable(S),
     /// A candidate of the package is chosen.
     AtLeastOne(N),
-    /// A chosen solvable asks for the requirement, without condition.
+    /// A chosen solvable has the requirement, without condition.
     Gate(Requirement),
     /// A candidate that is outside the version set is chosen.
     Outside(VersionSetId),
@@ -25,7 +25,7 @@ pub enum ProofAtom<N, S> {
 }
 
 impl<N: Copy, S: Copy> ProofAtom<N, S> {
-    /// What the search is told of the variable.
+    /// The kind of its variable in the search.
     pub fn kind(self) -> VariableKind
         ensures { result ≡ kind_of self }
     {

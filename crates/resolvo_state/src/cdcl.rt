@@ -1,4 +1,5 @@
-//! The search goes on: a step, a choice, a return to an earlier level, the first level of a turn.
+//! Calls that continue the search: a step, a decision, a return to an earlier level, the first
+//! level of a turn.
 ghost use Rattle.std.specs.Prelude.{◌≡◌, ◌<◌, ◌≤◌, length, IfOk, OnOk, IsErrOf, IsOkUnless};
 ghost use Rattle.resolvo_pool_core.specs.declared.want.Want.TheVariants.{Memory, Ids};
 ghost use Rattle.resolvo_store_core.specs.Clauses.{yes};
@@ -18,7 +19,7 @@ use std::fmt::Debug;
 use std::hash::Hash;
 
 impl<N: Copy + Exact + Hash + Debug, S: Copy + Exact + Hash + Debug> SolverState<N, S> {
-    /// One step of the search: sets what the clauses force, and learns where one is broken.
+    /// One step of the search: assigns what the clauses force, and learns where one is falsified.
     pub fn propagate_and_learn(&mut self, alloc: Global) -> R<StepResult>
         requires { IsCoding self.old }
         ensures advanced { IfOk result (Advances self.old self.new) }
@@ -36,7 +37,7 @@ impl<N: Copy + Exact + Hash + Debug, S: Copy + Exact + Hash + Debug> SolverState
         }
     }
 
-    /// Chooses a variable to be true, for a clause, at the next level.
+    /// Decides that a variable is true, for a clause, at the next level.
     pub fn choose(&mut self, variable: VariableId, clause: ClauseId) -> R<()>
         requires coding { IsCoding self.old }
         requires in_range { variable.0 < count_of self.old.search }
@@ -50,7 +51,7 @@ impl<N: Copy + Exact + Hash + Debug, S: Copy + Exact + Hash + Debug> SolverState
         self.search.choose(variable, clause)
     }
 
-    /// Takes the entries above a level away.
+    /// Removes the entries above a level.
     pub fn undo_until(&mut self, level: u32)
         requires coding { IsCoding self.old }
         requires one { 1 ≤ level }

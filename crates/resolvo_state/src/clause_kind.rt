@@ -1,9 +1,9 @@
-//! What clauses state. A parent is a solvable, or none for the root.
+//! The rules that clauses encode. A parent is a solvable, or none for the root.
 
 use resolvo_pool_core::id::{StringId, VersionSetId};
 use resolvo_pool_core::requirement::{ConditionalRequirement, Requirement};
 
-/// What a clause states.
+/// The rule that a clause encodes.
 #[derive(Debug, Drop)]
 pub enum Stated<N, S> {
     /// The root is true.
@@ -23,13 +23,13 @@ pub enum Stated<N, S> {
     Shared {
         requirement: Requirement,
     },
-    /// The parent's version set keeps the solvable out.
+    /// The parent's version set forbids the solvable.
     Limits {
         parent: Option<S>,
         version_set: VersionSetId,
         barred: S,
     },
-    /// The parent's version set keeps out whatever is outside it.
+    /// The parent's version set forbids whatever is outside it.
     LimitsOutside {
         parent: Option<S>,
         version_set: VersionSetId,
@@ -39,12 +39,12 @@ pub enum Stated<N, S> {
         version_set: VersionSetId,
         solvable: S,
     },
-    /// Another solvable is locked, which keeps this one out.
+    /// Another solvable is locked, which forbids this one.
     Locked {
         locked: S,
         barred: S,
     },
-    /// An exclusion, or unknown dependencies, keep the solvable out.
+    /// An exclusion, or unknown dependencies, forbid the solvable.
     Excluded {
         solvable: S,
         reason: StringId,
@@ -61,6 +61,6 @@ pub enum Stated<N, S> {
         name: N,
         solvable: S,
     },
-    /// What follows from the clause's causes.
+    /// No rule: the clause follows from its antecedents.
     Learnt,
 }

@@ -1,4 +1,4 @@
-//! Where a value stands in a set that keeps the order of insertion.
+//! Indexes of values in a set that keeps the order of insertion.
 ghost use Rattle.std.specs.Prelude.{◌≡◌, ◌∷◌, [], ◌++◌, None, OnOk, IsOkUnless};
 ghost use Rattle.resolvo_pool_core.specs.declared.want.Want.TheVariants.{Memory};
 ghost use Rattle.resolvo_state.specs.Keys.{IsPlace, AreOnce};
@@ -8,14 +8,14 @@ use resolvo_pool_core::id::Exact;
 use resolvo_pool_core::want::R;
 use std::hash::Hash;
 
-/// The place of a value, if it stands there.
+/// The index of a value, if the set contains it.
 pub(crate) fn place_in<K: Exact + Hash>(keys: &IndexSet<K>, key: &K) -> Option<usize>
     ensures { IsPlace keys.now.keys key.now result }
 {
     keys.get_index_of(key)
 }
 
-/// Puts a value that does not stand there behind the others.
+/// Appends a value that the set does not contain.
 pub(crate) fn push_key<K: Exact + Hash + Drop>(keys: &mut IndexSet<K>, key: K) -> R<()>
     requires fresh { IsPlace keys.old.keys key None }
     ensures pushed { OnOk result (keys.new.keys ≡ keys.old.keys ++ key ∷ []) }

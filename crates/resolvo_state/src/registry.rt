@@ -1,7 +1,7 @@
-//! Which solvables of each package are registered: at most one of them is true.
-//! Each package has a tracker of its solvables' variables, whose places are told by binary digits, each
-//! digit a variable of its own. A clause says of each registered solvable, with its place, and of each
-//! digit of its package which value the digit has where the solvable is true.
+//! The registered solvables of each package: at most one of them is true.
+//! Each package has a tracker of its solvables' variables. Their places are encoded in binary
+//! digits, each digit a variable of its own. For each registered solvable and each digit of its
+//! package, a clause gives the value of the digit where the solvable is true.
 ghost use Rattle.std.specs.Prelude.{◌≡◌, ℕ, ◌≤◌, ◌+◌, Bool, Some, min, length, slice_get, is_some, IfOk, OnOk, IsErrOf, IsOkUnless, Contains};
 ghost use Rattle.resolvo_pool_core.specs.declared.want.Want.TheVariants.{Memory, Ids};
 ghost use Rattle.resolvo_pool_core.specs.declared.id.VariableId.{VariableId};
@@ -41,12 +41,12 @@ impl<N: Copy + Eq + Hash> Drop for Registry<N> {
     }
 }
 
-/// A variable of a solvable, one of a digit of its package, and the digit's value where the solvable is
-/// true.
+/// A variable of a solvable, one of a digit of its package, and the digit's value where the
+/// solvable is true.
 type Tie = (VariableId, VariableId, bool);
 
 impl<N: Copy + Exact + Hash + Debug> Registry<N> {
-    /// No solvable.
+    /// An empty registry.
     pub fn new(alloc: Global) -> Registry<N>
         ensures { IsNothing result }
     {
@@ -56,8 +56,9 @@ impl<N: Copy + Exact + Hash + Debug> Registry<N> {
         }
     }
 
-    /// Registers a solvable of a package, and gives its variable, which is made where there is none.
-    /// A clause comes for each digit that tells it, or by now another one, apart.
+    /// Registers a solvable of a package, and returns its variable, which is created where there is
+    /// none. Adds the clauses that tie it to each digit, and those that tie earlier ones to a new
+    /// digit.
     pub fn register<S: Copy + Exact + Hash + Debug>(
         &mut self,
         coding: &mut SolverState<N, S>,
@@ -89,7 +90,7 @@ impl<N: Copy + Exact + Hash + Debug> Registry<N> {
         }
     }
 
-    /// The place of a package, which comes behind the others where it has none.
+    /// The place of a package, which is appended where it has none.
     fn place_of(&mut self, alloc: Global, name: N) -> R<usize>
         requires { length self.old.names.keys ≡ length self.old.trackers.items }
         ensures place { IfOk result (λ place. PlacesName name place self.old self.new) }
@@ -105,8 +106,8 @@ impl<N: Copy + Exact + Hash + Debug> Registry<N> {
     }
 }
 
-/// Tracks the variable of a solvable, unless it is tracked, and states what ties it to the digits of
-/// its package.
+/// Tracks the variable of a solvable, unless it is tracked, and adds the clauses that tie it to the
+/// digits of its package.
 fn track<N: Copy + Exact + Hash + Debug, S: Copy + Exact + Hash + Debug>(
     alloc: Global,
     tracker: &mut AtMostOnceTracker<VariableId>,
@@ -129,8 +130,8 @@ fn track<N: Copy + Exact + Hash + Debug, S: Copy + Exact + Hash + Debug>(
     Ok(())
 }
 
-/// The place that the first tie is of: with a new digit the first one, else that of the variable that
-/// comes, behind so many.
+/// The place of the first tie: 0 with a new digit, else that of the new variable, the number of
+/// those before it.
 fn first_place(digit: Option<VariableId>, count: u32) -> u32
     ensures { result ≡ first_of digit count }
 {
@@ -140,7 +141,7 @@ fn first_place(digit: Option<VariableId>, count: u32) -> u32
     }
 }
 
-/// The variable of the digit that a variable takes with it, if it takes one.
+/// The variable of the new digit that a variable needs, if it needs one.
 fn next_digit<N: Copy + Exact + Hash + Debug, S: Copy + Exact + Hash + Debug>(
     tracker: &AtMostOnceTracker<VariableId>,
     coding: &mut SolverState<N, S>,
@@ -156,15 +157,15 @@ fn next_digit<N: Copy + Exact + Hash + Debug, S: Copy + Exact + Hash + Debug>(
     if !tracker.needs_helper(variable) {
         return Ok(None);
     }
-    // A slice has fewer than 2^64 items, so 64 digits tell its places apart.
+    // A slice has fewer than 2^64 items, so 64 digits distinguish its places.
     let _count = tracker.variables().len();
     let bit = tracker.helpers().len() as u32;
     let digit = coding.variable(ProofAtom::Bit(name, bit))?;
     Ok(Some(digit))
 }
 
-/// States each tie of solvables of a package to its digits. The first tie is of this place, and each
-/// next one of the next place, up to the last place, of which all that are left are.
+/// Adds the clause of each tie of a package's solvables to its digits. The places of the ties rise
+/// by one from `first` up to `last`, the place of all that are left.
 fn state_ties<N: Copy + Exact + Hash + Debug, S: Copy + Exact + Hash + Debug>(
     alloc: Global,
     coding: &mut SolverState<N, S>,
@@ -196,7 +197,7 @@ fn next_place(place: u32, last: u32) -> u32
     if place < last { place + 1 } else { last }
 }
 
-/// States what ties a solvable at a place to a digit of its package.
+/// Adds the clause that ties a solvable at a place to a digit of its package.
 fn state_tie<N: Copy + Exact + Hash + Debug, S: Copy + Exact + Hash + Debug>(
     alloc: Global,
     coding: &mut SolverState<N, S>,

@@ -1,6 +1,6 @@
-//! The search, with what its variables stand for and what its clauses state.
-//! Variable 0 is the root's; variable k + 1 stands for the k-th atom, and the n-th clause states the n-th
-//! of what is stated.
+//! The search, with the atoms of its variables and the rules of its clauses.
+//! Variable 0 is the root's. Variable k + 1 represents the k-th atom, and the n-th clause encodes
+//! the n-th of `stated`.
 ghost use Rattle.std.specs.Prelude.{◌≡◌, ◌<◌, IfOk, IfSome, IsErrOf, IsOkUnless};
 ghost use Rattle.resolvo_pool_core.specs.declared.want.Want.TheVariants.{Memory, Ids};
 ghost use Rattle.resolvo_sat.specs.State.{count_of};
@@ -20,7 +20,7 @@ use std::alloc::Global;
 use std::fmt::Debug;
 use std::hash::Hash;
 
-/// The search, with what its variables stand for and what its clauses state.
+/// The search, with the atoms of its variables and the rules of its clauses.
 pub struct SolverState<N: Copy + Eq + Hash, S: Copy + Eq + Hash> {
     pub search: SatState,
     pub watching: WatchLists,
@@ -41,7 +41,7 @@ impl<N: Copy + Eq + Hash, S: Copy + Eq + Hash> Drop for SolverState<N, S> {
 }
 
 impl<N: Copy + Exact + Hash + Debug, S: Copy + Exact + Hash + Debug> SolverState<N, S> {
-    /// The search at its start: the root alone.
+    /// The initial state: the root alone.
     pub fn begin(alloc: Global) -> R<SolverState<N, S>>
         ensures begun { IfOk result IsBegun }
         ensures refusal { IsOkUnless result Memory }
@@ -57,7 +57,7 @@ impl<N: Copy + Exact + Hash + Debug, S: Copy + Exact + Hash + Debug> SolverState
         })
     }
 
-    /// The variable that stands for the atom, if one does.
+    /// The variable that represents the atom, if there is one.
     pub fn find(&self, atom: ProofAtom<N, S>) -> Option<VariableId>
         requires { IsCoding self.now }
         ensures found { IsFound self.now.atoms.keys atom result }
@@ -69,7 +69,7 @@ impl<N: Copy + Exact + Hash + Debug, S: Copy + Exact + Hash + Debug> SolverState
         }
     }
 
-    /// The variable that stands for the atom: the one that did, or the next one by number.
+    /// The variable that represents the atom, which is a new one where there is none.
     pub fn variable(&mut self, atom: ProofAtom<N, S>) -> R<VariableId>
         requires { IsCoding self.old }
         ensures given { IfOk result (λ v. Gives atom v self.old self.new) }
@@ -84,7 +84,7 @@ impl<N: Copy + Exact + Hash + Debug, S: Copy + Exact + Hash + Debug> SolverState
         Ok(variable)
     }
 
-    /// The solvable that a variable stands for, if it does for one.
+    /// The solvable that a variable represents, if it represents one.
     pub fn solvable(&self, variable: VariableId) -> Option<S>
         ensures { result ≡ solvable_of self.now.atoms.keys variable.0 }
     {
@@ -97,7 +97,7 @@ impl<N: Copy + Exact + Hash + Debug, S: Copy + Exact + Hash + Debug> SolverState
         }
     }
 
-    /// The place of the digit that a variable stands for, if it does for one.
+    /// The place of the digit that a variable represents, if it represents one.
     pub fn bit(&self, variable: VariableId) -> Option<u32>
         ensures { result ≡ bit_of self.now.atoms.keys variable.0 }
     {

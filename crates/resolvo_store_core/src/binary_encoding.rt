@@ -1,7 +1,8 @@
-//! Clauses that keep all but one of some variables false, by the binary digits of their places.
-//! The model is the list of tracked variables and the list of helpers; the k-th variable, counted from
-//! 0, is tied to the digits of k: where it is true, each helper has the value of its digit. There are
-//! as many helpers as it takes to tell the places apart.
+//! The binary at-most-one encoding: clauses that tie each variable to the binary digits of its
+//! place.
+//! The model is the list of tracked variables and the list of helpers. The k-th variable, counted
+//! from 0, is tied to the digits of k: where it is true, each helper has the value of its digit.
+//! There are just enough helpers to distinguish the places.
 ghost use Rattle.std.specs.Prelude.{◌≡◌, ◌==◌, ◌&&◌, ◌+◌, ◌*◌, ◌^◌, ◌++◌, ◌∷◌, [], ◌↔◌, Bool, ℕ, not, true, false, is_some, length, map, IfOk, OnOk, OnErr, IsOkUnless};
 ghost use Rattle.std.specs.List.{list_any, count_by};
 ghost use Rattle.resolvo_pool_core.specs.declared.want.Want.TheVariants.{Memory};
@@ -18,7 +19,7 @@ use std::marker::Model;
 pub struct AtMostOnceTracker<V: Eq + Hash> {
     variables: IndexSet<V>,
     helpers: Vec<V>,
-    /// How many places the helpers tell apart.
+    /// How many places the helpers can distinguish.
     room: u128,
 }
 
@@ -36,7 +37,7 @@ impl<V: Eq + Hash> Model for AtMostOnceTracker<V> {
 }
 
 impl<V: Copy + Eq + Hash + Drop> AtMostOnceTracker<V> {
-    /// No variable.
+    /// An empty tracker.
     pub fn new(alloc: Global) -> AtMostOnceTracker<V>
         ensures { result ≡ record { variables = []; helpers = [] } }
     {
@@ -47,14 +48,14 @@ impl<V: Copy + Eq + Hash + Drop> AtMostOnceTracker<V> {
         }
     }
 
-    /// The tracked variables, in the order in which they came.
+    /// The tracked variables, in the order of insertion.
     pub fn variables(&self) -> &[V]
         ensures { result.now ≡ self.now.variables }
     {
         self.variables.as_slice()
     }
 
-    /// The helpers, from the lowest digit on: no more than it takes.
+    /// The helpers, from the lowest digit on: no more than are needed.
     pub fn helpers(&self) -> &[V]
         ensures helpers { result.now ≡ self.now.helpers }
         ensures least { IsLeastCount (length self.now.helpers) (length self.now.variables) }
@@ -62,7 +63,8 @@ impl<V: Copy + Eq + Hash + Drop> AtMostOnceTracker<V> {
         self.helpers.as_slice()
     }
 
-    /// Whether a variable takes a new helper with it: it is new, and the helpers tell no more places apart.
+    /// Whether tracking a variable needs a new helper: it is new, and all places of the helpers are
+    /// used.
     pub fn needs_helper(&self, variable: V) -> bool
         ensures { result ≡ needs_helper V.eq self.now variable }
     {
@@ -70,9 +72,10 @@ impl<V: Copy + Eq + Hash + Drop> AtMostOnceTracker<V> {
         !self.variables.contains(&variable) && full
     }
 
-    /// Tracks a variable, with a new helper where it needs one. The clauses that tie it, and the others
-    /// to the new helper, come behind `out`: a variable, a helper, and the helper's value where the
-    /// variable is true. False where the variable is tracked already.
+    /// Tracks a variable, with a new helper where it needs one. The clauses that tie it, and the
+    /// others to the new helper, are appended to `out`. Each is a variable, a helper, and the
+    /// helper's value where the variable is true. Returns false where the variable is tracked
+    /// already.
     pub fn add(&mut self, variable: V, helper: Option<V>, out: &mut Vec<(V, V, bool)>) -> R<bool>
         requires { is_some helper ≡ needs_helper V.eq self.old variable }
         // After an answer.
@@ -117,8 +120,8 @@ impl<V: Copy + Eq + Hash + Drop> AtMostOnceTracker<V> {
 }
 
 impl<V: Copy + Eq + Hash + Drop> AtMostOnceTracker<V> {
-    /// The law of the clauses: there are as many as variables times helpers, and some values of the
-    /// helpers meet them exactly if at most one of the variables is true.
+    /// The law of the clauses: there are as many as variables times helpers. Some values of the
+    /// helpers satisfy them exactly if at most one of the variables is true.
     pub fn say_at_most_one(&self)
         ensures count { length (all_ties self.now) ≡ length self.now.variables *
             length self.now.helpers }
@@ -128,8 +131,8 @@ impl<V: Copy + Eq + Hash + Drop> AtMostOnceTracker<V> {
         let _room = self.room;
     }
 
-    /// The law of `add`: the clauses of the tracker after it are those before it and the ones that
-    /// came, each as often.
+    /// The law of `add`: the clauses of the tracker after it are those before it and the new ones,
+    /// as multisets.
     pub fn come_to_all(&self, variable: V, helper: Option<V>)
         requires { is_some helper ≡ needs_helper V.eq self.now variable }
         ensures { (p : V × V × Bool → Bool)
@@ -164,7 +167,7 @@ fn tie<V: Copy + Drop>(
     }
 }
 
-/// The digit of each of these places at the new helper is 0.
+/// Ties the earlier variables to the new helper, at which the digit of each of their places is 0.
 fn tie_to_helper<V: Copy + Drop>(variables: &[V], helper: V, out: &mut Vec<(V, V, bool)>) -> R<()>
     ensures front { IsFrontOf out.old.items out.new.items }
     ensures ties { OnOk result (out.new.items ≡ out.old.items ++ map (λ x. (x, helper, false))
@@ -177,7 +180,7 @@ fn tie_to_helper<V: Copy + Drop>(variables: &[V], helper: V, out: &mut Vec<(V, V
     Ok(())
 }
 
-/// The digits of a variable's place, from the lowest on.
+/// Ties a variable to the helpers by the digits of its place, from the lowest on.
 fn tie_variable<V: Copy + Drop>(
     variable: V,
     place: usize,

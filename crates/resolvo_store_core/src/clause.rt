@@ -1,4 +1,4 @@
-//! Clauses: what they say of the variables, as lists of literals.
+//! Clauses as lists of literals, by the rule that each encodes.
 //! A clause names its longer lists by ids and is read over `FixedLists`. Its meaning is its list of
 //! literals (`literals_of`), one of which is true.
 ghost use Rattle.std.specs.Prelude.{◌≡◌, ◌++◌, IfOk, IsOkUnless};
@@ -19,13 +19,14 @@ use resolvo_pool_core::requirement::Requirement;
 use resolvo_pool_core::want::R;
 use std::alloc::{AllocError, Global};
 
-/// A clause, by its reason. Variables stand for solvables, for the root, or for helpers; `N` is the
-/// type of package names.
+/// A clause, by the rule that it encodes. A variable represents a solvable or the root, or is a
+/// helper. `N` is the type of package names.
 #[derive(Debug)]
 pub enum Clause<N> {
     /// The root is true.
     InstallRoot,
-    /// The parent is false, or the condition doesn't hold, or one of the requirement's candidates is true.
+    /// The parent is false, or the condition doesn't hold, or one of the requirement's candidates
+    /// is true.
     Requires(VariableId, Option<DisjunctionId>, Requirement),
     /// The variable is false, or the literal of its package's helper is true.
     ForbidMultipleInstances(VariableId, Literal, N),
@@ -37,11 +38,12 @@ pub enum Clause<N> {
     ConstrainsExcluded(VariableId, VariableId, VersionSetId),
     /// Another version than the locked one, the first, is false.
     Lock(VariableId, VariableId),
-    /// What was learnt from a conflict.
+    /// A clause learnt from a conflict.
     Learnt(LearntClauseId),
     /// The version is false, for the reason of this text.
     Excluded(VariableId, StringId),
-    /// The helper that says that some version of the package is chosen is true, or the version is false.
+    /// The version is false, or the helper that is true where some version of the package is
+    /// chosen.
     AnyOf(VariableId, VariableId),
 }
 
@@ -58,7 +60,7 @@ impl<N: Copy> Clone for Clause<N> {
 impl<N: Copy> Copy for Clause<N> {}
 
 impl<N: Copy + Drop> Clause<N> {
-    /// Whether the lists that it names are there.
+    /// Whether the lists that it names exist.
     pub fn has_lists(&self, lists: &FixedLists<N>) -> bool
         ensures { result ≡ has_lists lists.now self.now }
     {
@@ -88,7 +90,7 @@ impl<N: Copy> Clause<N> {
         )
     }
 
-    /// Whether literals can have the variables that it names itself.
+    /// Whether the variables that it names itself are in the range of literals.
     pub fn is_in_range(&self) -> bool
         ensures { result ≡ is_own_in_range self.now }
     {
@@ -189,7 +191,7 @@ impl<N: Copy> Clause<N> {
         Ok(literals)
     }
 
-    /// Whether a literal is one of its literals.
+    /// Whether it contains a literal.
     pub fn has_literal(&self, lists: &FixedLists<N>, literal: Literal) -> bool
         requires { Fits lists.now self.now }
         ensures { result ≡ has (literals_of lists.now self.now) literal }

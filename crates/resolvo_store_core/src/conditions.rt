@@ -1,6 +1,6 @@
-//! Conditions as lists of cases.
-//! A condition holds exactly if all version sets of some case are met. The solver gives a conditional
-//! need a clause for each case, and defers a case until it can be met.
+//! Conditions in disjunctive normal form, as lists of cases.
+//! A condition holds exactly if all version sets of some case are met. The solver encodes a
+//! conditional need as a clause for each case, and defers a case until it can be met.
 ghost use Rattle.std.specs.Prelude.{◌≡◌, ◌++◌, ◌∷◌, [], Bool, map, IfOk};
 ghost use Rattle.resolvo_pool_core.specs.declared.id.ConditionId.{ConditionId};
 ghost use Rattle.resolvo_pool_core.specs.declared.id.VersionSetId.{VersionSetId};
@@ -48,8 +48,8 @@ impl<S> DeferredConjunct<S> {
     }
 }
 
-/// The cases of a condition. `or` lists the left side's, then the right side's; `and` pairs each of the
-/// left side's with each of the right side's, the left one outer.
+/// The cases of a condition. `or` lists the left side's, then the right side's. `and` pairs each of
+/// the left side's with each of the right side's, the left one outer.
 pub fn convert_conditions_to_dnf<I: Interner>(
     alloc: Global,
     condition: ConditionId,
@@ -73,8 +73,8 @@ pub fn convert_conditions_to_dnf<I: Interner>(
     }
 }
 
-/// The law of the cases: whichever version sets are met, a condition holds exactly if all version sets
-/// of some case are met.
+/// The law of the cases: whichever version sets are met, a condition holds exactly if all version
+/// sets of some case are met.
 pub fn cases_are_exact<I: Interner>(interner: &I)
     ensures { (met : VersionSetId → Bool) (c : ConditionId)
         → some_case_met met (cases (I.condition_of interner.now) c)
@@ -92,7 +92,7 @@ fn one_case(alloc: Global, version_set: VersionSetId) -> R<Vec<Vec<VersionSetId>
     Ok(all)
 }
 
-/// Both cases in one.
+/// The conjunction of both cases.
 fn joined(alloc: Global, left: &[VersionSetId], right: &[VersionSetId]) -> R<Vec<VersionSetId>>
     ensures { IfOk result (λ v. v.items ≡ left.now ++ right.now) }
 {

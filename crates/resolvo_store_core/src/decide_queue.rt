@@ -1,7 +1,7 @@
 //! The next decision, by a scan of the registered need clauses.
-//! The model is the list of those clauses, by position. A clause is eligible where its parent is true,
-//! its condition holds and none of its candidates is true; the first eligible one is chosen for, unless
-//! a later one beats it.
+//! The model is the list of those clauses, by position. A clause is eligible where its parent is
+//! true, its condition holds and none of its candidates is true. The decision is made for the first
+//! eligible one, unless a later one beats it.
 ghost use Rattle.std.specs.Prelude.{◌≡◌, ◌++◌, ◌∷◌, [], OnOk, OnErr, IsOkUnless, None, length};
 ghost use Rattle.std.specs.Option.{option_map, option_copied};
 ghost use Rattle.std.specs.List.{find, count_by, list_any, list_all};
@@ -33,7 +33,7 @@ pub struct NeedClause {
     pub clause: ClauseId,
 }
 
-/// What is to be decided next.
+/// The next decision.
 #[derive(Clone, Copy, Debug, PartialEq, Eq)]
 pub struct NextDecision {
     /// The candidate that is to be true.
@@ -64,7 +64,7 @@ impl Model for DecideQueue {
 }
 
 impl DecideQueue {
-    /// No clause.
+    /// An empty queue.
     pub fn new(alloc: Global) -> DecideQueue
         ensures { result ≡ [] }
     {
@@ -80,7 +80,7 @@ impl DecideQueue {
         self.registered.as_slice()
     }
 
-    /// Registers a clause behind the others.
+    /// Registers a clause after the others.
     pub fn register_clause(&mut self, need: NeedClause) -> R<()>
         ensures put { OnOk result (self.new ≡ self.old ++ need ∷ []) }
         ensures err { OnErr result (self.new ≡ self.old) }
@@ -90,9 +90,9 @@ impl DecideQueue {
         Ok(())
     }
 
-    /// Makes the queue take note of what happened to the trail, and of the clauses that came since
-    /// this was last called. The registered clauses stay, and so does the trail but for its floor,
-    /// which is taken. The scan keeps nothing between calls, so it has nothing to bring up to date.
+    /// Brings the queue up to date with the trail, and with the clauses that were added since the
+    /// last call. The registered clauses don't change, nor does the trail except for its floor,
+    /// which is reset. The scan keeps no state between calls, so it has nothing to update.
     pub fn sync<N: SolverId>(
         &mut self,
         _lists: &FixedLists<N>,
@@ -110,7 +110,8 @@ impl DecideQueue {
         Ok(())
     }
 
-    /// Tells the queue of a package whose score is above 0. The scan reads each score anew.
+    /// Marks a package whose score is above 0. The scan reads each score anew, so it ignores the
+    /// mark.
     pub fn mark_name_hot<N: SolverId>(&mut self, _name: N) -> R<()>
         ensures registered { self.new ≡ self.old }
         ensures refusal { IsOkUnless result Memory }
@@ -118,13 +119,13 @@ impl DecideQueue {
         Ok(())
     }
 
-    /// Tells the queue whether scores are raised at all, which lets it stop a search early. No answer
-    /// rests on it, and the scan never stops early.
+    /// Sets whether scores are raised at all, by which a queue may stop a search early. No answer
+    /// depends on it, and the scan never stops early.
     pub fn set_standard_activity_params(&mut self, _is_standard: bool)
         ensures { self.new ≡ self.old }
     {}
 
-    /// What is to be decided next, or none where no clause is eligible.
+    /// The next decision, or none where no clause is eligible.
     pub fn next_decision<N: SolverId>(
         &self,
         lists: &FixedLists<N>,
@@ -162,8 +163,8 @@ impl DecideQueue {
     }
 }
 
-/// The later decision where it beats the one so far, which it does with a higher score and fewer
-/// candidates, unless it would take the place of a root's.
+/// The better of the best decision so far and a later one. The later one wins with a higher score
+/// and fewer candidates, but never over a decision for the root unless it is one itself.
 pub fn or_later(best: Option<NextDecision>, next: Option<NextDecision>) -> Option<NextDecision>
     ensures { result ≡ later best next }
 {
@@ -188,7 +189,7 @@ fn does_beat(next: NextDecision, best: NextDecision) -> bool
         && (next.required_by.is_root() || !best.required_by.is_root())
 }
 
-/// What a clause has to decide, if it is eligible.
+/// The decision that a clause offers, if it is eligible.
 pub fn offered<N: Copy + Eq, C: ScoreMap<N>>(
     need: &NeedClause,
     lists: &FixedLists<N>,

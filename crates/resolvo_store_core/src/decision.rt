@@ -1,5 +1,5 @@
-//! A decision: a variable with its value and the clause that it came from, and the trail's entry,
-//! which has the level too.
+//! A decision: a variable with its value and its reason clause; and an entry of the trail, which
+//! has the level too.
 
 use resolvo_pool_core::id::{ClauseId, VariableId};
 
@@ -8,11 +8,11 @@ use resolvo_pool_core::id::{ClauseId, VariableId};
 pub struct Decision {
     pub variable: VariableId,
     pub value: bool,
-    /// The clause that gave the value: one that left no other, or the one that was chosen for.
+    /// The reason: the clause that forced the value, or the clause for which the decision was made.
     pub derived_from: ClauseId,
 }
 
-/// A decision, with the level at which it was taken.
+/// A decision, with its level.
 #[derive(Clone, Copy, Debug, PartialEq, Eq)]
 pub struct Entry {
     pub decision: Decision,

@@ -1,6 +1,6 @@
 //! The values of the decided variables, with their levels.
-//! Its model is the list of slots by variable; a variable beyond the list is undecided. Literals and
-//! clauses are evaluated over it, and the decision tracker keeps one beside its trail.
+//! Its model is the list of slots by variable; a variable beyond the list is undecided. Literals
+//! and clauses are evaluated over it, and the decision tracker keeps one beside its trail.
 ghost use Rattle.std.specs.Prelude.{◌≡◌, OnOk, OnErr, IsOkUnless, length, [], None, Some};
 ghost use Rattle.resolvo_pool_core.specs.declared.want.Want.TheVariants.{Memory};
 ghost use Rattle.resolvo_pool_core.specs.Slots.{at, PutsSlot};
@@ -12,7 +12,7 @@ use resolvo_pool_core::want::R;
 use std::alloc::Global;
 use std::marker::Model;
 
-/// A variable's value, and the level at which it got it.
+/// A variable's value, and the level at which it was assigned.
 #[derive(Clone, Copy, Debug, PartialEq, Eq)]
 pub struct Assignment {
     pub value: bool,
@@ -51,7 +51,7 @@ impl DecisionMap {
         self.slots.len()
     }
 
-    /// Makes a variable undecided.
+    /// Unassigns a variable.
     pub fn reset(&mut self, variable: VariableId)
         ensures put { PutsSlot self.old self.new variable.0 None }
         ensures len { length self.new ≡ length self.old }
@@ -62,7 +62,7 @@ impl DecisionMap {
         }
     }
 
-    /// Gives a variable a value at a level.
+    /// Assigns a value to a variable at a level.
     pub fn set(&mut self, variable: VariableId, value: bool, level: u32) -> R<()>
         ensures put { OnOk result
             (PutsSlot self.old self.new variable.0
@@ -90,7 +90,7 @@ impl DecisionMap {
         }
     }
 
-    /// The level at which a variable got its value, or 0 where it is undecided.
+    /// The level at which a variable was assigned, or 0 where it is undecided.
     pub fn level(&self, variable: VariableId) -> u32
         ensures { result ≡ level_or (at self.now variable.0) }
     {

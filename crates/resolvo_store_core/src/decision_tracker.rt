@@ -1,6 +1,6 @@
 //! The trail of decisions, with the values that it gives.
-//! Its model is the trail, how far it was propagated, and its least length since that was last taken.
-//! Propagation reads it from the front on, and learning takes entries away from its end.
+//! Its model is the trail, how far it was propagated, and its least length since that was last
+//! taken. Propagation reads it from the front on, and a backjump removes entries from its end.
 ghost use Rattle.std.specs.Prelude.{◌≡◌, ℕ, ◌+◌, ◌<◌, ◌∷◌, ◌++◌, [], OnErr, IfOk, IsOkUnless, length, min, slice_get};
 ghost use Rattle.std.specs.Option.{option_map};
 ghost use Rattle.std.specs.Iterator.{YieldsFirst, item_count};
@@ -16,7 +16,7 @@ use resolvo_pool_core::want::R;
 use std::alloc::Global;
 use std::marker::Model;
 
-/// What became of a decision that was to be added.
+/// The outcome of adding a decision.
 #[derive(Clone, Copy, Debug, PartialEq, Eq)]
 pub enum Set {
     /// Its variable was undecided, and has its value now.
@@ -66,7 +66,7 @@ impl DecisionTracker {
         &self.map
     }
 
-    /// The trail, from the first decision on. Each variable stands once at most.
+    /// The trail, from the first decision on. Each variable is in it at most once.
     pub fn stack(&self) -> &[Entry]
         ensures trail { result.now ≡ self.now.trail }
         ensures once { EachOnce self.now.trail }
@@ -104,7 +104,7 @@ impl DecisionTracker {
         top_level(self.stack.as_slice())
     }
 
-    /// The clause that a variable's decision came from, if it is decided.
+    /// The reason clause of a variable's decision, if it is decided.
     pub fn find_clause_for_assignment(&self, variable: VariableId) -> Option<ClauseId>
         ensures { result ≡ clause_for self.now.trail variable.0 }
     {
@@ -143,7 +143,7 @@ impl DecisionTracker {
         }
     }
 
-    /// Takes the last decision away; answers it, and the level of the one before it, or 0.
+    /// Removes the last decision; returns it, and the level of the one before it, or 0.
     pub fn undo_last(&mut self) -> (Decision, u32)
         requires { 0 < length self.old.trail }
         ensures popped { PopsLast self.old self.new result.0 }
@@ -161,7 +161,7 @@ impl DecisionTracker {
         }
     }
 
-    /// Takes the decisions above a level away, from the end to the first that is not above it.
+    /// Removes the decisions above a level, from the end to the first that is not above it.
     pub fn undo_until(&mut self, level: u32)
         ensures { Undoes level self.old self.new }
     {
@@ -172,7 +172,7 @@ impl DecisionTracker {
         }
     }
 
-    /// The next decision that was not propagated, which is then taken as propagated.
+    /// The next decision that was not propagated, and marks it as propagated.
     pub fn next_unpropagated(&mut self) -> Option<Decision>
         ensures decision { result ≡ option_map (λ e. e.decision)
             (slice_get self.old.trail self.old.front) }
@@ -190,7 +190,7 @@ impl DecisionTracker {
         }
     }
 
-    /// Lets propagation begin anew at the first decision.
+    /// Restarts propagation at the first decision.
     pub fn again(&mut self)
         ensures { self.new ≡ record self.old { front = 0 } }
     {
@@ -207,7 +207,7 @@ impl DecisionTracker {
         floor
     }
 
-    /// Takes all decisions away.
+    /// Removes all decisions.
     pub fn clear(&mut self)
         ensures { self.new ≡ record { trail = []; front = 0; floor = 0 } }
     {
@@ -217,7 +217,7 @@ impl DecisionTracker {
     }
 }
 
-/// A walk over the decided variables and their values.
+/// Iterates over the decided variables and their values.
 #[derive(Drop)]
 pub struct Assignments<'a> {
     pub rest: &'a [Entry],

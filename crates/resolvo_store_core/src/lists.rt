@@ -1,5 +1,5 @@
 //! The lists that clauses name by an id: candidates of requirements, disjunctions, learnt literals.
-//! Each list is given once and never changes. Clauses are read over them.
+//! Each list is set once and never changes. Clauses are read over them.
 ghost use Rattle.std.specs.Prelude.{◌≡◌, ◌<◌, ◌++◌, ◌∷◌, [], length, OnOk, OnErr, IfOk, IfSome, IsOkUnless, IsErrOf, IsSome, is_some, None, Some, true, false, MatchOption};
 ghost use Rattle.std.specs.Option.{option_map, option_copied};
 ghost use Rattle.resolvo_pool_core.specs.declared.want.Want.TheVariants.{Memory, Ids};
@@ -22,7 +22,8 @@ pub struct Candidate<N> {
     pub package: N,
 }
 
-/// A case of a condition, as the literals that a clause has for it: each is false where the case holds.
+/// A case of a condition, as the literals that a clause has for it: each is false where the case
+/// holds.
 #[derive(Debug, Drop)]
 pub struct Disjunction {
     pub literals: Vec<Literal>,
@@ -37,7 +38,7 @@ pub struct FixedLists<N> {
 }
 
 impl<N: Copy + Drop> FixedLists<N> {
-    /// No list.
+    /// No lists.
     pub fn new(alloc: Global) -> R<FixedLists<N>>
         ensures empty { IfOk result IsEmpty }
         ensures refusal { IsOkUnless result Memory }
@@ -49,7 +50,7 @@ impl<N: Copy + Drop> FixedLists<N> {
         })
     }
 
-    /// Gives a requirement its candidates.
+    /// Sets the candidates of a requirement.
     pub fn fix_candidates(
         &mut self,
         requirement: Requirement,
@@ -81,7 +82,7 @@ impl<N: Copy + Drop> FixedLists<N> {
         self.learnt.alloc(literals)
     }
 
-    /// The candidates of a requirement, if it has got them.
+    /// The candidates of a requirement, if they were set.
     pub fn candidates(&self, requirement: Requirement) -> Option<&[Candidate<N>]>
         ensures { MatchOption result (has_candidates self.now requirement ≡ false)
             (λ cs.
@@ -102,7 +103,7 @@ impl<N: Copy + Drop> FixedLists<N> {
         self.disjunctions[id].literals.as_slice()
     }
 
-    /// The literals of a condition's case, if there is a condition and it was given.
+    /// The literals of a condition's case, if there is a condition and the case was added.
     pub fn condition(&self, id: Option<DisjunctionId>) -> Option<&[Literal]>
         ensures given { is_some result ≡ names_disjunction self.now id }
         ensures literals { listed result ≡ condition_in self.now id }
@@ -115,7 +116,7 @@ impl<N: Copy + Drop> FixedLists<N> {
         }
     }
 
-    /// Whether the condition's case is there, if there is a condition.
+    /// Whether the condition's case was added, if there is a condition.
     pub fn has_condition(&self, id: Option<DisjunctionId>) -> bool
         ensures { result ≡ has_disjunction self.now id }
     {
@@ -125,7 +126,7 @@ impl<N: Copy + Drop> FixedLists<N> {
         }
     }
 
-    /// Whether the literals of a learnt clause are there.
+    /// Whether the literals of a learnt clause were added.
     pub fn has_learnt(&self, id: LearntClauseId) -> bool
         ensures { result ≡ has_learnt self.now id }
     {

@@ -135,7 +135,7 @@ impl DenseIndex for Literal {
     }
 }
 
-/// Whether a literal can have this variable.
+/// Whether the variable is in the range of literals.
 pub fn is_in_range(variable: VariableId) -> bool
     ensures { result ≡ is_in_range variable }
 {

@@ -1,4 +1,4 @@
-//! A walk over the literals of a clause.
+//! An iterator over the literals of a clause.
 //! Its model is the list of the literals that are left.
 ghost use Rattle.std.specs.Prelude.{◌≡◌};
 ghost use Rattle.std.specs.Iterator.{YieldsFirst, item_count};
@@ -19,7 +19,7 @@ pub struct Literals<'a, N> {
 impl<'a, N: Copy> Literals<'a, N> {
     ghost use Rattle.resolvo_store_core.specs.ReadClause.{TakesFirst};
 
-    /// The first of the list, if it is left.
+    /// The first literal of the list, if one is left.
     fn next_listed(&mut self) -> Option<Literal>
         ensures first { TakesFirst (listed self.old.listed) (listed self.new.listed) result }
         ensures others { (self.new.first ≡ self.old.first)
@@ -31,7 +31,7 @@ impl<'a, N: Copy> Literals<'a, N> {
         Some(*literal)
     }
 
-    /// The first candidate's, if one is left.
+    /// The first candidate's literal, if one is left.
     fn next_candidate(&mut self) -> Option<Literal>
         ensures first { TakesFirst (named self.old.candidates) (named self.new.candidates) result }
         ensures others { (self.new.first ≡ self.old.first)

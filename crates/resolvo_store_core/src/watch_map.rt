@@ -1,9 +1,9 @@
 //! For each literal the clauses that watch it, and walks over them.
-//! What a clause watches stands with the clauses, in the list of their watched literals, which the
-//! calls take; the map and that list fit each other (`IsWatched`): each clause stands once in the list
-//! of each of its two literals, and in no other. A clause that begins to watch a literal comes to the
-//! front of its list. A walk is a cursor that the caller leads on. The front of a list is the end of
-//! its vector, where a clause comes at no cost, however many watch the literal already.
+//! The watched literals of each clause are kept beside the clauses, in a list that the calls take.
+//! The map and that list agree (`IsWatched`): each clause is once in the list of each of its two
+//! literals, and in no other. A clause that begins to watch a literal is put at the front of its
+//! list. A walk is a cursor that the caller advances. The front of a list is the end of its vector,
+//! where an insertion takes constant time.
 ghost use Rattle.std.specs.Prelude.{◌≡◌, ℕ, ◌<◌, ◌≤◌, ◌+◌, ◌-◌, ◌++◌, ◌∷◌, [], List, Option, length, slice_get, false, Some, drop, OnOk, OnErr, IfOk, IsOk, IsOkUnless, IfSome, vec_capacity};
 ghost use Rattle.resolvo_pool_core.specs.declared.want.Want.TheVariants.{Memory};
 ghost use Rattle.resolvo_pool_core.specs.declared.id.ClauseId.{ClauseId};
@@ -52,7 +52,7 @@ impl WatchMap {
         self.lists.iter().filter(|list| !list.is_empty()).count()
     }
 
-    /// Lets a new clause watch two different literals. It comes to the front of both lists.
+    /// Lets a new clause watch two different literals. It is put at the front of both lists.
     pub fn start_watching(&mut self, watched: WatchedLiterals, clause: ClauseId) -> R<()>
         requires { same_literal watched.first watched.second ≡ false }
         ensures started { OnOk result (StartsIn clause watched (watchers self.old)
@@ -75,16 +75,17 @@ impl WatchMap {
         }
     }
 
-    /// A walk over the clauses that watch a literal, at its start.
+    /// A cursor at the start of the clauses that watch a literal.
     pub fn cursor(&self, literal: Literal) -> WatchMapCursor
         ensures { result ≡ record { literal = literal; place = 0 } }
     {
         WatchMapCursor { literal, place: 0 }
     }
 
-    /// Walks over the clauses that watch a literal: the clause met at each step watches the literal of
-    /// that step in place of this one, unless it watches that one already; where there is none, it
-    /// stays. The room for all moves is made first, so a refused walk moves nothing.
+    /// Walks over the clauses that watch a literal. The clause at each step then watches the
+    /// literal of that step in place of this one, unless it watches that one already. At a step
+    /// with no literal it keeps its watch. The room for all moves is reserved first, so a refused
+    /// walk moves nothing.
     pub fn walk(
         &mut self,
         alloc: Global,
@@ -149,7 +150,7 @@ impl WatchMap {
         }
     }
 
-    /// Makes room for so many clauses at each of these literals as there are literals.
+    /// Reserves room at each of these literals for as many clauses as there are literals.
     fn make_room(&mut self, moves: &[Option<Literal>]) -> R<()>
         ensures same { SameLists (watchers self.old) (watchers self.new) }
         ensures room { OnOk result (HasRoom (length moves.now) self.new moves.now) }
@@ -163,7 +164,7 @@ impl WatchMap {
         Ok(())
     }
 
-    /// Makes room for so many clauses more at a literal.
+    /// Reserves room for so many more clauses at a literal.
     fn reserve(&mut self, literal: Literal, count: usize) -> R<()>
         ensures same { SameLists (watchers self.old) (watchers self.new) }
         ensures room { OnOk result (count ≤ room self.new literal) }
@@ -203,7 +204,7 @@ impl WatchMap {
         None
     }
 
-    /// Puts a clause to the front of a literal's list.
+    /// Inserts a clause at the front of a literal's list.
     fn put_first(&mut self, literal: Literal, clause: ClauseId) -> R<()>
         ensures put { OnOk result (PutsFirst clause literal (watchers self.old)
             (watchers self.new)) }
@@ -218,7 +219,7 @@ impl WatchMap {
         Ok(())
     }
 
-    /// Takes the clause at a place out of a literal's list.
+    /// Removes the clause at a place of a literal's list.
     fn take_out(&mut self, literal: Literal, place: usize)
         requires { place < length (watchers self.old literal) }
         ensures taken { TakesOut literal place (watchers self.old) (watchers self.new) }
@@ -238,7 +239,7 @@ impl WatchMapCursor {
         map.clause_at(self.literal, self.place)
     }
 
-    /// Goes behind the clause, which stays where it is.
+    /// Advances past the clause, which keeps its watch.
     pub fn next(&mut self)
         requires { self.old.place < usize.MAX }
         ensures { self.new ≡ record self.old { place = self.old.place + 1 } }
@@ -246,7 +247,7 @@ impl WatchMapCursor {
         self.place += 1;
     }
 
-    /// What the clause at the cursor watches.
+    /// The watched literals of the clause at the cursor.
     pub fn watched_literals(
         &self,
         map: &WatchMap,
@@ -291,8 +292,8 @@ impl WatchMapCursor {
         watched.watch_of(self.literal)
     }
 
-    /// Lets the clause at the cursor watch another literal in the place of this one. The cursor then
-    /// stands at the clause behind it. A refusal leaves the clause where it was.
+    /// Lets the clause at the cursor watch another literal in place of this one. The cursor is then
+    /// at the clause after it. A refusal leaves the clause where it was.
     pub fn update(
         &self,
         map: &mut WatchMap,
@@ -329,7 +330,7 @@ impl WatchMapCursor {
     }
 }
 
-/// Where a place of a list lies in its vector, whose end is the list's front.
+/// The index in the vector of a place of its list; the vector's end is the list's front.
 fn from_end(len: usize, place: usize) -> usize
     requires { place < len }
     ensures { result ≡ len - 1 - place }
@@ -337,7 +338,7 @@ fn from_end(len: usize, place: usize) -> usize
     len - 1 - place
 }
 
-/// What a clause watches, if it watches anything.
+/// The watched literals of a clause, if it has any.
 fn pair_of(clauses: &[Option<WatchedLiterals>], clause: ClauseId) -> Option<WatchedLiterals>
     ensures { result ≡ pair_at clauses.now clause.0 }
 {

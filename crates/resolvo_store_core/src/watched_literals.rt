@@ -1,7 +1,7 @@
 //! The two literals that a clause watches.
-//! While neither of the two is false, the clause has nothing to say. Each kind of clause has a
-//! constructor here, which answers the clause with what it watches: two different literals of it, or
-//! none where it hasn't got two.
+//! While neither of the two is false, the clause is neither unit nor falsified. Each kind of clause
+//! has a constructor here, which returns the clause with its watched literals. A clause without two
+//! different literals has none.
 ghost use Rattle.std.specs.Prelude.{◌≡◌, ◌<◌, ◌||◌, ◌∷◌, [], Some, None, true, false, IfSome};
 ghost use Rattle.resolvo_store_core.specs.Signed.{value_under};
 ghost use Rattle.resolvo_store_core.specs.Values.{value_at};
@@ -54,7 +54,7 @@ impl WatchedLiterals {
         }
     }
 
-    /// The one of the two that is not this literal.
+    /// The other one of the two.
     pub fn other(self, literal: Literal) -> Literal
         ensures { result ≡ other_of self literal }
     {
@@ -84,7 +84,7 @@ impl WatchedLiterals {
 }
 
 impl WatchedLiterals {
-    /// Both literals, unless they are one.
+    /// Both literals, unless they are equal.
     fn of(first: Literal, second: Literal) -> Option<WatchedLiterals>
         ensures { CanWatch (first ∷ second ∷ []) result }
     {
@@ -212,8 +212,8 @@ impl WatchedLiterals {
         (Clause::AnyOf(helper, variable), watched)
     }
 
-    /// The need of a parent: where the condition holds, a candidate is true. It watches the parent and
-    /// a literal beside it, one that is not false where there is one.
+    /// The need of a parent: where the condition holds, a candidate is true. It watches the parent
+    /// and a literal beside it, one that is not false where there is one.
     pub fn needs<N: Copy>(
         lists: &FixedLists<N>,
         parent: VariableId,
@@ -235,7 +235,8 @@ impl WatchedLiterals {
         }
     }
 
-    /// What was learnt. It watches its first and its last literal, which differ unless there is only one.
+    /// A learnt clause. It watches its first and its last literal, which differ unless there is
+    /// only one.
     pub fn learnt<N: Copy + Drop>(
         lists: &FixedLists<N>,
         id: LearntClauseId,

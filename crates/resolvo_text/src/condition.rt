@@ -1,7 +1,7 @@
-//! Conditions: their reader, when one holds, and its cases.
+//! Conditions: their parser, when one holds, and its cases.
 //!
-//! A condition is seen as the tree of specs/Line.antt, a list of cases as the lists of their SPECs. The reader
-//! of a line `needs` calls `condition_in`; the catalogue asks the rest.
+//! The model of a condition is the tree of specs/Line.antt; that of a list of cases is the lists of
+//! their SPECs. The parser of a line `needs` calls `condition_in`; the catalogue calls the rest.
 
 ghost use Rattle.std.specs.Prelude.{◌≡◌, ◌||◌, ◌&&◌, ◌++◌, ◌<◌, Some, map, IfOk};
 ghost use Rattle.resolvo_text.specs.Parse.{Gives, words_in, word_of, joined, condition_in, behind_if, joined_at, part_at, atom_at, lone_at};
@@ -15,7 +15,7 @@ use crate::parse::{no_more, skip, spec_at};
 use crate::spec::{Spec, Version, is_met};
 use std::alloc::{AllocError, Global};
 
-/// A condition. Both operators join from the left.
+/// A condition. Both operators associate to the left.
 #[derive(Debug, Drop)]
 pub enum Cond {
     Spec(Spec),
@@ -43,7 +43,7 @@ impl Cond {
     }
 }
 
-/// The two words that join conditions. `and` binds tighter.
+/// The two operators. `and` binds tighter.
 #[derive(Clone, Copy, Debug, PartialEq, Eq)]
 enum Joint {
     And,
@@ -75,13 +75,13 @@ impl Joint {
     }
 }
 
-/// A condition holds at most so many SPECs.
+/// The most SPECs of a condition.
 const MOST_SPECS: u32 = 16;
 
-/// Parentheses stand at most so deep.
+/// The deepest nesting of parentheses.
 const DEEPEST: u32 = 16;
 
-/// The condition of a line `needs`: all that stands behind its alternatives.
+/// The condition of a line `needs`: all that follows its alternatives.
 #[tactic(auto, unfolding(crate::specs::Parse::condition_in))]
 pub(crate) fn condition_in(alloc: Global, words: &[u8]) -> Result<Option<Cond>, LineFault>
     ensures { Gives condition_of result (condition_in (words_in words.now)) }
@@ -103,9 +103,10 @@ fn behind_if(alloc: Global, words: &[u8]) -> Result<Cond, LineFault>
     Ok(condition)
 }
 
-/// Conditions that are joined so, with parentheses at most `depth` deep and at most `room` SPECs.
+/// Conditions joined by the operator `joint`, with parentheses at most `depth` deep and at most
+/// `room` SPECs.
 ///
-/// Answers how many SPECs may still follow, and the words that do.
+/// Returns the condition, how many SPECs may still follow, and the words that are left.
 #[cycle(condition)]
 fn joined_at(
     alloc: Global,
@@ -134,7 +135,7 @@ fn joined_at(
     }
 }
 
-/// One of the conditions that are joined so.
+/// An operand of the operator `joint`.
 #[cycle(condition)]
 #[tactic(auto, unfolding(crate::specs::Parse::part_at, crate::specs::Parse::joined_at))]
 fn part_at(

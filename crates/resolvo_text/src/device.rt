@@ -1,7 +1,8 @@
 //! Devices that give bytes and devices that take them.
 //!
-//! A device is seen as the bytes that it has left or holds, where it tells them, and as two counts: how often
-//! it failed, and how many of its last calls were interrupted. Readers and writers of texts stand on these traits.
+//! The model of a device is the bytes that it has left or holds, where they are known, and two
+//! counts. They are how often it failed, and how many of its last calls were interrupted. Readers
+//! and writers of texts use these traits.
 
 ghost use Rattle.std.specs.Prelude.{◌≡◌, ◌==◌, if◌then◌else◌, ◌<◌, ◌≤◌};
 ghost use Rattle.std.specs.Bool.{MatchBool};
@@ -9,7 +10,7 @@ ghost use Rattle.resolvo_text.specs.Device.{last, one_more};
 
 use std::io::{ErrorKind, Read, Write};
 
-/// So many interruptions in a row are gone through.
+/// After so many interruptions in a row, the next one is a failure.
 pub(crate) const MOST_INTERRUPTIONS: u32 = 1000;
 
 /// Why a call moved no byte.
@@ -27,16 +28,16 @@ pub trait Source {
     ghost use Rattle.std.specs.Io.KnownBytes.{ReadConsumes};
     ghost use Rattle.resolvo_text.specs.Device.{CountsFailures, CountsInterruptions};
 
-    /// The bytes that are left, where the device tells them.
+    /// The bytes that are left, where they are known.
     ghost left: { Self → Option (List ℕ) };
 
-    /// How often it failed. At the last count each call fails.
+    /// How often it failed. At the largest count each call fails.
     ghost failures: { Self → ℕ };
 
-    /// How many of its last calls, one after the other, were interrupted. It may stay at the last count.
+    /// How many of its last calls, one after the other, were interrupted. The count saturates.
     ghost interruptions: { Self → ℕ };
 
-    /// Gives bytes to the front of `buf` and answers how many. None come only at the end.
+    /// Reads bytes into the front of `buf` and returns how many. The count is 0 only at the end.
     fn read(&mut self, buf: &mut [u8]) -> Result<usize, IoFault>
         ensures bound { ReadsAtMost result buf.new }
         ensures bytes { ReadConsumes (left self.old) (left self.new) result buf.new }
@@ -51,19 +52,19 @@ pub trait Sink {
     ghost use Rattle.std.specs.Io.KnownBytes.{WriteAppends};
     ghost use Rattle.resolvo_text.specs.Device.{CountsFailures, CountsInterruptions, CountsEmpty};
 
-    /// The bytes that it took, where the device tells them.
+    /// The bytes that it took, where they are known.
     ghost contents: { Self → Option (List ℕ) };
 
-    /// How often it failed. At the last count each call fails.
+    /// How often it failed. At the largest count each call fails.
     ghost failures: { Self → ℕ };
 
-    /// How many of its last calls, one after the other, were interrupted. It may stay at the last count.
+    /// How many of its last calls, one after the other, were interrupted. The count saturates.
     ghost interruptions: { Self → ℕ };
 
-    /// How many of its calls took no byte, up to the last count.
+    /// How many of its calls took no byte. The count saturates.
     ghost empty_writes: { Self → ℕ };
 
-    /// Takes bytes from the front of `buf` and answers how many.
+    /// Takes bytes from the front of `buf` and returns how many.
     fn write(&mut self, buf: &[u8]) -> Result<usize, IoFault>
         ensures bound { WritesAtMost result buf.now }
         ensures bytes { WriteAppends (contents self.old) (contents self.new) result buf.now }
@@ -80,7 +81,7 @@ pub(crate) struct Tally {
 }
 
 impl Tally {
-    /// No failure, and no interruption.
+    /// Both counts at 0.
     pub(crate) fn new() -> Self
         ensures { result ≡ record { failures = 0; interruptions = 0 } }
     {
@@ -90,7 +91,7 @@ impl Tally {
         }
     }
 
-    /// Whether no failure more can be counted.
+    /// Whether the count of failures is at its largest.
     pub(crate) fn is_full(&self) -> bool
         ensures { MatchBool result (last ≤ self.now.failures) (self.now.failures < last) }
     {

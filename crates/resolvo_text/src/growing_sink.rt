@@ -1,11 +1,12 @@
-//! A device that keeps all that it takes. The program builds its answer in one, whole before the first byte goes out.
+//! A device that keeps all that it takes. The program builds its whole answer in one before it
+//! writes the first byte.
 
 ghost use Rattle.std.specs.Prelude.{◌≡◌, [], Some};
 
 use crate::device::{IoFault, Sink, Tally, empty_after};
 use std::alloc::Global;
 
-/// Takes all bytes of each call; a call for which there is no memory fails, and takes none.
+/// Takes all bytes of each call. A call for which there is no memory fails, and takes none.
 #[derive(Drop)]
 pub struct GrowingSink {
     bytes: Vec<u8>,
@@ -14,7 +15,7 @@ pub struct GrowingSink {
 }
 
 impl GrowingSink {
-    /// A device that took nothing yet.
+    /// An empty device.
     pub fn new(alloc: Global) -> Self
         ensures empty { result.bytes.items ≡ [] }
     {
@@ -25,7 +26,7 @@ impl GrowingSink {
         }
     }
 
-    /// What it took.
+    /// The bytes that it took.
     pub fn into_bytes(self) -> Vec<u8>
         ensures { result ≡ self.bytes }
     {

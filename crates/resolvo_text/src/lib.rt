@@ -1,7 +1,8 @@
-//! Texts of catalogues and requests: devices that give and take bytes, lines, and what one line says.
+//! Texts of catalogues and requests: devices that give and take bytes, lines, and the parser of one
+//! line.
 //!
-//! `LineReader` takes the lines of a text out of a `Source`, and `line_in` tells what a line says. Which line may
-//! stand where is told by the readers of whole texts, in the crates above.
+//! `LineReader` reads the lines of a text from a `Source`, and `line_in` parses a line. The readers
+//! of whole texts, in the crates above, check which line may follow which.
 #![tactic(auto)]
 
 mod condition;

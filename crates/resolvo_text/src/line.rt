@@ -1,6 +1,7 @@
-//! What a line of a catalogue or a request says.
+//! A parsed line of a catalogue or a request.
 //!
-//! A line is seen as the line of specs/Line.antt; the readers of whole texts keep and place it.
+//! Its model is the line of specs/Line.antt. The readers of whole texts check its place and keep
+//! it.
 
 use crate::condition::Cond;
 use crate::spec::{Spec, Version};
@@ -18,7 +19,7 @@ pub enum Line {
         condition: Option<Cond>,
     },
     Limits(Spec),
-    /// Nothing is known of what a version needs, for the reason that the word names.
+    /// What a version needs is unknown, for the reason that the word names.
     Unknown(String),
     Lock(Version),
     Favour(Version),
@@ -29,7 +30,7 @@ pub enum Line {
     Wish(Version),
 }
 
-/// Why a line was not read: it says nothing, or memory ran out.
+/// Why a line was not parsed: it has a fault, or memory ran out.
 #[derive(Clone, Copy, Debug, PartialEq, Eq, Error)]
 pub enum LineFault {
     #[error("the line says nothing")]

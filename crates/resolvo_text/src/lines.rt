@@ -1,7 +1,8 @@
 //! The lines of a text that a device gives in pieces.
 //!
-//! What is left of the text is the unread bytes of the piece and what the device has left. The readers of whole
-//! texts take one line after the other; the room that is kept bounds the bytes that they take.
+//! What is left of the text is the unread bytes of the piece and the bytes that the device has
+//! left. The readers of whole texts take one line after the other, and `room` bounds the bytes that
+//! they take.
 
 ghost use Rattle.std.specs.Prelude.{◌≡◌, ℕ, ◌+◌, ◌<◌, ◌≤◌, List, [], ◌∷◌, length, take, Option, Ok, Err, Some, None, IfOk, OnOk, IfNone, IsTrue, IfErr, vec_len, false};
 ghost use Rattle.std.specs.Option.{option_to_list};
@@ -17,7 +18,7 @@ use thiserror::Error;
 /// Why a text was not read.
 #[derive(Clone, Copy, Debug, PartialEq, Eq, Error)]
 pub enum ReadFault {
-    /// The line of this number says nothing after the lines above it.
+    /// The line of this number is faulty after the lines above it.
     #[error("fault at line {0}")]
     Fault(u32),
     /// The device failed, or was interrupted too often in a row.
@@ -28,7 +29,7 @@ pub enum ReadFault {
     TooLong,
     #[error("out of memory")]
     Memory,
-    /// A number was refused.
+    /// All numbers are used up.
     #[error("out of numbers")]
     Ids,
 }
@@ -56,14 +57,14 @@ impl<T: Drop> From<AllocFailed<T>> for ReadFault {
 /// How many bytes a device is asked for at once.
 const PIECE: usize = 4096;
 
-/// Takes one line after the other, and holds no other bytes than one piece and one line.
+/// Reads one line after the other, and buffers no more than one piece and one line.
 #[derive(Drop)]
 pub struct LineReader {
     piece: Vec<u8>,
     at: usize,
     end: usize,
     line: Vec<u8>,
-    /// Whether the line that was taken last ended with a newline.
+    /// Whether the last line that was taken ended with a newline.
     whole: bool,
     /// How many bytes may still be taken.
     room: u32,
@@ -79,7 +80,7 @@ fn newline_in(bytes: &[u8]) -> Option<usize>
     bytes.iter().position(|byte| *byte == b'\n')
 }
 
-/// How many bytes stand above the first newline.
+/// How many bytes precede the first newline.
 fn plain_bytes(bytes: &[u8]) -> usize
     ensures within { result ≤ length bytes.now }
     ensures plain { newlines (take result bytes.now) ≡ 0 }
@@ -108,10 +109,10 @@ impl LineReader {
         })
     }
 
-    /// Takes the next line. False at the end of the text.
+    /// Takes the next line. Returns false at the end of the text.
     ///
-    /// All whole lines that have come are given before the device is asked again. After a fault the reader is of
-    /// no more use.
+    /// Each whole line of the piece is returned before the device is read again. After a fault the
+    /// reader can't be used any more.
     pub fn next_line<S: Source>(&mut self, source: &mut S) -> Result<bool, ReadFault>
         // After an answer.
         ensures taken { IfOk result (λ more. IsTrue more → TakesLine (left self.old (S.left source.old)) self.old.room
@@ -145,21 +146,21 @@ impl LineReader {
         }
     }
 
-    /// The line that was taken last.
+    /// The last line that was taken.
     pub fn line(&self) -> &[u8]
         ensures { result.now ≡ self.now.line.items }
     {
         &self.line
     }
 
-    /// Whether the line that was taken last ended with a newline. If not, it is the text's last.
+    /// Whether the last line that was taken ended with a newline. If not, it is the text's last.
     pub fn is_whole(&self) -> bool
         ensures { result ≡ self.now.whole }
     {
         self.whole
     }
 
-    /// Takes the bytes of the piece above its next newline, as far as there is room for them.
+    /// Takes the bytes of the piece before its next newline, as far as there is room for them.
     fn take_plain(&mut self) -> Result<(), AllocError>
         ensures taken { OnOk result (TakesPlain self.old self.new) }
         ensures less { self.new.room ≤ self.old.room }
@@ -200,7 +201,7 @@ impl LineReader {
         Ok(Some(byte))
     }
 
-    /// Sees to it that a byte of the piece is left, unless the text has ended.
+    /// Makes sure that a byte of the piece is left, unless the text has ended.
     fn refill<S: Source>(&mut self, source: &mut S) -> Result<(), ReadFault>
         // After an answer.
         ensures kept { OnOk result
@@ -221,7 +222,7 @@ impl LineReader {
         Ok(())
     }
 
-    /// Gets the next piece.
+    /// Reads the next piece.
     fn fill<S: Source>(&mut self, source: &mut S) -> Result<(), ReadFault>
         requires { self.old.at ≡ self.old.end }
         // What the call promises.

@@ -1,6 +1,6 @@
-//! Devices over memory, whose bytes per call, interruptions and failure are chosen.
+//! Devices over memory, with chosen bytes per call, interruptions and failures.
 //!
-//! They serve tests: of the readers here and of each crate above that reads or writes.
+//! They are for tests of the readers here and of each crate above that reads or writes.
 
 ghost use Rattle.std.specs.Prelude.{◌≡◌, ◌<◌, ◌≤◌, ◌++◌, [], Some, IfOk, take, drop, length, vec_len};
 ghost use Rattle.resolvo_text.specs.Device.{CountsFailures, CountsInterruptions};
@@ -8,7 +8,7 @@ ghost use Rattle.resolvo_text.specs.Device.{CountsFailures, CountsInterruptions}
 use crate::device::{IoFault, Sink, Source, Tally, empty_after};
 use std::alloc::{AllocError, Global};
 
-/// What comes before the bytes: so many interruptions, and from a chosen call on only failures.
+/// Faults to simulate: so many interruptions first, and failures alone from a chosen call on.
 #[derive(Clone, Copy, Debug, PartialEq, Eq)]
 struct Turns {
     tally: Tally,
@@ -67,7 +67,7 @@ impl Turns {
     }
 }
 
-/// Copies as much as fits, at most `most`, and answers how much.
+/// Copies as much as fits, at most `most` bytes, and returns how many.
 fn copy_front(buf: &mut [u8], bytes: &[u8], most: usize) -> usize
     requires { 0 < most }
     ensures within { result ≤ length buf.new }
@@ -80,7 +80,7 @@ fn copy_front(buf: &mut [u8], bytes: &[u8], most: usize) -> usize
     count
 }
 
-/// A device that gives these bytes, at most so many a call.
+/// A device that gives these bytes, at most `per_call` a call.
 #[derive(Drop)]
 pub struct MemorySource<'a> {
     left: &'a [u8],
@@ -113,7 +113,7 @@ impl<'a> MemorySource<'a> {
         }
     }
 
-    /// After so many calls that gave bytes each call fails.
+    /// After so many calls that read bytes, each call fails.
     pub fn failing_after(self, calls: u64) -> Self
         ensures bytes { result.left.now ≡ self.entry.left.now }
         ensures turns { result.turns ≡ record self.entry.turns { calls_before_failure = Some calls } }
@@ -143,9 +143,11 @@ impl Source for MemorySource<'_> {
     }
 }
 
-/// A device that takes bytes, at most so many a call, into room that was taken when it was made.
+/// A device that takes bytes, at most `per_call` a call, into room that was allocated when it was
+/// made.
 ///
-/// One of 0 bytes a call takes none, and counts each call as an empty write: `write_all` fails at its first.
+/// With 0 bytes a call it takes none, and counts each call as an empty write: `write_all` fails at
+/// its first.
 #[derive(Drop)]
 pub struct MemorySink {
     room: Vec<u8>,
@@ -182,7 +184,7 @@ impl MemorySink {
         self
     }
 
-    /// After so many calls that took bytes each call fails.
+    /// After so many calls that took bytes, each call fails.
     pub fn failing_after(mut self, calls: u64) -> Self
         ensures bytes { take result.used result.room.items ≡ take self.used self.room.items }
         ensures most { result.per_call ≡ self.per_call }
@@ -214,7 +216,7 @@ impl Sink for MemorySink {
 
     ghost empty_writes = { λ s. s.empty_writes };
 
-    /// As of each device, and at most `per_call` bytes: none where that is 0.
+    /// The promises of each device, and at most `per_call` bytes: none where that is 0.
     fn write(&mut self, buf: &[u8]) -> Result<usize, IoFault>
         // Whatever the answer.
         ensures bound { WritesAtMost result buf.now }

@@ -1,8 +1,8 @@
-//! Reading a line from left to right, word by word.
+//! The parser of a line, from left to right, word by word.
 //!
-//! The words that are left of a line are the bytes behind the last word, so each of them stands behind a space. A
-//! reader of a part answers the part and what is left. Readers of whole texts call `line_in`; the report's reader
-//! calls the readers of parts.
+//! The words that are left of a line are the bytes after the last word, so each of them follows a
+//! space. A parser of a part returns the part and what is left. Readers of whole texts call
+//! `line_in`; the parser of reports calls the parsers of parts.
 
 ghost use Rattle.std.specs.Prelude.{◌≡◌, ◌<◌, ◌≤◌, ◌∷◌, List, ℕ, length, Err, IfOk, IfSome};
 ghost use Rattle.std.specs.List.{position, slice_split, count_by};
@@ -26,7 +26,7 @@ fn space_in(text: &[u8]) -> Option<usize>
     text.iter().position(|b| *b == b' ')
 }
 
-/// The first word of a text, and what stands after it.
+/// The first word of a text, and the rest after it.
 pub fn first_word(text: &[u8]) -> (&[u8], &[u8])
     ensures shorter { length result.1.now ≤ length text.now }
     ensures words { slice_split is_space text.now ≡ result.0.now ∷ words_in result.1.now }
@@ -37,7 +37,7 @@ pub fn first_word(text: &[u8]) -> (&[u8], &[u8])
     }
 }
 
-/// The next word, which stands behind a space, and what stands after it.
+/// The next word, which follows a space, and the rest after it.
 pub fn next_word(rest: &[u8]) -> Option<(&[u8], &[u8])>
     ensures shorter { IfSome result (λ x. length x.1.now < length rest.now) }
     ensures words { option_map (λ x. (x.0.now, words_in x.1.now)) result ≡ word_at (words_in rest.now) }
@@ -111,7 +111,7 @@ pub fn spec_at(alloc: Global, words: &[u8]) -> Result<(Spec, &[u8]), LineFault>
     Ok((Spec { name, span }, words))
 }
 
-/// Whether this word comes next, and the words after it.
+/// Whether the next word is this one, and the words that are left.
 #[tactic(auto, unfolding(crate::specs::Parse::skip))]
 pub fn skip<'a>(words: &'a [u8], word: &[u8]) -> (bool, &'a [u8])
     ensures shorter { length result.1.now ≤ length words.now }
@@ -125,17 +125,18 @@ pub fn skip<'a>(words: &'a [u8], word: &[u8]) -> (bool, &'a [u8])
     (false, words)
 }
 
-/// How many bars stand in a text.
+/// How many bars a text contains.
 fn bars_in(text: &[u8]) -> usize
     ensures { result ≡ count_by is_bar text.now }
 {
     text.iter().filter(|b| **b == b'|').count()
 }
 
-/// For so many alternatives at most there is room before they are read, so a line of nothing but bars asks for little.
+/// Room is reserved for at most so many alternatives before they are read, so a line of nothing but
+/// bars allocates little.
 const FEW: usize = 4;
 
-/// One alternative or more. There is room for no more of them than the bars part.
+/// One alternative or more. Room is reserved for no more of them than the bars separate.
 pub fn alternatives_at(alloc: Global, words: &[u8]) -> Result<(Vec<Spec>, &[u8]), LineFault>
     ensures { Gives (λ x. (specs_of x.0.items, words_in x.1.now)) result
         (alternatives_at (length (words_in words.now)) (words_in words.now)) }
@@ -202,7 +203,7 @@ fn needs_in(alloc: Global, words: &[u8]) -> Result<Line, LineFault>
     })
 }
 
-/// What the words after the keyword say.
+/// Parses the words after the keyword.
 #[tactic(auto, unfolding(crate::specs::Parse::said_by))]
 fn said_by(alloc: Global, keyword: &[u8], words: &[u8]) -> Result<Line, LineFault>
     ensures { Gives (λ line. view line) result (said_by keyword.now (words_in words.now)) }
@@ -245,7 +246,7 @@ fn is_skipped(text: &[u8]) -> bool
     }
 }
 
-/// What the text of a line says, without its newline.
+/// Parses the text of a line, without its newline.
 pub fn line_in(alloc: Global, text: &[u8]) -> Result<Line, LineFault>
     ensures says { IfOk result (λ line. SaysLine text.now (view line)) }
     ensures fault { result ≡ Err Fault → (line : says.Line) → SaysLine text.now line → ⊥ }
@@ -264,7 +265,7 @@ fn line_read(alloc: Global, text: &[u8]) -> Result<Line, LineFault>
     said_by(alloc, keyword, words)
 }
 
-/// A text says one line at most.
+/// A text is that of one line at most.
 pub fn texts_say_one_line()
     ensures { (text : List ℕ) (a b : says.Line) → SaysLine text a → SaysLine text b → a ≡ b }
 {}

@@ -1,6 +1,7 @@
 //! Versions of packages, SPECs, and which versions a SPEC matches.
 //!
-//! A version is seen as its name and number, a SPEC as its name and span, a slice of versions as a set.
+//! The model of a version is its name and number; of a SPEC its name and span; of a slice of
+//! versions a set.
 
 ghost use Rattle.std.specs.Prelude.{◌≡◌, IfOk};
 ghost use Rattle.std.specs.List.{list_any};

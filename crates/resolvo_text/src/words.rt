@@ -1,7 +1,7 @@
 //! The words of a line: names, numbers and spans.
 //!
-//! A word is its bytes; a reader of a word answers the one value whose spelling it is. The readers of parts of
-//! lines call these.
+//! A word is its bytes; a parser of a word returns the one value that the word spells. The parsers
+//! of parts of lines call these.
 
 ghost use Rattle.std.specs.Prelude.{◌≡◌, ◌==◌, map, IfOk, IfSome, MatchOption, option_copied};
 ghost use Rattle.std.specs.Option.{option_map};

@@ -1,6 +1,7 @@
 //! Writing all of some bytes to a device.
 //!
-//! What the device took is told as the front of the bytes. Writers of reports and of fault lines call `write_all`.
+//! The contracts describe what the device took as a prefix of the bytes. Writers of reports and of
+//! fault lines call `write_all`.
 
 ghost use Rattle.std.specs.Prelude.{◌≡◌, ◌<◌, ◌≤◌, length, take, IfOk, OnOk, OnErr, MatchResult};
 ghost use Rattle.std.specs.Io.KnownBytes.{Appends, Keeps};
@@ -31,7 +32,7 @@ pub fn write_all<S: Sink>(sink: &mut S, bytes: &[u8]) -> Result<(), WriteFault>
     Ok(())
 }
 
-/// Writes a front of the bytes, and answers how many.
+/// Writes a prefix of the bytes, and returns how many it has.
 fn write_some<S: Sink>(sink: &mut S, bytes: &[u8]) -> Result<usize, WriteFault>
     // After an answer.
     ensures within { IfOk result (λ n. n ≤ length bytes.now) }
