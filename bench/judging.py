@@ -2,9 +2,9 @@
 """Judges long reports with `resolve judge`, and counts their lines and words with wc and awk in the same run.
 
 Usage: bench/judging.py [PATH OF THE PROGRAM]   (default: crates/resolve/out/resolve, which `rt run` leaves)
-Prints two tables for docs/BENCHMARKS.md: medians of five, processor seconds; this process itself, some 14 MB, is the least peak
-memory that is seen. Files are made anew in a temporary folder. The second table has reports of which single lines cost more than
-their bytes: each shape at three sizes, four times the size from one to the next.
+Prints two tables for docs/BENCHMARKS.md: medians of five, processor seconds. This process itself, some 14 MB, is the least peak
+memory that is measured. Files are made anew in a temporary folder. The second table has reports in which single lines cost more
+than their bytes. Each shape has three sizes, each four times the one before.
 """
 import os
 import statistics

@@ -2,7 +2,7 @@
 """Refusals whose conflict has some 10,000 edges: the whole time, and what share of the instructions the message takes.
 
 Usage: bench/message.py [PATH OF THE PROGRAM] [VERSIONS]   (default: crates/resolve/out/resolve, which `rt run` leaves, and 5,000)
-Prints a table for docs/BENCHMARKS.md: processor seconds, median of five, and shares by valgrind's callgrind in a run of its own.
+Prints a table for docs/BENCHMARKS.md: processor seconds, median of five, and shares by valgrind's callgrind in a separate run.
 The message is all that `message_of` of resolve_answer calls: the conflict's rules, its graph, and its lines.
 """
 import os
@@ -39,7 +39,7 @@ def seconds(words):
 
 
 def share(words, folder):
-    """The part of the instructions that stand below `message_of`, in per cent."""
+    """The share of the instructions that are executed below `message_of`, in per cent."""
     out = os.path.join(folder, "callgrind.out")
     subprocess.run(["valgrind", "--tool=callgrind", f"--callgrind-out-file={out}", *words], capture_output=True, timeout=LIMIT)
     told = subprocess.run(["callgrind_annotate", "--inclusive=yes", "--threshold=100", out], capture_output=True, text=True).stdout

@@ -8,7 +8,7 @@ TOP = os.path.dirname(os.path.dirname(os.path.abspath(__file__)))
 
 def build(folder, name, source, crates):
     """The path of the program of this name and source, proved and built in the folder. `crates` are lines of a
-    crates.txt: that of the program, and those of the repository's crates that it stands on."""
+    crates.txt: that of the program, and those of the repository's crates that it uses."""
     subprocess.run(["git", "init", "-q", folder], check=True)
     with open(os.path.join(folder, "crates.txt"), "w") as listed:
         listed.write(crates)

@@ -1,6 +1,6 @@
 #!/usr/bin/env python3
-"""Reads big catalogues with awk, with a program that reads them and does no more, and with `resolve solve`, in one
-run: median of five, and memory at its peak.
+"""Reads big catalogues with awk, with a program that only reads them, and with `resolve solve`, in one run: median of five, and
+peak memory.
 
 Usage: bench/reading.py [PATH OF THE PROGRAM]   (default: crates/resolve/out/resolve, which `rt run` leaves)
 The program that only reads is that of bench/reader.py, which is proved and built first. Prints a table for

@@ -2,8 +2,8 @@
 """Solves large requests with `resolve solve`, and the same problems as clauses with minisat in the same run.
 
 Usage: bench/solving.py [PATH OF THE PROGRAM] [SCALE]   (default: crates/resolve/out/resolve, which `rt run` leaves, and 1)
-Prints a table for docs/BENCHMARKS.md: medians of five, processor seconds. SCALE divides the sizes. minisat comes from Debian's
-package of that name. Files are made anew in a temporary folder.
+Prints a table for docs/BENCHMARKS.md: medians of five, processor seconds. SCALE divides the sizes. minisat is that of Debian's
+package. Files are made anew in a temporary folder.
 """
 import os
 import random

@@ -1,10 +1,10 @@
 #!/usr/bin/env python3
-"""Runs the program on texts at their bounds: 2^24 bytes of a catalogue or request, 2^25 of standard input, 2^30 of a report.
+"""Runs the program on texts at their bounds: a catalogue or request of 2^24 bytes, standard input of 2^25, a report of 2^30.
 
 Usage: checks/bounds.py [PATH OF THE PROGRAM] [small]   (default: crates/resolve/out/resolve, which `rt run` leaves)
-With `small` no report of 2^30 bytes is judged, for which a file of that size is written. Status 1 where an answer isn't as promised.
-A text at its bound is read, and one byte more is `too long`, unless a whole line before it is faulty. A `#` line may hold each byte but 10.
-A line of a message is held once while it is read, and then no more.
+Status 1 where an answer isn't as promised. With `small` no report of 2^30 bytes is judged; that test writes a file of this size.
+A text at its bound is read, and one byte more is `too long`, unless a whole line before it is faulty. A `#` line may hold each
+byte but 10. A line of a message is buffered once while it is read, and then dropped.
 """
 import os
 import subprocess

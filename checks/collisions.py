@@ -1,14 +1,15 @@
 #!/usr/bin/env python3
-"""Measures the program on texts of a stranger who picks names, words and numbers that collide in std's HashMap, beside such that don't.
+"""Measures the program on hostile texts, whose names, words and numbers collide in std's HashMap, beside texts that don't.
 
 Usage: checks/collisions.py [PATH OF THE PROGRAM] [BYTES ..]
 Defaults: crates/resolve/out/resolve (which `rt run` leaves), and 2^18, 2^20, 2^22 and 2^24 bytes. The program is asked for one package,
-or for all. For each kind of text and each size: processor seconds of both, the least of three runs. The check fails where the colliding text takes
-more than twice as long as the other, and more than a tenth of a second longer.
+or for all. For each kind of text and each size: processor seconds of both, the least of three runs. The check fails where the
+colliding text takes over twice as long as the other, and over a tenth of a second longer.
 
-The kit's HashMap hashes by FoldHasher, whose seed is fixed: it multiplies sixteen bytes at a time, each half joined by xor with what
-is known. The first sixteen bytes of FRONT leave its last eight as the state, so the next factor is 0, whatever eight bytes follow:
-all names that begin so have one hash. A number has four bytes; those whose hashes agree in the bits that choose a place are tried out.
+The kit's HashMap hashes by FoldHasher, whose seed is fixed. It multiplies sixteen bytes at a time, each half combined by xor with
+what is known. The first sixteen bytes of FRONT leave its last eight as the state, so the next factor is 0, whatever eight bytes
+follow. All names that begin so have one hash. A number has four bytes; those whose hashes agree in the bits that choose a place
+are tried out.
 """
 import itertools
 import os

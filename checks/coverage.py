@@ -1,9 +1,10 @@
 #!/usr/bin/env python3
-"""Checks that docs/COVERAGE.md and docs/EDITS.md name what is there, and lists the rows, tests and edits in docs/COVERAGE.md.
+"""Checks that docs/COVERAGE.md and docs/EDITS.md name what exists, and lists the rows, tests and edits in docs/COVERAGE.md.
 
 Usage: checks/coverage.py [--write]
-Without `--write` it fails where a named file isn't there, where a row, a test or an edit of the gate isn't listed, or where what a row
-shows was changed. With it, everything from the heading `## Rows` on is written anew. What stands above that is written by hand.
+Without `--write` it fails where a named file is missing, or a row, a test or an edit of the gate isn't listed. It fails too where
+what a row shows was changed. With it, everything from the heading `## Rows` on is written anew. The part above that is written by
+hand.
 """
 import glob
 import os
@@ -51,7 +52,7 @@ def gate_edits():
 
 
 def edits_told():
-    """The wrong body that docs/EDITS.md tells of each edit in its table."""
+    """The wrong body of each edit, from the table of docs/EDITS.md."""
     bodies = {}
     for line in content(EDITS).splitlines():
         cells = [cell.strip() for cell in line.strip("|").split("|")] if line.startswith("| ") else []
@@ -62,7 +63,7 @@ def edits_told():
 
 
 def edits_listed():
-    """A line for each edit of the gate: the wrong body that docs/EDITS.md tells of it."""
+    """A line for each edit of the gate: its wrong body, as docs/EDITS.md describes it."""
     bodies = edits_told()
     lines = ["| Edit | Wrong body |", "|---|---|"]
     return lines + [f"| `{edit}` | {bodies.get(edit, 'not told in docs/EDITS.md')} |" for edit in gate_edits()]

@@ -1,13 +1,13 @@
 #!/usr/bin/env python3
-"""Damages the inputs of importers, and sees what `resolve-tools` says of each. It needs no program and no network.
+"""Damages the inputs of importers, and checks what `resolve-tools` reports of each. It needs no program and no network.
 
 Usage: checks/damage.py [COUNT] [SEED]      defaults: 200 inputs of each kind, seed 1; eight damages of each input
 Kinds are Packages files, apt's scenarios, the JSON form of PyPI's index, wheels' METADATA, Cargo's index, conda's repodata.json
-and CUDF documents. Whatever is done to an input: nothing crashes; a fault has status 2 and one line `tools: FILE: line N: REASON`
-(without a line where the file is as a whole at fault), and no file is written; else the catalogue can be read. Of these the answer is known:
-a text that was cut off inside its last stanza or value is a fault; a byte that isn't UTF-8, and a version that doesn't parse, are faults at
-their line (of JSON over several lines, that of the entry); an unknown field changes nothing, but is a fault of CUDF, where no preamble has it. Each
-input has a cycle where its kind can have one.
+and CUDF documents. Whatever the damage, nothing crashes. A fault has status 2 and one line `tools: FILE: line N: REASON`, and no
+file is written. The line has no number where the whole file is at fault. Otherwise the catalogue can be read. The answer to some
+damages is known. A text that was cut off inside its last stanza or value is a fault. A byte that isn't UTF-8, and a version that
+doesn't parse, are faults at their line (of JSON over several lines, that of the entry). An unknown field changes nothing, except
+in CUDF, where it is a fault if no preamble has it. Each input has a cycle where its kind can have one.
 """
 import contextlib
 import io
@@ -92,7 +92,7 @@ def document(rng):
 
 
 def imported(folder, path, *words):
-    """Status, what is said, and the catalogue, if one is written."""
+    """Status, the text on standard error, and the catalogue, if one is written."""
     out = os.path.join(folder, "out")
     status, printed, error = run(*words, "--out", out, path)
     if printed:
@@ -116,7 +116,7 @@ def as_wheels(folder, path):
 
 
 def as_scenario(folder, path):
-    """What the solver for apt says, over a program that finds that nothing is to be done."""
+    """The answer of the solver for apt, over a program that finds that nothing is to be done."""
     with open(path, "rb") as file:
         source = io.TextIOWrapper(io.BytesIO(file.read()))
     program = os.path.join(folder, "resolve")
@@ -235,14 +235,14 @@ def check_answer(kind, damage, data, path, answer, good):
 
 
 def check_line(kind, damage, said, line, data):
-    """Where the line is known, it is told."""
+    """Checks the reported line where it is known."""
     is_known = damage is bad_version or damage is strange_byte and "isn't UTF-8" in said
     if is_known and not line - above(kind, damage) <= int(SAID.fullmatch(said)["line"]) <= line:
         fail("another line is due", kind, damage.__name__, said, line, data)
 
 
 def above(kind, damage):
-    """How many lines above the fault may be told: of JSON it is the line of the entry, which has a dozen."""
+    """How many lines above the fault may be reported: of JSON it is the line of the entry, which has a dozen."""
     return 12 if kind in ("PyPI", "conda") and damage is bad_version else 0
 
 

@@ -1,8 +1,8 @@
 #!/usr/bin/env python3
 """Compares the documents with the sources.
 
-docs.py                      says what is wrong: a module or a public call that the README of its room lacks, a name, file or
-                             crate that isn't there, a dead link, a count of AUDIT.md. Status 1 where anything is.
+docs.py                      lists what is wrong: a module or a public call that the README of its room lacks, a name, file or
+                             crate that is missing, a dead link, a count of AUDIT.md. Status 1 where anything is.
 docs.py --closure CRATE/SPEC ..  lists the files of specs/ that these import, all the way down, with their lines.
 """
 import glob
@@ -107,7 +107,7 @@ def sections(text: str) -> Dict[str, str]:
 
 
 def quoted(text: str) -> List[str]:
-    """What stands in backticks, outside of blocks."""
+    """The texts in backticks, outside of blocks."""
     return re.findall(r"`([^`\n]+)`", re.sub(r"^```.*?^```", "", text, flags=re.M | re.S))
 
 
@@ -160,7 +160,7 @@ def known_words() -> Set[str]:
 
 
 def name_faults(page: str, words: Set[str]) -> Iterator[str]:
-    """Names, files and crates of a page that aren't there."""
+    """Names, files and crates of a page that don't exist."""
     text = read(page)
     crates = {c for room in rooms().values() for c in room}
     for path in sorted(set(re.findall(SOURCES, text)) | set(re.findall(FILES, text))):

@@ -3,16 +3,15 @@
 
     checks/edits.py [--apply] [CRATE ..]
 
-Each edit has the form of a must-fail edit: a file, then pairs of lines `old:` and `new:`. The program makes a copy
-of the repository in a temporary folder, puts the edits of each crate there into must-fail/, beside those of the gate,
-and runs `rt must-fail CRATE` in the copy: the prover must refuse each. The libraries that earlier
-checks built are used (by hard links to crates/*/out/rlib, which rt replaces and never writes to), so run `rt all check`
-first, or those below each crate are proved anew.
-With no name it tries every crate that has edits. With --apply it only looks whether each edit still applies, those of the
-gate too, and whether docs/EDITS.md names these and no others.
+Each edit has the form of a must-fail edit: a file, then pairs of lines `old:` and `new:`. The program makes a copy of
+the repository in a temporary folder, and puts the edits of each crate there into must-fail/, beside those of the gate.
+It runs `rt must-fail CRATE` in the copy: the prover must refuse each. It uses the libraries that earlier checks built
+(by hard links to crates/*/out/rlib, which rt replaces and never writes to). So run `rt all check` first, or those below
+each crate are proved anew. With no name it tries every crate that has edits. With --apply it only checks that each edit
+still applies, those of the gate too, and that docs/EDITS.md names these and no others.
 
-An edit that is refused only since a proof file names what the edit took away is counted apart: it says little of
-the contract. The status is 0 if all were refused, 1 if one was not, 2 where the program was called wrongly.
+An edit that is refused only since a proof file names what the edit removed is counted apart: it shows little of the
+contract. The status is 0 if all were refused, 1 if one was not, 2 where the program was called wrongly.
 """
 import os
 import pathlib
@@ -81,7 +80,7 @@ def apply_all(crates: list[str]) -> int:
 
 
 def is_listed() -> bool:
-    """Whether docs/EDITS.md names the gate's edits and no others; says which differ."""
+    """Whether docs/EDITS.md names the gate's edits and no others; prints which differ."""
     rows = [line for line in (TOP / "docs" / "EDITS.md").read_text(encoding="utf-8").splitlines() if line.startswith("|")]
     named = {word for row in rows for word in re.findall(r"`(\w+/\w+)`", row.split("|")[2])}
     there = {f"{it.parts[-3]}/{it.stem}" for it in TOP.glob("crates/*/must-fail/*.edit")}
@@ -111,7 +110,7 @@ def copy_to(room: pathlib.Path, crates: list[str]) -> None:
 
 
 def try_all(crates: list[str]) -> int:
-    """Runs `rt must-fail` over each crate of a copy, prints what it says, and returns the status."""
+    """Runs `rt must-fail` over each crate of a copy, prints its output, and returns the status."""
     refused, by_name, others = 0, 0, 0
     with tempfile.TemporaryDirectory(prefix="edits-", dir=TOP.parent) as folder:
         room = pathlib.Path(folder)

@@ -1,15 +1,15 @@
 #!/usr/bin/env python3
-"""Checks that C, Python and Rust get the program's bytes from the archives, and what bindings/c/resolve.h says besides.
+"""Checks that C, Python and Rust get the program's bytes from the archives, and the other promises of bindings/c/resolve.h.
 
 Usage: checks/embedding.py [PATH OF THE PROGRAM] [FOLDER OF THE ARCHIVES]
 Defaults: crates/resolve/out/resolve (which `rt run` leaves) and out/embedding (which bindings/archives.sh makes).
-Needs cc, cargo (offline) and valgrind; what isn't there is told and left out. Status 1 where something isn't as promised.
+Needs cc, cargo (offline) and valgrind; a missing one is reported and left out. Status 1 where something isn't as promised.
 
-Over all rows of crates/resolve_rows/data: the program, C, C with the judge's archive, Python over the shared object and over
-the program, and Rust give the same ending and bytes. Over the small ones, in C: every room that is too short, each allocation
-refused in turn, eight threads at once, and 10,000 calls under valgrind, after which nothing is lost. Each small pair is given a
-budget of 0, 1, 2, .. by C, Python and Rust: all three give up below one number, and from it on give the answer without a budget. `--times`
-prints what a call costs beside a run of the program.
+Over all rows of crates/resolve_rows/data these give the same ending and bytes: the program, C, C with the judge's archive, Python
+over the shared object and over the program, and Rust. Over the small ones C tries every room that is too short, each allocation
+refused in turn, and eight threads at once. It makes 10,000 calls under valgrind, which must leak nothing. Each small pair is given
+a budget of 0, 1, 2, .. by C, Python and Rust. All three give up below one number, and from it on give the answer without a budget.
+`--times` prints what a call costs beside a run of the program.
 """
 import os
 import resource

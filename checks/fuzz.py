@@ -1,12 +1,13 @@
 #!/usr/bin/env python3
-"""Gives the program generated and mutated texts and reports, and compares its answers with those of the plain reader and judge.
+"""Gives the program generated and mutated texts and reports, and compares its answers with the plain reader's and judge's.
 
 Usage: checks/fuzz.py [MINUTES] [FOLDER] [PATH OF THE PROGRAM] [SEED]
 Defaults: 1 minute, /tmp/resolve-found, crates/resolve/out/resolve (which `rt run` leaves), a seed of the clock's.
-Findings: an end by a signal, a run of more than ten seconds, and an answer that differs. A faulty text is the plain reader's first
-fault; a report that `solve` writes is judged yes by the plain judge; of small texts the verdict is that of all sets; a report of
-someone else is judged as the plain judge does. Each finding is kept in FOLDER as a row (crates/resolve_rows/README.md), which
-expects the plain side's answer: give it a name that says what it shows, and put it to the rows. Status 1 where there is one.
+Findings: an end by a signal, a run of more than ten seconds, and an answer that differs. A faulty text must have the plain
+reader's first fault. The plain judge must accept a report that `solve` writes. Of small texts the verdict must be that of all
+sets. Another report must be judged as the plain judge does. Each finding is kept in FOLDER as a row
+(crates/resolve_rows/README.md), which expects the plain side's answer. Give it a name that describes it, and add it to the rows.
+Status 1 where there is one.
 """
 import hashlib
 import os
@@ -25,7 +26,7 @@ HERE = os.path.dirname(os.path.abspath(__file__))
 SECONDS = 10
 # of more sets than these the verdict isn't compared
 MOST_SETS = 20_000
-# words that stand at the bounds of what a line may hold
+# words at the bounds of what a line may hold
 EDGES = ["0", "00", "01", "4294967295", "4294967296", "18446744073709551616", "1..2", "0..4294967295", "2..2", "3..1", "..", "-1",
          "if", "and", "or", "|", "(", ")", "not", "any", "outside", "shared", "bit", "_", "a.b-c_d", "A", "", "#", "---", "x" * 300,
          "needs", "limits", "version", "wish", "lock", "favour", "exclude", "unknown", "a", "b", "c", "d", "1", "2", "3"]
@@ -101,11 +102,11 @@ def some_pair(rng):
     return catalogue, request
 
 
-# ---- what the plain side says
+# ---- the answers of the plain side
 
 
 class Plain:
-    """What the plain reader, the plain judge and the list of all sets say of two texts."""
+    """The answers of the plain reader, the plain judge and the list of all sets to two texts."""
 
     def __init__(self, catalogue, request):
         self.catalogue, self.request, self.fault, self.prover = catalogue, request, None, None

@@ -2,9 +2,8 @@
 """Compares `resolve judge` with the plain slow judge, over reports of a plain slow prover and damaged copies of them.
 
 Usage: checks/judging.py [REPORTS] [DAMAGES] [PATH OF THE PROGRAM]
-Defaults: 2000 reports, 20000 damaged copies, crates/resolve/out/resolve (which `rt run` leaves). With `-` for the program
-the plain judge alone is asked.
-Each undamaged report must be answered yes by both; on each damaged copy both must say the same.
+Defaults: 2000 reports, 20000 damaged copies, crates/resolve/out/resolve (which `rt run` leaves). With `-` for the program the
+plain judge alone is run. Both must accept each undamaged report, and give the same answer on each damaged copy.
 """
 import itertools
 import os

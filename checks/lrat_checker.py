@@ -1,8 +1,8 @@
 #!/usr/bin/env python3
-"""A strict checker of LRAT proofs: no search, and no word of packages.
+"""A strict checker of LRAT proofs: no search, and no knowledge of packages.
 
 Usage: checks/lrat_checker.py CNF LRAT
-Status 0: each line of the proof follows by its hints, and the last one is the empty clause, so the CNF has no model.
+Status 0: each line of the proof follows by its hints, and the last one is the empty clause. So the CNF has no model.
 Status 1: the first line that doesn't. The form of both files is taken strictly: one clause a line, no deletions.
 """
 import re
@@ -93,7 +93,7 @@ class Checker:
 
 
 def read_formula(lines: Iterable[str], checker: Checker) -> None:
-    """Comments, the header, then as many clauses as it says, over as many variables."""
+    """Comments, the header, then the number of clauses that it gives, over its number of variables."""
     variables = count = None
     for place, line in enumerate(lines, 1):
         try:

@@ -1,11 +1,11 @@
 #!/usr/bin/env python3
-"""Runs the gate and says where its minutes went.
+"""Runs the gate and prints where its minutes went.
 
     checks/minutes.py COMMAND [WORD ..]
 
-Runs the command (`rt ci`), hands on what it prints, and watches the prover's processes below it, once a second. Behind the
-command's own lines it prints, for each crate, processor minutes by kind: its proof, its tests, its edits, and the making
-of a program. Then come the sums, the minutes by the clock, and the command's last line again. The status is the command's.
+Runs the command (`rt ci`), passes on what it prints, and watches the prover's processes below it, once a second. After the
+command's own lines it prints, for each crate, processor minutes by kind: its proof, its tests, its edits, and the build of a
+program. Then it prints the sums, the minutes by the clock, and the command's last line again. The status is the command's.
 
 A process that lives less than a second may be missed. Processor minutes are what the kernel counts, so a busy machine makes
 them a little longer, and waiting doesn't.
@@ -18,7 +18,7 @@ import time
 
 KINDS = ("proof", "tests", "edits", "program")
 TICKS = os.sysconf("SC_CLK_TCK")
-GOAL = 75  # minutes by the clock on four processors, past which a run says so
+GOAL = 75  # minutes by the clock on four processors, past which a run reports it
 
 
 def kind_of(words: list[str]) -> str:
@@ -31,7 +31,7 @@ def kind_of(words: list[str]) -> str:
 
 
 def stat_of(pid: str) -> list[str]:
-    """What stands behind the name in a process's line: its state, its parent, and so on."""
+    """The fields after the name in a process's line: its state, its parent, and so on."""
     with open(f"/proc/{pid}/stat", encoding="utf-8", errors="replace") as it:
         return it.read().rpartition(")")[2].split()
 
@@ -58,7 +58,7 @@ def provers(top: int) -> dict[tuple[str, str], tuple[str, str, float]]:
         except OSError:
             continue
         crate = words[words.index("--crate-name") + 1]
-        # the process's own times and those of its ended children; and its start, since ids come again
+        # the process's own times and those of its ended children; and its start, since ids are reused
         seconds = sum(int(it) for it in stat[11:15]) / TICKS
         found[pid, stat[19]] = crate, kind_of(words), seconds
     return found

@@ -2,9 +2,9 @@
 """Checks `resolve-tools cudf solve` below opam and below apt-cudf, each beside the solver that they have themselves.
 
 Usage: checks/opam.py [PATH OF THE PROGRAM]      default: crates/resolve/out/resolve
-Needs Debian's opam, apt-cudf and aspcud. opam installs from a small repository in a folder, without a network and with a root of its
-own; after each command its status and its list of packages are those that its built-in solver leads to. apt-cudf gets
-a small scenario of apt's, and its answer is that which it gives over aspcud.
+Needs Debian's opam, apt-cudf and aspcud. opam installs from a small repository in a folder, without a network and with a root of
+its own. After each command its status and its list of packages must be those of its built-in solver. apt-cudf gets a small
+scenario of apt's, and its answer must be the one that it gives over aspcud.
 """
 import os
 import subprocess

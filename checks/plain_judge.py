@@ -1,6 +1,6 @@
 """A plain, slow judge of reports, written from docs/JUDGE.md alone; it reads texts by tools/texts.py.
 
-`judge(catalogue, request, report)` takes three texts as bytes (the first two must be in the grammar) and answers 0 for
+`judge(catalogue, request, report)` takes three texts as bytes, of which the first two must be in the grammar. It returns 0 for
 yes, or the line of the refusal. Nothing here is shared with the program that it is compared with.
 """
 import os

@@ -3,8 +3,8 @@
 
 Usage: checks/refusals.py [PATH OF THE PROGRAM]   (default: crates/resolve/out/resolve, which `rt run` leaves)
 Needs a C compiler, for refuse.c, which is preloaded. Status 1 where an answer isn't as promised.
-A refused allocation gives `no memory` or changes nothing, a failed read `cannot read`, a failed write a front of the answer. So does
-a write that takes no byte. A thousand interruptions in a row before any read or write change nothing, one more is a failure.
+A refused allocation gives `no memory` or changes nothing, a failed read `cannot read`, a failed write a prefix of the answer. So
+does a write that takes no byte. A thousand interruptions in a row before any read or write change nothing, one more is a failure.
 """
 import os
 import subprocess

@@ -3,8 +3,8 @@
 
 Usage: checks/release.py TARBALL [PATH OF THE PROGRAM]     (as root, since it uses chroot)
 Default for the program: crates/resolve/out/resolve (which `rt run` leaves).
-The sums are right; the first example of README.md is answered as README.md says; all rows of crates/resolve_rows/data get the
-program's bytes and status; the seconds from the tarball to the first answer are printed.
+The sums must be right, and the first example of README.md must be answered as there. All rows of crates/resolve_rows/data must
+get the program's bytes and status. The seconds from the tarball to the first answer are printed.
 """
 import os
 import re

@@ -1,10 +1,10 @@
 #!/usr/bin/env python3
-"""Reads the rows of crates/resolve_rows/data, and asks the plain reader and judge whether what they expect is right.
+"""Reads the rows of crates/resolve_rows/data, and checks what they expect by the plain reader and judge.
 
 Usage: checks/rows.py [FOLDER OF ROWS] [PATH OF THE PROGRAM]
-crates/resolve_rows/README.md says how rows are written. The first faulty line that a row expects is the first one that
-tools/texts.py refuses; a report that a row has or expects is judged as docs/JUDGE.md says, by plain_judge.py.
-With a program each row is also given to it, as files, and its output and status are compared with what the row expects.
+crates/resolve_rows/README.md describes how rows are written. The first faulty line that a row expects must be the first one that
+tools/texts.py refuses. A report that a row has or expects is judged by docs/JUDGE.md, in plain_judge.py. With a program each row
+is also given to it, as files, and its output and status are compared with what the row expects.
 """
 import glob
 import os

@@ -4,8 +4,8 @@
 Usage: checks/second.py [REFUSALS] [PATH OF THE PROGRAM]
 Defaults: 200 generated refusals, crates/resolve/out/resolve (which `rt run` leaves); `-` for no program.
 Each export must be verified by checks/lrat_checker.py, and by drat-trim and lrat-check where the variables DRAT_TRIM
-and LRAT_CHECK name them. minisat, where it is installed, must find no model of the CNF. The clauses are compared with
-what the plain judge says of lines. Faults are planted in the exporter, and the checkers must see them.
+and LRAT_CHECK name them. minisat, where it is installed, must find no model of the CNF. The clauses are compared with the plain
+judge's reading of lines. Faults are planted in the exporter, and the checkers must see them.
 """
 from __future__ import annotations
 
@@ -98,7 +98,7 @@ class Checkers:
         return self.peer(self.lrat_check, self.paths[2], "c VERIFIED")
 
     def peer(self, program: Optional[str], proof: Path, verified: str) -> str:
-        """What a program says of a proof, unless it verifies it or isn't there."""
+        """The output of a program on a proof; empty where it verifies the proof or isn't installed."""
         if not program:
             return ""
         run = subprocess.run([program, self.paths[0], proof], capture_output=True, text=True)
@@ -366,7 +366,7 @@ def run(name: str, source: Iterable[Texts], checkers: Checkers, kind: type[Expor
 
 
 def run_meaning(source: Iterable[Texts]) -> None:
-    """Compares the clauses of lines with what the plain judge says that the lines ask."""
+    """Compares the clauses of lines with the plain judge's reading of the lines."""
     rng = random.Random(4)
     models = [check_meaning(texts, rng) for texts in source]
     print(f"what clauses mean: {len(models)} pairs of texts by 50 sets; {sum(models)} models, as the plain judge says")

@@ -1,12 +1,13 @@
 #!/usr/bin/env python3
-"""Compares what the program writes with what the library's solver answers: its chosen versions, turns and proof.
+"""Compares what the program writes with the answers of the library's solver: its chosen versions, turns and proof.
 
 Usage: checks/solver.py [PAIRS] [PATH OF THE PROGRAM] [RT]
 Defaults: 1000 pairs of generated texts (checks/solving.py), crates/resolve/out/resolve, `rt`.
 `rt try` builds checks/solver/main.rt.txt without proofs in a copy of the repository. It makes a provider with all dependencies at hand
-and leaves barred wishes out. The program's report must be what follows from these answers: the verdict; the chosen versions, turn
-by turn, each where the first line asks for it; for a refused turn its step; and the steps to which these, or the last step, lead
-back, in their order and renumbered, each with the same clause and the same causes. A wish that is barred has a step of its own.
+and leaves barred wishes out. The program's report must follow from these answers. It has the verdict, and the chosen versions,
+turn by turn, each where the first line asks for it. A refused turn has its step. The steps to which these, or the last step, lead
+back are in their order and renumbered, each with the same clause and the same causes. A wish that is barred has a step of its
+own.
 """
 import os
 import random
@@ -138,7 +139,7 @@ class Answer:
 
 
 def listed_turns(court, turns):
-    """The entries of turns, each with the line that asks for it: a turn is its wish, if that is taken, and what is chosen by its end."""
+    """The entries of turns, each with the line that asks for it. A turn is its wish, if it is accepted, and what is chosen by its end."""
     entries = []
     for wish, wish_line, chosen in turns:
         if wish is not None and wish not in [entry[0] for entry in entries]:

@@ -3,9 +3,10 @@
 
 Usage: checks/solving.py [PAIRS] [PATH OF THE PROGRAM]
 Defaults: 1000 pairs, crates/resolve/out/resolve (which `rt run` leaves).
-It installs exactly where some set keeps all rules; the plain judge says yes to each report; where the first choices keep all
-rules and no line has alternatives, they are the entries above the first wish; of flat texts these are the newest versions that fit;
-a wish is left out only where no rule-keeping set holds it with all entries above its line. Of 1,000 pairs each form of line comes.
+It must install exactly where some set keeps all rules, and the plain judge must accept each report. Where the first choices keep
+all rules and no line has alternatives, they must be the entries above the first wish. Of flat texts these are the newest versions
+that fit. A wish may be left out only where no rule-keeping set holds it with all entries above its line. Each form of line occurs
+in 1,000 pairs.
 """
 import os
 import random
@@ -96,8 +97,8 @@ def first_match(catalogue, listed, spec):
 
 
 def first_choices(catalogue, request, listed):
-    """The least set that holds the first match of each line that asks in it and whose condition holds; None where such a line has
-    alternatives."""
+    """The least set that holds the first match of each line that binds in it and whose condition holds. None where such a line
+    has alternatives."""
     chosen = []
     while True:
         for placed in request + catalogue:

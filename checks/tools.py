@@ -4,12 +4,12 @@
 Usage: checks/tools.py [PAIRS] [REPORTS] [PATH OF THE PROGRAM]
 Defaults: 500 pairs, 500 reports, crates/resolve/out/resolve (which `rt run` leaves). With `-` for the program the views alone
 are checked.
-Pairs are those of examples/ and tools/tests/data/, and generated ones. Over each that installs: the lock is read back; the
-report is judged right over the frozen catalogue; solving again with `--frozen` or `--keep`, also with newer versions on top,
-gives the same entries, but where a line names several packages (how often it didn't is printed); with `--wish` each entry
-stays; a locked version that is gone gets its named error.
-Reports are of a plain prover, over catalogues with dictionaries of awkward names, with messages of all sentences: real names
-put back and JSON read back give the same bytes; every view prints; the page escapes each word and loads nothing from outside.
+Pairs are those of examples/ and tools/tests/data/, and generated ones. Over each that installs, the lock is read back, and the
+judge accepts the report over the frozen catalogue. Solving again with `--frozen` or `--keep`, also with newer versions on top,
+gives the same entries. The exception is a line that names several packages; how often they differed is printed. With `--wish`
+each entry stays. A locked version that is gone gets its named error. Reports are of a plain prover, over catalogues with
+dictionaries of awkward names, with messages of all sentences. Real names and JSON that are read back give the same bytes, and
+every view prints. The page escapes each word and loads nothing from outside.
 """
 import json
 import os
@@ -130,7 +130,7 @@ class Locks:
                     self.said_in(left, answer, later)
 
     def said_in(self, left, answer, catalogue):
-        """`view left` says why this wish was left out."""
+        """Checks that `view left` explains why this wish was left out."""
         listed = texts.read_catalogue(catalogue)
         dictionary = texts.read_dictionary(listed) or Dictionary()
         words = f"{dictionary.name(answer.version.package)} {dictionary.version(answer.version)}, wished for by"

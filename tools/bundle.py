@@ -1,7 +1,7 @@
 """One answer with the texts that belong to it, and how its packages are shown to people.
 
-`load` reads the three files and checks that the report speaks of these texts, so that a view finds each line it names.
-Whether the report is right is for `resolve judge` to say.
+`load` reads the three files and checks that the report is about these texts, so that a view finds each line it names. Whether the
+report is right is for `resolve judge` to decide.
 """
 from __future__ import annotations
 
@@ -160,7 +160,7 @@ class Fit:
             self.version(step.version)
 
     def causes(self, number: int, step: Union[Step, texts.Answer]) -> None:
-        """The steps that a step rests on stand above it."""
+        """Checks that the causes of a step are above it."""
         if isinstance(step, texts.DeriveStep):
             for cause in step.causes:
                 if not 1 <= cause < number:

@@ -258,7 +258,7 @@ def split_lines(data: bytes) -> list[str]:
 
 
 class CatalogueReader:
-    """Which line may stand after which; raises Bad."""
+    """Which line may follow which; raises Bad."""
 
     def __init__(self) -> None:
         self.owner: Optional[Version] = None
@@ -266,7 +266,7 @@ class CatalogueReader:
         self.seen: set[tuple[type, object]] = set()
 
     def check(self, line: Line) -> None:
-        """Whether the line may stand behind those before it."""
+        """Checks that the line may follow those before it."""
         if isinstance(line, VersionLine):
             self.once(line, line.version, f"{line.version} is listed already")
             self.listed.add(line.version)
@@ -297,13 +297,13 @@ class CatalogueReader:
 
 
 class RequestReader:
-    """Which wishes may stand in a request; raises Bad."""
+    """Which wishes a request may have; raises Bad."""
 
     def __init__(self, catalogue: Catalogue) -> None:
         self.listed, self.wished = catalogue.line_of, set[Version]()
 
     def check(self, line: Line) -> None:
-        """Whether the line may stand behind those before it."""
+        """Checks that the line may follow those before it."""
         if isinstance(line, WishLine):
             if line.version not in self.listed:
                 raise Bad(f"the catalogue doesn't list {line.version}")

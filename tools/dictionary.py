@@ -1,9 +1,9 @@
 """The dictionary of a catalogue: real names and versions of an ecosystem, in `#` lines that the program skips.
 
-    #@ 1 ECOSYSTEM SETTINGS SOURCE    the first line of the catalogue; `-` where there is nothing to say
+    #@ 1 ECOSYSTEM SETTINGS SOURCE    the first line of the catalogue; `-` where there is none
     #p NAME REAL                      the real name of a package
     #v TEXT                           the text of the version above
-    #s TEXT                           the text of which the line below came
+    #s TEXT                           the source text of the line below
 
 A catalogue whose first line isn't `#@ 1 ..` has no dictionary, and its other `#` lines are comments.
 """
@@ -155,14 +155,14 @@ def read_dictionary(catalogue: Catalogue) -> Optional[Dictionary]:
 
 
 def is_clear(text: str) -> bool:
-    """Whether the text of a version can stand in a SPEC."""
+    """Whether the text of a version is unambiguous in a SPEC."""
     return ".." not in text and text[0] != "." and text[-1] != "." and text not in ("holds", "*")
 
 
 class RealSpelling(Spelling):
     """Real names and version texts in place of NAMEs and NUMs; each value has one text still.
 
-    `#NAME` is a NAME without a real name that is the real name of another package; `#NUM` is a number without a text of
+    `#NAME` is a NAME without a real name that is the real name of another package. `#NUM` is a number without a text of
     a package that has texts, or one whose text would be unclear in a SPEC.
     """
 

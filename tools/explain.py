@@ -1,6 +1,6 @@
 """Reports in words: named lines with their sources, steps as sentences, the tree of an install report, wishes left out.
 
-What is said is what the report says, in other words; whether it is right is for `resolve judge`.
+They have the report's content in other words; whether it is right is for `resolve judge`.
 """
 from __future__ import annotations
 
@@ -29,7 +29,7 @@ def line_label(bundle: Bundle, place: Optional[Version], number: int, from_catal
 
 @dataclass(frozen=True)
 class Named:
-    """A line that a report names: where it is, what it says, and the text of which it came."""
+    """A line that a report names: where it is, its words, and its source text."""
 
     label: str
     words: str
@@ -88,7 +88,7 @@ class Sentences:
         return list(dict.fromkeys(v for spec in specs for v in self.bundle.catalogue.matches(spec)))
 
     def line(self, place: Optional[Version], number: int) -> str:
-        """The line, with what it says."""
+        """The line, with its words."""
         named = place_line(self.bundle, place, number)
         return f"{'request' if place is None else 'catalogue'} line {number} ({named.words})"
 

@@ -82,7 +82,7 @@ def of_file(path: str) -> Iterator[None]:
 
 @contextmanager
 def progress(what: str) -> Iterator[None]:
-    """Says on standard error what is going on, if it takes longer than SLOW seconds."""
+    """Reports on standard error what is in progress, if it takes longer than SLOW seconds."""
     timer = threading.Timer(SLOW, lambda: print(f"tools: {what} ..", file=sys.stderr, flush=True))
     timer.daemon = True
     timer.start()

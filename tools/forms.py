@@ -1,7 +1,7 @@
 """Reports as JSON, for programs that don't read lines: `report_json` writes, `read_json` gives the same report back.
 
-Each answer, step and atom is an object with a `kind`; a version is `{"name": .., "number": ..}`, with `real` and `text`
-beside where the catalogue has a dictionary (they are passed over on reading). Lines of a message that aren't UTF-8 are
+Each answer, step and atom is an object with a `kind`. A version is `{"name": .., "number": ..}`, with `real` and `text`
+beside where the catalogue has a dictionary (they are ignored on reading). Lines of a message that aren't UTF-8 are
 `{"hex": ..}`.
 """
 from __future__ import annotations

@@ -1,6 +1,6 @@
 """The conflict graph of a refusal's steps, and its drawing as SVG.
 
-Nodes are the request, versions, locks and reasons; an edge says what needs what, or what is in the way of what. Versions
+Nodes are the request, versions, locks and reasons; an edge means that one needs another, or conflicts with it. Versions
 of one package with the same edges are one node. It is drawn for people: the proof is in the steps.
 """
 from __future__ import annotations
@@ -25,7 +25,7 @@ REQUEST: Key = ("request", "the request")
 
 @dataclass(frozen=True)
 class Edge:
-    """What a node says of another one: `needs`, `bars`, or `one` for two versions of one package."""
+    """How a node is related to another one: `needs`, `bars`, or `one` for two versions of one package."""
 
     kind: str
     first: Key
@@ -76,7 +76,7 @@ class Edges:
         self.found.setdefault(Edge(kind, first, second, label))
 
     def step(self, step: texts.Step) -> None:
-        """The edges of a step; those of limits and of places come at the end."""
+        """The edges of a step; those of limits and of places are added at the end."""
         if isinstance(step, texts.NeedStep):
             self.need(step.place or REQUEST, self.bundle.line(step.place, step.line).line.alternatives)
         elif isinstance(step, texts.GateStep):
@@ -179,7 +179,7 @@ def cut(graph: Graph) -> Graph:
 
 
 def depths(graph: Graph) -> dict[Key, int]:
-    """How many needs lead to a node from the request; what only bars stands a row above what it bars."""
+    """How many needs lead to a node from the request; what only bars is a row above what it bars."""
     found: dict[Key, int] = {REQUEST: 0}
     waiting = [REQUEST]
     for key in waiting:
@@ -226,12 +226,12 @@ def mean(numbers: list[float]) -> float:
 
 
 def is_long(first: Node, second: Node) -> bool:
-    """Whether rows stand between the two."""
+    """Whether there are rows between the two."""
     return abs(first.y - second.y) > 1.5 * ROW
 
 
 def edge_path(edge: Edge, first: Node, second: Node, aside: float) -> tuple[str, float, float]:
-    """The path of an edge, and where its label stands; a long edge goes round the rows between, at `aside`."""
+    """The path of an edge, and the position of its label; a long edge goes round the rows between, at `aside`."""
     if first.y == second.y:
         side = 1 if first.x < second.x else -1
         start, end = first.x + side * first.width / 2, second.x - side * second.width / 2

@@ -1,7 +1,7 @@
 """What importers share: a package index of an ecosystem as a catalogue, and requirements over it as a request.
 
-An importer gives the listed versions of each package in its ecosystem's order, and for each version its rules: which
-listed versions fit, as the ecosystem's own matcher says. Here these become runs of neighbouring versions, lines, a
+An importer gives the listed versions of each package in its ecosystem's order, and for each version its rules. They have
+the listed versions that fit by the ecosystem's own matcher. Here these become runs of neighbouring versions, lines, a
 dictionary.
 """
 from __future__ import annotations
@@ -46,7 +46,7 @@ Rule = Union[Needs, Limits]
 
 @dataclass(frozen=True, slots=True)
 class Release:
-    """One version: its rules; a word says why it is barred, or why its rules aren't known."""
+    """One version: its rules; a word is the reason why it is barred, or why its rules aren't known."""
 
     rules: tuple[Rule, ...] = ()
     barred: Optional[str] = None

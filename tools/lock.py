@@ -41,7 +41,7 @@ class LockEntry:
 
 @dataclass(frozen=True)
 class Lock:
-    """A lock file; the entries stand in the report's order."""
+    """A lock file; the entries are in the report's order."""
 
     ecosystem: str
     settings: str

@@ -3,7 +3,7 @@
 
 Usage: tools/lrat.py CATALOGUE REQUEST REPORT -o PREFIX [--wish LINE]
 Writes PREFIX.cnf, PREFIX.drat and PREFIX.lrat: of a refused report, or of the wish that an install report leaves out
-for this line of the request. Nothing is searched for. docs/SECOND.md says what is in the files.
+for this line of the request. Nothing is searched for. docs/SECOND.md describes the files.
 """
 from __future__ import annotations
 

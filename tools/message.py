@@ -15,7 +15,7 @@ from tools.words import NAME, PLAIN, RESERVED, Bad, Spec, Spelling, Words
 INDENT = re.compile("(?:│  |   )*(?:├─ |└─ )?")
 HEADING = "The following packages are incompatible"
 EXCLUDED = " is excluded because "
-# What stands before and behind a requirement, versions, or the versions that are admitted.
+# The words before and after a requirement, versions, or the versions that are admitted.
 REQUIREMENT = [
     ("No candidates were found for ", "."),
     ("", ", for which no candidates were found."),
@@ -35,7 +35,7 @@ VERSIONS = [
     ("", " is locked, but another version is required as reported above"),
     ("", ""),
 ]
-# Sentences that say why something can't be had.
+# Words of sentences that explain why something can't be installed.
 AGAINST = ("No candidates", "no candidates", "cannot", "conflicts", "is locked", EXCLUDED)
 # Where a real name would make two lines of the names view alike, the line keeps its bytes behind this sign.
 KEPT = "|# "
@@ -67,12 +67,12 @@ class Sentence:
 
     @property
     def level(self) -> int:
-        """How deep it stands."""
+        """Its depth in the tree."""
         return len(self.indent) // 3
 
     @property
     def is_against(self) -> bool:
-        """Whether it says why something can't be had."""
+        """Whether it explains why something can't be installed."""
         return any(word in self.before + self.behind for word in AGAINST)
 
 
@@ -115,7 +115,7 @@ def read_about(body: str, spelling: Spelling) -> tuple[str, Union[Requirement, V
 
 
 def read_sentence(line: str, spelling: Spelling = PLAIN) -> Sentence:
-    """A line of the message; raises Bad where it isn't worded as docs/MESSAGES.md says."""
+    """A line of the message; raises Bad where it isn't worded as in docs/MESSAGES.md."""
     indent = INDENT.match(line).group()
     body = line[len(indent):]
     if body == HEADING:

@@ -131,7 +131,7 @@ class Replay:
     # ---- helpers
 
     def members(self, atom: Atom) -> list[int]:
-        """The versions of which a helper says that one is in the set."""
+        """The versions of which a helper means that one is in the set."""
         if isinstance(atom, SharedAtom):
             return self.cnf.matches(atom.alternatives)
         if isinstance(atom, OutsideAtom):
@@ -171,7 +171,7 @@ class Replay:
     # ---- the clause of each step
 
     def need(self, number: int, step: NeedStep) -> Number:
-        """A clause of the CNF, once each `holds SPEC` in it is said by `any` and the versions outside."""
+        """A clause of the CNF, once each `holds SPEC` in it is replaced by `any` and the versions outside."""
         origin, line = self.line(number, step, NeedsLine)
         stated = self.cnf.needs[origin]
         self.fault_unless(1 <= step.case <= len(stated), number, f"{origin} has no case {step.case}")
@@ -239,7 +239,7 @@ class Replay:
         return self.helper(AnyAtom(step.version.package)).if_member[variable]
 
     def digit(self, number: int, step: DigitStep) -> Number:
-        """A clause of the bit's definition, or by what at most one version says of the others."""
+        """A clause of the bit's definition, or by the at-most-one clauses of the version."""
         package, variable = step.version.package, self.listed(number, step.version)
         atom, one = BitAtom(step.bit, package), step.place >> step.bit & 1
         ladder_bit = self.ladder_bit(number, atom)

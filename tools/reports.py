@@ -518,7 +518,7 @@ class ReportReader:
         return self.steps[-1]
 
     def read_named(self, raw: str) -> tuple[str, int]:
-        """A named line; those of the catalogue come first, and both rise."""
+        """A named line; those of the catalogue are first, and both rise."""
         kind, number = read_named(raw)
         if kind == "catalogue" and self.part == "request":
             raise Bad("lines of the catalogue stand above those of the request")

@@ -5,7 +5,7 @@
     report = read_report(data)                    Install(..) | Refused(..) report_text(report)
     dictionary = read_dictionary(catalogue)       Dictionary(..) or None
 
-Texts are bytes; each reader raises Fault with the text and the line that docs/FORMATS.md says. A value has one text, and
+Texts are bytes; each reader raises Fault with the text and the line that docs/FORMATS.md defines. A value has one text, and
 reading what a writer wrote gives the value again. The parts are in words.py, catalogue.py, reports.py, dictionary.py.
 """
 from tools.catalogue import Catalogue, CatalogueLine, ExcludeLine, FavourLine, LimitsLine, Line, LockLine, NeedsLine

@@ -29,7 +29,7 @@ RED, GREEN, BOLD, PLAIN_INK = "\x1b[31m", "\x1b[32m", "\x1b[1m", "\x1b[0m"
 
 
 class WrongKind(Exception):
-    """A view that this kind of report hasn't; the text says so."""
+    """A view that this kind of report doesn't have, with the text of the error."""
 
 
 def use_colour(choice: str) -> bool:

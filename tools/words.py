@@ -1,6 +1,6 @@
 """The parts of which lines are made: versions, SPECs, conditions, and how each is read and spelled.
 
-`Words` reads the words of one line from left to right; `Spelling` says how a NAME and a NUM are written. The plain
+`Words` reads the words of one line from left to right; `Spelling` defines how a NAME and a NUM are written. The plain
 spelling is that of docs/FORMATS.md; real.py has one with the names and versions of an ecosystem.
 """
 from __future__ import annotations
@@ -20,7 +20,7 @@ BEHIND_SPEC = ("|", "if", "and", "or", ")", "holds")
 
 
 class Bad(ValueError):
-    """A line that isn't of its form; the text says why."""
+    """A line that isn't of its form, with the reason as text."""
 
 
 class Fault(Exception):
@@ -219,7 +219,7 @@ class Words:
         return word
 
     def expect(self, *words: str) -> None:
-        """These words come next."""
+        """Takes these words, which must be next."""
         for word in words:
             found = self.take(f"`{word}`")
             if found != word:

@@ -67,7 +67,7 @@ class FolderCase(unittest.TestCase):
     maxDiff = None
 
     def setUp(self) -> None:
-        # what is said after a second, on a machine that is busy
+        # the progress line after a second, on a busy machine
         self.enterContext(mock.patch("tools.files.SLOW", 600))
         self.folder = tempfile.mkdtemp()
         self.addCleanup(shutil.rmtree, self.folder)

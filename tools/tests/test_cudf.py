@@ -1,4 +1,4 @@
-"""CUDF: documents worked out by hand as lines, solutions and failures over a program that says what is given, every bad input."""
+"""CUDF: documents worked out by hand as lines, solutions and failures over a program with given answers, every bad input."""
 import os
 import stat
 from unittest import mock

@@ -119,7 +119,7 @@ p cnf 5 9
 -5 1 2 0
 -4 -5 3 0
 """
-# Variable 6 is `any a`. Lines 13 and 14 say of each SPEC that it holds where there is some a.
+# Variable 6 is `any a`. By lines 13 and 14 each SPEC holds where there is some a.
 CONDITIONAL_LRAT = """\
 10 6 -1 0 0
 11 6 -2 0 0
@@ -131,7 +131,7 @@ CONDITIONAL_LRAT = """\
 17 0 2 10 1 16 0
 """
 
-# Two versions of one package, told apart by a bit of their places.
+# Two versions of one package, distinguished by a bit of their places.
 APART = ("version a 1\nversion a 2\n", "needs a 1\nneeds a 2\n", """\
 refused
 request line 1

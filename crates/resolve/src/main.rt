@@ -1,6 +1,6 @@
 //! `resolve solve CATALOGUE REQUEST`, and `resolve` alone for standard input: writes the report, or
-//! why there is none. `resolve judge CATALOGUE REQUEST REPORT`: writes whether the report holds, or
-//! where it doesn't.
+//! why there is none.
+//! `resolve judge CATALOGUE REQUEST REPORT`: writes whether the report holds, or where it doesn't.
 #![tactic(auto)]
 
 mod arguments;

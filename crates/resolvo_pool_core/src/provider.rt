@@ -1,6 +1,6 @@
 //! What a solver asks of a source of packages, as two traits, and the plain data of the answers.
-//! A provider's meaning is its ghost members; its laws are the traits'. The cache, the solver and the
-//! conflict graph are generic in it.
+//! A provider's meaning is its ghost members; its laws are the traits'. The cache, the solver and
+//! the conflict graph are generic in it.
 ghost use Rattle.std.specs.Prelude.{◌≡◌, ℕ, List, Bool, Option, true, None, [], IfOk, IfSome, OnOk, OnErr, IsErrOf, IsOkUnless, All};
 ghost use Rattle.std.specs.Option.{option_map};
 ghost use Rattle.std.specs.List.Sorted.{IsPermutation};

@@ -1,6 +1,6 @@
-//! What a version needs: a match of one version set or of one of several, perhaps under a condition.
-//! A requirement is written as its alternatives, joined by ` | `. A map by requirement is two mappings,
-//! and its model is the pair of theirs.
+//! What a version needs: a match of one version set or of one of several, perhaps under a
+//! condition. A requirement is written as its alternatives, joined by ` | `. A map by requirement
+//! is two mappings, and its model is the pair of theirs.
 ghost use Rattle.std.specs.Prelude.{◌≡◌, None, Some, IfOk, OnOk, OnErr, IsErrOf, IsOkUnless, MatchOption};
 ghost use Rattle.std.specs.Borrow.{sem};
 ghost use Rattle.std.specs.Option.{option_copied, option_copied_mut};

@@ -1,7 +1,7 @@
 //! Proof trimming: steps that don't lead to the wanted ones are left out of a proof. The others are
 //! found from the last one back, by their antecedents, and renumbered. A proof is trimmed before it
-//! is written. A refusal wants the last step alone, an answer each step by which a wish is left
-//! out.
+//! is written. A refusal needs the last step alone, an install report each step by which a wish is
+//! left out.
 ghost use Rattle.std.specs.Prelude.{◌≡◌, ◌≤◌, length, map, Contains, IfOk, OnOk, IsOkUnless};
 ghost use Rattle.resolvo_pool_core.specs.declared.want.Want.TheVariants.{Memory};
 ghost use Rattle.resolvo_proof.specs.Proof.{EndsEmpty};

@@ -34,7 +34,7 @@ pub trait Source {
     /// How often it failed. At the largest count each call fails.
     ghost failures: { Self → ℕ };
 
-    /// How many of its last calls, one after the other, were interrupted. The count saturates.
+    /// How many of its last calls, one after the other, were interrupted. The count may saturate.
     ghost interruptions: { Self → ℕ };
 
     /// Reads bytes into the front of `buf` and returns how many. The count is 0 only at the end.
@@ -58,7 +58,7 @@ pub trait Sink {
     /// How often it failed. At the largest count each call fails.
     ghost failures: { Self → ℕ };
 
-    /// How many of its last calls, one after the other, were interrupted. The count saturates.
+    /// How many of its last calls, one after the other, were interrupted. The count may saturate.
     ghost interruptions: { Self → ℕ };
 
     /// How many of its calls took no byte. The count saturates.
