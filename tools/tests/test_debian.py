@@ -246,35 +246,52 @@ class Solver(FolderCase):
         self.assertIn("lock old 1", self.got())
         self.assertEqual(sorted(os.listdir(self.path(self.folders()[0]))), ["catalogue", "report", "request"])
 
-    def test_recommendations_come_by_rounds(self):
+    def test_what_is_left_out_is_barred_in_the_next_run(self):
         scenario = REQUEST + listed(7, "app", "1", "Recommends: r1 | r2, rx, nowhere, old")
         scenario += "".join(listed(number, name, "1") for number, name in enumerate(["r1", "r2", "rx"], 10))
         scenario += listed(9, "old", "1", "Installed: yes")
-        first = "install\napp=1 for request line 1\nold=1 wished line 2\n"
-        refused = "refused\nrequest line 1\nrequest line 3\nstep 1 need request line 3 case 1\n"
-        last = "install\napp=1 for request line 1\nr1=1 for request line 2\nold=1 for request line 3\n"
-        stanzas, _ = self.answer(scenario, first, refused, last)
-        self.assertEqual([each.split("\n")[0] for each in stanzas], ["Install: 7", "Install: 10"])
+        first = "install\napp=1 for request line 1\nold=1 wished line 2\nleft out r1=1 line 3 by 2\nrx=1 wished line 4\n"
+        first += "step 1 need request line 1 case 1\nstep 2 derive [not r1=1] by 1\n"
+        last = "install\napp=1 for request line 1\nold=1 wished line 2\nr2=1 wished line 3\nrx=1 wished line 4\n"
+        stanzas, _ = self.answer(scenario, first, last)
+        self.assertEqual([each.split("\n")[0] for each in stanzas], ["Install: 7", "Install: 12", "Install: 11"])
         self.assertEqual(self.progress, [
-            ["Percentage: 0", "Message: resolve reads the packages"], ["Percentage: 50", "Message: resolve solves the request over 2 packages"],
-            ["Percentage: 60", "Message: resolve solves recommendations over 5 packages"],
-            ["Percentage: 70", "Message: resolve solves recommendations over 5 packages"],
+            ["Percentage: 0", "Message: resolve reads the packages"], ["Percentage: 50", "Message: resolve solves the request over 4 packages"],
+            ["Percentage: 60", "Message: resolve solves the request over 5 packages"],
         ])
         asked = [line for line in self.got() if line.startswith(("needs", "wish", "==="))]
         self.assertEqual(asked, [
-            "needs app 1", "wish old 1", "===", "needs app 1", "needs r1 | r2", "needs rx", "needs old", "wish old 1", "===",
-            "needs app 1", "needs r1 | r2", "needs old", "wish old 1", "===",
+            "needs app 1", "wish old 1", "wish r1 1", "wish rx 1", "===", "needs app 1", "wish old 1", "wish r2 1", "wish rx 1", "===",
         ])
+
+    def test_what_is_chosen_besides_brings_its_recommendations(self):
+        scenario = REQUEST + listed(7, "app", "1", "Depends: a | b") + listed(8, "a", "1", "Depends: c") + listed(9, "c", "1")
+        scenario += listed(10, "b", "1", "Recommends: d") + listed(11, "d", "1")
+        first = "install\napp=1 for request line 1\nb=1 for app=1 line 3\nleft out a=1 line 2 by 1\nleft out c=1 line 3 by 1\n"
+        first += "step 1 need request line 1 case 1\n"
+        last = "install\napp=1 for request line 1\nb=1 for app=1 line 3\nd=1 wished line 3\n"
+        stanzas, _ = self.answer(scenario, first, last)
+        self.assertEqual([each.split("\n")[0] for each in stanzas], ["Install: 7", "Install: 10", "Install: 11"])
+        self.assertEqual([line for line in self.got() if line.startswith("wish")], ["wish a 1", "wish c 1", "wish b 1", "wish d 1"])
 
     def test_an_upgrade_where_the_installed_version_cant_stay(self):
         scenario = REQUEST + listed(7, "app", "1", "Breaks: old (<< 2)") + listed(8, "old", "2")
         scenario += stanza("old", "1", "APT-ID: 9", "Installed: yes")
+        stanzas, error = self.answer(scenario, "install\napp=1 for request line 1\nold=2 wished line 2\n")
+        self.assertEqual([each.split("\n")[0] for each in stanzas], ["Install: 7", "Install: 8"])
+        self.assertEqual(error, "")
+        self.assertEqual(self.got()[-4:], ["---", "needs app 1", "wish old 2", "==="])
+
+    def test_a_second_run_upgrades_what_the_walk_didnt_see(self):
+        scenario = REQUEST + listed(7, "app", "1") + listed(8, "old", "2")
+        scenario += stanza("old", "1", "APT-ID: 9", "Installed: yes", "Breaks: app")
         left = "install\napp=1 for request line 1\nleft out old=1 line 2 by 3\nstep 1 need request line 1 case 1\n"
-        left += "step 2 limit app=1 line 3 bars old=1\nstep 3 derive [not old=1] by 1 2\n"
+        left += "step 2 limit old=1 line 4 bars app=1\nstep 3 derive [not old=1] by 1 2\n"
         stanzas, error = self.answer(scenario, left, left.replace("left out", "old=2 wished line 3\nleft out"))
         self.assertEqual([each.split("\n")[0] for each in stanzas], ["Install: 7", "Install: 8"])
         self.assertEqual(error, "")
-        self.assertEqual(self.got()[-4:], ["needs app 1", "wish old 1", "wish old 2", "==="])
+        asked = [line for line in self.got() if line.startswith(("wish", "==="))]
+        self.assertEqual(asked, ["wish old 1", "===", "wish old 1", "wish old 2", "==="])
 
     def test_a_removal_and_an_upgrade_of_all(self):
         asked = "Request: EDSP 0.5\nArchitecture: amd64\nRemove: a:amd64\nUpgrade-All: yes\n\n"
