@@ -139,6 +139,23 @@ def median_text(what: str, runs: list[Run]) -> str:
     return f"{what}: median {wall:.1f} s of wall clock, {processor:.2f} s of processor"
 
 
+def write_solver(folder: str) -> str:
+    """The solver as apt finds it: a shell that notes the processor's seconds of each run in a file."""
+    times, path = os.path.join(folder, "times"), os.path.join(folder, "resolve")
+    for name, text, mode in ((times, "", 0o666), (path, f"#!/bin/sh\n{TOP}/tools/apt_solver.py\ntimes | tail -n 1 >> {times}\n", 0o755)):
+        with open(name, "w") as out:
+            out.write(text)
+        os.chmod(name, mode)
+    return times
+
+
+def solver_seconds(times: str) -> list[float]:
+    """The processor's seconds of each run, `0m0.71s 0m0.09s` a line."""
+    with open(times) as lines:
+        words = [line.replace("s", "").replace("m", " ").split() for line in lines]
+    return [60 * (float(w[0]) + float(w[2])) + float(w[1]) + float(w[3]) for w in words]
+
+
 def main() -> None:
     count, seed = (int(sys.argv[at]) if len(sys.argv) > at else default for at, default in ((1, 20), (2, 1)))
     program = sys.argv[3] if len(sys.argv) > 3 else os.path.join(TOP, "crates/resolve/out/resolve")
@@ -147,7 +164,7 @@ def main() -> None:
     check_order(index["Version"], PAIRS, seed)
     with tempfile.TemporaryDirectory() as folder:
         os.chmod(folder, 0o755)
-        os.symlink(os.path.join(TOP, "tools", "apt_solver.py"), os.path.join(folder, "resolve"))
+        times = write_solver(folder)
         cache = [f"-oDir::Cache::{name}={folder}/{name}.bin" for name in ("pkgcache", "srcpkgcache")]
         options = [*cache, f"-oDir::Bin::solvers::={folder}", "--solver", "resolve"]
         for name in random.Random(seed).sample(index["Package"], count):
@@ -156,12 +173,14 @@ def main() -> None:
             kind = verdict(name, owns[-1], ours[-1])
             counts[kind] += 1
             print(f"{name}: {kind}, {len(ours[-1].installs)} come", file=sys.stderr, flush=True)
+        seconds = solver_seconds(times)
     if not owns:
         return
     told = ", ".join(f"{number} {what}" for what, number in sorted(counts.items()))
     print(f"{count} packages of seed {seed}: {told}")
     print(median_text("apt's own solver", owns))
     print(median_text("with resolve", ours))
+    print(f"of these tools/apt_solver.py with all that it runs: median {statistics.median(seconds):.2f} s of processor, most {max(seconds):.2f} s")
 
 
 if __name__ == "__main__":

@@ -191,8 +191,8 @@ def plain_entry(name, version):
 
 
 def check_picks(rng, program, counts):
-    """Forty crates with one requirement each: cargo locks the newest version that ours matches."""
-    registry, lines, wanted = {}, [], {}
+    """Forty crates with one requirement each: cargo locks the newest version that ours matches, and finds none where ours doesn't."""
+    registry, lines, wanted, others = {}, [], {}, {}
     for at in range(40):
         name, versions = f"c{at}", {some_version(rng) for _ in range(8)}
         registry[name] = [plain_entry(name, version) for version in sorted(versions)]
@@ -201,8 +201,14 @@ def check_picks(rng, program, counts):
         if matched:
             wanted[name] = req, max(matched, key=read_semver), versions
             lines.append(f'{name} = "{req}"')
+        else:
+            others[name] = req, versions
     with tempfile.TemporaryDirectory() as folder:
         trial = Trial(folder, registry, program)
+        for name, (req, versions) in list(others.items())[:2]:
+            if trial.cargo([f'{name} = "{req}"']) is not None:
+                fail("the matchers differ: cargo finds one", name, req, sorted(versions))
+            counts["pairs not matched"] += len(versions)
         locked = trial.cargo(lines)
     for name, (req, version, versions) in wanted.items():
         if locked is None or (name, version) not in locked:

@@ -140,8 +140,8 @@ def check_matcher(rng, _, counts):
 
 
 def check_picks(rng, counts):
-    """Forty packages with one spec each: libsolv takes the newest version that ours matches."""
-    records, wanted = {}, {}
+    """Forty packages with one spec each: libsolv takes the newest version that ours matches, and none where ours doesn't."""
+    records, wanted, others = {}, {}, {}
     for at in range(40):
         name, equal = f"p{at}", rng.choice(["1.1", "1.1.0"])
         versions = {version: rng.choice(BUILDS) for version in rng.sample([each for each in POOL if each != equal], 8)}
@@ -150,7 +150,13 @@ def check_picks(rng, counts):
         matched = [each for each in versions.items() if read_matchspec(spec).matches(*each, {})]
         if matched:
             wanted[name] = spec, max(matched, key=lambda each: read_version(each[0])), versions
+        else:
+            others[name] = spec, versions
     with tempfile.TemporaryDirectory() as folder:
+        for spec, versions in list(others.values())[:2]:
+            if libsolv(folder, records, [spec]) is not None:
+                fail("the matchers differ: libsolv finds one", spec, versions)
+            counts["pairs not matched"] += len(versions)
         found = libsolv(folder, records, [spec for spec, _, _ in wanted.values()])
     for name, (spec, (version, build), versions) in wanted.items():
         if found is None or f"{name}-{version}-{build}" not in found:

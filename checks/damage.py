@@ -59,9 +59,12 @@ def packages(rng):
 
 
 def scenario(rng):
+    """The fields in apt's order, where stanzas are found without reading them, or in another."""
     number, found = 0, ["Request: EDSP 0.5\nArchitecture: amd64\nInstall: p0+x:amd64\n\n"]
+    is_usual = rng.random() < 0.7
     for lines in some_stanzas(rng, ["APT-Candidate: yes"]):
         number += 1
+        lines[1:3] = reversed(lines[1:3]) if is_usual else lines[1:3]
         found.append("\n".join([*lines, f"APT-ID: {number}"]) + "\n\n")
     return "".join(found)
 

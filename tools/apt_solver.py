@@ -23,12 +23,13 @@ import shutil
 import tempfile
 import time
 from dataclasses import dataclass, field
-from typing import BinaryIO, Iterable, Iterator, Optional, Sequence
+from typing import BinaryIO, Iterator, Optional
 
+from tools.apt_scenario import Scenario, read_scenario
+from tools.apt_walk import Walk
 from tools.catalogue import FavourLine, LimitsLine, LockLine, NeedsLine, Request, RequestLine, WishLine
 from tools.catalogue import Catalogue, CatalogueLine, catalogue_text, request_text
-from tools.deb822 import Fields, Group, Record, split_records
-from tools.debian import PRIORITIES, Draft, Line, Listed, Universe, is_essential, relation_groups
+from tools.debian import PRIORITIES, Draft, Listed, Universe, is_essential
 from tools.dictionary import RealSpelling, escape
 from tools.files import Failure, of_file, run_program
 from tools.message import message_line
@@ -38,85 +39,8 @@ from tools.words import Spec, Version
 CHUNK = 2**20
 MOST_READ = 40  # the percentage at which the packages are read
 MOST_SOURCES = 12
-PATH = "scenario"
+MOST_DEEP = 10**6  # calls, for long chains of packages; Python 3.11 needs no stack of C for them
 NONE = re.compile(r"(\S+) #0(?=$|[ ,.])")  # the number 0, which is never listed
-
-
-# ---- the scenario
-
-
-@dataclass
-class Scenario:
-    """What apt asks, and the packages over which it asks."""
-
-    asked: Fields
-    universe: Universe
-    installed: dict[str, Listed] = field(default_factory=dict)
-    candidates: dict[str, Listed] = field(default_factory=dict)
-    raised: set[str] = field(default_factory=set)
-    gone: set[str] = field(default_factory=set)
-
-    def flag(self, name: str) -> bool:
-        """Whether the request says `yes`."""
-        return self.asked.flag(name)
-
-    def names(self, name: str) -> list[str]:
-        """The packages of a field of the request, without the architecture; those of other architectures are faults."""
-        found = []
-        for word in self.asked.get(name, "").split():
-            package, _, architecture = word.partition(":")
-            if architecture not in ("", "all", self.universe.native):
-                self.asked.fail(name, f"{word} is of another architecture than {self.universe.native}")
-            found.append(package)
-        return found
-
-    def takes_newer(self, listed: Listed) -> bool:
-        """Whether the candidate of an installed package is preferred to it."""
-        if listed.fields.flag("hold"):
-            return False
-        return listed.name in self.raised or any(map(self.flag, ("upgrade-all", "upgrade", "dist-upgrade")))
-
-
-def read_scenario(chunks: Iterator[bytes]) -> Scenario:
-    """The scenario, read as it comes; of the packages the names alone, but for the installed ones."""
-    records = split_records(chunks, PATH)
-    first = next(records, None)
-    asked = first.fields() if first else None
-    if asked is None or not asked.get("request", "").startswith("EDSP 0."):
-        raise Failure(PATH, 1, "the first stanza isn't a request of EDSP 0.5")
-    if not asked.get("architecture"):
-        asked.fail("request", "the request has no Architecture")
-    scenario = Scenario(asked, Universe(asked["architecture"]))
-    is_strict = asked.get("strict-pinning", "yes") == "yes"
-    keeps_to_installed = scenario.flag("forbid-new-install") or scenario.flag("upgrade")
-    installed, others = dict[str, None](), []
-    for record in records:
-        if record.says(b"Installed: yes"):
-            scenario.universe.add(record)
-            installed[(record.head()[0] or b"").decode("utf-8", "replace")] = None
-        elif not is_strict or record.says(b"APT-Candidate: yes"):
-            others.append(record)
-    add_others(scenario.universe, others, installed if keeps_to_installed else None)
-    for name in installed:
-        scenario.installed |= {name: v for v in scenario.universe.package(name) if v.fields.flag("installed")}
-    return scenario
-
-
-def add_others(universe: Universe, records: list[Record], only: Optional[dict[str, None]]) -> None:
-    """Packages that aren't installed; with `only` just the versions of these."""
-    for record in records:
-        if only is None or (record.head()[0] or b"").decode("utf-8", "replace") in only:
-            universe.add(record)
-
-
-def candidate(scenario: Scenario, name: str) -> Optional[Listed]:
-    """The version that apt would take, else the newest one that is listed."""
-    if name not in scenario.candidates:
-        listed = scenario.universe.package(name)
-        if not listed:
-            return None
-        scenario.candidates[name] = next((v for v in listed if v.fields.flag("apt-candidate")), listed[-1])
-    return scenario.candidates[name]
 
 
 # ---- the request
@@ -127,6 +51,7 @@ class Plan:
     """What is asked of `resolve`: lines of the request, and marks for the end of the catalogue."""
 
     scenario: Scenario
+    walk: Walk
     lines: list[RequestLine] = field(default_factory=list)
     marks: list[CatalogueLine] = field(default_factory=list)
     wished: dict[Version, None] = field(default_factory=dict)
@@ -137,6 +62,10 @@ class Plan:
         if listed:
             self.wished[version_of(listed)] = None
 
+    def takes_newer(self, listed: Listed) -> bool:
+        """Whether the candidate of an installed package is preferred to it."""
+        return not listed.fields.flag("hold") and (listed.name in self.walk.taken or self.scenario.upgrades())
+
 
 def version_of(listed: Listed) -> Version:
     """The version as `resolve` has it."""
@@ -146,35 +75,36 @@ def version_of(listed: Listed) -> Version:
 def importance(listed: Listed) -> tuple[bool, int, bool, str]:
     """Where an installed package stands: what is held first, then by priority, what was asked for before the rest."""
     fields = listed.fields
-    rank = PRIORITIES.get(fields.get("priority", ""), 5)
+    rank = PRIORITIES.get(fields.get("priority", "extra"), 5)
     return not fields.flag("hold"), rank, fields.flag("apt-automatic"), listed.name
 
 
-def plan_of(scenario: Scenario) -> Plan:
-    """The plan of a request."""
-    plan, universe = Plan(scenario), scenario.universe
+def plan_of(scenario: Scenario, walk: Walk, gone: set[str]) -> Plan:
+    """The plan of a request; of installed packages that are gone the candidates are wished for too."""
+    plan = Plan(scenario, walk)
     adds, drops = scenario.names("install"), scenario.names("remove")
     for name in adds:
-        found = candidate(scenario, name)
+        found = scenario.candidate(name)
         plan.lines.append(NeedsLine((Spec(escape(name), (found.number,) if found else None),)))
         if not found:
             plan.missing |= {escape(name): name} if escape(name) != name else {}
     plan.lines += [LimitsLine(Spec(escape(name), (0,))) for name in drops]
     changed = {*adds, *drops}
     keeps_all = scenario.flag("forbid-remove") or scenario.flag("upgrade")
-    installed = sorted(scenario.installed.values(), key=importance)
+    installed = sorted(scenario.installed.values(), key=lambda listed: (listed.name in walk.taken, *importance(listed)))
     for listed in installed:
         if listed.name not in changed and (keeps_all or is_essential(listed.fields)):
             plan.lines.append(NeedsLine((Spec(escape(listed.name), None),)))
         add_marks(plan, listed, listed.name in adds)
     for listed in installed:
         if listed.name not in changed:
-            add_wishes(plan, listed)
-    universe.preferred = {(v.name, v.number) for v in installed if v.name not in changed}
-    universe.preferred |= {(name, found.number) for name in adds if (found := candidate(scenario, name))}
+            add_wishes(plan, listed, gone)
     for name in adds:
-        if name not in scenario.installed and (found := candidate(scenario, name)):
+        if name not in scenario.installed and (found := scenario.candidate(name)):
             plan.marks.append(FavourLine(version_of(found)))
+    for listed in walk.taken.values():
+        if listed.name not in changed:
+            plan.wish(listed)
     return plan
 
 
@@ -182,17 +112,17 @@ def add_marks(plan: Plan, listed: Listed, is_asked: bool) -> None:
     """The lock or the favour of an installed package."""
     if listed.fields.flag("hold") and not is_asked:
         plan.marks.append(LockLine(version_of(listed)))
-    is_newer = is_asked or plan.scenario.takes_newer(listed)
-    first = candidate(plan.scenario, listed.name) if is_newer else listed
+    is_newer = is_asked or plan.takes_newer(listed)
+    first = plan.scenario.candidate(listed.name) if is_newer else listed
     plan.marks.append(FavourLine(version_of(first or listed)))
 
 
-def add_wishes(plan: Plan, listed: Listed) -> None:
+def add_wishes(plan: Plan, listed: Listed, gone: set[str]) -> None:
     """The wishes for an installed package: to stay; where that failed, to be the candidate; or the other way round."""
-    found = candidate(plan.scenario, listed.name)
-    first, second = (found, listed) if plan.scenario.takes_newer(listed) else (listed, found)
+    found = plan.scenario.candidate(listed.name)
+    first, second = (found, listed) if plan.takes_newer(listed) else (listed, found)
     plan.wish(first)
-    if listed.name in plan.scenario.gone:
+    if listed.name in gone:
         plan.wish(second)
 
 
@@ -210,15 +140,14 @@ class Solved:
 
 
 class Solving:
-    """Runs `resolve` in a folder: first without recommendations, which then come in by rounds."""
+    """Runs `resolve` in a folder, again where a run couldn't give all to which the walk came."""
 
-    def __init__(self, plan: Plan, folder: str) -> None:
-        self.plan, self.folder = plan, folder
-        self.scenario, self.universe = plan.scenario, plan.scenario.universe
-        self.wants_recommended = "no-recommends" not in plan.scenario.asked.get("preferences", "")
+    def __init__(self, scenario: Scenario, folder: str) -> None:
+        self.scenario, self.universe, self.folder = scenario, scenario.universe, folder
         self.reached: dict[str, None] = {}
-        self.cached: dict[str, list[Line]] = {}
-        self.tried: set[Group] = set()
+        self.barred = {(name, v.number) for name in scenario.names("remove") for v in self.universe.package(name)}
+        self.gone: set[str] = set()
+        self.seeds: dict[str, Listed] = {}
         self.runs = 0
 
     def path(self, name: str, data: bytes) -> str:
@@ -228,133 +157,84 @@ class Solving:
             out.write(data)
         return path
 
-    def extend(self, names: Iterable[str]) -> None:
-        """Reaches these packages too."""
-        self.reached |= dict.fromkeys(self.universe.reach([name for name in names if name not in self.reached]))
+    def walk(self) -> Walk:
+        """From what is asked for, then from what earlier runs chose besides."""
+        wants_recommended = "no-recommends" not in self.scenario.asked.get("preferences", "")
+        walk = Walk(self.scenario, wants_recommended, self.barred)
+        roots = [self.scenario.candidate(name) for name in self.scenario.names("install")]
+        if self.scenario.upgrades():
+            roots += map(self.scenario.candidate, self.scenario.installed)
+        for root in (*roots, *self.seeds.values()):
+            if root:
+                walk.take(root)
+        return walk
 
-    def draft(self) -> Draft:
+    def plan(self, walk: Walk) -> Plan:
+        """The plan; the packages to which the walk came are reached, and tried first."""
+        adds = self.scenario.names("install")
+        names = [*adds, *self.scenario.installed, *walk.taken]
+        self.reached |= dict.fromkeys(self.universe.reach([name for name in names if name not in self.reached]))
+        changed = {*adds, *self.scenario.names("remove")}
+        first = [*(v for v in self.scenario.installed.values() if v.name not in changed), *walk.taken.values()]
+        first += filter(None, map(self.scenario.candidate, adds))
+        self.universe.preferred = {(listed.name, listed.number) for listed in first}
+        return plan_of(self.scenario, walk, self.gone)
+
+    def draft(self, plan: Plan) -> Draft:
         """The catalogue of what is reached."""
         draft = Draft(self.universe.native)
         for name in self.reached:
             draft.name(name)
-            if name not in self.cached:
-                listed_here = self.universe.package(name)
-                self.cached[name] = [line for listed in listed_here for line in self.universe.lines(listed)]
             for listed in self.universe.package(name):
                 draft.versions[version_of(listed)] = listed.text
-            for line in self.cached[name]:
-                if not line.limited or line.limited in self.reached:
-                    draft.add(line, True)
-        draft.names |= self.plan.missing
-        draft.lines += self.plan.marks
+                for line in self.universe.lines(listed):
+                    if not line.limited or line.limited in self.reached:
+                        draft.add(line, True)
+        draft.names |= plan.missing
+        draft.lines += plan.marks
         return draft
 
-    def solve(self, prefix: str, more: Sequence[NeedsLine] = ()) -> Solved:
-        """One run, of which apt hears; the files' names begin with the prefix."""
+    def solve(self, plan: Plan, asks_all: bool) -> Solved:
+        """One run, of which apt hears; all that is wished for may be asked for, which is faster by far."""
         self.runs += 1
-        what = "recommendations" if prefix else "the request"
         percentage = min(MOST_READ + 10 * self.runs, 90)
-        say(progress_stanza(percentage, f"resolve solves {what} over {len(self.reached)} packages"))
-        draft = self.draft()
+        say(progress_stanza(percentage, f"resolve solves the request over {len(self.reached)} packages"))
+        draft = self.draft(plan)
         catalogue = draft.catalogue()
-        request = Request((*self.plan.lines, *more, *map(WishLine, self.plan.wished)))
-        first = self.path(f"{prefix}catalogue", catalogue_text(catalogue))
-        second = self.path(f"{prefix}request", request_text(request))
+        wished = [NeedsLine((Spec(v.package, (v.number,)),)) if asks_all else WishLine(v) for v in plan.wished]
+        request = Request((*plan.lines, *wished))
+        first = self.path("catalogue", catalogue_text(catalogue))
+        second = self.path("request", request_text(request))
         _, said = run_program(None, "solve", first, second)
-        path = self.path(f"{prefix}report", said)
+        path = self.path("report", said)
         with of_file(path):
             return Solved(path, catalogue, draft, read_report(said))
 
-    def run(self) -> tuple[Solved, Solved]:
-        """The first answer, which tells what must go, and the one with what is recommended."""
-        self.extend([*self.scenario.names("install"), *self.scenario.installed])
-        first = self.solve("")
-        removed = set(self.scenario.names("remove"))
-        while gone := self.gone(first.report) - removed - self.scenario.gone:
-            self.scenario.gone |= gone
-            self.plan = plan_of(self.scenario)
-            first = self.solve("")
-        if not isinstance(first.report, Install):
-            return first, first
-        gone = self.gone(first.report)
-        stays = [NeedsLine((Spec(escape(name), None),)) for name in self.scenario.installed if name not in gone]
-        last, taken = first, list[NeedsLine]()
+    def run(self) -> Solved:
+        """The answer: with all that is wished for, or else the first one that has what the walk takes and nothing else."""
+        walk = self.walk()
+        solved = self.solve(self.plan(walk), True)
+        if isinstance(solved.report, Install):
+            return solved
         while True:
-            more, is_raised = self.recommended(last.report), self.raise_siblings(last.report)
-            if not more and not is_raised:
-                return first, last
-            last, taken = self.with_more(last, taken, more, stays)
+            solved = self.solve(self.plan(walk), False)
+            if not isinstance(solved.report, Install) or not self.learn(walk, solved.report):
+                return solved
+            walk = self.walk()
 
-    def gone(self, report: Report) -> set[str]:
-        """The installed packages of which no version is chosen."""
-        if not isinstance(report, Install):
-            return set()
-        chosen = {entry.version.package for entry in report.entries}
-        return {name for name in self.scenario.installed if escape(name) not in chosen}
-
-    def with_more(
-        self, last: Solved, taken: list[NeedsLine], more: list[NeedsLine], stays: list[NeedsLine]
-    ) -> tuple[Solved, list[NeedsLine]]:
-        """The answer with as many of these as can be had; a refusal names one that can't."""
-        while True:
-            solved = self.solve("recommended.", [*taken, *more, *stays])
-            if isinstance(solved.report, Install):
-                return solved, taken + more
-            if not more:
-                return last, taken
-            start = len(self.plan.lines) + len(taken)
-            named = [line - start - 1 for line in solved.report.request_lines if start < line <= start + len(more)]
-            more = [line for at, line in enumerate(more) if at != (named[-1] if named else len(more) - 1)]
-
-    def recommended(self, report: Report) -> list[NeedsLine]:
-        """What new versions recommend and no chosen version meets, each once."""
-        if not isinstance(report, Install) or not self.wants_recommended:
-            return []
-        chosen, found = {entry.version for entry in report.entries}, list[NeedsLine]()
-        for listed in list(chosen_of(self.universe, self.reached, chosen)):
-            old = self.scenario.installed.get(listed.name)
-            if listed is old or "recommends" not in listed.fields:
-                continue
-            before = set(relation_groups(old.fields, "recommends")) if old else set()
-            for words, group in relation_groups(listed.fields, "recommends"):
-                if (words, group) not in before and group not in self.tried and not self.is_met(group, chosen):
-                    self.tried.add(group)
-                    line = self.universe.need_line(words, group)
-                    if not line.missing:
-                        found.append(line.value)
-                        self.extend(name for name, _ in self.universe.alternatives(group))
-        return found
-
-    def raise_siblings(self, report: Report) -> bool:
-        """Prefers the candidates of installed packages that are of the source of a new version; whether any is."""
-        if not isinstance(report, Install):
-            return False
+    def learn(self, walk: Walk, report: Install) -> bool:
+        """Whether another run may give more: what went, what was left out and what was chosen besides are kept for it."""
         chosen = {entry.version for entry in report.entries}
-        new = [v for v in chosen_of(self.universe, self.reached, chosen) if not v.fields.flag("installed")]
-        sources = {source_of(listed) for listed in new}
-        raised = {
-            name for name, listed in self.scenario.installed.items()
-            if (found := candidate(self.scenario, name)) and source_of(found) in sources
-            and found is not listed and version_of(found) not in chosen and not listed.fields.flag("hold")
-        }
-        if raised <= self.scenario.raised:
-            return False
-        self.scenario.raised |= raised
-        self.plan = plan_of(self.scenario)
-        return True
-
-    def is_met(self, group: Group, chosen: set[Version]) -> bool:
-        """Whether a chosen version matches."""
-        return any(
-            Version(escape(name), number) in chosen
-            for relation in group for name, numbers in self.universe.matches(relation).items() for number in numbers
-        )
-
-
-def source_of(listed: Listed) -> tuple[str, str]:
-    """The source package of which a version is built, and its version."""
-    fields = listed.fields
-    return fields.get("source", listed.name), fields.get("source-version", listed.text)
+        there = {version.package for version in chosen}
+        gone = {name for name in self.scenario.installed if escape(name) not in there} - set(self.scenario.names("remove"))
+        new = {v.name: v for v in chosen_of(self.universe, self.reached, chosen) if not v.fields.flag("installed")}
+        left = {(v.name, v.number) for v in walk.taken.values() if version_of(v) not in chosen} - self.barred
+        besides = {} if left else {name: v for name, v in new.items() if walk.taken.get(name) is not v}
+        is_gone, is_other = not gone <= self.gone, bool(left) or besides != self.seeds
+        self.gone |= gone
+        self.barred |= left
+        self.seeds = {} if left else self.seeds | besides
+        return is_gone or is_other and self.walk().taken != new
 
 
 def chosen_of(universe: Universe, names: dict[str, None], chosen: set[Version]) -> Iterator[Listed]:
@@ -424,17 +304,17 @@ def say(text: str) -> None:
     sys.stdout.flush()
 
 
-def answer(solving: Solving, first: Solved, last: Solved) -> bool:
+def answer(solving: Solving, solved: Solved) -> bool:
     """Writes the answer; whether the folder is to stay."""
-    if isinstance(first.report, Refused):
-        say(stanza(("Error", "resolve-refused"), ("Message", refusal_text(first, first.report))))
+    if isinstance(solved.report, Refused):
+        say(stanza(("Error", "resolve-refused"), ("Message", refusal_text(solved, solved.report))))
         return True
-    comes, goes = changes(solving.scenario, solving.reached, last.report)
+    comes, goes = changes(solving.scenario, solving.reached, solved.report)
     asked = set(solving.scenario.names("remove"))
     forced = [listed.name for listed in goes if listed.name not in asked]
     say("".join(change_stanza("Install", v) for v in comes) + "".join(change_stanza("Remove", v) for v in goes))
     if forced:
-        print(f"\nresolve: why {', '.join(forced)} can't stay is proved in {first.path}", file=sys.stderr)
+        print(f"\nresolve: why {', '.join(forced)} can't stay is proved in {solved.path}", file=sys.stderr)
     return bool(forced)
 
 
@@ -451,12 +331,13 @@ def read_chunks(source: BinaryIO) -> Iterator[bytes]:
 
 def main() -> int:
     """Answers one scenario; a refusal or a fault is an answer too, so the status is 0."""
+    sys.setrecursionlimit(MOST_DEEP)
     folder = tempfile.mkdtemp(prefix="resolve-apt-")
     is_kept = False
     try:
         scenario = read_scenario(read_chunks(sys.stdin.buffer))
-        solving = Solving(plan_of(scenario), folder)
-        is_kept = answer(solving, *solving.run())
+        solving = Solving(scenario, folder)
+        is_kept = answer(solving, solving.run())
     except Failure as failure:
         say(stanza(("Error", "resolve-fault"), ("Message", f"tools: {failure}")))
     finally:

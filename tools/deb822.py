@@ -8,7 +8,7 @@ from __future__ import annotations
 import re
 from dataclasses import dataclass
 from functools import lru_cache
-from typing import Iterable, Iterator, NamedTuple, NoReturn, Optional
+from typing import Callable, Iterable, Iterator, NamedTuple, NoReturn, Optional, Union
 
 from tools.files import Failure, shown_path
 from tools.words import Bad, quoted
@@ -24,6 +24,7 @@ USUAL = re.compile(rb"Package: ([^\n]*)\nArchitecture: ([^\n]*)\n")
 # `<` and `>` are old spellings of `<=` and `>=`.
 OLD_SIGNS = {"<": "<=", ">": ">="}
 LARGEST_EPOCH = 2**31 - 1
+EMPTY = (b"", b"\n")  # how a piece between empty lines begins that isn't a stanza alone
 
 Key = tuple  # sorts as Debian sorts
 
@@ -120,11 +121,16 @@ def read_list(text: str, what: str) -> Iterator[tuple[str, Relation]]:
 
 @dataclass(slots=True)
 class Record:
-    """One stanza as bytes, and where it begins."""
+    """One stanza as bytes, and where it begins: its first line, or what tells that."""
 
     raw: bytes
     path: str
-    line: int
+    start: Union[int, Callable[[], int]]
+
+    @property
+    def line(self) -> int:
+        """Its first line."""
+        return self.start if isinstance(self.start, int) else self.start()
 
     def fail(self, reason: str, offset: int = 0) -> NoReturn:
         """Raises the Failure of a line of the stanza."""
@@ -146,14 +152,13 @@ class Record:
     def head(self) -> tuple[Optional[bytes], Optional[bytes]]:
         """The first lines of Package and Architecture, without reading the stanza."""
         usual = USUAL.match(self.raw)
-        return usual.groups() if usual else (self.quick(b"Package"), self.quick(b"Architecture"))
+        return (usual[1], usual[2]) if usual else (self.quick(b"Package"), self.quick(b"Architecture"))
 
     def says(self, line: bytes) -> bool:
         """Whether this is a whole line of it."""
-        raw = self.raw
-        at = raw.find(b"\n" + line) + 1
-        end = at + len(line)
-        return raw[end:end + 1] in (b"", b"\n") and raw.startswith(line, at)
+        raw, mark = self.raw, b"\n" + line
+        at = raw.find(mark)
+        return at >= 0 and raw[at + len(mark):at + len(mark) + 1] in (b"", b"\n")
 
     def quick(self, title: bytes) -> Optional[bytes]:
         """The first line of a field, without reading the stanza."""
@@ -169,13 +174,8 @@ class Record:
 
     def fields(self) -> Fields:
         """All fields; their names in small letters."""
-        found = Fields(self)
-        name = ""
-        for offset, raw in enumerate(self.raw.split(b"\n")):
-            try:
-                text = raw.decode("utf-8")
-            except UnicodeDecodeError:
-                self.fail("isn't UTF-8", offset)
+        found, name = Fields(self), ""
+        for offset, text in enumerate(self.text().split("\n")):
             if text[:1] in (" ", "\t"):
                 if not name:
                     self.fail("a field is due, not more of one", offset)
@@ -183,6 +183,16 @@ class Record:
             else:
                 name = found.add(text, offset)
         return found
+
+    def text(self) -> str:
+        """The stanza, which is UTF-8."""
+        try:
+            return self.raw.decode("utf-8")
+        except UnicodeDecodeError as error:
+            self.fail("isn't UTF-8", self.raw.count(b"\n", 0, error.start))
+
+
+TITLES: dict[str, str] = {}  # the names of fields as they were spelled so far, in small letters
 
 
 class Fields(dict[str, str]):
@@ -195,9 +205,11 @@ class Fields(dict[str, str]):
     def add(self, text: str, offset: int) -> str:
         """A line with a field; gives its name."""
         word, colon, value = text.partition(":")
-        name = word.lower()
-        if not colon or not FIELD.match(word):
-            self.record.fail(f"{quoted(text[:60])} isn't a field", offset)
+        name = TITLES.get(word)
+        if not colon or name is None:
+            if not colon or not FIELD.match(word):
+                self.record.fail(f"{quoted(text[:60])} isn't a field", offset)
+            name = TITLES[word] = word.lower()
         if name in self:
             self.record.fail(f"the stanza has {quoted(word)} already", offset)
         if "\r" in value:
@@ -218,11 +230,13 @@ def split_records(chunks: Iterable[bytes], path: str) -> Iterator[Record]:
     """The stanzas of a text that comes in chunks."""
     rest, line = b"", 1
     for chunk in chunks:
-        pieces = (rest + chunk).split(b"\n\n")
+        text = rest + chunk
+        pieces = text.split(b"\n\n")
         rest = pieces.pop()
-        check_encoding(b"\n\n".join(pieces), path, line)
+        if not text.isascii():
+            check_encoding(text[:len(text) - len(rest)], path, line)
         for piece in pieces:
-            if piece[:1] in (b"", b"\n"):
+            if piece[:1] in EMPTY:
                 yield from one_record(piece, path, line)
             else:
                 yield Record(piece, path, line)

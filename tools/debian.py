@@ -9,10 +9,11 @@ import bz2
 import gzip
 import hashlib
 import lzma
+import re
 import subprocess
 import zlib
 from dataclasses import dataclass, field
-from typing import Callable, Iterable, Iterator, NamedTuple
+from typing import Callable, Iterable, Iterator, NamedTuple, Sequence
 
 from tools.catalogue import MOST_BYTES, Catalogue, CatalogueLine, LimitsLine, NeedsLine, Request, RequestLine
 from tools.catalogue import VersionLine, WishLine, catalogue_text, request_text
@@ -24,11 +25,12 @@ from tools.words import Bad, Spec, Version
 
 NEEDS = (("Pre-Depends", "pre-depends"), ("Depends", "depends"))
 LIMITS = (("Conflicts", "conflicts"), ("Breaks", "breaks"))
-PRIORITIES = {"required": 0, "important": 1, "standard": 2, "optional": 3, "extra": 4}
+PRIORITIES = {"": 0, "required": 1, "important": 2, "standard": 3, "optional": 4, "extra": 5}
 UNPACKED: dict[str, Callable[[bytes], bytes]] = {
     ".gz": gzip.decompress, ".xz": lzma.decompress, ".lzma": lzma.decompress, ".bz2": bz2.decompress,
 }
 APT_HELPER = "/usr/lib/apt/apt-helper"
+PROVIDED = re.compile(r"(?:\A|,)\s*([^\s,(:]+)")  # the name in each part of Provides
 Runs = list[tuple[int, int]]  # from .. to below
 Matches = dict[str, list[int]]  # the numbers that match, by package, in the order in which they are tried
 
@@ -44,12 +46,9 @@ class Listed:
     provides: tuple[Relation, ...]
 
     @property
-    def rank(self) -> tuple[int, int, int, str]:
-        """Where it stands among the providers of a package: the least is tried first."""
-        fields = self.fields
-        essential = 0 if is_essential(fields) else 1
-        tie = fields.get("apt-id", "")
-        return essential, PRIORITIES.get(fields.get("priority", ""), 5), int(tie) if tie.isdigit() else 0, self.name
+    def rank(self) -> tuple[int, int]:
+        """Where it stands among the providers of a package: the least is tried first. What has no priority is before all that has."""
+        return 0 if is_essential(self.fields) else 1, PRIORITIES.get(self.fields.get("priority", ""), 5)
 
 
 class Line(NamedTuple):
@@ -99,7 +98,7 @@ class Universe:
     def __init__(self, native: str) -> None:
         self.native, self.architectures = native, (native.encode(), b"all")
         self.records: dict[str, list[Record]] = {}
-        self.providers: dict[str, dict[str, None]] = {}
+        self.providers: dict[str, list[str]] = {}
         self.read: dict[str, tuple[Listed, ...]] = {}
         self.matched: dict[Relation, Matches] = {}
         self.preferred: set[tuple[str, int]] = set()
@@ -118,15 +117,25 @@ class Universe:
         real = name.decode("utf-8", "replace").strip()
         self.records.setdefault(real, []).append(record)
         if record.raw.find(b"\nProvides:") >= 0:
-            for part in record.value("Provides").split(","):
-                provided = part.partition("(")[0].partition(":")[0].strip()
-                self.providers.setdefault(provided, {})[real] = None
+            self.offer(real, PROVIDED.findall(record.value("Provides")))
+
+    def offer(self, name: str, provided: Iterable[str]) -> None:
+        """What a package provides."""
+        for each in provided:
+            if each in self.providers:
+                self.providers[each].append(name)
+            else:
+                self.providers[each] = [name]
+
+    def named(self, name: str) -> Sequence[Record]:
+        """The stanzas of a package, in the order in which they were added."""
+        return self.records.get(name, ())
 
     def package(self, name: str) -> tuple[Listed, ...]:
         """The listed versions of a package in Debian's order; of one version listed twice the first stanza."""
         if name not in self.read:
             found: dict[str, Fields] = {}
-            for record in self.records.get(name, ()):
+            for record in self.named(name):
                 fields = record.fields()
                 found.setdefault(self.version(name, fields), fields)
             texts = sorted(found, key=version_key)
@@ -171,8 +180,8 @@ class Universe:
         if relation.qualifier not in ("", "any", "native", self.native):
             return {}
         found = {relation.name: [v.number for v in self.package(relation.name) if relation.holds(v.text)]}
-        others: list[tuple[tuple, str, list[int]]] = []
-        for name in self.providers.get(relation.name, ()):
+        others: list[tuple[tuple[int, int], str, list[int]]] = []
+        for name in dict.fromkeys(self.providers.get(relation.name, ())):
             offering = [v for v in self.package(name) if any(offers(given, relation) for given in v.provides)]
             if name == relation.name:
                 found[name] = sorted({*found[name], *(v.number for v in offering)})

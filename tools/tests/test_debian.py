@@ -188,6 +188,7 @@ class Errors(FolderCase):
         self.assert_fault(f"{missing}: can't be read: No such file or directory", "debian", missing, "--arch", "amd64")
 
 
+REFUSED = "refused\nrequest line 1\nstep 1 need request line 1 case 1\n"
 REQUEST = "Request: EDSP 0.5\nArchitecture: amd64\nInstall: app:amd64\n\n"
 
 
@@ -232,7 +233,7 @@ class Solver(FolderCase):
         self.assertEqual((stanzas, error), (["Install: 7\nPackage: app\nVersion: 1.0\nArchitecture: amd64"], ""))
         self.assertEqual(self.got(), [
             "version app 1", "needs old | lib", "version old 1", "version init 1", "version lib 1", "favour init 1", "favour old 1", "favour app 1",
-            "---", "needs app 1", "needs init", "wish init 1", "wish old 1", "===",
+            "---", "needs app 1", "needs init", "needs init 1", "needs old 1", "===",
         ])
         self.assertEqual(self.folders(), [])
 
@@ -240,55 +241,74 @@ class Solver(FolderCase):
         scenario = REQUEST + listed(7, "app", "1", "Conflicts: old") + listed(9, "old", "1", "Installed: yes", "Hold: yes")
         report = "install\napp=1 for request line 1\nleft out old=1 line 2 by 3\nstep 1 need request line 1 case 1\n"
         report += "step 2 limit app=1 line 3 bars old=1\nstep 3 derive [not old=1] by 1 2\n"
-        stanzas, error = self.answer(scenario, report, report)
+        stanzas, error = self.answer(scenario, REFUSED, report, report)
         self.assertEqual([each.split("\n")[0] for each in stanzas], ["Install: 7", "Remove: 9"])
         self.assertIn("resolve: why old can't stay is proved in ", error)
         self.assertIn("lock old 1", self.got())
         self.assertEqual(sorted(os.listdir(self.path(self.folders()[0]))), ["catalogue", "report", "request"])
 
-    def test_recommendations_come_by_rounds(self):
+    def test_what_is_left_out_is_barred_in_the_next_run(self):
         scenario = REQUEST + listed(7, "app", "1", "Recommends: r1 | r2, rx, nowhere, old")
         scenario += "".join(listed(number, name, "1") for number, name in enumerate(["r1", "r2", "rx"], 10))
         scenario += listed(9, "old", "1", "Installed: yes")
-        first = "install\napp=1 for request line 1\nold=1 wished line 2\n"
-        refused = "refused\nrequest line 1\nrequest line 3\nstep 1 need request line 3 case 1\n"
-        last = "install\napp=1 for request line 1\nr1=1 for request line 2\nold=1 for request line 3\n"
-        stanzas, _ = self.answer(scenario, first, refused, last)
-        self.assertEqual([each.split("\n")[0] for each in stanzas], ["Install: 7", "Install: 10"])
+        first = "install\napp=1 for request line 1\nold=1 wished line 2\nleft out r1=1 line 3 by 2\nrx=1 wished line 4\n"
+        first += "step 1 need request line 1 case 1\nstep 2 derive [not r1=1] by 1\n"
+        last = "install\napp=1 for request line 1\nold=1 wished line 2\nr2=1 wished line 3\nrx=1 wished line 4\n"
+        stanzas, _ = self.answer(scenario, REFUSED, first, last)
+        self.assertEqual([each.split("\n")[0] for each in stanzas], ["Install: 7", "Install: 12", "Install: 11"])
+        said = "Message: resolve solves the request over"
         self.assertEqual(self.progress, [
-            ["Percentage: 0", "Message: resolve reads the packages"], ["Percentage: 50", "Message: resolve solves the request over 2 packages"],
-            ["Percentage: 60", "Message: resolve solves recommendations over 5 packages"],
-            ["Percentage: 70", "Message: resolve solves recommendations over 5 packages"],
+            ["Percentage: 0", "Message: resolve reads the packages"], ["Percentage: 50", f"{said} 4 packages"],
+            ["Percentage: 60", f"{said} 4 packages"], ["Percentage: 70", f"{said} 5 packages"],
         ])
         asked = [line for line in self.got() if line.startswith(("needs", "wish", "==="))]
         self.assertEqual(asked, [
-            "needs app 1", "wish old 1", "===", "needs app 1", "needs r1 | r2", "needs rx", "needs old", "wish old 1", "===",
-            "needs app 1", "needs r1 | r2", "needs old", "wish old 1", "===",
+            "needs app 1", "needs old 1", "needs r1 1", "needs rx 1", "===", "needs app 1", "wish old 1", "wish r1 1", "wish rx 1", "===",
+            "needs app 1", "wish old 1", "wish r2 1", "wish rx 1", "===",
         ])
+
+    def test_what_is_chosen_besides_brings_its_recommendations(self):
+        scenario = REQUEST + listed(7, "app", "1", "Depends: a | b") + listed(8, "a", "1", "Depends: c") + listed(9, "c", "1")
+        scenario += listed(10, "b", "1", "Recommends: d") + listed(11, "d", "1")
+        first = "install\napp=1 for request line 1\nb=1 for app=1 line 3\nleft out a=1 line 2 by 1\nleft out c=1 line 3 by 1\n"
+        first += "step 1 need request line 1 case 1\n"
+        last = "install\napp=1 for request line 1\nb=1 for app=1 line 3\nd=1 wished line 3\n"
+        stanzas, _ = self.answer(scenario, REFUSED, first, last)
+        self.assertEqual([each.split("\n")[0] for each in stanzas], ["Install: 7", "Install: 10", "Install: 11"])
+        self.assertEqual([line for line in self.got() if line.startswith("wish")], ["wish a 1", "wish c 1", "wish b 1", "wish d 1"])
 
     def test_an_upgrade_where_the_installed_version_cant_stay(self):
         scenario = REQUEST + listed(7, "app", "1", "Breaks: old (<< 2)") + listed(8, "old", "2")
         scenario += stanza("old", "1", "APT-ID: 9", "Installed: yes")
-        left = "install\napp=1 for request line 1\nleft out old=1 line 2 by 3\nstep 1 need request line 1 case 1\n"
-        left += "step 2 limit app=1 line 3 bars old=1\nstep 3 derive [not old=1] by 1 2\n"
-        stanzas, error = self.answer(scenario, left, left.replace("left out", "old=2 wished line 3\nleft out"))
+        stanzas, error = self.answer(scenario, "install\napp=1 for request line 1\nold=2 for request line 2\n")
         self.assertEqual([each.split("\n")[0] for each in stanzas], ["Install: 7", "Install: 8"])
         self.assertEqual(error, "")
-        self.assertEqual(self.got()[-4:], ["needs app 1", "wish old 1", "wish old 2", "==="])
+        self.assertEqual(self.got()[-4:], ["---", "needs app 1", "needs old 2", "==="])
+
+    def test_a_second_run_upgrades_what_the_walk_didnt_see(self):
+        scenario = REQUEST + listed(7, "app", "1") + listed(8, "old", "2")
+        scenario += stanza("old", "1", "APT-ID: 9", "Installed: yes", "Breaks: app")
+        left = "install\napp=1 for request line 1\nleft out old=1 line 2 by 3\nstep 1 need request line 1 case 1\n"
+        left += "step 2 limit old=1 line 4 bars app=1\nstep 3 derive [not old=1] by 1 2\n"
+        stanzas, error = self.answer(scenario, REFUSED, left, left.replace("left out", "old=2 wished line 3\nleft out"))
+        self.assertEqual([each.split("\n")[0] for each in stanzas], ["Install: 7", "Install: 8"])
+        self.assertEqual(error, "")
+        asked = [line for line in self.got() if line.startswith(("wish", "==="))]
+        self.assertEqual(asked, ["===", "wish old 1", "===", "wish old 1", "wish old 2", "==="])
 
     def test_a_removal_and_an_upgrade_of_all(self):
         asked = "Request: EDSP 0.5\nArchitecture: amd64\nRemove: a:amd64\nUpgrade-All: yes\n\n"
         scenario = asked + stanza("a", "1", "APT-ID: 1", "Installed: yes") + stanza("b", "1", "APT-ID: 2", "Installed: yes")
-        stanzas, error = self.answer(scenario + listed(3, "b", "2"), "install\nb=2 wished line 2\n")
+        stanzas, error = self.answer(scenario + listed(3, "b", "2"), "install\nb=2 for request line 2\n")
         self.assertEqual([each.split("\n")[0] for each in stanzas], ["Install: 3", "Remove: 1"])
         self.assertEqual(error, "")
-        self.assertEqual(self.got()[-6:], ["favour a 1", "favour b 2", "---", "limits a 0", "wish b 2", "==="])
+        self.assertEqual(self.got()[-6:], ["favour a 1", "favour b 2", "---", "limits a 0", "needs b 2", "==="])
 
     def test_a_refusal_says_why(self):
         scenario = REQUEST + listed(7, "app", "1.5", "Depends: lib+x (>= 2)")
         report = "refused\ncatalogue line 6\nrequest line 1\nstep 1 need request line 1 case 1\nstep 2 need app=1 line 6 case 1\n"
         report += "step 3 derive [] by 1 2\n| app 1 cannot be installed because there are no viable options:\n"
-        stanzas, _ = self.answer(scenario, report)
+        stanzas, _ = self.answer(scenario, REFUSED, report)
         lines = stanzas[0].split("\n")
         self.assertEqual(lines[:3], [
             "Error: resolve-refused", "Message: resolve: no set of packages keeps all rules", " app 1.5 cannot be installed because there are no viable options:",
