@@ -63,31 +63,6 @@ number_more vs old middle before new after built i d l first next clause e =
     let s = split clause (literals_in vs (take i built)) (literal_of vs (get_or built i d).atom (get_or built i d).positive) (e ∙ more) in
     subst (Extends vs old [] new after) (sym s.2) (extends_then vs old [] middle before new after s.0 s.1 (first s.0 s.3) (next s.1 s.4))
 
--- ---- the versions of a package
-
-picked : (s : Spec) (outside b : Bool) (v : Version) → v.name ≡ s.name → matches s v ≡ b → not (beq b outside) ≡ passes s outside v
-picked s true b v n e = sym (ap (λ x. x && not (matches s v)) named ∙ (ap not e ∙ swap b)) where
-  named : is_of s.name v ≡ true
-  named = subst (λ m. is_of m v ≡ true) n (bytes_own v.name)
-
-  swap : (x : Bool) → not x ≡ not (beq x true)
-  swap true = refl
-  swap false = refl
-picked s false b v n e = swap b ∙ sym e where
-  swap : (x : Bool) → not (beq x false) ≡ x
-  swap true = refl
-  swap false = refl
-
-passing_of : (s : Spec) (outside : Bool) (v : Version) → passes s outside v ≡ true → v.name ≡ s.name
-passing_of s true v h = bytes_is v.name s.name (and_parts _ _ h).0
-passing_of s false v h = bytes_is v.name s.name (and_parts _ _ h).0
-
-pub each_is : (vs : List Version) (s : Spec) (outside : Bool) (numbers : List VersionNo) → AreAll (map number_of numbers) (IsOfPackage vs s.name)
-    → map (told vs) (filter (picks vs s outside) (map number_of numbers)) ≡ somes (map is_in (filter (passes s outside) vs))
-each_is vs s outside numbers all = of_package vs s.name numbers all (picks vs s outside) (passes s outside)
-    (λ n v at named. ap (λ o. not (beq (option_map_or (λ w. matches s w) o false) outside)) at ∙ picked s outside (matches s v) v named refl)
-    (passing_of s outside)
-
 -- ---- one more SPEC
 
 pub flat_map_more : {X Y : Type 0} (f : X → List Y) (xs : List X) (i : ℕ) (d : X) → i < length xs → flat_map f (take (i + 1) xs) ≡ flat_map f (take i xs) ++ f (get_or xs i d)

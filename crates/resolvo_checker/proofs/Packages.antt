@@ -1,18 +1,19 @@
--- The versions of a package, by their numbers and as they are listed.
+-- The versions that a SPEC picks, by their numbers and as they are listed.
 use Rattle.std.proofs.Common.{◌≡◌, ℕ, zero, suc, ◌+◌, ◌<◌, ◌≤◌, Bool, true, false, List, [], ◌∷◌, ◌++◌, map, length, get_or, Option, Some, refl, sym, ap, ◌∙◌, subst, inl, inr, ◌⊎◌, cond, arith, append_assoc, length-append}
-use Rattle.std.specs.Prelude.{filter, slice_get, slice_index_or, Contains}
+use Rattle.std.specs.Prelude.{filter, slice_get, slice_index_or, Contains, not, ◌&&◌}
 use Rattle.std.specs.List.Sorted.{IsStrictlyIncreasing}
-use Rattle.std.proofs.lemmas.Bool.{false≢true, cases_Bool, cases_lt}
+use Rattle.std.proofs.lemmas.Bool.{false≢true, cases_Bool, cases_lt, and_parts}
 use Rattle.std.proofs.lemmas.Slice.Eq.{bytes_eq-Decides}
 use Rattle.std.specs.Str.{bytes_eq}
-use Rattle.resolvo_text.specs.Line.{Version}
-use Rattle.resolvo_catalogue_core.specs.Questions.{AreAll, IsOfPackage, number_of}
-use Rattle.resolvo_catalogue_core.specs.declared.rule.VersionNo.{VersionNo}
+use Rattle.resolvo_text.specs.Line.{Version, Spec}
+use Rattle.resolvo_text.specs.Matches.{is_in_span}
+use Rattle.resolvo_catalogue_core.specs.Questions.{AreAll}
+use Rattle.resolvo_catalogue_core.specs.Picked.{is_picked, IsPicked}
 use Rattle.std.specs.Option.{option_map}
 use Rattle.resolvo_pool_core.specs.OnePass as pass
 use Rattle.resolvo_report.specs.Value.{Atom}
 use Rattle.resolvo_checker.specs.StepClauses.{is_in}
-use Rattle.resolvo_checker.specs.Built.{told, somes}
+use Rattle.resolvo_checker.specs.Built.{told, somes, passes}
 
 -- ---- members of rising lists
 
@@ -63,26 +64,26 @@ get_end [] n v l e = cc
 get_end (w ∷ front) zero v l e = omega arith
 get_end (w ∷ front) (suc n) v l e = get_end front n v (omega arith) e
 
-module _ (whole : List Version) (name : List ℕ) (t : ℕ → Bool) (q : Version → Bool) (agree : (n : ℕ) (v : Version) → slice_get whole n ≡ Some v → v.name ≡ name → t n ≡ q v) (of : (v : Version) → q v ≡ true → v.name ≡ name) where
-  -- these are the numbers from m on of the package's versions
+module _ (whole : List Version) (q : Version → Bool) where
+  -- a version of this number passes
+  abbrev IsNumbered : ℕ → Type 0
+  IsNumbered n = (v : Version) × (slice_get whole n ≡ Some v) × (q v ≡ true)
+
+  -- these are their numbers from m on
   record AreFrom (m : ℕ) (xs : List ℕ) : Type 0 where
     pub rising : Above m xs
-    pub each : (n : ℕ) → In n xs → IsOfPackage whole name n
-    pub all : (n : ℕ) → m ≤ n → IsOfPackage whole name n → In n xs
+    pub each : (n : ℕ) → In n xs → IsNumbered n
+    pub all : (n : ℕ) → m ≤ n → IsNumbered n → In n xs
 
   abbrev chosen : List ℕ → List (Option (pass.Literal Atom))
-  chosen xs = map (told whole) (filter t xs)
+  chosen xs = map (told whole) xs
 
   one_more : (b : Bool) (x : Version) (xs : List Version) → map (λ v. Some (is_in v)) (cond b (x ∷ xs) xs) ≡ cond b (Some (is_in x) ∷ map (λ v. Some (is_in v)) xs) (map (λ v. Some (is_in v)) xs)
   one_more true x xs = refl
   one_more false x xs = refl
 
-  kept_more : (b : Bool) (n : ℕ) (xs : List ℕ) → map (told whole) (cond b (n ∷ filter t xs) (filter t xs)) ≡ cond b (told whole n ∷ chosen xs) (chosen xs)
-  kept_more true n xs = refl
-  kept_more false n xs = refl
-
   -- the first number is the one at m
-  first_is : (m : ℕ) (xs : List ℕ) → AreFrom m xs → IsOfPackage whole name m → (ys : List ℕ) × (xs ≡ m ∷ ys) × AreFrom (suc m) ys
+  first_is : (m : ℕ) (xs : List ℕ) → AreFrom m xs → IsNumbered m → (ys : List ℕ) × (xs ≡ m ∷ ys) × AreFrom (suc m) ys
   first_is m [] a p = absurd (a.all m (omega arith) p)
   first_is m (x ∷ xs) a p =
       let l : m ≤ x = a.rising.0 in
@@ -104,40 +105,34 @@ module _ (whole : List Version) (name : List ℕ) (t : ℕ → Bool) (q : Versio
     | inr h ↦ absurd (n (inl (let e : x ≡ m = omega (arith, l, h) in e)))
   ]
 
-  skip : (m : ℕ) (xs : List ℕ) → AreFrom m xs → (IsOfPackage whole name m → ⊥) → AreFrom (suc m) xs
+  skip : (m : ℕ) (xs : List ℕ) → AreFrom m xs → (IsNumbered m → ⊥) → AreFrom (suc m) xs
   skip m xs a none = record {
     rising = above_more m xs a.rising (λ i. none (a.each m i));
     each = a.each;
     all = λ n h o. a.all n (omega (arith, h)) o;
   }
 
-  none_left : (m : ℕ) (xs : List ℕ) → AreFrom m xs → ((n : ℕ) → m ≤ n → IsOfPackage whole name n → ⊥) → xs ≡ []
+  none_left : (m : ℕ) (xs : List ℕ) → AreFrom m xs → ((n : ℕ) → m ≤ n → IsNumbered n → ⊥) → xs ≡ []
   none_left m [] a none = refl
   none_left m (x ∷ xs) a none = absurd (none x a.rising.0 (a.each x (inl refl)))
 
   same_Some : (v w : Version) → Some v ≡ Some w → v ≡ w
   same_Some v w h = cc
 
-  there : (m : ℕ) (v : Version) (vs : List Version) (xs : List ℕ) → slice_get whole m ≡ Some v → v.name ≡ name → AreFrom m xs
+  there : (m : ℕ) (v : Version) (vs : List Version) (xs : List ℕ) → slice_get whole m ≡ Some v → q v ≡ true → AreFrom m xs
       → ((ys : List ℕ) → AreFrom (suc m) ys → chosen ys ≡ map (λ w. Some (is_in w)) (filter q vs)) → chosen xs ≡ map (λ w. Some (is_in w)) (filter q (v ∷ vs))
-  there m v vs xs at named a ih =
-      let f = first_is m xs a (v, at, named) in
+  there m v vs xs at passes a ih =
+      let f = first_is m xs a (v, at, passes) in
       ap chosen f.1
-      ∙ (kept_more (t m) m f.0
-      ∙ (ap (λ b. cond b (told whole m ∷ chosen f.0) (chosen f.0)) (agree m v at named)
-      ∙ (ap (λ o. cond (q v) (option_map is_in o ∷ chosen f.0) (chosen f.0)) at
-      ∙ (ap (λ c. cond (q v) (Some (is_in v) ∷ c) c) (ih f.0 f.2)
-      ∙ sym (one_more (q v) v (filter q vs))))))
+      ∙ (ap (λ o. option_map is_in o ∷ chosen f.0) at
+      ∙ (ap (λ c. Some (is_in v) ∷ c) (ih f.0 f.2)
+      ∙ sym (ap (λ b. map (λ w. Some (is_in w)) (cond b (v ∷ filter q vs) (filter q vs))) passes)))
 
-  absent : (v : Version) (b : Bool) → q v ≡ b → (v.name ≡ name → ⊥) → q v ≡ false
-  absent v true e n = absurd (n (of v e))
-  absent v false e n = e
-
-  other : (m : ℕ) (v : Version) (vs : List Version) (xs : List ℕ) → slice_get whole m ≡ Some v → (v.name ≡ name → ⊥) → AreFrom m xs
+  other : (m : ℕ) (v : Version) (vs : List Version) (xs : List ℕ) → slice_get whole m ≡ Some v → q v ≡ false → AreFrom m xs
       → ((ys : List ℕ) → AreFrom (suc m) ys → chosen ys ≡ map (λ w. Some (is_in w)) (filter q vs)) → chosen xs ≡ map (λ w. Some (is_in w)) (filter q (v ∷ vs))
-  other m v vs xs at apart a ih =
-      ih xs (skip m xs a (λ p. apart (ap (λ (w : Version). w.name) (same_Some v p.0 (sym at ∙ p.1)) ∙ p.2)))
-      ∙ sym (ap (λ b. map (λ w. Some (is_in w)) (cond b (v ∷ filter q vs) (filter q vs))) (absent v (q v) refl apart))
+  other m v vs xs at fails a ih =
+      ih xs (skip m xs a (λ p. false≢true (sym fails ∙ ap q (same_Some v p.0 (sym at ∙ p.1)) ∙ p.2)))
+      ∙ sym (ap (λ b. map (λ w. Some (is_in w)) (cond b (v ∷ filter q vs) (filter q vs))) fails)
 
   chosen_is : (front vs : List Version) (xs : List ℕ) → whole ≡ front ++ vs → AreFrom (length front) xs → chosen xs ≡ map (λ w. Some (is_in w)) (filter q vs)
   chosen_is front [] xs is a =
@@ -147,23 +142,36 @@ module _ (whole : List Version) (name : List ℕ) (t : ℕ → Bool) (q : Versio
       let moved : whole ≡ (front ++ v ∷ []) ++ vs = is ∙ sym (append_assoc front (v ∷ []) vs) in
       let long : suc (length front) ≡ length (front ++ v ∷ []) = omega (arith, length-append front (v ∷ [])) in
       let ih : (ys : List ℕ) → AreFrom (suc (length front)) ys → chosen ys ≡ map (λ w. Some (is_in w)) (filter q vs) = λ ys b. chosen_is (front ++ v ∷ []) vs ys moved (subst (λ k. AreFrom k ys) long b) in
-      elim (cases_Bool (bytes_eq v.name name)) [
-        | inl e ↦ there (length front) v vs xs at ((bytes_eq-Decides v.name name).0 e) a ih
-        | inr e ↦ other (length front) v vs xs at (λ same. false≢true (sym e ∙ (bytes_eq-Decides v.name name).1 same)) a ih
+      elim (cases_Bool (q v)) [
+        | inl e ↦ there (length front) v vs xs at e a ih
+        | inr e ↦ other (length front) v vs xs at e a ih
       ]
 
 twice : (xs : List Version) → map (λ w. Some (is_in w)) xs ≡ somes (map is_in xs)
 twice [] = refl
 twice (x ∷ xs) = ap (λ ys. Some (is_in x) ∷ ys) (twice xs)
 
--- The literals of those numbers of a package's versions that pass are those of the listed versions that do.
-pub of_package : (vs : List Version) (name : List ℕ) (numbers : List VersionNo) → AreAll (map number_of numbers) (IsOfPackage vs name) → (t : ℕ → Bool) (q : Version → Bool)
-    → ((n : ℕ) (v : Version) → slice_get vs n ≡ Some v → v.name ≡ name → t n ≡ q v) → ((v : Version) → q v ≡ true → v.name ≡ name)
-    → map (told vs) (filter t (map number_of numbers)) ≡ somes (map is_in (filter q vs))
-of_package vs name numbers all t q agree of =
-    chosen_is vs name t q agree of [] vs (map number_of numbers) refl (record {
-      rising = above_from 0 (map number_of numbers) all.rising (λ h. omega arith);
-      each = λ n i. (all.all n).0 (from_in n (map number_of numbers) i);
-      all = λ n l p. in_from n (map number_of numbers) ((all.all n).1 p);
+-- ---- what a SPEC picks
+
+-- which versions pass, told by their names and numbers
+passes_by : (s : Spec) (outside : Bool) (v : Version) → v.name ≡ s.name → passes s outside v ≡ is_picked s.span outside v.number
+passes_by s true v named =
+    let own : bytes_eq v.name s.name ≡ true = (bytes_eq-Decides v.name s.name).1 named in
+    ap (λ b. b && not (b && is_in_span s.span v.number)) own
+passes_by s false v named =
+    let own : bytes_eq v.name s.name ≡ true = (bytes_eq-Decides v.name s.name).1 named in
+    ap (λ b. b && is_in_span s.span v.number) own
+
+name_is : (s : Spec) (outside : Bool) (v : Version) → passes s outside v ≡ true → v.name ≡ s.name
+name_is s true v h = (bytes_eq-Decides v.name s.name).0 (and_parts _ _ h).0
+name_is s false v h = (bytes_eq-Decides v.name s.name).0 (and_parts _ _ h).0
+
+-- The literals of the versions that a SPEC picks are those of the listed versions that pass.
+pub picked_are : (vs : List Version) (s : Spec) (outside : Bool) (numbers : List ℕ) → AreAll numbers (IsPicked vs s outside) → map (told vs) numbers ≡ somes (map is_in (filter (passes s outside) vs))
+picked_are vs s outside numbers all =
+    chosen_is vs (passes s outside) [] vs numbers refl (record {
+      rising = above_from 0 numbers all.rising (λ h. omega arith);
+      each = λ n i. let p = (all.all n).0 (from_in n numbers i) in (p.0, p.1, passes_by s outside p.0 p.2 ∙ p.3);
+      all = λ n l p. let named = name_is s outside p.0 p.2 in in_from n numbers ((all.all n).1 (p.0, p.1, named, sym (passes_by s outside p.0 named) ∙ p.2));
     })
-    ∙ twice (filter q vs)
+    ∙ twice (filter (passes s outside) vs)

@@ -1,9 +1,7 @@
 -- What built literals are, over the listed versions.
-use Rattle.std.specs.Prelude.{ℕ, Bool, true, false, not, List, map, Option, Some, None, slice_get}
+use Rattle.std.specs.Prelude.{ℕ, Bool, true, false, List, map, Option, Some, None, slice_get}
 use Rattle.std.specs.String.{string_bytes}
 use Rattle.std.specs.Option.{option_map}
-use Rattle.std.specs.Bool.{beq}
-use Rattle.resolvo_catalogue_core.specs.Listed.{is_match}
 use Rattle.resolvo_text.specs.Line.{Version, Spec, Line}
 use Rattle.resolvo_text.specs.Matches.{matches}
 use Rattle.resolvo_text.specs.View.{spec_of, specs_of}
@@ -41,10 +39,6 @@ somes clause = map Some clause
 abbrev pub passes : Spec → Bool → Version → Bool
 passes s true v = is_outside s v
 passes s false v = matches s v
-
--- whether the SPEC matches the version of this number, or else whether it doesn't
-abbrev pub picks : List Version → Spec → Bool → ℕ → Bool
-picks versions s outside n = not (beq (is_match versions s n) outside)
 
 -- the clause of a step that isn't derived
 abbrev pub rule_clause_of : List Line → List Line → says.Step → Option Clause

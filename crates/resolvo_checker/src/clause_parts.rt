@@ -1,16 +1,17 @@
 //! The parts of clauses, added to a clause that is built.
 
-ghost use Rattle.std.specs.Prelude.{◌≡◌, [], ◌∷◌, ◌++◌, List, Some, OnOk, IfOk};
+ghost use Rattle.std.specs.Prelude.{◌≡◌, [], ◌∷◌, ◌++◌, List, Some, OnOk, IfOk, map};
 ghost use Rattle.resolvo_text.specs.Line as says;
 ghost use Rattle.resolvo_text.specs.View.{spec_of, specs_of};
 ghost use Rattle.resolvo_catalogue_core.specs.Listed.{listed};
 ghost use Rattle.resolvo_report.specs.Value.{AnyOf, SharedBy, OutsideOf, BitOf};
 ghost use Rattle.resolvo_checker.specs.StepClauses.{literal, each_listed, some_match, case_fails};
-ghost use Rattle.resolvo_checker.specs.Built.{literals_in, member_of, somes, passes};
+ghost use Rattle.resolvo_checker.specs.Built.{literals_in, member_of, told, somes, passes};
 
 use crate::atom::{Atom, Built};
 use resolvo_catalogue_core::{Catalogue, Spec, VersionNo};
 use std::alloc::{AllocError, Global};
+use std::collections::BTreeSet;
 
 pub type Clause = Vec<Built>;
 
@@ -116,8 +117,22 @@ pub fn push_outside(out: &mut Clause, spec: &Spec, positive: bool) -> Result<(),
     Ok(())
 }
 
-/// Adds each listed version of the SPEC's package that doesn't match, or else each that matches.
+/// Adds the versions of these numbers.
+fn push_numbers(out: &mut Clause, numbers: &BTreeSet<u32>) -> Result<(), AllocError>
+    ensures { OnOk result
+        ((vs : List says.Version)
+        → literals_in vs out.new.items
+        ≡ literals_in vs out.old.items ++ map (told vs) numbers.now.keys) }
+{
+    for number in numbers {
+        push_version(out, VersionNo(*number), true)?;
+    }
+    Ok(())
+}
+
+/// Adds each listed version of the SPEC's package that doesn't match, or else each that matches. The others aren't walked.
 fn push_each(
+    alloc: Global,
     out: &mut Clause,
     catalogue: &Catalogue,
     spec: &Spec,
@@ -128,17 +143,14 @@ fn push_each(
         ≡ literals_in (listed catalogue.now) out.old.items ++ somes
         (each_listed catalogue.now (passes (spec_of spec.now) outside))) }
 {
-    let versions = catalogue.versions_of(&spec.name);
-    for version in versions {
-        if catalogue.match_of(spec, *version) != outside {
-            push_version(out, *version, true)?;
-        }
-    }
+    let numbers = catalogue.picked(alloc, spec, outside)?;
+    push_numbers(out, &numbers)?;
     Ok(())
 }
 
 /// Adds each listed match of each alternative.
 pub fn push_matches(
+    alloc: Global,
     out: &mut Clause,
     catalogue: &Catalogue,
     alternatives: &[Spec],
@@ -149,7 +161,7 @@ pub fn push_matches(
         (some_match catalogue.now (specs_of alternatives.now))) }
 {
     for spec in alternatives {
-        push_each(out, catalogue, spec, false)?;
+        push_each(alloc, out, catalogue, spec, false)?;
     }
     Ok(())
 }
@@ -168,7 +180,7 @@ pub fn push_case(
 {
     for spec in specs {
         push_any(alloc, out, &spec.name, false)?;
-        push_each(out, catalogue, spec, true)?;
+        push_each(alloc, out, catalogue, spec, true)?;
     }
     Ok(())
 }

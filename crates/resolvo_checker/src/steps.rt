@@ -129,7 +129,7 @@ fn need(
     let mut out = Vec::new(alloc);
     push_owner(&mut out, owner)?;
     push_case(alloc, &mut out, catalogue, specs)?;
-    push_matches(&mut out, catalogue, alternatives)?;
+    push_matches(alloc, &mut out, catalogue, alternatives)?;
     Ok(out)
 }
 
@@ -340,7 +340,7 @@ fn shared(alloc: Global, catalogue: &Catalogue, alternatives: &[Spec]) -> Result
 {
     let mut out = Vec::new(alloc);
     push_shared(alloc, &mut out, alternatives, false)?;
-    push_matches(&mut out, catalogue, alternatives)?;
+    push_matches(alloc, &mut out, catalogue, alternatives)?;
     Ok(out)
 }
 

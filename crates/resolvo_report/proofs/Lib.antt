@@ -8,3 +8,4 @@ pub mod StreamLemmas
 pub mod DraftLemmas
 pub mod WriteLemmas
 pub mod ReportLaws
+pub mod TellLemmas

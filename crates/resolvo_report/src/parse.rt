@@ -12,6 +12,7 @@ ghost use Rattle.resolvo_text.specs.Parse.{Gives, words_in};
 ghost use Rattle.resolvo_report.specs.Value as says;
 ghost use Rattle.resolvo_report.specs.View.{literals_of, step_of, report_line_of};
 ghost use Rattle.resolvo_report.specs.Text.{line_text, HasText};
+ghost use Rattle.resolvo_report.specs.Told.{Tells};
 ghost use Rattle.resolvo_report.specs.Pieces.{texts_of};
 ghost use Rattle.resolvo_report.specs.Parse.{is_semicolon, is_close, text_behind, literals_behind, pieces_in, literals_in, numbers_in, causes_in, causes_behind, derived_in, limit_in, need_in, gate_in, shared_in, outside_in, lock_in, digit_in, any_in, step_said, left_out_in, numbered_in, entry_in, line_said, is_message, line_read};
 
@@ -376,7 +377,7 @@ fn message_in(text: &[u8]) -> Option<&[u8]>
 }
 
 #[tactic(auto, unfolding(crate::specs::Parse::line_read))]
-pub(crate) fn line_read(alloc: Global, text: &[u8]) -> Result<ReportLine, LineFault>
+fn line_read(alloc: Global, text: &[u8]) -> Result<ReportLine, LineFault>
     ensures { Gives report_line_of result (line_read text.now) }
 {
     if let Some(message) = message_in(text) {
@@ -386,4 +387,17 @@ pub(crate) fn line_read(alloc: Global, text: &[u8]) -> Result<ReportLine, LineFa
     }
     let (keyword, words) = first_word(text);
     line_said(alloc, keyword, words)
+}
+
+/// What a line says; the bytes of a message are kept or not.
+#[tactic(auto, unfolding(crate::specs::Parse::line_read))]
+pub(crate) fn line_told(alloc: Global, text: &[u8], keeps: bool) -> Result<ReportLine, LineFault>
+    ensures { Tells keeps result (line_read text.now) }
+{
+    if !keeps && message_in(text).is_some() {
+        return Ok(ReportLine::Message {
+            bytes: Vec::new(alloc),
+        });
+    }
+    line_read(alloc, text)
 }

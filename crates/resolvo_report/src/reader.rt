@@ -1,17 +1,20 @@
 //! Reading a report, line by line or whole.
 //!
-//! `ReportReader` holds one line at most, and finds each line's place by the part to which the lines above lead.
+//! `ReportReader` holds one line at most, and finds each line's place by the part to which the lines above lead. It gives a line of a
+//! message with its bytes, which are a copy, or without them.
 //! The judge takes one line after the other; `Report::read` keeps them all.
 
-ghost use Rattle.std.specs.Prelude.{◌≡◌, ℕ, ◌+◌, ◌≤◌, ◌++◌, ◌∷◌, [], Option, Some, None, IfOk, IfSome, IfNone, IfErr, OnOk, IsTrue};
+ghost use Rattle.std.specs.Prelude.{◌≡◌, ℕ, ◌+◌, ◌≤◌, ◌++◌, ◌∷◌, [], Option, Some, None, IfOk, IfSome, IfNone, IfErr, OnOk, IsTrue, false};
 ghost use Rattle.std.specs.Io.KnownBytes.{IsAtEnd};
 ghost use Rattle.resolvo_text.specs.Device.{IfKnown, DeviceFailed};
+ghost use Rattle.resolvo_report.specs.Value.{ReportLine as SaidLine};
 ghost use Rattle.resolvo_report.specs.View.{report_of, report_line_of};
 ghost use Rattle.resolvo_report.specs.Text.{report_lines, report_text};
+ghost use Rattle.resolvo_report.specs.Told.{IsTold};
 ghost use Rattle.resolvo_report.specs.Grammar.{next_part, may_end, IsReport, IsReportFault};
 ghost use Rattle.resolvo_report.specs.Draft.{part_of};
 
-use crate::parse::line_read;
+use crate::parse::line_told;
 use crate::place::Part;
 use crate::report::{Report, ReportLine};
 use resolvo_text::{LineFault, LineReader, ReadFault, Source};
@@ -118,6 +121,53 @@ impl ReportReader {
             (DeviceFailed (S.failures source.old) (S.failures source.new)
             (S.interruptions source.new))) }
     {
+        self.take(alloc, source, true)
+    }
+
+    /// The same, without the bytes of a message: no line is held twice.
+    pub fn next_without_message<S: Source>(
+        &mut self,
+        alloc: Global,
+        source: &mut S,
+    ) -> Result<Option<ReportLine>, ReportFault>
+        ensures given { IfOk result (λ next. IfSome next (λ line. (said : SaidLine)
+            × IsTold false said (report_line_of line)
+            × GivesLine (left self.old (S.left source.old)) self.old said
+            (left self.new (S.left source.new)) self.new)) }
+        ensures end { IfOk result
+            (λ next.
+            IfNone next
+            (IsAtEnd (left self.old (S.left source.old)) × IsTrue (may_end self.old.part))) }
+        ensures failures { OnOk result (S.failures source.new ≡ S.failures source.old) }
+        ensures fault { IfErr result (λ e. IsLineFault e self.old
+            (left self.old (S.left source.old)) (S.left source.new)
+            (DeviceFailed (S.failures source.old) (S.failures source.new)
+            (S.interruptions source.new))) }
+    {
+        self.take(alloc, source, false)
+    }
+
+    /// Takes the next line; the bytes of a message are kept or not.
+    fn take<S: Source>(
+        &mut self,
+        alloc: Global,
+        source: &mut S,
+        keeps: bool,
+    ) -> Result<Option<ReportLine>, ReportFault>
+        ensures given { IfOk result (λ next. IfSome next (λ line. (said : SaidLine)
+            × IsTold keeps said (report_line_of line)
+            × GivesLine (left self.old (S.left source.old)) self.old said
+            (left self.new (S.left source.new)) self.new)) }
+        ensures end { IfOk result
+            (λ next.
+            IfNone next
+            (IsAtEnd (left self.old (S.left source.old)) × IsTrue (may_end self.old.part))) }
+        ensures failures { OnOk result (S.failures source.new ≡ S.failures source.old) }
+        ensures fault { IfErr result (λ e. IsLineFault e self.old
+            (left self.old (S.left source.old)) (S.left source.new)
+            (DeviceFailed (S.failures source.old) (S.failures source.new)
+            (S.interruptions source.new))) }
+    {
         let more = match self.lines.next_line(source) {
             Ok(more) => more,
             Err(ReadFault::Reader) => return Err(ReportFault::Reader),
@@ -135,7 +185,7 @@ impl ReportReader {
         if !self.lines.is_whole() {
             return Err(ReportFault::NotAReport(number));
         }
-        let line = match line_read(alloc, self.lines.line()) {
+        let line = match line_told(alloc, self.lines.line(), keeps) {
             Ok(line) => line,
             Err(LineFault::Fault) => return Err(ReportFault::NotAReport(number)),
             Err(LineFault::Memory) => return Err(ReportFault::Memory),
