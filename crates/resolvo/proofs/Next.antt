@@ -12,6 +12,8 @@ use Rattle.resolvo_pool_core.specs.RuleKeeping.{Packages, Rules, IsLawful, is_in
 use Rattle.resolvo_store_core.specs.AtMostOne.{IsFrontOf}
 use Rattle.resolvo_store_core.specs.Clauses.{yes}
 use Rattle.resolvo_store_core.specs.Signed.{Signed, has}
+use Rattle.resolvo_sat.specs.declared.analyze.FinalConflict.{FinalConflict}
+use Rattle.resolvo_sat.specs.Analysis.{IsRefusal}
 use Rattle.resolvo_sat.specs.Entries.{made_true}
 use Rattle.resolvo_sat.specs.State.{history}
 use Rattle.resolvo_sat.proofs.StepLemmas.{reverse_push}
@@ -30,13 +32,13 @@ use Rattle.resolvo_encoder.proofs.TurnLemmas.{turn_accepts}
 use Rattle.resolvo_encoder.specs.TurnLevels.{AreAmongEncoded}
 use Rattle.resolvo_turn.specs.Encoder.{IsInOrder}
 use Rattle.resolvo_turn.specs.Turn.{IsTurn}
-use Rattle.resolvo.specs.Turns.{AreAt, AreRight, HasReason, HaveReasons, IsDeniable, Records, accepted_of, on_trail, step_of, was_accepted}
+use Rattle.resolvo.specs.Turns.{AreAt, AreRight, HasReason, HaveReasons, IsDeniable, IsNextRight, NotesOutcome, Records, StandSo, accepted_of, on_trail, step_of, was_accepted}
 use Rattle.resolvo.specs.declared.soft_requirements.SoftOutcome.{SoftOutcome}
-use Rattle.resolvo.specs.Wished.{IsDenied, IsOutcome, IsReasonOf, IsTrue, KeepsTrail}
+use Rattle.resolvo.specs.Wished.{IsDenied, IsOutcome, IsReasonOf, IsTold, IsTrue, KeepsTrail}
 use Rattle.resolvo.specs.declared.soft_requirements.SoftOutcome.TheVariants as Wishes
 use Rattle.resolvo.specs.declared.turns.Turn.{Turn}
 use Rattle.resolvo.specs.declared.turns.Turns.{Turns}
-use Rattle.resolvo_state.proofs.Positions.{front_get, front_same}
+use Rattle.resolvo_state.proofs.Positions.{front_equal, front_get, front_same}
 use Rattle.resolvo.proofs.ListLemmas.{accepted_more, accepted_next, next_right, refused_next}
 use Rattle.resolvo_turn.proofs.EndLemmas.{contains_longer}
 use Rattle.resolvo.proofs.TrailLemmas.{listed_are_chosen, listed_on_trail, trail_stays}
@@ -196,16 +198,16 @@ module _ {N S : Type 0} where
     stay_encoded : AreAmongEncoded b t.chosen.keys
     stay_encoded = among_stays a b t.chosen.keys keeps at.encoded
 
-    pub stood_at : IsOutcome same s a b Wishes.Stood → (begin : ℕ) → Records s begin Wishes.Stood t u → AreAt b u
+    stood_at : IsOutcome same s a b Wishes.Stood → (begin : ℕ) → Records s begin Wishes.Stood t u → AreAt b u
     stood_at (wishes, trail, known) begin told = next_at a b t t u s begin Wishes.Stood at (stays_chosen trail) refl told wishes stay_encoded
 
-    pub refused_at : (clause : ClauseId) → IsOutcome same s a b (Wishes.Refused clause) → (begin : ℕ) → Records s begin (Wishes.Refused clause) t u → AreAt b u
+    refused_at : (clause : ClauseId) → IsOutcome same s a b (Wishes.Refused clause) → (begin : ℕ) → Records s begin (Wishes.Refused clause) t u → AreAt b u
     refused_at clause (wishes, trail, untrue) begin told = next_at a b t t u s begin (Wishes.Refused clause) at (stays_chosen trail) refl told wishes stay_encoded
 
     goes_on : IsExact same → IsCoding b.coding → (m : Turns S) → m.chosen.keys ≡ insert_all same t.chosen.keys (on_trail b) → m.chosen.keys ≡ on_trail b
     goes_on exact after m in_order = listed_on_trail same exact a b t.chosen.keys m.chosen.keys coding after keeps at.chosen in_order
 
-    pub chosen_at : IsExact same → IsCoding b.coding → (m : Turns S) → IsOutcome same s a b Wishes.Chosen → m.chosen.keys ≡ insert_all same t.chosen.keys (on_trail b) → m.turns ≡ t.turns → (begin : ℕ) → Records s begin Wishes.Chosen m u → AreAt b u
+    chosen_at : IsExact same → IsCoding b.coding → (m : Turns S) → IsOutcome same s a b Wishes.Chosen → m.chosen.keys ≡ insert_all same t.chosen.keys (on_trail b) → m.turns ≡ t.turns → (begin : ℕ) → Records s begin Wishes.Chosen m u → AreAt b u
     chosen_at exact after m (wishes, (v, stands, (settled, whole, spent, has_it))) in_order turns begin told =
         let are : m.chosen.keys ≡ on_trail b = goes_on exact after m in_order in
         next_at a b t m u s begin Wishes.Chosen at are turns told wishes (whole m.chosen.keys (listed_are_chosen b m.chosen.keys are))
@@ -214,30 +216,67 @@ module _ {N S : Type 0} where
       still_accepted : IsAccepted same p root a.noted.wishes.items t.chosen.keys
       still_accepted = subst (λ (ws : List S). IsAccepted same p root ws t.chosen.keys) (sym at.wishes) right.accepted
 
-      pub stood_reasons : HaveReasons a.coding t → (begin : ℕ) → Records s begin Wishes.Stood t u → HaveReasons b.coding u
+      stood_reasons : HaveReasons a.coding t → (begin : ℕ) → Records s begin Wishes.Stood t u → HaveReasons b.coding u
       stood_reasons reasons begin told = next_reasons a b t t u s begin Wishes.Stood keeps (front_same t.chosen.keys) refl told reasons (accepted_reason b t u s begin Wishes.Stood told refl refl)
 
-      pub refused_reasons : (clause : ClauseId) → IsReasonOf b.coding (λ r. (r ≡ s) ⊎ IsTrue a r) clause.0 → HaveReasons a.coding t → (begin : ℕ) → begin ≡ length t.chosen.keys → Records s begin (Wishes.Refused clause) t u → HaveReasons b.coding u
+      refused_reasons : (clause : ClauseId) → IsReasonOf b.coding (λ r. (r ≡ s) ⊎ IsTrue a r) clause.0 → HaveReasons a.coding t → (begin : ℕ) → begin ≡ length t.chosen.keys → Records s begin (Wishes.Refused clause) t u → HaveReasons b.coding u
       refused_reasons clause reason reasons begin is told = next_reasons a b t t u s begin (Wishes.Refused clause) keeps (front_same t.chosen.keys) refl told reasons (refused_reason a b t u s begin clause told at is reason)
 
-      pub chosen_reasons : (m : Turns S) → IsFrontOf t.chosen.keys m.chosen.keys → m.turns ≡ t.turns → HaveReasons a.coding t → (begin : ℕ) → Records s begin Wishes.Chosen m u → HaveReasons b.coding u
+      chosen_reasons : (m : Turns S) → IsFrontOf t.chosen.keys m.chosen.keys → m.turns ≡ t.turns → HaveReasons a.coding t → (begin : ℕ) → Records s begin Wishes.Chosen m u → HaveReasons b.coding u
       chosen_reasons m lists turns reasons begin told = next_reasons a b t m u s begin Wishes.Chosen keeps lists turns told reasons (accepted_reason b m u s begin Wishes.Chosen told refl refl)
 
-      pub stood_told : IsOutcome same s a b Wishes.Stood → (begin : ℕ) → begin ≡ length t.chosen.keys → Records s begin Wishes.Stood t u → AreRight same p root first (done ++ s ∷ []) u
+      stood_told : IsOutcome same s a b Wishes.Stood → (begin : ℕ) → begin ≡ length t.chosen.keys → Records s begin Wishes.Stood t u → AreRight same p root first (done ++ s ∷ []) u
       stood_told (wishes, trail, known) begin is told =
           let truth : true ≡ is_in same p t.chosen.keys s = told_true same exact p root b t.chosen.keys s (listed_are_chosen b t.chosen.keys (stays_chosen trail)) known in
           next_told same exact p root a b t t u first done s Wishes.Stood at right (front_same t.chosen.keys) refl (subst (λ n. Records s n Wishes.Stood t u) is told) wishes
           (subst (λ (ws : List S). IsAccepted same p root ws t.chosen.keys) (sym wishes) (accepted_more same exact p root a.noted.wishes.items t.chosen.keys s still_accepted (sym truth))) truth (λ so. absurd (both_ways true so refl)) (λ so. absurd (both_ways true so refl))
 
-      pub refused_told : (clause : ClauseId) → IsOutcome same s a b (Wishes.Refused clause) → IsDenied same p root a s → (begin : ℕ) → begin ≡ length t.chosen.keys → Records s begin (Wishes.Refused clause) t u → AreRight same p root first (done ++ s ∷ []) u
+      refused_told : (clause : ClauseId) → IsOutcome same s a b (Wishes.Refused clause) → IsDenied same p root a s → (begin : ℕ) → begin ≡ length t.chosen.keys → Records s begin (Wishes.Refused clause) t u → AreRight same p root first (done ++ s ∷ []) u
       refused_told clause (wishes, trail, untrue) denied begin is told =
           next_told same exact p root a b t t u first done s (Wishes.Refused clause) at right (front_same t.chosen.keys) refl (subst (λ n. Records s n (Wishes.Refused clause) t u) is told) wishes
           (subst (λ (ws : List S). IsAccepted same p root ws t.chosen.keys) (sym wishes) still_accepted) (told_false same exact p root b t.chosen.keys s (listed_are_chosen b t.chosen.keys (stays_chosen trail)) untrue) (λ so. refl) (λ so. denied)
 
-      pub chosen_told : (same_name : N → N → Bool) → IsExact same_name → IsLawful p → (orders : Requirement → List S → Type 0) → IsInOrder same p orders root b → IsCoding b.coding → (m : Turns S) → IsOutcome same s a b Wishes.Chosen → IsFrontOf t.chosen.keys m.chosen.keys → m.chosen.keys ≡ insert_all same t.chosen.keys (on_trail b) → m.turns ≡ t.turns
+      chosen_told : (same_name : N → N → Bool) → IsExact same_name → IsLawful p → (orders : Requirement → List S → Type 0) → IsInOrder same p orders root b → IsCoding b.coding → (m : Turns S) → IsOutcome same s a b Wishes.Chosen → IsFrontOf t.chosen.keys m.chosen.keys → m.chosen.keys ≡ insert_all same t.chosen.keys (on_trail b) → m.turns ≡ t.turns
           → (begin : ℕ) → begin ≡ length t.chosen.keys → Records s begin Wishes.Chosen m u → AreRight same p root first (done ++ s ∷ []) u
       chosen_told same_name names lawful orders order after m (wishes, (v, stands, ended)) lists in_order turns begin is told =
           let are : AreChosen b.coding.atoms.keys (made_true (history b.coding.search)) m.chosen.keys = listed_are_chosen b m.chosen.keys (goes_on exact after m in_order) in
           let (settled, whole, spent, has_it) = ended in
           next_told same exact p root a b t m u first done s Wishes.Chosen at right lists turns (subst (λ n. Records s n Wishes.Chosen m u) is told) wishes
           (chosen_accepted same exact p root same_name names lawful orders b (Some v) m.chosen.keys order ended are) (told_true same exact p root b m.chosen.keys s are (v, stands, has_it)) (λ so. absurd (both_ways true so refl)) (λ so. absurd (both_ways true so refl))
+
+      pub noted_right : (same_name : N → N → Bool) → IsExact same_name → IsLawful p → (orders : Requirement → List S → Type 0) → IsInOrder same p orders root b → IsCoding b.coding → HaveReasons a.coding t → (w : SoftOutcome) (o : Option FinalConflict) → IsOutcome same s a b w → IsTold same p root a b s w → NotesOutcome same s b t u w o
+          → IsNextRight same p root first (done ++ s ∷ []) b u o
+      noted_right same_name names lawful orders order after reasons Wishes.Stood None is why told = (stood_told is (length t.chosen.keys) refl told, stood_reasons reasons (length t.chosen.keys) told)
+      noted_right same_name names lawful orders order after reasons Wishes.Stood (Some q) is why none = absurd none
+      noted_right same_name names lawful orders order after reasons Wishes.Chosen None is why (m, lists, in_order, turns, told) = (
+        chosen_told same_name names lawful orders order after m is lists in_order turns (length t.chosen.keys) refl told,
+        chosen_reasons m lists turns reasons (length t.chosen.keys) told,
+      )
+      noted_right same_name names lawful orders order after reasons Wishes.Chosen (Some q) is why none = absurd none
+      noted_right same_name names lawful orders order after reasons (Wishes.Refused clause) None is (denied, reason) told = (
+        refused_told clause is denied (length t.chosen.keys) refl told,
+        refused_reasons clause reason reasons (length t.chosen.keys) refl told,
+      )
+      noted_right same_name names lawful orders order after reasons (Wishes.Refused clause) (Some q) is why none = absurd none
+      noted_right same_name names lawful orders order after reasons (Wishes.Clash r) None is why none = absurd none
+      noted_right same_name names lawful orders order after reasons (Wishes.Clash r) (Some q) is why told = why
+
+    pub noted_stands : IsExact same → IsCoding b.coding → (w : SoftOutcome) (o : Option FinalConflict) → IsOutcome same s a b w → NotesOutcome same s b t u w o → StandSo b u o
+    noted_stands exact after Wishes.Stood None is told = stood_at is (length t.chosen.keys) told
+    noted_stands exact after Wishes.Stood (Some q) is none = absurd none
+    noted_stands exact after Wishes.Chosen None is (m, lists, in_order, turns, told) = chosen_at exact after m is in_order turns (length t.chosen.keys) told
+    noted_stands exact after Wishes.Chosen (Some q) is none = absurd none
+    noted_stands exact after (Wishes.Refused clause) None is told = refused_at clause is (length t.chosen.keys) told
+    noted_stands exact after (Wishes.Refused clause) (Some q) is none = absurd none
+    noted_stands exact after (Wishes.Clash r) None is none = absurd none
+    noted_stands exact after (Wishes.Clash r) (Some q) is (one, unchanged) = subst (λ (x : FinalConflict). IsRefusal b.coding.search x.literals.items x.causes.items × (x.literals.items ≡ [])) (sym one) is
+
+    pub noted_front : (w : SoftOutcome) (o : Option FinalConflict) → NotesOutcome same s b t u w o → IsFrontOf t.chosen.keys u.chosen.keys
+    noted_front Wishes.Stood None told = front_equal t.chosen.keys u.chosen.keys (ap (λ (c : HashSet S (BuildHasherDefault FoldHasher)). c.keys) told.chosen)
+    noted_front Wishes.Stood (Some q) none = absurd none
+    noted_front Wishes.Chosen None (m, lists, in_order, turns, told) = subst (λ (c : HashSet S (BuildHasherDefault FoldHasher)). IsFrontOf t.chosen.keys c.keys) (sym told.chosen) lists
+    noted_front Wishes.Chosen (Some q) none = absurd none
+    noted_front (Wishes.Refused clause) None told = front_equal t.chosen.keys u.chosen.keys (ap (λ (c : HashSet S (BuildHasherDefault FoldHasher)). c.keys) told.chosen)
+    noted_front (Wishes.Refused clause) (Some q) none = absurd none
+    noted_front (Wishes.Clash r) None none = absurd none
+    noted_front (Wishes.Clash r) (Some q) (one, unchanged) = front_equal t.chosen.keys u.chosen.keys (ap (λ (x : Turns S). x.chosen.keys) unchanged)

@@ -1,6 +1,6 @@
 -- What the turn of a wish comes to, from what its parts came to.
-use Rattle.std.proofs.Common.{◌≡◌, ℕ, ◌-◌, ◌<◌, ◌≤◌, ◌⊎◌, inl, inr, Bool, true, false, List, [], ◌∷◌, reverse, length, Some, None, refl, sym, ◌∙◌, ap, subst, arith}
-use Rattle.std.specs.Prelude.{max, slice_get, Contains}
+use Rattle.std.proofs.Common.{◌≡◌, ℕ, ◌-◌, ◌<◌, ◌≤◌, ◌⊎◌, inl, inr, Bool, true, false, List, [], ◌∷◌, reverse, length, Option, Some, None, refl, sym, ◌∙◌, ap, subst, arith}
+use Rattle.std.specs.Prelude.{max, slice_get, Contains, IfSome}
 use Rattle.resolvo_pool_core.specs.declared.solver_id.SolvableIdOrRoot.TheVariants as Place
 use Rattle.std.proofs.lemmas.Bool.{both_ways}
 use Rattle.std.proofs.lemmas.Option.{slice_get_within}
@@ -44,7 +44,7 @@ use Rattle.resolvo_encoder.proofs.Bases.{below_all, below_ends}
 use Rattle.resolvo_encoder.proofs.PickLemmas.{ordered_stays}
 use Rattle.resolvo_turn.specs.Encoder.{IsInOrder, AddsParents}
 use Rattle.resolvo_turn.specs.Turn.{IsRooted, IsTurn}
-use Rattle.resolvo.specs.Wished.{IsLearntAs, IsOutcome, IsReasonOf, IsRefusable, IsTold, IsTrue, IsTurnedDown, KeepsRest, KeepsTrail}
+use Rattle.resolvo.specs.Wished.{IsClosed, IsLearntAs, IsOutcome, IsReasonOf, IsRefusable, IsTold, IsTrue, IsTurnedDown, KeepsRest, KeepsTrail}
 use Rattle.resolvo.specs.declared.soft_requirements.SoftOutcome.{SoftOutcome}
 use Rattle.resolvo_turn.proofs.EndLemmas.{still_rooted}
 use Rattle.resolvo.proofs.Wishes.{refused_all, refused_bars, refused_blamed, refused_denied, refused_empty, taken_true}
@@ -182,21 +182,18 @@ module _ {N S : Type 0} (same : S → S → Bool) (a b : Encoder N S) (one : Off
     turn_encoded : a.encoded ≤ c.encoded
     turn_encoded = let one : b.encoded ≡ a.encoded = notes.encoded in let two : b.encoded ≤ c.encoded = adds.encoded in omega arith
 
-    pub turn_keeps : KeepsTrail a c
+    turn_keeps : KeepsTrail a c
     turn_keeps = record { atoms = turn_atoms; clauses = turn_clauses; stated = turn_stated; ends = turn_ends; parents = turn_parents; encoded = turn_encoded; rooted = turn_rooted }
 
-    pub turn_chosen : IsTurn same (Some v) c None → IsOutcome same one.solvable a c SoftOutcome.Chosen
+    turn_chosen : IsTurn same (Some v) c None → IsOutcome same one.solvable a c SoftOutcome.Chosen
     turn_chosen ended = (adds.wishes ∙ notes.wishes, (v, turn_stands, ended))
 
-    pub turn_refusable : (r : FinalConflict) → IsTurn same (Some v) c (Some r) → IsRefusable c r
+    turn_refusable : (r : FinalConflict) → IsTurn same (Some v) c (Some r) → IsRefusable c r
     turn_refusable r ended = (v, o, (a.noted.wishes.items, one.solvable, adds.wishes ∙ notes.wishes, turn_stands), ended)
 
     -- ---- it is refused
 
     module _ (d : Encoder N S) (rest : KeepsRest c d) (r : FinalConflict) (ended : IsTurn same (Some v) c (Some r)) where
-      pub down_in_order : (p : Packages N S) (orders : Requirement → List S → Type 0) (root : Rules) → (IsEncoding same p root c → IsEncoding same p root d) → IsInOrder same p orders root c → IsInOrder same p orders root d
-      down_in_order p orders root stays e = record { encoding = stays e.encoding; ordered = ordered_stays orders c d rest.grows rest.lists e.ordered }
-
       down_rooted : IsRooted a → IsRooted d
       down_rooted rooted = subst (λ ks. slice_get ks.keys 0 ≡ Some Place.Root) (sym rest.parents) (turn_rooted rooted)
 
@@ -212,7 +209,7 @@ module _ {N S : Type 0} (same : S → S → Bool) (a b : Encoder N S) (one : Off
       down_stated : IsFrontOf a.coding.stated.items d.coding.stated.items
       down_stated = front_then a.coding.stated.items c.coding.stated.items d.coding.stated.items turn_stated rest.grows.stated
 
-      pub down_keeps : (w : SoftOutcome) → IsTurnedDown r c d w → KeepsTrail a d
+      down_keeps : (w : SoftOutcome) → IsTurnedDown r c d w → KeepsTrail a d
       down_keeps SoftOutcome.Stood h = absurd h
       down_keeps SoftOutcome.Chosen h = absurd h
       down_keeps (SoftOutcome.Refused clause) (trail, wishes, learnt) = record { atoms = front_then a.coding.atoms.keys c.coding.atoms.keys d.coding.atoms.keys turn_atoms rest.grows.atoms; clauses = down_clauses; stated = down_stated; ends = ([], trail ∙ base ∙ noted_same); parents = down_parents; encoded = down_encoded; rooted = down_rooted }
@@ -226,7 +223,7 @@ module _ {N S : Type 0} (same : S → S → Bool) (a b : Encoder N S) (one : Off
         rooted = down_rooted;
       }
 
-      pub down_outcome : IsBuilt d → has (made_true (history b.coding.search)) (yes v) ≡ false → (w : SoftOutcome) → IsTurnedDown r c d w → IsOutcome same one.solvable a d w
+      down_outcome : IsBuilt d → has (made_true (history b.coding.search)) (yes v) ≡ false → (w : SoftOutcome) → IsTurnedDown r c d w → IsOutcome same one.solvable a d w
       down_outcome built unchosen SoftOutcome.Stood h = absurd h
       down_outcome built unchosen SoftOutcome.Chosen h = absurd h
       down_outcome built unchosen (SoftOutcome.Refused clause) (trail, wishes, learnt) = (
@@ -261,7 +258,7 @@ module _ {N S : Type 0} (same : S → S → Bool) (a b : Encoder N S) (one : Off
         ];
       }
 
-      pub down_told : IsCoding a.coding → IsExact same → (same_name : N → N → Bool) → IsExact same_name → (p : Packages N S) (root : Rules) → IsEncoding same p root c → (w : SoftOutcome) → IsTurnedDown r c d w → IsTold same p root a d one.solvable w
+      down_told : IsCoding a.coding → IsExact same → (same_name : N → N → Bool) → IsExact same_name → (p : Packages N S) (root : Rules) → IsEncoding same p root c → (w : SoftOutcome) → IsTurnedDown r c d w → IsTold same p root a d one.solvable w
       down_told coding exact same_name names p root holds SoftOutcome.Stood h = tt
       down_told coding exact same_name names p root holds SoftOutcome.Chosen h = tt
       down_told coding exact same_name names p root holds (SoftOutcome.Refused clause) (trail, wishes, learnt) = (
@@ -269,3 +266,26 @@ module _ {N S : Type 0} (same : S → S → Bool) (a b : Encoder N S) (one : Off
         down_reason coding exact same_name names p root holds clause learnt,
       )
       down_told coding exact same_name names p root holds (SoftOutcome.Clash q) (is, none, unchanged) = refused_all c v same exact p root holds same_name names o r ended (ap (λ (x : FinalConflict). x.literals.items) (sym is) ∙ none)
+
+    -- ---- it has ended, and is closed
+
+    pub turn_closable : (turn : Option FinalConflict) → IsTurn same (Some v) c turn → IfSome turn (IsRefusable c)
+    turn_closable None ended = tt
+    turn_closable (Some r) ended = turn_refusable r ended
+
+    module _ (d : Encoder N S) (rest : KeepsRest c d) where
+      pub closed_in_order : (p : Packages N S) (orders : Requirement → List S → Type 0) (root : Rules) → (IsEncoding same p root c → IsEncoding same p root d) → IsInOrder same p orders root c → IsInOrder same p orders root d
+      closed_in_order p orders root stays e = record { encoding = stays e.encoding; ordered = ordered_stays orders c d rest.grows rest.lists e.ordered }
+
+      pub closed_keeps : (turn : Option FinalConflict) → IsTurn same (Some v) c turn → (w : SoftOutcome) → IsClosed turn c d w → KeepsTrail a d
+      closed_keeps None ended w (is, unchanged) = subst (λ (x : Encoder N S). KeepsTrail a x) (sym unchanged) turn_keeps
+      closed_keeps (Some r) ended w down = down_keeps d rest r ended w down
+
+      pub closed_outcome : (turn : Option FinalConflict) → IsTurn same (Some v) c turn → IsBuilt d → has (made_true (history b.coding.search)) (yes v) ≡ false → (w : SoftOutcome) → IsClosed turn c d w → IsOutcome same one.solvable a d w
+      closed_outcome None ended built unchosen w (is, unchanged) = subst (λ (x : SoftOutcome). IsOutcome same one.solvable a d x) (sym is) (subst (λ (x : Encoder N S). IsOutcome same one.solvable a x SoftOutcome.Chosen) (sym unchanged) (turn_chosen ended))
+      closed_outcome (Some r) ended built unchosen w down = down_outcome d rest r ended built unchosen w down
+
+      pub closed_told : (turn : Option FinalConflict) → IsTurn same (Some v) c turn → IsCoding a.coding → IsExact same → (same_name : N → N → Bool) → IsExact same_name → (p : Packages N S) (root : Rules) → IsEncoding same p root c → (w : SoftOutcome) → IsClosed turn c d w
+          → IsTold same p root a d one.solvable w
+      closed_told None ended coding exact same_name names p root holds w (is, unchanged) = subst (λ (x : SoftOutcome). IsTold same p root a d one.solvable x) (sym is) tt
+      closed_told (Some r) ended coding exact same_name names p root holds w down = down_told d rest r ended coding exact same_name names p root holds w down

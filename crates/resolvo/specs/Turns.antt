@@ -1,6 +1,8 @@
 -- The turns of wishes, and what was chosen in each.
 use Rattle.std.specs.Prelude.{◌≡◌, ℕ, suc, ◌-◌, ◌≤◌, ◌⊎◌, cond, Bool, true, false, take, reverse, List, [], ◌∷◌, ◌++◌, length, Option, Some, None, Contains}
+use Rattle.indexmap.specs.IndexSet.{insert_all}
 use Rattle.resolvo_pool_core.specs.RuleKeeping.{Packages, Rules, is_in, IsRuleKeeping}
+use Rattle.resolvo_store_core.specs.AtMostOne.{IsFrontOf}
 use Rattle.resolvo_sat.specs.declared.analyze.FinalConflict.{FinalConflict}
 use Rattle.resolvo_sat.specs.Analysis.{IsRefusal}
 use Rattle.resolvo_soundness.specs.SearchEnd.{IsAccepted}
@@ -8,10 +10,12 @@ use Rattle.resolvo_state.specs.Chosen.{choices}
 use Rattle.resolvo_state.specs.declared.solver_state.SolverState.{SolverState}
 use Rattle.resolvo_encoder.specs.TurnLevels.{AreAmongEncoded}
 use Rattle.resolvo_encoder.specs.declared.encoder.Encoder.{Encoder}
+use Rattle.resolvo_turn.specs.Encoder.{IsRoot}
 use Rattle.resolvo.specs.Solution.{IsSolution, IsUnsolvable}
 use Rattle.resolvo.specs.Wished.{IsReasonOf}
 use Rattle.resolvo.specs.declared.soft_requirements.SoftOutcome.{SoftOutcome}
 use Rattle.resolvo.specs.declared.soft_requirements.SoftOutcome.TheVariants.{Stood, Chosen, Refused, Clash}
+use Rattle.resolvo.specs.declared.turn_input.TurnInput.{TurnInput}
 use Rattle.resolvo.specs.declared.turns.Turn.{Turn}
 use Rattle.resolvo.specs.declared.turns.Turns.{Turns}
 
@@ -137,3 +141,19 @@ IsNextRight same p root first wishes e t (Some r) = IsUnsolvable same p root
 abbrev pub StandSo : {N S : Type 0} → Encoder N S → Turns S → Option FinalConflict → Type 0
 StandSo e t None = AreAt e t
 StandSo e t (Some r) = IsRefusal e.coding.search r.literals.items r.causes.items × (r.literals.items ≡ [])
+
+-- the root has the requirements and constraints that turns are given
+abbrev pub IsRootOf : TurnInput → Rules → Type 0
+IsRootOf input root = IsRoot input.requirements.now input.constraints.now root
+
+-- Its turn came behind the others, after what the trail chooses was listed where it was chosen in it; or nothing changed, and
+-- this is why no solvables keep all rules.
+abbrev pub NotesOutcome : {N S : Type 0} → (S → S → Bool) → S → Encoder N S → Turns S → Turns S → SoftOutcome → Option FinalConflict → Type 0
+NotesOutcome same s e old new Stood None = Records s (length old.chosen.keys) Stood old new
+NotesOutcome same s e old new Stood (Some q) = ⊥
+NotesOutcome {N} {S} same s e old new Chosen None = (m : Turns S) × IsFrontOf old.chosen.keys m.chosen.keys × (m.chosen.keys ≡ insert_all same old.chosen.keys (on_trail e)) × (m.turns ≡ old.turns) × Records s (length old.chosen.keys) Chosen m new
+NotesOutcome same s e old new Chosen (Some q) = ⊥
+NotesOutcome same s e old new (Refused clause) None = Records s (length old.chosen.keys) (Refused clause) old new
+NotesOutcome same s e old new (Refused clause) (Some q) = ⊥
+NotesOutcome same s e old new (Clash r) None = ⊥
+NotesOutcome same s e old new (Clash r) (Some q) = (q ≡ r) × (new ≡ old)

@@ -1,5 +1,5 @@
 -- What the turn of a wish comes to.
-use Rattle.std.specs.Prelude.{◌≡◌, ◌≤◌, ◌⊎◌, ◌<◌, ℕ, Bool, true, ⊤, List, [], ◌∷◌, ◌++◌, Some, None, Contains, slice_get}
+use Rattle.std.specs.Prelude.{◌≡◌, ◌≤◌, ◌⊎◌, ◌<◌, ℕ, Bool, true, ⊤, List, [], ◌∷◌, ◌++◌, Option, Some, None, Contains, slice_get}
 use Rattle.resolvo_pool_core.specs.declared.id.ClauseId.{ClauseId}
 use Rattle.resolvo_pool_core.specs.declared.id.VariableId.{VariableId}
 use Rattle.resolvo_pool_core.specs.Provider.{listed}
@@ -91,6 +91,11 @@ IsTurnedDown refusal old new Stood = ⊥
 IsTurnedDown refusal old new Chosen = ⊥
 IsTurnedDown {N} {S} refusal old new (Refused clause) = (history new.coding.search ≡ base_of old) × ((front : List S) (s : S) → old.noted.wishes.items ≡ front ++ s ∷ [] → new.noted.wishes.items ≡ front) × IsLearntAs new.coding refusal.literals.items clause
 IsTurnedDown refusal old new (Clash r) = (r ≡ refusal) × (r.literals.items ≡ []) × (new ≡ old)
+
+-- a turn that ended without a refusal chose the wish, and nothing changed since; another one is turned down
+abbrev pub IsClosed : {N S : Type 0} → Option FinalConflict → Encoder N S → Encoder N S → SoftOutcome → Type 0
+IsClosed None old new outcome = (outcome ≡ Chosen) × (new ≡ old)
+IsClosed (Some refusal) old new outcome = IsTurnedDown refusal old new outcome
 
 -- clauses may have come, and what variables stand for, candidates, parents and how many of these are encoded are what they were
 pub record KeepsRest {N S : Type 0} (old new : Encoder N S) : Type 0 where

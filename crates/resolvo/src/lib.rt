@@ -9,6 +9,7 @@ pub mod prove;
 pub mod search;
 pub mod soft_requirements;
 pub mod solver;
+pub mod turn_input;
 pub mod turns;
 
 pub use conflict::Conflict;

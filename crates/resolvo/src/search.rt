@@ -7,10 +7,12 @@ ghost use Rattle.resolvo_encoder.specs.Encoded.{IsEncoding};
 ghost use Rattle.resolvo_encoder.specs.Steps.{IsBegunEncoding, IsBuilt};
 ghost use Rattle.resolvo_turn.specs.Encoder.{IsInOrder, IsRoot};
 ghost use Rattle.resolvo_turn.specs.Turn.{IsRooted, IsTurn};
+ghost use Rattle.resolvo.specs.Turns.{IsRootOf};
 ghost use Rattle.resolvo.specs.Wished.{AreCandidates};
 ghost use Rattle.resolvo.specs.Solve.{AskNothing, IsFound, IsFoundIn, IsListedIn, IsPreferred, IsSearch, IsDenial, IsProvable};
 
 use crate::soft_requirements::run_soft_requirements;
+use crate::turn_input::TurnInput;
 use crate::turns::{Turn, Turns};
 use resolvo_decide::scores::Scores;
 use resolvo_encoder::encoder::Encoder;
@@ -51,10 +53,11 @@ fn found_in<S: Copy + Exact + Hash + Debug>(
     match clash {
         Some(refusal) => Ok(SearchResult::Clash(refusal)),
         None => {
-            let Turns { chosen, turns } = turns;
-            let mut solvables = Vec::new(alloc);
-            solvables.extend_from_slice(chosen.as_slice())?;
-            Ok(SearchResult::Chosen { solvables, turns })
+            let solvables = Vec::from_slice(alloc, turns.chosen.as_slice())?;
+            Ok(SearchResult::Chosen {
+                solvables,
+                turns: turns.turns,
+            })
         }
     }
 }
@@ -65,9 +68,7 @@ fn run_others<A: PackageSource, C: ScoreMap<A::NameId>>(
     answers: &mut A,
     encoding: &mut Encoder<A::NameId, A::SolvableId>,
     scores: &mut Scores<A::NameId, C>,
-    activity: Activity,
-    requirements: &[ConditionalRequirement],
-    constraints: &[VersionSetId],
+    input: &TurnInput<'_>,
     wishes: &[A::SolvableId],
 ) -> Result<SearchResult<A::SolvableId>, CacheFault<A::Cancel>>
     requires built { IsBuilt encoding.old }
@@ -80,7 +81,7 @@ fn run_others<A: PackageSource, C: ScoreMap<A::NameId>>(
     ensures found { IfOk result
         (λ f.
         (root : Rules)
-        → IsRoot requirements.now constraints.now root
+        → IsRootOf input.now root
         → AreCandidates A.SolvableId.eq (A.packages answers.old) wishes.now
         → IsInOrder A.SolvableId.eq (A.packages answers.old) (A.orders answers.old) root
         encoding.old
@@ -96,17 +97,7 @@ fn run_others<A: PackageSource, C: ScoreMap<A::NameId>>(
 {
     let mut turns = Turns::new(alloc);
     turns.list(alloc, encoding)?;
-    let clash = run_soft_requirements(
-        alloc,
-        answers,
-        encoding,
-        scores,
-        activity,
-        requirements,
-        constraints,
-        wishes,
-        &mut turns,
-    )?;
+    let clash = run_soft_requirements(alloc, answers, encoding, scores, input, wishes, &mut turns)?;
     let found = found_in(alloc, turns, clash)?;
     Ok(found)
 }
@@ -117,9 +108,7 @@ fn run_turns<A: PackageSource, C: ScoreMap<A::NameId>>(
     answers: &mut A,
     encoding: &mut Encoder<A::NameId, A::SolvableId>,
     scores: &mut Scores<A::NameId, C>,
-    activity: Activity,
-    requirements: &[ConditionalRequirement],
-    constraints: &[VersionSetId],
+    input: &TurnInput<'_>,
     wishes: &[A::SolvableId],
 ) -> Result<SearchResult<A::SolvableId>, CacheFault<A::Cancel>>
     requires { IsBegunEncoding encoding.old }
@@ -129,7 +118,7 @@ fn run_turns<A: PackageSource, C: ScoreMap<A::NameId>>(
     ensures found { IfOk result
         (λ f.
         (root : Rules)
-        → IsRoot requirements.now constraints.now root
+        → IsRootOf input.now root
         → AreCandidates A.SolvableId.eq (A.packages answers.old) wishes.now
         → IsInOrder A.SolvableId.eq (A.packages answers.old) (A.orders answers.old) root
         encoding.old
@@ -148,24 +137,15 @@ fn run_turns<A: PackageSource, C: ScoreMap<A::NameId>>(
         answers,
         encoding,
         scores,
-        activity,
-        requirements,
-        constraints,
+        input.activity,
+        input.requirements,
+        input.constraints,
         None,
     )?;
     if let Some(refusal) = turn {
         return Ok(SearchResult::Clash(refusal));
     }
-    let found = run_others(
-        alloc,
-        answers,
-        encoding,
-        scores,
-        activity,
-        requirements,
-        constraints,
-        wishes,
-    )?;
+    let found = run_others(alloc, answers, encoding, scores, input, wishes)?;
     Ok(found)
 }
 
@@ -248,15 +228,12 @@ pub fn search<A: PackageSource, C: ScoreMap<A::NameId> + Drop>(
         let nothing = find_nothing(alloc, answers, encoding)?;
         return Ok(nothing);
     }
-    let found = run_turns(
-        alloc,
-        answers,
-        encoding,
-        &mut Scores::<A::NameId, C>::new(alloc),
+    let input = TurnInput {
         activity,
         requirements,
         constraints,
-        wishes,
-    )?;
+    };
+    let mut scores = Scores::<A::NameId, C>::new(alloc);
+    let found = run_turns(alloc, answers, encoding, &mut scores, &input, wishes)?;
     Ok(found)
 }

@@ -1,6 +1,6 @@
 //! The turns of wishes. Each wish is registered and noted; unless it is chosen already, it is chosen at the first level of its
 //! turn. Where it can't stand beside what was chosen before, a clause tells why, and what was chosen before stands as it did.
-ghost use Rattle.std.specs.Prelude.{◌≡◌, ◌<◌, ◌++◌, ◌∷◌, ℕ, List, [], false, length, Some, IfOk, IfErr, OnOk};
+ghost use Rattle.std.specs.Prelude.{◌≡◌, ◌<◌, ℕ, [], false, length, Some, IfOk, IfErr, IfSome, OnOk};
 ghost use Rattle.resolvo_pool.specs.Cached.{IsCancelledBy};
 ghost use Rattle.resolvo_pool_core.specs.RuleKeeping.{Packages, Rules, IsLawful};
 ghost use Rattle.resolvo_store_core.specs.AtMostOne.{IsFrontOf};
@@ -12,24 +12,23 @@ ghost use Rattle.resolvo_encoder.specs.Base.{base_of, IsOpen};
 ghost use Rattle.resolvo_encoder.specs.Encoded.{IsEncoding};
 ghost use Rattle.resolvo_encoder.specs.Steps.{IsBuilt};
 ghost use Rattle.resolvo_encoder.specs.SoftRequirement.{turn_of, IsWish};
-ghost use Rattle.resolvo_turn.specs.Encoder.{IsInOrder, IsRoot, AddsParents};
+ghost use Rattle.resolvo_turn.specs.Encoder.{IsInOrder, AddsParents};
 ghost use Rattle.resolvo_turn.specs.Turn.{IsRooted, IsTurn};
-ghost use Rattle.resolvo.specs.Turns.{AreAt, AreRight, HaveReasons, IsNextRight, StandSo};
-ghost use Rattle.resolvo.specs.Wished.{AreCandidates, IsCandidate, IsOutcome, IsRefusable, IsTold, IsTurnedDown, KeepsRest, KeepsTrail};
+ghost use Rattle.resolvo.specs.Turns.{AreAt, AreRight, HaveReasons, IsNextRight, IsRootOf, NotesOutcome, StandSo};
+ghost use Rattle.resolvo.specs.Wished.{AreCandidates, IsCandidate, IsClosed, IsOutcome, IsRefusable, IsTold, IsTurnedDown, KeepsRest, KeepsTrail};
 ghost use Rattle.resolvo.specs.declared.soft_requirements.SoftOutcome.TheVariants.{Refused};
 
+use crate::turn_input::TurnInput;
 use crate::turns::Turns;
 use resolvo_decide::scores::Scores;
 use resolvo_encoder::encoder::Encoder;
 use resolvo_packages::package_source::{Offered, PackageSource};
 use resolvo_pool::cache::CacheFault;
-use resolvo_pool_core::id::{ClauseId, Exact, VariableId, VersionSetId};
+use resolvo_pool_core::id::{ClauseId, Exact, VariableId};
 use resolvo_pool_core::id_map::ScoreMap;
-use resolvo_pool_core::requirement::ConditionalRequirement;
 use resolvo_pool_core::want::R;
 use resolvo_sat::analyze::FinalConflict;
 use resolvo_store_core::literal::Literal;
-use resolvo_turn::cdcl::Activity;
 use resolvo_turn::turn::run_turn;
 use std::alloc::Global;
 use std::fmt::Debug;
@@ -54,9 +53,7 @@ fn run_open<A: PackageSource, C: ScoreMap<A::NameId>>(
     answers: &mut A,
     encoding: &mut Encoder<A::NameId, A::SolvableId>,
     scores: &mut Scores<A::NameId, C>,
-    activity: Activity,
-    requirements: &[ConditionalRequirement],
-    constraints: &[VersionSetId],
+    input: &TurnInput<'_>,
     wish: A::SolvableId,
     variable: VariableId,
 ) -> Result<Option<FinalConflict>, CacheFault<A::Cancel>>
@@ -69,7 +66,7 @@ fn run_open<A: PackageSource, C: ScoreMap<A::NameId>>(
     // After an answer.
     ensures stays { OnOk result
         ((root : Rules)
-        → IsRoot requirements.now constraints.now root
+        → IsRootOf input.now root
         → IsInOrder A.SolvableId.eq (A.packages answers.old) (A.orders answers.old) root
         encoding.old
         → IsInOrder A.SolvableId.eq (A.packages answers.old) (A.orders answers.old) root
@@ -90,9 +87,9 @@ fn run_open<A: PackageSource, C: ScoreMap<A::NameId>>(
         answers,
         encoding,
         scores,
-        activity,
-        requirements,
-        constraints,
+        input.activity,
+        input.requirements,
+        input.constraints,
         Some(variable),
     )?;
     Ok(refusal)
@@ -122,13 +119,14 @@ fn refuse<N: Copy + Exact + Hash + Debug, S: Copy + Exact + Hash + Debug>(
     Ok(clause)
 }
 
-/// What the refused turn of the last wish came to: without literals the refusal is one of the whole problem.
-fn refuse_turn<N: Copy + Exact + Hash + Debug, S: Copy + Exact + Hash + Debug>(
+/// What the turn of the last wish came to, by the refusal that it ended with, if there was one. A refusal without literals is one of
+/// the whole problem.
+fn close_turn<N: Copy + Exact + Hash + Debug, S: Copy + Exact + Hash + Debug>(
     encoding: &mut Encoder<N, S>,
-    refusal: FinalConflict,
+    turn: Option<FinalConflict>,
 ) -> R<SoftOutcome>
     requires built { IsBuilt encoding.old }
-    requires refused { IsRefusable encoding.old refusal }
+    requires refused { IfSome turn (IsRefusable encoding.old) }
     // After an answer.
     ensures stays { OnOk result
         ((p : Packages N S) (root : Rules)
@@ -136,14 +134,19 @@ fn refuse_turn<N: Copy + Exact + Hash + Debug, S: Copy + Exact + Hash + Debug>(
         → IsEncoding S.eq p root encoding.old
         → IsEncoding S.eq p root encoding.new) }
     ensures rest { OnOk result (KeepsRest encoding.old encoding.new) }
-    ensures turned { IfOk result (IsTurnedDown refusal encoding.old encoding.new) }
+    ensures closed { IfOk result (IsClosed turn encoding.old encoding.new) }
     ensures built { OnOk result (IsBuilt encoding.new) }
 {
-    if refusal.literals.is_empty() {
-        return Ok(SoftOutcome::Clash(refusal));
+    match turn {
+        None => Ok(SoftOutcome::Chosen),
+        Some(refusal) => {
+            if refusal.literals.is_empty() {
+                return Ok(SoftOutcome::Clash(refusal));
+            }
+            let clause = refuse(encoding, refusal)?;
+            Ok(SoftOutcome::Refused(clause))
+        }
     }
-    let clause = refuse(encoding, refusal)?;
-    Ok(SoftOutcome::Refused(clause))
 }
 
 /// The turn of a wish.
@@ -152,9 +155,7 @@ pub fn run_soft_requirement<A: PackageSource, C: ScoreMap<A::NameId>>(
     answers: &mut A,
     encoding: &mut Encoder<A::NameId, A::SolvableId>,
     scores: &mut Scores<A::NameId, C>,
-    activity: Activity,
-    requirements: &[ConditionalRequirement],
-    constraints: &[VersionSetId],
+    input: &TurnInput<'_>,
     wish: A::SolvableId,
 ) -> Result<SoftOutcome, CacheFault<A::Cancel>>
     requires built { IsBuilt encoding.old }
@@ -165,7 +166,7 @@ pub fn run_soft_requirement<A: PackageSource, C: ScoreMap<A::NameId>>(
     ensures stays { IfOk result
         (λ w.
         (root : Rules)
-        → IsRoot requirements.now constraints.now root
+        → IsRootOf input.now root
         → IsCandidate A.SolvableId.eq (A.packages answers.old) wish
         → IsInOrder A.SolvableId.eq (A.packages answers.old) (A.orders answers.old) root
         encoding.old
@@ -192,75 +193,22 @@ pub fn run_soft_requirement<A: PackageSource, C: ScoreMap<A::NameId>>(
     {
         return Ok(SoftOutcome::Stood);
     }
-    let turn = run_open(
-        alloc,
-        answers,
-        encoding,
-        scores,
-        activity,
-        requirements,
-        constraints,
-        wish,
-        variable,
-    )?;
-    match turn {
-        None => Ok(SoftOutcome::Chosen),
-        Some(refusal) => {
-            let wished = refuse_turn(encoding, refusal)?;
-            Ok(wished)
-        }
-    }
+    let turn = run_open(alloc, answers, encoding, scores, input, wish, variable)?;
+    let wished = close_turn(encoding, turn)?;
+    Ok(wished)
 }
 
-/// The turn of the next wish, which is noted with what was chosen in it; or why no solvables keep all rules.
-fn run_next<A: PackageSource, C: ScoreMap<A::NameId>>(
+/// Notes what the turn of a wish came to, behind what was chosen in it; or gives why no solvables keep all rules.
+fn note_outcome<N: Copy + Exact + Hash + Debug, S: Copy + Exact + Hash + Debug>(
     alloc: Global,
-    answers: &mut A,
-    encoding: &mut Encoder<A::NameId, A::SolvableId>,
-    scores: &mut Scores<A::NameId, C>,
-    activity: Activity,
-    requirements: &[ConditionalRequirement],
-    constraints: &[VersionSetId],
-    wish: A::SolvableId,
-    turns: &mut Turns<A::SolvableId>,
-) -> Result<Option<FinalConflict>, CacheFault<A::Cancel>>
-    requires built { IsBuilt encoding.old }
-    requires rooted { IsRooted encoding.old }
-    requires at { AreAt encoding.old turns.old }
-    // Whatever the answer.
-    ensures same { answers.new ≡ answers.old }
-    // After an answer.
-    ensures right { IfOk result
-        (λ o.
-        (root : Rules) (first : ℕ) (done : List A.SolvableId)
-        → IsRoot requirements.now constraints.now root
-        → IsCandidate A.SolvableId.eq (A.packages answers.old) wish
-        → IsInOrder A.SolvableId.eq (A.packages answers.old) (A.orders answers.old) root
-        encoding.old
-        → AreRight A.SolvableId.eq (A.packages answers.old) root first done turns.old
-        → HaveReasons encoding.old.coding turns.old
-        → IsInOrder A.SolvableId.eq (A.packages answers.old) (A.orders answers.old) root
-        encoding.new
-        × IsNextRight A.SolvableId.eq (A.packages answers.old) root first (done ++ wish ∷ [])
-        encoding.new turns.new o) }
-    ensures stands { IfOk result (StandSo encoding.new turns.new) }
-    ensures front { OnOk result (IsFrontOf turns.old.chosen.keys turns.new.chosen.keys) }
-    ensures rooted { OnOk result (IsRooted encoding.new) }
-    ensures built { OnOk result (IsBuilt encoding.new) }
-    // After a refusal.
-    ensures cancelled { IfErr result (IsCancelledBy (A.may_cancel answers.old)) }
+    encoding: &Encoder<N, S>,
+    turns: &mut Turns<S>,
+    wish: S,
+    wished: SoftOutcome,
+) -> R<Option<FinalConflict>>
+    ensures { IfOk result (NotesOutcome S.eq wish encoding.now turns.old turns.new wished) }
 {
     let begin = turns.chosen.len();
-    let wished = run_soft_requirement(
-        alloc,
-        answers,
-        encoding,
-        scores,
-        activity,
-        requirements,
-        constraints,
-        wish,
-    )?;
     match wished {
         SoftOutcome::Clash(refusal) => Ok(Some(refusal)),
         SoftOutcome::Stood => {
@@ -285,9 +233,7 @@ pub fn run_soft_requirements<A: PackageSource, C: ScoreMap<A::NameId>>(
     answers: &mut A,
     encoding: &mut Encoder<A::NameId, A::SolvableId>,
     scores: &mut Scores<A::NameId, C>,
-    activity: Activity,
-    requirements: &[ConditionalRequirement],
-    constraints: &[VersionSetId],
+    input: &TurnInput<'_>,
     wishes: &[A::SolvableId],
     turns: &mut Turns<A::SolvableId>,
 ) -> Result<Option<FinalConflict>, CacheFault<A::Cancel>>
@@ -300,7 +246,7 @@ pub fn run_soft_requirements<A: PackageSource, C: ScoreMap<A::NameId>>(
     ensures right { IfOk result
         (λ o.
         (root : Rules) (first : ℕ)
-        → IsRoot requirements.now constraints.now root
+        → IsRootOf input.now root
         → AreCandidates A.SolvableId.eq (A.packages answers.old) wishes.now
         → IsInOrder A.SolvableId.eq (A.packages answers.old) (A.orders answers.old) root
         encoding.old
@@ -317,17 +263,8 @@ pub fn run_soft_requirements<A: PackageSource, C: ScoreMap<A::NameId>>(
     ensures cancelled { IfErr result (IsCancelledBy (A.may_cancel answers.old)) }
 {
     for wish in wishes {
-        let clash = run_next(
-            alloc,
-            answers,
-            encoding,
-            scores,
-            activity,
-            requirements,
-            constraints,
-            *wish,
-            turns,
-        )?;
+        let wished = run_soft_requirement(alloc, answers, encoding, scores, input, *wish)?;
+        let clash = note_outcome(alloc, encoding, turns, *wish, wished)?;
         if let Some(refusal) = clash {
             return Ok(Some(refusal));
         }

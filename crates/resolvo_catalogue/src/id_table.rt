@@ -34,18 +34,28 @@ impl VersionSet for Numbers {
     type V = u32;
 }
 
+/// Values in the order in which they came, and the number of each by its key.
+struct Numbered<T: Drop> {
+    values: Vec<T>,
+    ids: BTreeMap<Vec<u32>, u32>,
+}
+
+// split for the prover: what owns several calls this drop for each
+impl<T: Drop> Drop for Numbered<T> {
+    fn drop(self) {
+        let Numbered { values: _, ids: _ } = self;
+    }
+}
+
 /// What was interned.
 pub struct IdTable {
     names: TextIds,
     words: TextIds,
     solvables: Vec<Solvable<u32>>,
-    version_sets: Vec<(NameId, Numbers)>,
-    set_ids: BTreeMap<Vec<u32>, u32>,
+    version_sets: Numbered<(NameId, Numbers)>,
     /// The lists of alternatives, each once.
-    unions: Vec<Vec<VersionSetId>>,
-    union_ids: BTreeMap<Vec<u32>, u32>,
-    conditions: Vec<Condition>,
-    condition_ids: BTreeMap<Vec<u32>, u32>,
+    unions: Numbered<Vec<VersionSetId>>,
+    conditions: Numbered<Condition>,
     alloc: Global,
 }
 
@@ -57,11 +67,8 @@ impl Drop for IdTable {
             words: _,
             solvables: _,
             version_sets: _,
-            set_ids: _,
             unions: _,
-            union_ids: _,
             conditions: _,
-            condition_ids: _,
             alloc: _,
         } = self;
     }
@@ -76,10 +83,10 @@ impl Model for IdTable {
 
     ghost view = { λ t.
         record
-        { names = t.names; words = t.words; solvables = t.solvables.items; version_sets = t.version_sets.items; unions = map (λ u. u.items) t.unions.items; conditions = t.conditions.items } };
+        { names = t.names; words = t.words; solvables = t.solvables.items; version_sets = t.version_sets.values.items; unions = map (λ u. u.items) t.unions.values.items; conditions = t.conditions.values.items } };
 
     ghost invariant = { λ t.
-        AreKept t.version_sets.items t.set_ids.entries (map (λ u. u.items) t.unions.items) t.union_ids.entries t.conditions.items t.condition_ids.entries };
+        AreKept t.version_sets.values.items t.version_sets.ids.entries (map (λ u. u.items) t.unions.values.items) t.unions.ids.entries t.conditions.values.items t.conditions.ids.entries };
 }
 
 impl IdTable {
@@ -93,12 +100,9 @@ impl IdTable {
             names: TextIds::new(alloc),
             words: TextIds::new(alloc),
             solvables: Vec::new(alloc),
-            version_sets: Vec::new(alloc),
-            set_ids: BTreeMap::new(alloc),
-            unions: Vec::new(alloc),
-            union_ids: BTreeMap::new(alloc),
-            conditions: Vec::new(alloc),
-            condition_ids: BTreeMap::new(alloc),
+            version_sets: Numbered::new(alloc),
+            unions: Numbered::new(alloc),
+            conditions: Numbered::new(alloc),
             alloc,
         }
     }
@@ -162,15 +166,10 @@ impl IdTable {
         ensures ids { IsErrOf result Ids → LacksNumber self.new }
     {
         let key = key_of_set(self.alloc, name, span)?;
-        if let Some(id) = self.set_ids.get(key.as_slice()) {
-            return Ok(VersionSetId(*id));
+        if let Some(id) = self.version_sets.number(key.as_slice()) {
+            return Ok(VersionSetId(id));
         }
-        let id = add(
-            &mut self.version_sets,
-            &mut self.set_ids,
-            (name, Numbers(span)),
-            key,
-        )?;
+        let id = self.version_sets.add((name, Numbers(span)), key)?;
         Ok(VersionSetId(id))
     }
 
@@ -195,10 +194,10 @@ impl IdTable {
         ensures ids { IsErrOf result Ids → LacksNumber self.new }
     {
         let key = key_of_union(self.alloc, &members)?;
-        if let Some(id) = self.union_ids.get(key.as_slice()) {
-            return Ok(VersionSetUnionId(*id));
+        if let Some(id) = self.unions.number(key.as_slice()) {
+            return Ok(VersionSetUnionId(id));
         }
-        let id = add(&mut self.unions, &mut self.union_ids, members, key)?;
+        let id = self.unions.add(members, key)?;
         Ok(VersionSetUnionId(id))
     }
 
@@ -234,15 +233,10 @@ impl IdTable {
         ensures ids { IsErrOf result Ids → LacksNumber self.new }
     {
         let key = key_of_condition(self.alloc, condition)?;
-        if let Some(id) = self.condition_ids.get(key.as_slice()) {
-            return Ok(ConditionId(*id));
+        if let Some(id) = self.conditions.number(key.as_slice()) {
+            return Ok(ConditionId(id));
         }
-        let id = add(
-            &mut self.conditions,
-            &mut self.condition_ids,
-            condition,
-            key,
-        )?;
+        let id = self.conditions.add(condition, key)?;
         Ok(ConditionId(id))
     }
 
@@ -357,7 +351,7 @@ impl IdTable {
     pub fn set_package(&self, version_set: VersionSetId) -> NameId
         ensures { result ≡ (set_at self.now version_set).0 }
     {
-        match self.version_sets.get(version_set.to_index()) {
+        match self.version_sets.values.get(version_set.to_index()) {
             Some(set) => set.0,
             None => NameId::from_raw(0),
         }
@@ -367,7 +361,7 @@ impl IdTable {
     pub fn span(&self, version_set: VersionSetId) -> Span
         ensures { result ≡ (set_at self.now version_set).1.0 }
     {
-        match self.version_sets.get(version_set.to_index()) {
+        match self.version_sets.values.get(version_set.to_index()) {
             Some(set) => set.1.0,
             None => Span::Any,
         }
@@ -377,7 +371,7 @@ impl IdTable {
     pub fn members(&self, union: VersionSetUnionId) -> &[VersionSetId]
         ensures { result.now ≡ members_of self.now union }
     {
-        match self.unions.get(union.to_index()) {
+        match self.unions.values.get(union.to_index()) {
             Some(members) => members.as_slice(),
             None => &[],
         }
@@ -387,7 +381,7 @@ impl IdTable {
     pub fn meaning(&self, condition: ConditionId) -> Condition
         ensures { result ≡ condition_at self.now condition }
     {
-        match condition_at(&self.conditions, condition.to_index()) {
+        match condition_at(&self.conditions.values, condition.to_index()) {
             Some(meaning) => meaning,
             None => Condition::Requirement(VersionSetId(0)),
         }
@@ -402,28 +396,43 @@ impl IdTable {
     }
 }
 
-/// Puts a value that has no number behind the others, and its number to its key.
-fn add<T: Drop>(
-    values: &mut Vec<T>,
-    ids: &mut BTreeMap<Vec<u32>, u32>,
-    value: T,
-    key: Vec<u32>,
-) -> R<u32>
-    ensures id { IfOk result (λ i. i ≡ length values.old.items) }
-    ensures value { OnOk result (values.new.items ≡ values.old.items ++ value ∷ []) }
-    ensures key { OnOk result
-        ((other : List ℕ)
-        → number_in ids.new.entries other
-        ≡ (if bytes_eq key.items other then Some (length values.old.items) else number_in ids.old.entries other)) }
-    ensures kept { OnErr result (values.new.items ≡ values.old.items) }
-    ensures keys { OnErr result (ids.new.entries ≡ ids.old.entries) }
-    ensures ids { IsErrOf result Ids → 4294967295 ≤ length values.new.items }
-{
-    let index = next_index(values.len())?;
-    values.reserve(1)?;
-    ids.insert(key, index as u32)?;
-    values.push_reserved(value);
-    Ok(index as u32)
+impl<T: Drop> Numbered<T> {
+    /// No values.
+    fn new(alloc: Global) -> Numbered<T>
+        ensures values { result.values.items ≡ [] }
+        ensures ids { result.ids.entries ≡ [] }
+    {
+        Numbered {
+            values: Vec::new(alloc),
+            ids: BTreeMap::new(alloc),
+        }
+    }
+
+    /// The number of a key, if it has one.
+    fn number(&self, key: &[u32]) -> Option<u32>
+        ensures { result ≡ number_in self.now.ids.entries key.now }
+    {
+        self.ids.get(key).copied()
+    }
+
+    /// Puts a value that has no number behind the others, and its number to its key.
+    fn add(&mut self, value: T, key: Vec<u32>) -> R<u32>
+        ensures id { IfOk result (λ i. i ≡ length self.old.values.items) }
+        ensures value { OnOk result (self.new.values.items ≡ self.old.values.items ++ value ∷ []) }
+        ensures key { OnOk result
+            ((other : List ℕ)
+            → number_in self.new.ids.entries other
+            ≡ (if bytes_eq key.items other then Some (length self.old.values.items) else number_in self.old.ids.entries other)) }
+        ensures kept { OnErr result (self.new.values.items ≡ self.old.values.items) }
+        ensures keys { OnErr result (self.new.ids.entries ≡ self.old.ids.entries) }
+        ensures ids { IsErrOf result Ids → 4294967295 ≤ length self.new.values.items }
+    {
+        let index = next_index(self.values.len())?;
+        self.values.reserve(1)?;
+        self.ids.insert(key, index as u32)?;
+        self.values.push_reserved(value);
+        Ok(index as u32)
+    }
 }
 
 fn condition_at(conditions: &[Condition], place: usize) -> Option<Condition>

@@ -12,10 +12,16 @@ use std::alloc::Global;
 use std::collections::BTreeMap;
 use std::marker::Model;
 
-#[derive(Drop)]
 pub struct TextIds {
     texts: Vec<String>,
     ids: BTreeMap<String, u32>,
+}
+
+// split for the prover: what owns several calls this drop for each
+impl Drop for TextIds {
+    fn drop(self) {
+        let TextIds { texts: _, ids: _ } = self;
+    }
 }
 
 impl Model for TextIds {

@@ -2,9 +2,9 @@ use Rattle.std.proofs.Common.{◌≡◌, ℕ, [], take}
 use Rattle.resolvo_pool_core.specs.RuleKeeping.{Rules}
 use Rattle.resolvo_store_core.specs.AtMostOne.{IsFrontOf}
 use Rattle.resolvo_encoder.specs.Steps.{IsBuilt}
-use Rattle.resolvo_turn.specs.Encoder.{IsInOrder, IsRoot}
+use Rattle.resolvo_turn.specs.Encoder.{IsInOrder}
 use Rattle.resolvo_turn.specs.Turn.{IsRooted}
-use Rattle.resolvo.specs.Turns.{AreAt, AreRight, HaveReasons}
+use Rattle.resolvo.specs.Turns.{AreAt, AreRight, HaveReasons, IsRootOf}
 use Rattle.resolvo.specs.Wished.{AreCandidates}
 use Rattle.resolvo.proofs.soft_requirements.run_soft_requirements.Given as goal
 
@@ -12,7 +12,7 @@ use Rattle.resolvo.proofs.soft_requirements.run_soft_requirements.Given as goal
 abbrev pub invariant-loop-wish : goal.invariant-loop-wish
 invariant-loop-wish g l = record {
   same : l.answers ≡ l.initial.answers;
-  right : (root : Rules) (first : ℕ) → IsRoot l.requirements l.constraints root → AreCandidates g.A.SolvableId.PartialEq.eq (g.A.PackageSource.packages l.initial.answers) l.wishes
+  right : (root : Rules) (first : ℕ) → IsRootOf l.input root → AreCandidates g.A.SolvableId.PartialEq.eq (g.A.PackageSource.packages l.initial.answers) l.wishes
       → IsInOrder g.A.SolvableId.PartialEq.eq (g.A.PackageSource.packages l.initial.answers) (g.A.PackageSource.orders l.initial.answers) root l.initial.encoding → AreRight g.A.SolvableId.PartialEq.eq (g.A.PackageSource.packages l.initial.answers) root first [] l.initial.turns
       → HaveReasons l.initial.encoding.coding l.initial.turns → IsInOrder g.A.SolvableId.PartialEq.eq (g.A.PackageSource.packages l.initial.answers) (g.A.PackageSource.orders l.initial.answers) root l.encoding × AreRight g.A.SolvableId.PartialEq.eq (g.A.PackageSource.packages l.initial.answers) root first (take l.wish-index l.wishes) l.turns × HaveReasons l.encoding.coding l.turns;
   front : IsFrontOf l.initial.turns.chosen.keys l.turns.chosen.keys;

@@ -9,7 +9,7 @@ returns c = subst (λ (ids : Ids). AreSound ids) c.self.view_is (record {
   below = c.self.invariant.below;
   names = c.texts_are_once.ensures;
   words = c.texts_are_once-2.ensures;
-  version_sets = found_once (λ s. number_in c.self.inside.set_ids.entries (set_key s)) c.self.inside.version_sets.items c.self.invariant.sets;
-  unions = found_once (λ u. number_in c.self.inside.union_ids.entries (union_key u)) (map (λ u. u.items) c.self.inside.unions.items) c.self.invariant.unions;
+  version_sets = found_once (λ s. number_in c.self.inside.version_sets.ids.entries (set_key s)) c.self.inside.version_sets.values.items c.self.invariant.sets;
+  unions = found_once (λ u. number_in c.self.inside.unions.ids.entries (union_key u)) (map (λ u. u.items) c.self.inside.unions.values.items) c.self.invariant.unions;
   several = c.self.invariant.several;
 })

@@ -9,12 +9,12 @@ use Rattle.resolvo_catalogue.proofs.id_table.IdTable.meaning.Goals as goal
 
 pub returns-in-Some : goal.returns-in-Some
 returns-in-Some c =
-    let at : slice_get c.self.inside.conditions.items c.args.condition.0 ≡ Some c.in-Some.meaning =
+    let at : slice_get c.self.inside.conditions.values.items c.args.condition.0 ≡ Some c.in-Some.meaning =
     ap (λ (xs : List Condition). slice_get xs c.args.condition.0) (sym c.deref.ensures.value) ∙ (ap (λ (n : ℕ). slice_get c.deref.result.now n) (sym c.to_index.ensures.index) ∙ sym c.in-Some.ensures) in
-    subst (λ (ids : Ids). c.in-Some.meaning ≡ condition_at ids c.args.condition) c.self.view_is (sound_there c.self.inside.conditions.items c.self.invariant.below c.args.condition c.in-Some.meaning at)
+    subst (λ (ids : Ids). c.in-Some.meaning ≡ condition_at ids c.args.condition) c.self.view_is (sound_there c.self.inside.conditions.values.items c.self.invariant.below c.args.condition c.in-Some.meaning at)
 
 pub returns-in-None : goal.returns-in-None
 returns-in-None c =
-    let none : slice_get c.self.inside.conditions.items c.args.condition.0 ≡ None =
+    let none : slice_get c.self.inside.conditions.values.items c.args.condition.0 ≡ None =
     ap (λ (xs : List Condition). slice_get xs c.args.condition.0) (sym c.deref.ensures.value) ∙ (ap (λ (n : ℕ). slice_get c.deref.result.now n) (sym c.to_index.ensures.index) ∙ sym c.in-None.ensures) in
-    subst (λ (ids : Ids). Requirement (record { 0 = 0 }) ≡ condition_at ids c.args.condition) c.self.view_is (sound_nowhere c.self.inside.conditions.items c.args.condition none)
+    subst (λ (ids : Ids). Requirement (record { 0 = 0 }) ≡ condition_at ids c.args.condition) c.self.view_is (sound_nowhere c.self.inside.conditions.values.items c.args.condition none)

@@ -15,32 +15,32 @@ items u = u.items
 pub returns-in-Some-clause-union : goal.returns-in-Some-clause-union
 returns-in-Some-clause-union c =
     let key : c.as_slice.result.now ≡ union_key c.args.members.items = c.as_slice.ensures.value ∙ (c.in_ok-key.ensures ∙ ap union_key c.deref.ensures.value) in
-    let at = ap (λ (k : List ℕ). number_in c.self.inside.union_ids.entries k) (sym key) ∙ sym c.in-Some.ensures.value in
-    subst (λ (ids : Ids). slice_get ids.unions c.in-Some.id.now ≡ Some c.args.members.items) c.self.view_is (c.self.invariant.unions.found c.args.members.items c.in-Some.id.now at)
+    let at = ap (λ (k : List ℕ). number_in c.self.inside.unions.ids.entries k) (sym key) ∙ sym c.in-Some.ensures in
+    subst (λ (ids : Ids). slice_get ids.unions c.in-Some.id ≡ Some c.args.members.items) c.self.view_is (c.self.invariant.unions.found c.args.members.items c.in-Some.id at)
 
 pub invariant_of-self-2 : goal.invariant_of-self-2
 invariant_of-self-2 c =
-    let us : List (Vec VersionSetId) = c.self.inside.unions.items in
+    let us : List (Vec VersionSetId) = c.self.inside.unions.values.items in
     let is_key : c.in_ok-key.key.items ≡ union_key c.args.members.items = c.in_ok-key.ensures ∙ ap union_key c.deref.ensures.value in
     let key : c.as_slice.result.now ≡ union_key c.args.members.items = c.as_slice.ensures.value ∙ is_key in
-    let none = ap (λ (k : List ℕ). number_in c.self.inside.union_ids.entries k) (sym key) ∙ sym c.in_default.ensures.value in
-    let all : map items c.add.new.values.items ≡ map items us ++ c.args.members.items ∷ [] = ap (λ (xs : List (Vec VersionSetId)). map items xs) c.in_ok-id.ensures.value ∙ map_push items us c.args.members in
-    let keyed = subst (λ (k : List ℕ). (other : List ℕ) → number_in c.add.new.ids.entries other ≡ cond (bytes_eq k other) (Some (length us)) (number_in c.self.inside.union_ids.entries other)) is_key c.in_ok-id.ensures.key in
-    let put = subst (λ (n : ℕ). (other : List ℕ) → number_in c.add.new.ids.entries other ≡ cond (bytes_eq (union_key c.args.members.items) other) (Some n) (number_in c.self.inside.union_ids.entries other)) (sym (length-map us items)) keyed in
-    subst (λ (xs : List (List VersionSetId)). AreKept c.self.inside.version_sets.items c.self.inside.set_ids.entries xs c.add.new.ids.entries c.self.inside.conditions.items c.self.inside.condition_ids.entries) (sym all)
-    (unions_more c.self.inside.version_sets.items c.self.inside.set_ids.entries (map items us) c.self.inside.union_ids.entries c.self.inside.conditions.items c.self.inside.condition_ids.entries c.self.invariant c.args.members.items c.add.new.ids.entries c.requires.several none put)
+    let none = ap (λ (k : List ℕ). number_in c.self.inside.unions.ids.entries k) (sym key) ∙ sym c.in_default.ensures in
+    let all : map items c.add.new.self.values.items ≡ map items us ++ c.args.members.items ∷ [] = ap (λ (xs : List (Vec VersionSetId)). map items xs) c.in_ok-id.ensures.value ∙ map_push items us c.args.members in
+    let keyed = subst (λ (k : List ℕ). (other : List ℕ) → number_in c.add.new.self.ids.entries other ≡ cond (bytes_eq k other) (Some (length us)) (number_in c.self.inside.unions.ids.entries other)) is_key c.in_ok-id.ensures.key in
+    let put = subst (λ (n : ℕ). (other : List ℕ) → number_in c.add.new.self.ids.entries other ≡ cond (bytes_eq (union_key c.args.members.items) other) (Some n) (number_in c.self.inside.unions.ids.entries other)) (sym (length-map us items)) keyed in
+    subst (λ (xs : List (List VersionSetId)). AreKept c.self.inside.version_sets.values.items c.self.inside.version_sets.ids.entries xs c.add.new.self.ids.entries c.self.inside.conditions.values.items c.self.inside.conditions.ids.entries) (sym all)
+    (unions_more c.self.inside.version_sets.values.items c.self.inside.version_sets.ids.entries (map items us) c.self.inside.unions.ids.entries c.self.inside.conditions.values.items c.self.inside.conditions.ids.entries c.self.invariant c.args.members.items c.add.new.self.ids.entries c.requires.several none put)
 
 pub returns-clause-union : goal.returns-clause-union
 returns-clause-union c =
-    let us : List (Vec VersionSetId) = c.self.inside.unions.items in
-    let all : map items c.add.new.values.items ≡ map items us ++ c.args.members.items ∷ [] = ap (λ (xs : List (Vec VersionSetId)). map items xs) c.in_ok-id.ensures.value ∙ map_push items us c.args.members in
-    last_there (map items us) (map items c.add.new.values.items) c.args.members.items all c.in_ok-id.id (c.in_ok-id.ensures.id ∙ sym (length-map us items))
+    let us : List (Vec VersionSetId) = c.self.inside.unions.values.items in
+    let all : map items c.add.new.self.values.items ≡ map items us ++ c.args.members.items ∷ [] = ap (λ (xs : List (Vec VersionSetId)). map items xs) c.in_ok-id.ensures.value ∙ map_push items us c.args.members in
+    last_there (map items us) (map items c.add.new.self.values.items) c.args.members.items all c.in_ok-id.id (c.in_ok-id.ensures.id ∙ sym (length-map us items))
 
 pub returns-clause-interns : goal.returns-clause-interns
 returns-clause-interns c =
-    let us : List (Vec VersionSetId) = c.self.inside.unions.items in
-    let all : map items c.add.new.values.items ≡ map items us ++ c.args.members.items ∷ [] = ap (λ (xs : List (Vec VersionSetId)). map items xs) c.in_ok-id.ensures.value ∙ map_push items us c.args.members in
+    let us : List (Vec VersionSetId) = c.self.inside.unions.values.items in
+    let all : map items c.add.new.self.values.items ≡ map items us ++ c.args.members.items ∷ [] = ap (λ (xs : List (Vec VersionSetId)). map items xs) c.in_ok-id.ensures.value ∙ map_push items us c.args.members in
     rw (← c.self.view_is) (record {
-      grows = record { names = λ k x e. e; words = λ k x e. e; solvables = λ k x e. e; version_sets = λ k x e. e; unions = extends_to (map items us) (map items c.add.new.values.items) c.args.members.items all; conditions = λ k x e. e };
+      grows = record { names = λ k x e. e; words = λ k x e. e; solvables = λ k x e. e; version_sets = λ k x e. e; unions = extends_to (map items us) (map items c.add.new.self.values.items) c.args.members.items all; conditions = λ k x e. e };
       same = refl;
     })

@@ -11,23 +11,23 @@ pub returns-in-Some-clause-version_set : goal.returns-in-Some-clause-version_set
 returns-in-Some-clause-version_set c =
     let s : NameId × Numbers = (c.args.name, record { 0 = c.args.span }) in
     let key : c.as_slice.result.now ≡ set_key (c.args.name, record { 0 = c.args.span }) = c.as_slice.ensures.value ∙ c.in_ok-key.ensures in
-    let at = ap (λ (k : List ℕ). number_in c.self.inside.set_ids.entries k) (sym key) ∙ sym c.in-Some.ensures.value in
-    subst (λ (ids : Ids). slice_get ids.version_sets c.in-Some.id.now ≡ Some s) c.self.view_is (c.self.invariant.sets.found s c.in-Some.id.now at)
+    let at = ap (λ (k : List ℕ). number_in c.self.inside.version_sets.ids.entries k) (sym key) ∙ sym c.in-Some.ensures in
+    subst (λ (ids : Ids). slice_get ids.version_sets c.in-Some.id ≡ Some s) c.self.view_is (c.self.invariant.sets.found s c.in-Some.id at)
 
 pub invariant_of-self-2 : goal.invariant_of-self-2
 invariant_of-self-2 c =
     let s : NameId × Numbers = (c.args.name, record { 0 = c.args.span }) in
     let key : c.as_slice.result.now ≡ set_key (c.args.name, record { 0 = c.args.span }) = c.as_slice.ensures.value ∙ c.in_ok-key.ensures in
-    let none = ap (λ (k : List ℕ). number_in c.self.inside.set_ids.entries k) (sym key) ∙ sym c.in_default.ensures.value in
-    let put = subst (λ (k : List ℕ). (other : List ℕ) → number_in c.add.new.ids.entries other ≡ cond (bytes_eq k other) (Some (length c.self.inside.version_sets.items)) (number_in c.self.inside.set_ids.entries other)) c.in_ok-key.ensures c.in_ok-id.ensures.key in
-    subst (λ (ss : List (NameId × Numbers)). AreKept ss c.add.new.ids.entries (map (λ u. u.items) c.self.inside.unions.items) c.self.inside.union_ids.entries c.self.inside.conditions.items c.self.inside.condition_ids.entries) (sym c.in_ok-id.ensures.value)
-    (sets_more c.self.inside.version_sets.items c.self.inside.set_ids.entries (map (λ u. u.items) c.self.inside.unions.items) c.self.inside.union_ids.entries c.self.inside.conditions.items c.self.inside.condition_ids.entries c.self.invariant s c.add.new.ids.entries none put)
+    let none = ap (λ (k : List ℕ). number_in c.self.inside.version_sets.ids.entries k) (sym key) ∙ sym c.in_default.ensures in
+    let put = subst (λ (k : List ℕ). (other : List ℕ) → number_in c.add.new.self.ids.entries other ≡ cond (bytes_eq k other) (Some (length c.self.inside.version_sets.values.items)) (number_in c.self.inside.version_sets.ids.entries other)) c.in_ok-key.ensures c.in_ok-id.ensures.key in
+    subst (λ (ss : List (NameId × Numbers)). AreKept ss c.add.new.self.ids.entries (map (λ u. u.items) c.self.inside.unions.values.items) c.self.inside.unions.ids.entries c.self.inside.conditions.values.items c.self.inside.conditions.ids.entries) (sym c.in_ok-id.ensures.value)
+    (sets_more c.self.inside.version_sets.values.items c.self.inside.version_sets.ids.entries (map (λ u. u.items) c.self.inside.unions.values.items) c.self.inside.unions.ids.entries c.self.inside.conditions.values.items c.self.inside.conditions.ids.entries c.self.invariant s c.add.new.self.ids.entries none put)
 
 pub returns-clause-version_set : goal.returns-clause-version_set
-returns-clause-version_set c = last_there c.self.inside.version_sets.items c.add.new.values.items (c.args.name, record { 0 = c.args.span }) c.in_ok-id.ensures.value c.in_ok-id.id c.in_ok-id.ensures.id
+returns-clause-version_set c = last_there c.self.inside.version_sets.values.items c.add.new.self.values.items (c.args.name, record { 0 = c.args.span }) c.in_ok-id.ensures.value c.in_ok-id.id c.in_ok-id.ensures.id
 
 pub returns-clause-interns : goal.returns-clause-interns
 returns-clause-interns c = rw (← c.self.view_is) (record {
-  grows = record { names = λ k x e. e; words = λ k x e. e; solvables = λ k x e. e; version_sets = extends_to c.self.inside.version_sets.items c.add.new.values.items (c.args.name, record { 0 = c.args.span }) c.in_ok-id.ensures.value; unions = λ k x e. e; conditions = λ k x e. e };
+  grows = record { names = λ k x e. e; words = λ k x e. e; solvables = λ k x e. e; version_sets = extends_to c.self.inside.version_sets.values.items c.add.new.self.values.items (c.args.name, record { 0 = c.args.span }) c.in_ok-id.ensures.value; unions = λ k x e. e; conditions = λ k x e. e };
   same = refl;
 })
