@@ -1,3 +1,4 @@
+pub mod ListLemmas
 pub mod PickLemmas
 pub mod CarryLemmas
 pub mod ConditionLemmas

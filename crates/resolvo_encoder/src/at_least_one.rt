@@ -49,8 +49,7 @@ impl<N: Copy + Exact + Hash + Debug + Drop, S: Copy + Exact + Hash + Debug> Enco
             name: one.name,
             solvable: one.solvable,
         };
-        self.state_pair(alloc, stated, first, Literal::new(second, false))?;
-        Ok(())
+        self.state_pair(alloc, stated, first, Literal::new(second, false))
     }
 
     /// States of each of these that one of its package is there.

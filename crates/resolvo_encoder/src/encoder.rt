@@ -18,6 +18,7 @@ ghost use Rattle.resolvo_soundness.specs.SearchEnd.{IsNeedEncoded};
 ghost use Rattle.resolvo_state.specs.declared.atom.ProofAtom.TheVariants.{Gate};
 ghost use Rattle.resolvo_state.specs.Atoms.{StandsFor};
 ghost use Rattle.resolvo_encoder.specs.Encoded.{rules_of, IsGuarded, IsEncoding};
+ghost use Rattle.resolvo_encoder.specs.declared.encoder.Encoder.{Encoder as Begun};
 ghost use Rattle.resolvo_state.specs.Statements.{rule_of};
 ghost use Rattle.resolvo_state.specs.SolverState.{IsBegun, IsCoding, LacksNumber};
 ghost use Rattle.resolvo_encoder.specs.Steps.{Fixes, StatesNeed, IsBuilt, Needs, Extends, NeedsDirectly, Opens, AddsCandidates, IsBegunEncoding, AddsParent, IsNextEncoded, LacksNumberFor};
@@ -122,19 +123,21 @@ impl<N: Copy + Eq + Hash, S: Copy + Eq + Hash> Drop for Encoder<N, S> {
     }
 }
 
-/// An encoding of these, which have just begun, and of nothing else.
+/// An encoding of these, which have just begun, and of nothing else, before the root is a parent.
 fn begun<N: Copy + Exact + Hash + Debug, S: Copy + Exact + Hash + Debug>(
     alloc: Global,
     coding: SolverState<N, S>,
     lists: FixedLists<N>,
     gates: RequirementMap<VariableId>,
-    parents: IndexSet<SolvableIdOrRoot<S>>,
 ) -> Encoder<N, S>
     requires coding { IsBegun coding }
     requires lists { IsEmpty lists }
     requires gates { (r : Requirement) → slot_of gates r ≡ None }
-    requires parents { parents.keys ≡ Root ∷ [] }
-    ensures { IsBegunEncoding result }
+    ensures none { result.parents.keys ≡ [] }
+    ensures begun { (e : Begun N S)
+        → e ≡ record result { parents = e.parents }
+        → e.parents.keys ≡ Root ∷ []
+        → IsBegunEncoding e }
 {
     Encoder {
         coding,
@@ -150,7 +153,7 @@ fn begun<N: Copy + Exact + Hash + Debug, S: Copy + Exact + Hash + Debug>(
             there: IndexSet::new(alloc),
             wishes: Vec::new(alloc),
         },
-        parents,
+        parents: IndexSet::new(alloc),
         encoded: 0,
         deferred: Vec::new(alloc),
         fired: IndexSet::new(alloc),
@@ -166,12 +169,12 @@ impl<N: Copy + Exact + Hash + Debug + Drop, S: Copy + Exact + Hash + Debug> Enco
         ensures built { IfOk result IsBuilt }
         ensures refusal { IsOkUnless result Memory }
     {
-        let mut parents = IndexSet::new(alloc);
-        parents.insert(SolvableIdOrRoot::Root)?;
-        let lists = FixedLists::new(alloc)?;
-        let gates = RequirementMap::new(alloc)?;
         let coding = SolverState::begin(alloc)?;
-        Ok(begun(alloc, coding, lists, gates, parents))
+        let gates = RequirementMap::new(alloc)?;
+        let lists = FixedLists::new(alloc)?;
+        let mut encoder = begun(alloc, coding, lists, gates);
+        encoder.parents.insert(SolvableIdOrRoot::Root)?;
+        Ok(encoder)
     }
 
     /// States that a parent needs one of the candidates that are offered for its requirement, which has
@@ -285,8 +288,7 @@ impl<N: Copy + Exact + Hash + Debug + Drop, S: Copy + Exact + Hash + Debug> Enco
             need,
             case: Vec::new(alloc),
         };
-        self.state_need(alloc, stated, variable, None, need.requirement)?;
-        Ok(())
+        self.state_need(alloc, stated, variable, None, need.requirement)
     }
 
     /// States that a variable is false, or a literal of the condition true, or one of the requirement's

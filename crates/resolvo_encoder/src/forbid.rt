@@ -62,8 +62,7 @@ impl<N: Copy + Exact + Hash + Debug + Drop, S: Copy + Exact + Hash + Debug> Enco
         requires { IsBuilt self.old }
         ensures { OnOk result (Tells S.eq (Rule.bars (Bar.word reason) solvable ∷ []) self.old self.new) }
     {
-        self.deny(alloc, solvable, Stated::Excluded { solvable, reason })?;
-        Ok(())
+        self.deny(alloc, solvable, Stated::Excluded { solvable, reason })
     }
 
     /// States that a parent's version set keeps out the candidates outside it. Where these are many, a variable
@@ -192,8 +191,7 @@ impl<N: Copy + Exact + Hash + Debug + Drop, S: Copy + Exact + Hash + Debug> Enco
         ensures ids { IsErrOf result Ids → LacksNumber self.new.coding }
     {
         let variable = self.give(ProofAtom::Solvable(solvable))?;
-        self.state_pair(alloc, stated, variable, Literal::new(variable, true))?;
-        Ok(())
+        self.state_pair(alloc, stated, variable, Literal::new(variable, true))
     }
 
     /// States that a parent's version set keeps a solvable out.
@@ -215,8 +213,7 @@ impl<N: Copy + Exact + Hash + Debug + Drop, S: Copy + Exact + Hash + Debug> Enco
             version_set,
             barred,
         };
-        self.state_pair(alloc, stated, first, Literal::new(second, true))?;
-        Ok(())
+        self.state_pair(alloc, stated, first, Literal::new(second, true))
     }
 
     /// States that a parent's version set keeps out whatever is outside it.
@@ -236,8 +233,7 @@ impl<N: Copy + Exact + Hash + Debug + Drop, S: Copy + Exact + Hash + Debug> Enco
             parent,
             version_set,
         };
-        self.state_pair(alloc, stated, first, Literal::new(second, true))?;
-        Ok(())
+        self.state_pair(alloc, stated, first, Literal::new(second, true))
     }
 
     /// States that a solvable is outside a version set.
@@ -252,8 +248,7 @@ impl<N: Copy + Exact + Hash + Debug + Drop, S: Copy + Exact + Hash + Debug> Enco
             version_set,
             solvable,
         };
-        self.state_pair(alloc, stated, first, Literal::new(second, false))?;
-        Ok(())
+        self.state_pair(alloc, stated, first, Literal::new(second, false))
     }
 
     /// The variable of the root, or of a solvable.
@@ -265,10 +260,7 @@ impl<N: Copy + Exact + Hash + Debug + Drop, S: Copy + Exact + Hash + Debug> Enco
     {
         match parent {
             None => Ok(VariableId::root()),
-            Some(solvable) => {
-                let variable = self.give(ProofAtom::Solvable(solvable))?;
-                Ok(variable)
-            }
+            Some(solvable) => self.give(ProofAtom::Solvable(solvable)),
         }
     }
 
@@ -279,8 +271,7 @@ impl<N: Copy + Exact + Hash + Debug + Drop, S: Copy + Exact + Hash + Debug> Enco
         ensures stands { IfOk result (λ v. StandsFor self.new.coding.atoms.keys v atom) }
         ensures ids { IsErrOf result Ids → LacksNumber self.new.coding }
     {
-        let variable = self.coding.variable(atom)?;
-        Ok(variable)
+        self.coding.variable(atom)
     }
 
     /// States a rule by the clause that the first is false, or the second literal true.

@@ -32,8 +32,7 @@ impl<N: Copy + Exact + Hash + Debug + Drop, S: Copy + Exact + Hash + Debug> Enco
         ensures ids { IsErrOf result Ids → LacksNumber self.new.coding }
     {
         self.admit(alloc, offered)?;
-        let given = register_all(alloc, &mut self.registry, &mut self.coding, offered)?;
-        Ok(given)
+        register_all(alloc, &mut self.registry, &mut self.coding, offered)
     }
 
     /// States of each of these whose package a case names that one of it is there.
@@ -67,10 +66,8 @@ impl<N: Copy + Exact + Hash + Debug + Drop, S: Copy + Exact + Hash + Debug> Enco
         ensures ids { IsErrOf result Ids → LacksNumber self.new.coding }
     {
         self.admit_one(alloc, wish)?;
-        let variable = self
-            .registry
-            .register(&mut self.coding, wish.name, wish.solvable)?;
-        Ok(variable)
+        self.registry
+            .register(&mut self.coding, wish.name, wish.solvable)
     }
 }
 

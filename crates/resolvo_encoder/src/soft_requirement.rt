@@ -59,8 +59,7 @@ impl<N: Copy + Exact + Hash + Debug + Drop, S: Copy + Exact + Hash + Debug> Enco
             return Ok(None);
         }
         self.undo_turn();
-        let refusal = self.choose_or_refute(alloc, variable)?;
-        Ok(refusal)
+        self.choose_or_refute(alloc, variable)
     }
 
     /// Chooses a wish that isn't true at the first level of its turn. Where it is false, this tells why.
@@ -109,8 +108,7 @@ impl<N: Copy + Exact + Hash + Debug + Drop, S: Copy + Exact + Hash + Debug> Enco
         // After a refusal.
         ensures ids { IsErrOf result Ids → LacksNumber self.new.coding }
     {
-        let clause = self.coding.bar(refusal)?;
-        Ok(clause)
+        self.coding.bar(refusal)
     }
 
     /// Registers a wish and notes it as the last one. Gives its variable.

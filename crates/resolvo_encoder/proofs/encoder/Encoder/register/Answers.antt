@@ -1,3 +1,4 @@
+use Rattle.std.proofs.lemmas.Result.{IfOk-weaker}
 use Rattle.resolvo_soundness.specs.Encoding.{IsExact}
 use Rattle.resolvo_encoder.proofs.EnrollLemmas.{enrols}
 use Rattle.resolvo_encoder.proofs.encoder.Encoder.register.Goals as goal
@@ -8,4 +9,4 @@ register_all-requires g c = record { coding = c.in_ok-admit.ensures.admitted.say
 pub returns-clause-enrolled : goal.returns-clause-enrolled
 returns-clause-enrolled g c =
     let exact : IsExact g.S.PartialEq.eq = record { one = g.met.S.Exact.exact; own = g.met.S.Eq.laws.refl } in
-    enrols g.S.PartialEq.eq exact c.args.offered.now c.in_ok-given.given.items c.args.self.now c.admit.new.self c.register_all.new.registry c.register_all.new.coding c.in_ok-admit.ensures.admitted c.in_ok-given.ensures.registered
+    IfOk-weaker c.register_all.result _ _ (λ given registers. enrols g.S.PartialEq.eq exact c.args.offered.now given.items c.args.self.now c.admit.new.self c.register_all.new.registry c.register_all.new.coding c.in_ok-admit.ensures.admitted registers) c.register_all.ensures.registered
