@@ -1,5 +1,5 @@
 #!/usr/bin/env python3
-"""Checks that docs/COVERAGE.md and docs/EDITS.md name what exists, and lists the rows, tests and edits in docs/COVERAGE.md.
+"""Checks that docs/COVERAGE.md and docs/EDITS.md name what exists, and lists the rows, store calls, tests and edits in docs/COVERAGE.md.
 
 Usage: checks/coverage.py [--write]
 Without `--write` it fails where a named file is missing, or a row, a test or an edit of the gate isn't listed. It fails too where
@@ -12,6 +12,7 @@ import re
 import sys
 
 import rows
+import store_calls
 
 TOP = os.path.dirname(os.path.dirname(os.path.abspath(__file__)))
 PAGE = os.path.join(TOP, "docs/COVERAGE.md")
@@ -33,6 +34,14 @@ def rows_listed():
         about = found[0].about.replace("|", "\\|")
         lines.append(f"| `{found[0].name}` | {len(found)} | {about} |")
     return lines
+
+
+def store_rows_listed():
+    """A line for each list of store calls that is written by hand, and one for the generated ones."""
+    by_hand, of_seeds = store_calls.kept()
+    lines = ["| List in `crates/resolvo_store_rows/stdin` | Calls |", "|---|---|"]
+    lines += [f"| {title} | {len(calls)} |" for title, *calls in by_hand]
+    return lines + [f"| those of {len(of_seeds):,} seeds | {sum(len(it) - 1 for it in of_seeds):,} |"]
 
 
 def tests_listed():
@@ -70,7 +79,7 @@ def edits_listed():
 
 
 def generated():
-    parts = [FROM, *rows_listed(), "", "## Tests", "", *tests_listed(), "", "## Edits of the gate", "", *edits_listed()]
+    parts = [FROM, *rows_listed(), "", "## Lists of store calls", "", *store_rows_listed(), "", "## Tests", "", *tests_listed(), "", "## Edits of the gate", "", *edits_listed()]
     return "\n".join(parts) + "\n"
 
 

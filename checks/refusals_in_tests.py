@@ -2,7 +2,8 @@
 """Runs the crates' tests with each allocation refused in turn: a test then passes, or fails at an assertion or by its result.
 
 Usage: checks/refusals_in_tests.py [MOST]   (MOST allocations of each test, default 400)
-Runs crates/*/out/*_tests, which `rt ci` and `rt test` leave. Needs a C compiler, for refuse.c, which is preloaded.
+Runs crates/*/out/*_tests, which `rt ci` and `rt test` leave; and crates/resolvo_store_rows/out/resolvo_store_rows, if it is there, over the
+lists of store calls that are written by hand: it then answers as they say, or ends for want of memory. Needs a C compiler, for refuse.c, which is preloaded.
 Status 1 where a test ended otherwise: by a bad access, an abort of its own, or not at all.
 """
 import glob
@@ -12,18 +13,21 @@ import subprocess
 import sys
 import tempfile
 
+import store_calls
+
 HERE = os.path.dirname(os.path.abspath(__file__))
 MOST = int(sys.argv[1]) if len(sys.argv) > 1 else 400
+ROWS = os.path.join(HERE, "../crates/resolvo_store_rows/out/resolvo_store_rows")
 FAILED = re.compile(rb"assertion .*failed|assertion failed|the test failed")
 
 
-def run(library, program, test, number):
+def run(library, words, number, given=b""):
     """Status, output, and whether an allocation was refused."""
     told, tell = os.pipe()
     ended = subprocess.run(
-        ["sh", "-c", f'exec 9>&{tell}; LD_PRELOAD={library} exec "$@"', "sh", program, test],
+        ["sh", "-c", f'exec 9>&{tell}; LD_PRELOAD={library} exec "$@"', "sh", *words],
         env={"REFUSE_KIND": "alloc", "REFUSE_NUMBER": str(number)},
-        capture_output=True, pass_fds=[tell], timeout=60)
+        input=given, capture_output=True, pass_fds=[tell], timeout=60)
     os.close(tell)
     refused = os.read(told, 1) != b""
     os.close(told)
@@ -33,13 +37,29 @@ def run(library, program, test, number):
 def check(library, program, test):
     faults, count = [], 0
     for number in range(1, MOST + 1):
-        status, output, refused = run(library, program, test, number)
+        status, output, refused = run(library, [program, test], number)
         if status != 0 and not (refused and FAILED.search(output)):
             faults.append(f"{test}: allocation {number} refused: status {status}, {output[-200:]!r}")
         if not refused:
             break
         count = number
     print(f"{os.path.basename(program)} {test}: {count} refused in turn")
+    return faults
+
+
+def check_list(library, program, lines):
+    """A list of store calls, with each allocation refused in turn."""
+    text = "\n".join(lines).encode()
+    faults, count = [], 0
+    for number in range(1, MOST + 1):
+        status, output, refused = run(library, [program], number, text)
+        is_right = b" 0 are others than expected" in output if status == 0 else refused and b", and not " not in output
+        if not is_right or status not in (0, 1):
+            faults.append(f"{lines[0]}: allocation {number} refused: status {status}, {output[-200:]!r}")
+        if not refused:
+            break
+        count = number
+    print(f"{os.path.basename(program)} {lines[0]}: {count} refused in turn")
     return faults
 
 
@@ -56,6 +76,9 @@ def main():
             for line in listed.splitlines():
                 if line.endswith(": test"):
                     faults += check(library, program, line.removesuffix(": test"))
+        if os.path.exists(ROWS):
+            for lines in store_calls.kept()[0]:
+                faults += check_list(library, ROWS, lines)
     print("\n".join(faults) if faults else "all as promised")
     sys.exit(1 if faults else 0)
 

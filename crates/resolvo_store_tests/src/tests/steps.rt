@@ -218,77 +218,126 @@ fn learning(rt: HostRuntime) -> Result<(), Fail> {
     Ok(())
 }
 
-/// The step of an exclusion.
-fn exclusion(number: u16) -> TestStep {
-    ProofStep::Rule(ProofRule::Excluded {
-        solvable: SolvableId::from_raw(u32::from(number)),
-        reason: StringId(5),
-    })
+/// A step: the exclusion of a solvable, or what follows of one other step and has no literals.
+#[derive(Clone, Copy)]
+enum StepRow {
+    Excluded(u16),
+    Derived(usize),
+}
+
+/// Steps, the places that are wanted, the steps that stay, and for each old place how many stay before it.
+struct Trim {
+    steps: &'static [StepRow],
+    wanted: &'static [usize],
+    left: &'static [StepRow],
+    numbers: &'static [usize],
+}
+
+/// Three exclusions, and what follows of the second and of the third; then one more of the first.
+const SEVERAL: &[StepRow] = &[
+    StepRow::Excluded(0),
+    StepRow::Excluded(1),
+    StepRow::Excluded(2),
+    StepRow::Derived(1),
+    StepRow::Derived(2),
+    StepRow::Derived(0),
+];
+
+/// Two steps are wanted, and a place that has none: they stay with their causes. A wanted step leads to another one, and
+/// is kept once. Where none is wanted, none is kept.
+static TRIMS: [Trim; 3] = [
+    Trim {
+        steps: SEVERAL,
+        wanted: &[4, 3, 9],
+        left: &[
+            StepRow::Excluded(1),
+            StepRow::Excluded(2),
+            StepRow::Derived(0),
+            StepRow::Derived(1),
+        ],
+        numbers: &[0, 0, 1, 2, 3, 4],
+    },
+    Trim {
+        steps: SEVERAL,
+        wanted: &[5, 0],
+        left: &[StepRow::Excluded(0), StepRow::Derived(0)],
+        numbers: &[0, 1, 1, 1, 1, 1],
+    },
+    Trim {
+        steps: SEVERAL,
+        wanted: &[],
+        left: &[],
+        numbers: &[0, 0, 0, 0, 0, 0],
+    },
+];
+
+fn step(alloc: Global, row: StepRow) -> R<TestStep> {
+    match row {
+        StepRow::Excluded(number) => Ok(ProofStep::Rule(ProofRule::Excluded {
+            solvable: SolvableId::from_raw(u32::from(number)),
+            reason: StringId(5),
+        })),
+        StepRow::Derived(cause) => Ok(ProofStep::Derived {
+            literals: Vec::new(alloc),
+            causes: vec![in alloc; cause]?,
+        }),
+    }
+}
+
+fn put_steps(alloc: Global, rows: &[StepRow], steps: &mut Vec<TestStep>) -> R<()> {
+    for row in rows {
+        steps.push(step(alloc, *row)?)?;
+    }
+    Ok(())
+}
+
+fn steps_of(alloc: Global, rows: &[StepRow]) -> R<Vec<TestStep>> {
+    let mut steps = Vec::new(alloc);
+    put_steps(alloc, rows, &mut steps)?;
+    Ok(steps)
+}
+
+fn is_of(step: &TestStep, row: StepRow) -> bool {
+    match row {
+        StepRow::Excluded(number) => {
+            excluded(step) == Some(SolvableId::from_raw(u32::from(number)))
+        }
+        StepRow::Derived(cause) => causes(step) == Some([cause].as_slice()),
+    }
+}
+
+fn are_of(steps: &[TestStep], rows: &[StepRow]) -> bool {
+    for (step, row) in steps.iter().zip(rows) {
+        if !is_of(step, *row) {
+            return false;
+        }
+    }
+    steps.len() == rows.len()
+}
+
+/// Whether the steps that stay, and the numbers, are those of the row.
+fn is_trimmed(alloc: Global, row: &Trim) -> R<bool> {
+    let Trimmed { steps, numbers } = trim_to(alloc, steps_of(alloc, row.steps)?, row.wanted)?;
+    Ok(are_of(&steps, row.left) && numbers.as_slice() == row.numbers)
+}
+
+#[test]
+fn trimming_to_places(rt: HostRuntime) -> Result<(), Fail> {
+    for row in &TRIMS {
+        assert!(rt; is_trimmed(rt.alloc(), row)?, "{:?}", row.wanted);
+    }
+    Ok(())
 }
 
 /// A rule that nothing rests on is left out, and the one behind it is named anew.
 #[test]
 fn trimming(rt: HostRuntime) -> Result<(), Fail> {
-    let alloc = rt.alloc();
-    let mut steps = Vec::new(alloc);
-    steps.push(exclusion(0))?;
-    steps.push(exclusion(1))?;
-    steps.push(ProofStep::Derived {
-        literals: Vec::new(alloc),
-        causes: vec![in alloc; 1]?,
-    })?;
-    let steps = trim(alloc, steps)?;
-    assert_eq!(rt; steps.len(), 2);
-    assert_eq!(rt; excluded(&steps[0]), Some(SolvableId::from_raw(1)));
-    assert_eq!(rt; causes(&steps[1]), Some([0].as_slice()));
-    Ok(())
-}
-
-/// A derived step with no literals, by one cause.
-fn derived(alloc: Global, cause: usize) -> R<TestStep> {
-    Ok(ProofStep::Derived {
-        literals: Vec::new(alloc),
-        causes: vec![in alloc; cause]?,
-    })
-}
-
-/// Three exclusions, and what follows of the second and of the third; then one more of the first.
-fn several(alloc: Global) -> R<Vec<TestStep>> {
-    let mut steps = Vec::new(alloc);
-    steps.push(exclusion(0))?;
-    steps.push(exclusion(1))?;
-    steps.push(exclusion(2))?;
-    steps.push(derived(alloc, 1)?)?;
-    steps.push(derived(alloc, 2)?)?;
-    steps.push(derived(alloc, 0)?)?;
-    Ok(steps)
-}
-
-/// Two steps are wanted, and a place that has none: they stay with their causes, and each old place has the number of those
-/// that stay before it.
-#[test]
-fn trimming_to_several(rt: HostRuntime) -> Result<(), Fail> {
-    let alloc = rt.alloc();
-    let Trimmed { steps, numbers } = trim_to(alloc, several(alloc)?, &[4, 3, 9])?;
-    assert_eq!(rt; steps.len(), 4);
-    assert_eq!(rt; excluded(&steps[0]), Some(SolvableId::from_raw(1)));
-    assert_eq!(rt; excluded(&steps[1]), Some(SolvableId::from_raw(2)));
-    assert_eq!(rt; causes(&steps[2]), Some([0].as_slice()));
-    assert_eq!(rt; causes(&steps[3]), Some([1].as_slice()));
-    assert_eq!(rt; numbers.as_slice(), [0, 0, 1, 2, 3, 4].as_slice());
-    Ok(())
-}
-
-/// A wanted step leads to another one, and is kept once. Where none is wanted, none is kept.
-#[test]
-fn trimming_to_a_cause(rt: HostRuntime) -> Result<(), Fail> {
-    let alloc = rt.alloc();
-    let Trimmed { steps, numbers } = trim_to(alloc, several(alloc)?, &[5, 0])?;
-    assert_eq!(rt; steps.len(), 2);
-    assert_eq!(rt; excluded(&steps[0]), Some(SolvableId::from_raw(0)));
-    assert_eq!(rt; causes(&steps[1]), Some([0].as_slice()));
-    assert_eq!(rt; numbers.as_slice(), [0, 1, 1, 1, 1, 1].as_slice());
-    let none = trim_to(alloc, several(alloc)?, &[])?;
-    assert!(rt; none.steps.is_empty());
+    let rows = [
+        StepRow::Excluded(0),
+        StepRow::Excluded(1),
+        StepRow::Derived(1),
+    ];
+    let steps = trim(rt.alloc(), steps_of(rt.alloc(), &rows)?)?;
+    assert!(rt; are_of(&steps, &[StepRow::Excluded(1), StepRow::Derived(0)]));
     Ok(())
 }
