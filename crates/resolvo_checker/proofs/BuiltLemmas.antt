@@ -1,28 +1,21 @@
 -- Built clauses and the clauses that they are.
-use Rattle.std.proofs.Common.{◌≡◌, ℕ, ◌+◌, ◌<◌, Bool, true, false, List, [], ◌∷◌, ◌++◌, map, length, take, get_or, Option, Some, None, refl, sym, ap, subst, ◌∙◌}
-use Rattle.std.specs.Prelude.{slice_get, not, ◌&&◌, filter}
+use Rattle.std.proofs.Common.{◌≡◌, ℕ, ◌+◌, ◌<◌, Bool, List, [], ◌∷◌, ◌++◌, length, take, get_or, Option, Some, None, refl, sym, ap, subst, ◌∙◌}
+use Rattle.std.specs.Prelude.{slice_get}
 use Rattle.std.specs.Global.{Vec}
 use Rattle.std.specs.List.{flat_map}
-use Rattle.std.specs.Bool.{beq}
-use Rattle.std.specs.Option.{option_map, option_map_or}
-use Rattle.std.proofs.lemmas.Bool.{and_parts}
+use Rattle.std.specs.Option.{option_map}
 use Rattle.std.proofs.lemmas.List.{append_assoc, append-nil, map-append, take_more}
 use Rattle.std.proofs.lemmas.List.Concat.{flat_map-append}
 use Rattle.resolvo_text.specs.Line.{Version, Spec}
-use Rattle.resolvo_text.specs.Matches.{matches}
 use Rattle.resolvo_text.specs.View.{specs_of, spec_of}
 use Rattle.resolvo_text.specs.declared.spec.Spec as code
-use Rattle.resolvo_catalogue_core.specs.Questions.{AreAll, IsOfPackage, number_of}
-use Rattle.resolvo_catalogue_core.specs.declared.rule.VersionNo.{VersionNo}
 use Rattle.resolvo_pool_core.specs.OnePass as pass
 use Rattle.resolvo_report.specs.Value.{Atom, Chosen}
 use Rattle.resolvo_checker.specs.declared.literal.Literal.{Literal}
 use Rattle.resolvo_checker.specs.declared.atom.Built.{Built}
-use Rattle.resolvo_checker.specs.StepClauses.{Clause, membership, literal, is_in, is_of}
-use Rattle.resolvo_checker.specs.Built.{member_of, told, literals_in, literal_of, somes, passes, picks}
+use Rattle.resolvo_checker.specs.StepClauses.{Clause, membership, literal}
+use Rattle.resolvo_checker.specs.Built.{member_of, literals_in, literal_of, somes}
 use Rattle.resolvo_checker.specs.Keys.{IsKey, Extends}
-use Rattle.resolvo_checker.proofs.Atoms.{bytes_is, bytes_own}
-use Rattle.resolvo_checker.proofs.Packages.{of_package}
 use Rattle.resolvo_checker.proofs.NameLemmas.{extends_none, extends_then}
 
 -- a clause of one literal

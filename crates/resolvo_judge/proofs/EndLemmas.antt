@@ -9,6 +9,7 @@ use Rattle.resolvo_report.specs.Text.{report_lines, numbered}
 use Rattle.resolvo_judge.specs.declared.judge_state.JudgeState.{JudgeState}
 use Rattle.resolvo_judge.specs.declared.log.ProofState.{ProofState}
 use Rattle.resolvo_judge.specs.declared.entries.Entries.{Entries}
+use Rattle.resolvo_judge.specs.declared.alternatives.Alternatives.{Alternatives}
 use Rattle.resolvo_judge.specs.Log.{LogStands, is_head}
 use Rattle.resolvo_checker.specs.Proof.{ends_empty}
 use Rattle.resolvo_judge.specs.Entries.{entries_of}
@@ -80,11 +81,11 @@ is_install_head (RequestLine n) head h = absurd cc
 is_install_head (Numbered n s) head h = absurd cc
 is_install_head (Message b) head h = absurd cc
 
-pub head_stands : (catalogue request : List Line) (l head : ReportLine) (refused : Bool) (given log : ProofState) (entries : Entries) → l ≡ head → answers_in (head ∷ []) ≡ [] → given ≡ log → refused ≡ is_refusal (l ∷ [])
-    → LogStands catalogue request log.checker.numbers [] log.checker.places.items log.scope log.ends_empty (head ∷ []) → KeepsAnswers entries [] → KeepsLines request entries [] → Stands catalogue request (record { refused = refused; log = given; entries = entries; barred = true }) [] (l ∷ [])
-head_stands catalogue request l head refused given log entries is none same refusal stands kept lines =
-    subst (λ (x : ReportLine). Stands catalogue request (record { refused = refused; log = given; entries = entries; barred = true }) [] (x ∷ [])) (sym is)
-    (subst (λ (g : ProofState). Stands catalogue request (record { refused = refused; log = g; entries = entries; barred = true }) [] (head ∷ [])) (sym same) (record {
+pub head_stands : (catalogue request : List Line) (l head : ReportLine) (refused : Bool) (given log : ProofState) (entries : Entries) (alternatives : Alternatives) → l ≡ head → answers_in (head ∷ []) ≡ [] → given ≡ log → refused ≡ is_refusal (l ∷ [])
+    → LogStands catalogue request log.checker.numbers [] log.checker.places.items log.scope log.ends_empty (head ∷ []) → KeepsAnswers entries [] → KeepsLines request entries [] → Stands catalogue request (record { refused = refused; log = given; entries = entries; alternatives = alternatives; barred = true }) [] (l ∷ [])
+head_stands catalogue request l head refused given log entries alternatives is none same refusal stands kept lines =
+    subst (λ (x : ReportLine). Stands catalogue request (record { refused = refused; log = given; entries = entries; alternatives = alternatives; barred = true }) [] (x ∷ [])) (sym is)
+    (subst (λ (g : ProofState). Stands catalogue request (record { refused = refused; log = g; entries = entries; alternatives = alternatives; barred = true }) [] (head ∷ [])) (sym same) (record {
       refused = refusal ∙ ap (λ (x : ReportLine). is_refusal (x ∷ [])) is;
       log = stands;
       entries = subst (λ (xs : List AnswerLine). KeepsAnswers entries xs) (sym none) kept;

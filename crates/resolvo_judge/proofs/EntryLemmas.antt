@@ -1,10 +1,11 @@
 -- What is kept of entries and left-out wishes, with one line more.
 use Rattle.std.proofs.Common.{◌≡◌, ℕ, zero, suc, ◌+◌, ◌<◌, Bool, true, false, not, ◌&&◌, ◌||◌, List, [], ◌∷◌, ◌++◌, map, length, Option, Some, None, is_some, if◌then◌else◌, ◌==◌, refl, sym, ap, subst, ◌∙◌, arith}
-use Rattle.std.specs.Prelude.{nat_lt, nat_eq}
+use Rattle.std.specs.Prelude.{nat_lt, nat_eq, slice_get}
 use Rattle.std.specs.List.{list_any, list_all, flat_map}
 use Rattle.std.proofs.lemmas.List.{append-nil, length-append, map_push}
 use Rattle.std.proofs.lemmas.List.Concat.{flat_map-append}
-use Rattle.std.proofs.lemmas.Bool.{and_parts, lt-ltb, ltb-true}
+use Rattle.std.proofs.lemmas.Bool.{and_parts, or_left, or_right, lt-ltb, ltb-true}
+use Rattle.std.proofs.lemmas.Option.{same_Some}
 use Rattle.resolvo_text.specs.Line.{Version, Line, Skipped, Listed, Needs, Limits, Unknown, Lock, Favour, Exclude, Wish}
 use Rattle.resolvo_checker.specs.Stated.{owned_line}
 use Rattle.resolvo_catalogue_core.specs.Questions.{wished_in}
@@ -165,6 +166,12 @@ gives_owned (Some (Lock w)) entries v = refl
 gives_owned (Some (Favour w)) entries v = refl
 gives_owned (Some (Exclude w r)) entries v = refl
 gives_owned (Some (Wish w)) entries v = refl
+
+-- what passes at a place passes
+pub any_at : {X : Type 0} (p : X → Bool) (xs : List X) (i : ℕ) (x : X) → slice_get xs i ≡ Some x → p x ≡ true → list_any p xs ≡ true
+any_at p [] i x at h = absurd cc
+any_at p (y ∷ ys) zero x at h = or_left (p y) (list_any p ys) (ap p (same_Some y x at) ∙ h)
+any_at p (y ∷ ys) (suc i) x at h = or_right (p y) (list_any p ys) (any_at p ys i x at h)
 
 pub any_map : {X Y : Type 0} (f : X → Y) (p : Y → Bool) (xs : List X) → list_any (λ x. p (f x)) xs ≡ list_any p (map f xs)
 any_map f p [] = refl

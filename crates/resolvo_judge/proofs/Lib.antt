@@ -14,3 +14,4 @@ pub mod JudgeLemmas
 pub mod PlaceLaws
 pub mod MessageLaws
 pub mod MessageLines
+pub mod ToldLemmas

@@ -40,11 +40,11 @@ module _ (bytes other : List ℕ) where
       go again None = refl
       go again (Some q) = again q
 
-  same_lists : {X : Type 0} (f : ReportLine → List X) → f (Message bytes) ≡ f (Message other) → (front back : List ReportLine) → flat_map f (front ++ Message bytes ∷ back) ≡ flat_map f (front ++ Message other ∷ back)
+  pub same_lists : {X : Type 0} (f : ReportLine → List X) → f (Message bytes) ≡ f (Message other) → (front back : List ReportLine) → flat_map f (front ++ Message bytes ∷ back) ≡ flat_map f (front ++ Message other ∷ back)
   same_lists {X} f is [] back = ap (λ (xs : List X). xs ++ flat_map f back) is
   same_lists {X} f is (l ∷ front) back = ap (λ (xs : List X). f l ++ xs) (same_lists f is front back)
 
-  same_refusal : (front back : List ReportLine) → is_refusal (front ++ Message bytes ∷ back) ≡ is_refusal (front ++ Message other ∷ back)
+  pub same_refusal : (front back : List ReportLine) → is_refusal (front ++ Message bytes ∷ back) ≡ is_refusal (front ++ Message other ∷ back)
   same_refusal [] back = refl
   same_refusal (InstallHead ∷ front) back = refl
   same_refusal (RefusedHead ∷ front) back = refl
@@ -59,7 +59,7 @@ module _ (bytes other : List ℕ) where
   each_swapped (l ∷ front) back fits all = (all.0, each_swapped front back fits all.1)
 
   module _ (catalogue request : List Line) where
-    same_rest : (f : ReportLine → List ℕ) → f (Message bytes) ≡ f (Message other) → (front back : List ReportLine) (n : ℕ)
+    pub same_rest : (f : ReportLine → List ℕ) → f (Message bytes) ≡ f (Message other) → (front back : List ReportLine) (n : ℕ)
         → may_rest (front ++ Message bytes ∷ back) (flat_map f (front ++ Message bytes ∷ back)) n ≡ may_rest (front ++ Message other ∷ back) (flat_map f (front ++ Message other ∷ back)) n
     same_rest f is front back n =
         ap (λ (xs : List ℕ). may_rest (front ++ Message bytes ∷ back) xs n) (same_lists f is front back)

@@ -1,7 +1,7 @@
 //! The entries and the left-out wishes of an `install` report, taken one line after the other.
 //! What is kept stands for the lines so far (`KeepsAnswers` of specs/KeptAnswers.antt). The judge takes each such line here.
 
-ghost use Rattle.std.specs.Prelude.{◌≡◌, ◌++◌, ◌∷◌, [], ◌<◌, ◌+◌, ◌^◌, List, Option, IfOk, OnOk, IsTrue, option_and_then, option_copied};
+ghost use Rattle.std.specs.Prelude.{◌≡◌, ◌++◌, ◌∷◌, [], ◌<◌, ◌+◌, ◌^◌, List, Option, IfOk, OnOk, IsTrue, true, option_and_then, option_copied};
 ghost use Rattle.std.specs.List.{list_any};
 ghost use Rattle.resolvo_text.specs.Line as says;
 ghost use Rattle.resolvo_text.specs.Matches.{Set, same_version, matches as matches_lem};
@@ -44,15 +44,38 @@ fn any_matches(alternatives: &[Spec], version: &Version) -> bool
     alternatives.iter().any(|spec| matches(spec, version))
 }
 
-/// Whether the version matches one of the alternatives.
-fn one_matches(alternatives: &[Spec], version: &Version) -> bool
+/// Whether the version matches the alternative of this place.
+#[tactic(auto, using(crate::proofs::EntryLemmas::any_at))]
+fn matches_at(alternatives: &[Spec], place: Option<usize>, version: &Version) -> bool
+    ensures { IsTrue result
+        → list_any (λ s. matches_lem (spec_of s) (version_of version.now)) alternatives.now ≡ true }
+{
+    let Some(place) = place else {
+        return false;
+    };
+    match alternatives.get(place) {
+        Some(spec) => matches(spec, version),
+        None => false,
+    }
+}
+
+/// Whether the version matches one of the alternatives. That of the place is tried before they are walked.
+fn one_matches(alternatives: &[Spec], place: Option<usize>, version: &Version) -> bool
     ensures { result ≡ list_any (λ s. matches_lem s (version_of version.now)) (specs_of alternatives.now) }
 {
+    if matches_at(alternatives, place, version) {
+        return true;
+    }
     any_matches(alternatives, version)
 }
 
 /// Whether the rule is a need that the version meets, and whose condition holds.
-fn gives(chosen: &Chosen, rule: Option<&Rule>, version: &Version) -> bool
+fn gives(
+    chosen: &Chosen,
+    rule: Option<&Rule>,
+    alternative: Option<usize>,
+    version: &Version,
+) -> bool
     ensures { (set : Set) (vs : List says.Version)
         → Holds chosen.now set
         → result
@@ -66,7 +89,7 @@ fn gives(chosen: &Chosen, rule: Option<&Rule>, version: &Version) -> bool
                 condition,
                 ..
             },
-        ) => one_matches(alternatives, version) && chosen.condition_holds(condition),
+        ) => one_matches(alternatives, alternative, version) && chosen.condition_holds(condition),
         _ => false,
     }
 }
@@ -114,13 +137,14 @@ impl Entries {
         }
     }
 
-    /// Whether the line of this place gives a reason for the version.
+    /// Whether the line of this place gives a reason for the version. The alternative is tried first.
     fn is_reason(
         &self,
         catalogue: &Catalogue,
         request: &Request,
         place: &Place,
         line: u32,
+        alternative: Option<usize>,
         version: &Version,
     ) -> bool
         ensures { (before : List said.AnswerLine)
@@ -133,6 +157,7 @@ impl Entries {
             && gives(
                 &self.chosen,
                 rule_at(catalogue, request, place, line),
+                alternative,
                 version,
             )
     }
@@ -167,6 +192,7 @@ impl Entries {
         version: &Version,
         place: &Place,
         line: u32,
+        alternative: Option<usize>,
     ) -> Result<bool, AllocError>
         requires { self.old.chosen.count < 2 ^ 32 }
         ensures fits { IfOk result
@@ -194,7 +220,7 @@ impl Entries {
         ensures few { IfOk result (λ fits. self.new.chosen.count < self.old.chosen.count + 2) }
     {
         if !self.may_enter(catalogue, version)
-            || !self.is_reason(catalogue, request, place, line, version)
+            || !self.is_reason(catalogue, request, place, line, alternative, version)
         {
             return Ok(false);
         }
@@ -314,13 +340,14 @@ impl Entries {
         true
     }
 
-    /// Takes the next line, if it may stand after those before it.
+    /// Takes the next line, if it may stand after those before it. Of an entry's reason the alternative is tried first.
     pub fn take(
         &mut self,
         alloc: Global,
         catalogue: &Catalogue,
         request: &Request,
         line: &AnswerLine,
+        alternative: Option<usize>,
     ) -> Result<bool, AllocError>
         requires { self.old.chosen.count < 2 ^ 32 }
         ensures fits { IfOk result
@@ -349,7 +376,7 @@ impl Entries {
                 version,
                 place,
                 line,
-            } => self.take_entry(catalogue, request, version, place, *line),
+            } => self.take_entry(catalogue, request, version, place, *line, alternative),
             AnswerLine::Wished { version, line } => {
                 self.take_wished(catalogue, request, version, *line)
             }

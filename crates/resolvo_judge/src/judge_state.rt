@@ -13,6 +13,7 @@ ghost use Rattle.resolvo_judge.specs.KeptAnswers.{KeepsAnswers, KeepsLines};
 ghost use Rattle.resolvo_judge.specs.Bars.{TellsBarred};
 ghost use Rattle.resolvo_judge.specs.JudgeState.{Stands, EndsSo};
 
+use crate::alternatives::Alternatives;
 use crate::bar::step_bars;
 use crate::end_rules::keeps_all;
 use crate::entries::Entries;
@@ -32,6 +33,7 @@ pub struct JudgeState {
     pub refused: bool,
     pub log: ProofState,
     pub entries: Entries,
+    pub alternatives: Alternatives,
     /// Each left-out wish whose step was taken is barred by it.
     pub barred: bool,
 }
@@ -43,6 +45,7 @@ impl Drop for JudgeState {
             refused: _,
             log: _,
             entries: _,
+            alternatives: _,
             barred: _,
         } = self;
     }
@@ -72,6 +75,7 @@ pub fn begin(
         refused,
         log,
         entries: Entries::new(alloc),
+        alternatives: Alternatives::new(alloc),
         barred: true,
     })
 }
@@ -242,7 +246,12 @@ fn take_line(
     match line {
         ReportLine::Install | ReportLine::Refused | ReportLine::Message { .. } => Ok(true),
         ReportLine::Answer(answer) => {
-            let fine = judging.entries.take(alloc, catalogue, request, answer)?;
+            let alternative = judging
+                .alternatives
+                .place_of(alloc, catalogue, request, answer)?;
+            let fine = judging
+                .entries
+                .take(alloc, catalogue, request, answer, alternative)?;
             Ok(fine)
         }
         ReportLine::Catalogue { line } => {

@@ -1,6 +1,6 @@
 //! The judge: whether a report holds for a catalogue and a request, from the report's bytes.
 //!
-//! It takes the report line by line and holds one line at a time, beside what it keeps of those above. A registry can
+//! It takes the report line by line and holds one line at a time, once, beside what it keeps of those above. A registry can
 //! run it on reports from strangers: its yes alone implies that the report's claim is true.
 
 ghost use Rattle.std.specs.Prelude.{◌≡◌, [], IfOk, IfErr};
@@ -81,13 +81,13 @@ fn judge_lines<S: Source>(
         (S.interruptions source.new))) }
 {
     let mut reader = ReportReader::new(alloc)?;
-    let Some(first) = reader.next(alloc, source)? else {
+    let Some(first) = reader.next_without_message(alloc, source)? else {
         unreachable!();
     };
     let mut judging = begin(alloc, catalogue, request, &first)?;
     drop(first);
     let mut number = 2;
-    while let Some(line) = reader.next(alloc, source)? {
+    while let Some(line) = reader.next_without_message(alloc, source)? {
         if !take(alloc, catalogue, request, &mut judging, clauses, line)? {
             return Ok(Verdict::No(number));
         }

@@ -1,6 +1,7 @@
 //! The judge of a report: whether its steps are a proof, and its claim is true.
 #![tactic(auto)]
 
+mod alternatives;
 mod bar;
 mod barred_wishes;
 mod chosen;

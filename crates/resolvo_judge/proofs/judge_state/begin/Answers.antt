@@ -10,6 +10,6 @@ returns-clause-stands c =
     let l = report_line_of c.args.first.now in
     let refused = c.is_refusal-refused.ensures in
     elim c.if-refused.branch [
-      | then-refused+in_ok-log w ↦ head_stands _ _ l RefusedHead _ _ w.in_ok-log.log _ (is_refused_head l (sym refused ∙ w.if-refused.true)) refl w.log-is refused w.in_ok-log.ensures.stands c.new.ensures.kept (c.new.ensures.lines c.args.request.now.lines)
-      | else-refused+in_ok-log-2 w ↦ head_stands _ _ l InstallHead _ _ w.in_ok-log-2.log _ (is_install_head l c.requires (sym refused ∙ w.if-refused.false)) refl w.log-is refused w.in_ok-log-2.ensures.stands c.new.ensures.kept (c.new.ensures.lines c.args.request.now.lines)
+      | then-refused+in_ok-log w ↦ head_stands _ _ l RefusedHead _ _ w.in_ok-log.log _ _ (is_refused_head l (sym refused ∙ w.if-refused.true)) refl w.log-is refused w.in_ok-log.ensures.stands c.new.ensures.kept (c.new.ensures.lines c.args.request.now.lines)
+      | else-refused+in_ok-log-2 w ↦ head_stands _ _ l InstallHead _ _ w.in_ok-log-2.log _ _ (is_install_head l c.requires (sym refused ∙ w.if-refused.false)) refl w.log-is refused w.in_ok-log-2.ensures.stands c.new.ensures.kept (c.new.ensures.lines c.args.request.now.lines)
     ]

@@ -1,0 +1,118 @@
+//! Where the package of an entry stands among the alternatives of its line, so that a long line isn't walked for each entry.
+//! A place is only a hint: it is tried, and no answer rests on it. The judge asks for one before it takes an entry.
+
+use resolvo_catalogue_core::{Catalogue, Request, Rule, Spec, Version};
+use resolvo_checker::stated::rule_at;
+use resolvo_report::{AnswerLine, Place};
+use resolvo_text::matches;
+use std::alloc::{AllocError, Global};
+use std::collections::BTreeMap;
+
+/// So many alternatives are walked faster than a table of them is made.
+const FEW: usize = 16;
+
+/// The places of a line's alternatives, by their packages.
+type Places = BTreeMap<String, Vec<usize>>;
+
+/// The places of the long lines that were the reason of an entry.
+#[derive(Drop)]
+pub struct Alternatives {
+    catalogue: BTreeMap<u32, Places>,
+    request: BTreeMap<u32, Places>,
+}
+
+/// Puts a place to those of a package.
+fn add_place(
+    alloc: Global,
+    places: &mut Places,
+    name: &String,
+    place: usize,
+) -> Result<(), AllocError> {
+    if let Some(kept) = places.get_mut(name.as_str()) {
+        kept.push(place)?;
+        return Ok(());
+    }
+    let mut kept = Vec::new(alloc);
+    kept.push(place)?;
+    places.insert(name.clone()?, kept)?;
+    Ok(())
+}
+
+fn places_of(alloc: Global, alternatives: &[Spec]) -> Result<Places, AllocError> {
+    let mut places = BTreeMap::new(alloc);
+    for place in 0..alternatives.len() {
+        add_place(alloc, &mut places, &alternatives[place].name, place)?;
+    }
+    Ok(places)
+}
+
+/// The first of the places whose alternative matches the version.
+fn first_match(places: &[usize], alternatives: &[Spec], version: &Version) -> Option<usize> {
+    for place in places {
+        if let Some(spec) = alternatives.get(*place) {
+            if matches(spec, version) {
+                return Some(*place);
+            }
+        }
+    }
+    None
+}
+
+/// The place of an alternative that matches the version. The table of the line is made where there is none.
+fn place_in(
+    alloc: Global,
+    tables: &mut BTreeMap<u32, Places>,
+    line: u32,
+    alternatives: &[Spec],
+    version: &Version,
+) -> Result<Option<usize>, AllocError> {
+    if !tables.contains_key(&line) {
+        let places = places_of(alloc, alternatives)?;
+        tables.insert(line, places)?;
+    }
+    let Some(places) = tables.get(&line) else {
+        return Ok(None);
+    };
+    match places.get(version.name.as_str()) {
+        Some(places) => Ok(first_match(places, alternatives, version)),
+        None => Ok(None),
+    }
+}
+
+impl Alternatives {
+    pub fn new(alloc: Global) -> Alternatives {
+        Alternatives {
+            catalogue: BTreeMap::new(alloc),
+            request: BTreeMap::new(alloc),
+        }
+    }
+
+    /// The place of the alternative that an entry matches, where its line has many.
+    pub fn place_of(
+        &mut self,
+        alloc: Global,
+        catalogue: &Catalogue,
+        request: &Request,
+        line: &AnswerLine,
+    ) -> Result<Option<usize>, AllocError> {
+        let AnswerLine::Entry {
+            version,
+            place,
+            line,
+        } = line
+        else {
+            return Ok(None);
+        };
+        let Some(Rule::Needs { alternatives, .. }) = rule_at(catalogue, request, place, *line)
+        else {
+            return Ok(None);
+        };
+        if alternatives.len() <= FEW {
+            return Ok(None);
+        }
+        match place {
+            Place::Request => place_in(alloc, &mut self.request, *line, alternatives, version),
+            Place::Version(_) => place_in(alloc, &mut self.catalogue, *line, alternatives, version),
+        }
+    }
+}
