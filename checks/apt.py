@@ -142,7 +142,7 @@ def median_text(what: str, runs: list[Run]) -> str:
 def write_solver(folder: str) -> str:
     """The solver as apt finds it: a shell that notes the processor's seconds of each run in a file."""
     times, path = os.path.join(folder, "times"), os.path.join(folder, "resolve")
-    for name, text, mode in ((times, "", 0o666), (path, f"#!/bin/sh\n{TOP}/tools/apt_solver.py\ntimes | tail -n 1 >> {times}\n", 0o755)):
+    for name, text, mode in ((times, "", 0o666), (path, f"#!/bin/sh\n{TOP}/tools/apt_solver.py\ntimes >> {times}\n", 0o755)):
         with open(name, "w") as out:
             out.write(text)
         os.chmod(name, mode)
@@ -150,9 +150,9 @@ def write_solver(folder: str) -> str:
 
 
 def solver_seconds(times: str) -> list[float]:
-    """The processor's seconds of each run, `0m0.71s 0m0.09s` a line."""
+    """The processor's seconds of each run: `0m0.71s 0m0.09s` in each second line, below those of the shell itself."""
     with open(times) as lines:
-        words = [line.replace("s", "").replace("m", " ").split() for line in lines]
+        words = [line.replace("s", "").replace("m", " ").split() for line in list(lines)[1::2]]
     return [60 * (float(w[0]) + float(w[2])) + float(w[1]) + float(w[3]) for w in words]
 
 
