@@ -1,3 +1,4 @@
 pub mod Positions
 pub mod Seen
 pub mod FitLemmas
+pub mod OfferLemmas

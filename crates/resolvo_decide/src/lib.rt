@@ -4,5 +4,6 @@
 #![tactic(auto)]
 
 pub mod clause_states;
+mod offer;
 pub mod scores;
 pub mod undecided_clauses;

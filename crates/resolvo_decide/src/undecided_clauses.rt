@@ -16,11 +16,12 @@ ghost use Rattle.resolvo_decide.specs.States.{state_at};
 ghost use Rattle.resolvo_decide.specs.Needs.{literals_in, places_at, IsMetNow, IsSo, Fits, KeepsFitting, IsPick, AddsNeed};
 
 use crate::clause_states::{ClauseState, ClauseStates};
+use crate::offer::offered;
 use crate::scores::Scores;
 use resolvo_pool_core::id::VariableId;
 use resolvo_pool_core::id_map::ScoreMap;
 use resolvo_pool_core::want::R;
-use resolvo_store_core::decide_queue::{DecideQueue, NeedClause, NextDecision, offered, or_later};
+use resolvo_store_core::decide_queue::{DecideQueue, NeedClause, NextDecision, or_later};
 use resolvo_store_core::decision::Entry;
 use resolvo_store_core::decision_map::DecisionMap;
 use resolvo_store_core::decision_tracker::DecisionTracker;
@@ -236,8 +237,11 @@ impl UndecidedClauses {
         ensures seen { self.new.seen ≡ self.old.seen }
     {
         let state = self.found(&queue[position], lists, values);
+        if state.is_open() {
+            return true;
+        }
         self.states.put(position, state);
-        state.is_open()
+        false
     }
 
     /// What these values tell of a clause.

@@ -25,9 +25,9 @@ use Rattle.resolvo_encoder.proofs.Bases.{turn_decided}
 use Rattle.resolvo_store_core.specs.AtMostOne.{IsFrontOf}
 use Rattle.resolvo_soundness.proofs.Lists.{contains_one, contains_left, contains_parts}
 use Rattle.resolvo_state.specs.declared.solver_state.SolverState.{SolverState}
-use Rattle.resolvo_turn.specs.Encoder.{AddsParents, AddsAll}
-use Rattle.resolvo_turn.specs.Turn.{AddsChosen, FiresMore, GoesFurther, HasWish, IsBegunBy, IsDecisionOf, IsRooted, IsTurn, IsWhole, rounds_left}
-use Rattle.resolvo_turn.proofs.AddLemmas.{all_then, goes_parents, needs_parents, parents_needs, parents_coding, parents_encoded}
+use Rattle.resolvo_turn.specs.Encoder.{AddsNeeds, AddsParents, AddsAll}
+use Rattle.resolvo_turn.specs.Turn.{AddsChosen, FindsMore, FindsNone, FiresMore, GoesFurther, HasWish, IsBegunBy, IsDecisionOf, IsRooted, IsTurn, IsWhole, rounds_left}
+use Rattle.resolvo_turn.proofs.AddLemmas.{all_then, goes_parents, needs_parents, parents_needs, parents_coding, parents_then}
 
 -- nothing stands from the end on
 pub past_end : {X : Type 0} (xs : List X) (n : ℕ) → slice_get xs n ≡ None → length xs ≤ n
@@ -105,28 +105,53 @@ module _ {N S : Type 0} (same : S → S → Bool) (a b c : Encoder N S) (first :
   round_rooted = still_rooted a c first round_adds
 
   -- where nothing waits and no case holds, the turn has ended
-  pub round_whole : (wish : Option VariableId) → IsSettled b × HasWish wish b → is_some (slice_get c.parents.keys c.encoded) ≡ false → AreSpent same c → IsTurn same wish c None
-  round_whole wish (settled, has) none spent = (settled_parents b c chosen.added settled, turn_whole b c chosen round_rooted (none_is (slice_get c.parents.keys c.encoded) none), spent, wish_stays wish b c (parents_coding b c chosen.added) has)
+  pub round_whole : (wish : Option VariableId) → IsSettled b × HasWish wish b → slice_get c.parents.keys c.encoded ≡ None → AreSpent same c → IsTurn same wish c None
+  round_whole wish (settled, has) none spent = (settled_parents b c chosen.added settled, turn_whole b c chosen round_rooted none, spent, wish_stays wish b c (parents_coding b c chosen.added) has)
 
-  -- where a parent waits, the turn goes further
-  pub round_goes : is_some (slice_get c.parents.keys c.encoded) ≡ true → c.encoded < 18446744073709551616 → GoesFurther a c
-  round_goes some small =
-      let (x, at) = some_is (slice_get c.parents.keys c.encoded) some in
-      let waits : c.encoded < length c.parents.keys = slice_get_within c.parents.keys c.encoded x at in
-      let long : length a.parents.keys ≤ length b.parents.keys = front_long a.parents.keys b.parents.keys all.adds.parents in
-      let whole : b.encoded ≡ length b.parents.keys = all.all in
-      let stays : c.encoded ≡ b.encoded = parents_encoded b c chosen.added in
-      elim (below_or_not a.encoded (length a.parents.keys)) [
-        | inl below ↦ inl (omega arith, small)
-        | inr past ↦ inr (inr (past, waits))
-      ]
-
--- so it does where cases became clauses
+-- the turn goes further where cases became clauses
 pub fires_goes : {N S : Type 0} (a b c : Encoder N S) → AddsParents a b → FiresMore b c → GoesFurther a c
 fires_goes a b c adds fires =
     let long : length a.fired.keys ≤ length b.fired.keys = front_long a.fired.keys b.fired.keys adds.fired in
     let more : length b.fired.keys < length c.fired.keys = fires.more in
     inr (inl (record { more = omega arith; bounded = fires.bounded }))
+
+-- so it does where a parent waits, since none did
+pub finds_goes : {N S : Type 0} (a b c : Encoder N S) → AddsAll a b → AddsNeeds b c → FindsMore b c → GoesFurther a c
+finds_goes a b c all adds (inl (waits, small)) =
+    let long : length a.parents.keys ≤ length b.parents.keys = front_long a.parents.keys b.parents.keys all.adds.parents in
+    let whole : b.encoded ≡ length b.parents.keys = all.all in
+    let stays : c.encoded ≡ b.encoded = adds.encoded in
+    elim (below_or_not a.encoded (length a.parents.keys)) [
+      | inl below ↦ inl (omega arith, small)
+      | inr past ↦ inr (inr (past, waits))
+    ]
+finds_goes a b c all adds (inr fires) = fires_goes a b c all.adds fires
+
+-- what is found after a first look is found
+pub finds_then : {N S : Type 0} (a b c : Encoder N S) → AddsNeeds a b → FindsMore b c → FindsMore a c
+finds_then a b c adds (inl waits) = inl waits
+finds_then a b c adds (inr fires) =
+    let long : length a.fired.keys ≤ length b.fired.keys = front_long a.fired.keys b.fired.keys adds.fired in
+    let more : length b.fired.keys < length c.fired.keys = fires.more in
+    inr (record { more = omega arith; bounded = fires.bounded })
+
+-- a parent that stands at the place of the next one waits
+pub next_waits : {N S : Type 0} (a b : Encoder N S) → is_some (slice_get b.parents.keys b.encoded) ≡ true → b.encoded < 18446744073709551616 → FindsMore a b
+next_waits a b some small =
+    let (x, at) = some_is (slice_get b.parents.keys b.encoded) some in
+    inl (slice_get_within b.parents.keys b.encoded x at, small)
+
+-- where parents more came before, the chosen are among them
+pub chosen_then : {N S : Type 0} (a b c : Encoder N S) → AddsParent a b → AddsChosen b c → AddsChosen a c
+chosen_then a b c added chosen = record { added = parents_then a b c added chosen.added; chosen = chosen.chosen }
+
+-- and where nothing changed, nothing is left still
+pub none_same : {N S : Type 0} (same : S → S → Bool) (a b c : Encoder N S) → AddsChosen a b → is_some (slice_get b.parents.keys b.encoded) ≡ false → c ≡ b → AreSpent same c → FindsNone same a c
+none_same {N} {S} same a b c chosen none is spent = record {
+  chosen = subst (λ (x : Encoder N S). AddsChosen a x) (sym is) chosen;
+  none = subst (λ (x : Encoder N S). slice_get x.parents.keys x.encoded ≡ None) (sym is) (none_is (slice_get b.parents.keys b.encoded) none);
+  spent = spent;
+}
 
 one_at_most : (b : Bool) → cond b 0 1 ≤ 1
 one_at_most true = omega arith
@@ -154,10 +179,6 @@ fewer_left a b adds goes =
           let y : 1 ≤ cond (nat_lt a.encoded (length a.parents.keys)) 0 1 = one_left (nat_lt a.encoded (length a.parents.keys)) (le-ltb a.encoded (length a.parents.keys) none) in
           omega arith)
     ]
-
--- a turn that has ended where nothing changed since
-pub ended_same : {N S : Type 0} (same : S → S → Bool) (wish : Option VariableId) (c d : Encoder N S) → d ≡ c → AreSpent same d → (AreSpent same c → IsTurn same wish c None) → IsTurn same wish d None
-ended_same {N} {S} same wish c d is spent ends = subst (λ (x : Encoder N S). IsTurn same wish x None) (sym is) (ends (subst (λ (x : Encoder N S). AreSpent same x) is spent))
 
 -- ---- the turn's wish
 

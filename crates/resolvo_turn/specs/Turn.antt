@@ -80,3 +80,13 @@ abbrev pub IsRound : {N S : Type 0} → (S → S → Bool) → Option VariableId
 IsRound same wish old new Goes = GoesFurther old new
 IsRound same wish old new Whole = IsTurn same wish new None
 IsRound same wish old new (Refused r) = IsTurn same wish new (Some r)
+
+-- a parent waits, or cases more became clauses
+abbrev pub FindsMore : {N S : Type 0} → Encoder N S → Encoder N S → Type 0
+FindsMore old new = (IsWaiting new × (new.encoded < 18446744073709551616)) ⊎ FiresMore old new
+
+-- the chosen solvables are among the parents, none of these waits, and no case that waits holds
+pub record FindsNone {N S : Type 0} (same : S → S → Bool) (old new : Encoder N S) : Type 0 where
+  pub chosen : AddsChosen old new
+  pub none : slice_get new.parents.keys new.encoded ≡ None
+  pub spent : AreSpent same new

@@ -8,6 +8,7 @@ ghost use Rattle.resolvo_encoder.specs.Steps.{IsBuilt};
 ghost use Rattle.resolvo_encoder.specs.Progress.{GoesOn, IsDecision};
 ghost use Rattle.resolvo_turn.specs.Encoder.{IsInOrder};
 
+use crate::looked::Looked;
 use resolvo_decide::scores::Scores;
 use resolvo_encoder::decide::Step;
 use resolvo_encoder::encoder::Encoder;
@@ -77,6 +78,7 @@ pub fn decide<A: PackageSource, C: ScoreMap<A::NameId>>(
     encoding: &mut Encoder<A::NameId, A::SolvableId>,
     scores: &mut Scores<A::NameId, C>,
     activity: Activity,
+    looked: &mut Looked<A::NameId>,
 ) -> Result<Option<FinalConflict>, CacheFault<A::Cancel>>
     requires built { IsBuilt encoding.old }
     // After an answer.
@@ -100,6 +102,7 @@ pub fn decide<A: PackageSource, C: ScoreMap<A::NameId>>(
             Step::Refused(refusal) => return Ok(Some(refusal)),
             Step::Chosen => {}
             Step::Learnt(clause) => {
+                looked.go_back(encoding);
                 bump_activity(answers, &encoding.coding, clause, scores, activity)?;
             }
         }

@@ -229,3 +229,37 @@ pub fn fire_cases<A: PackageSource>(
     }
     Ok(has_fired)
 }
+
+/// States those of the cases at these places that wait and hold, in this order. Whether there was one; if there was none, nothing
+/// changed.
+pub fn fire_each<A: PackageSource>(
+    alloc: Global,
+    answers: &mut A,
+    encoding: &mut Encoder<A::NameId, A::SolvableId>,
+    places: &[usize],
+) -> Result<bool, CacheFault<A::Cancel>>
+    requires { IsBuilt encoding.old }
+    // Whatever the answer.
+    ensures same { answers.new ≡ answers.old }
+    // After an answer.
+    ensures stays { OnOk result
+        ((root : Rules)
+        → IsInOrder A.SolvableId.eq (A.packages answers.old) (A.orders answers.old) root
+        encoding.old
+        → IsInOrder A.SolvableId.eq (A.packages answers.old) (A.orders answers.old) root
+        encoding.new) }
+    ensures kept { OnOk result (AddsNeeds encoding.old encoding.new) }
+    ensures fires { IfOk result (λ b. b ≡ true → FiresMore encoding.old encoding.new) }
+    ensures unchanged { IfOk result (λ b. b ≡ false → encoding.new ≡ encoding.old) }
+    ensures built { OnOk result (IsBuilt encoding.new) }
+    // After a refusal.
+    ensures cancelled { IfErr result (IsCancelledBy (A.may_cancel answers.old)) }
+{
+    let mut has_fired = false;
+    for place in places {
+        if fire_if_due(alloc, answers, encoding, *place)? {
+            has_fired = true;
+        }
+    }
+    Ok(has_fired)
+}

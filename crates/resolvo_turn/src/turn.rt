@@ -9,11 +9,12 @@ ghost use Rattle.resolvo_encoder.specs.Steps.{IsBuilt, AddsParent};
 ghost use Rattle.resolvo_encoder.specs.Encoded.{IsEncoding};
 ghost use Rattle.resolvo_encoder.specs.Progress.{GoesOn};
 ghost use Rattle.resolvo_turn.specs.Encoder.{IsInOrder, IsRoot, AddsNeeds, AddsParents, AddsAll};
-ghost use Rattle.resolvo_turn.specs.Turn.{AddsChosen, FiresMore, IsBegunBy, IsDecisionOf, IsRooted, IsRound, IsTurn};
+ghost use Rattle.resolvo_turn.specs.Turn.{AddsChosen, FiresMore, IsBegunBy, IsDecisionOf, IsRooted, IsRound, IsTurn, FindsMore, FindsNone};
 
 use crate::cdcl::{Activity, decide};
 use crate::encode::encode_parents;
-use crate::fire::fire_cases;
+use crate::fire::{fire_cases, fire_each};
+use crate::looked::{Looked, find_touched, note_all};
 use resolvo_decide::scores::Scores;
 use resolvo_encoder::encoder::Encoder;
 use resolvo_packages::package_source::PackageSource;
@@ -27,6 +28,14 @@ use resolvo_sat::state::SatState;
 use std::alloc::Global;
 use std::fmt::Debug;
 use std::hash::Hash;
+
+/// What a turn is for: what the root asks for, and the wish whose turn it is, if it isn't the root's.
+#[derive(Debug, Drop)]
+struct Aim<'a> {
+    requirements: &'a [ConditionalRequirement],
+    constraints: &'a [VersionSetId],
+    wish: Option<VariableId>,
+}
 
 /// Lets the needs of each chosen solvable be encoded in its turn, in the order of the trail.
 fn add_chosen<N: Copy + Exact + Hash + Debug, S: Copy + Exact + Hash + Debug>(
@@ -46,7 +55,8 @@ fn add_chosen<N: Copy + Exact + Hash + Debug, S: Copy + Exact + Hash + Debug>(
 /// Whether some clause from this number on has no literal that is true or open.
 fn is_any_broken(search: &SatState, from: usize) -> bool {
     let values = search.tracker.map();
-    search.clauses.iter().skip(from).any(|(_, clause)| {
+    let clauses = search.clauses.iter().rest;
+    clauses[from.min(clauses.len())..].iter().any(|clause| {
         clause
             .literals
             .iter()
@@ -58,6 +68,7 @@ fn is_any_broken(search: &SatState, from: usize) -> bool {
 fn undo_broken<N: Copy + Exact + Hash + Debug, S: Copy + Exact + Hash + Debug>(
     encoding: &mut Encoder<N, S>,
     from: usize,
+    looked: &mut Looked<N>,
 )
     requires { IsBuilt encoding.old }
     ensures stays { (p : Packages N S) (root : Rules)
@@ -70,6 +81,7 @@ fn undo_broken<N: Copy + Exact + Hash + Debug, S: Copy + Exact + Hash + Debug>(
 {
     if is_any_broken(&encoding.coding.search, from) {
         encoding.undo_turn();
+        looked.go_back(encoding);
     }
 }
 
@@ -80,6 +92,7 @@ fn encode<A: PackageSource>(
     encoding: &mut Encoder<A::NameId, A::SolvableId>,
     requirements: &[ConditionalRequirement],
     constraints: &[VersionSetId],
+    looked: &mut Looked<A::NameId>,
 ) -> Result<(), CacheFault<A::Cancel>>
     requires { IsBuilt encoding.old }
     // Whatever the answer.
@@ -100,7 +113,7 @@ fn encode<A: PackageSource>(
 {
     let before = encoding.coding.search.clauses.len();
     encode_parents(alloc, answers, encoding, requirements, constraints)?;
-    undo_broken(encoding, before);
+    undo_broken(encoding, before, looked);
     Ok(())
 }
 
@@ -110,6 +123,7 @@ fn fire<A: PackageSource>(
     alloc: Global,
     answers: &mut A,
     encoding: &mut Encoder<A::NameId, A::SolvableId>,
+    looked: &mut Looked<A::NameId>,
 ) -> Result<bool, CacheFault<A::Cancel>>
     requires { IsBuilt encoding.old }
     // Whatever the answer.
@@ -133,7 +147,8 @@ fn fire<A: PackageSource>(
     if !fire_cases(alloc, answers, encoding)? {
         return Ok(false);
     }
-    undo_broken(encoding, before);
+    note_all(alloc, answers, encoding, looked)?;
+    undo_broken(encoding, before, looked);
     Ok(true)
 }
 
@@ -170,6 +185,7 @@ fn choose_and_decide<A: PackageSource, C: ScoreMap<A::NameId>>(
     scores: &mut Scores<A::NameId, C>,
     activity: Activity,
     wish: Option<VariableId>,
+    looked: &mut Looked<A::NameId>,
 ) -> Result<Option<FinalConflict>, CacheFault<A::Cancel>>
     requires built { IsBuilt encoding.old }
     requires turn { HasTurn wish encoding.old }
@@ -190,7 +206,8 @@ fn choose_and_decide<A: PackageSource, C: ScoreMap<A::NameId>>(
     if let Some(refusal) = choose_first(alloc, encoding, wish)? {
         return Ok(Some(refusal));
     }
-    let refusal = decide(alloc, answers, encoding, scores, activity)?;
+    looked.go_back(encoding);
+    let refusal = decide(alloc, answers, encoding, scores, activity, looked)?;
     Ok(refusal)
 }
 
@@ -201,32 +218,160 @@ fn encode_and_decide<A: PackageSource, C: ScoreMap<A::NameId>>(
     encoding: &mut Encoder<A::NameId, A::SolvableId>,
     scores: &mut Scores<A::NameId, C>,
     activity: Activity,
-    requirements: &[ConditionalRequirement],
-    constraints: &[VersionSetId],
-    wish: Option<VariableId>,
+    aim: &Aim<'_>,
+    looked: &mut Looked<A::NameId>,
 ) -> Result<Option<FinalConflict>, CacheFault<A::Cancel>>
     requires built { IsBuilt encoding.old }
-    requires turn { HasTurn wish encoding.old }
+    requires turn { HasTurn aim.now.wish encoding.old }
     // Whatever the answer.
     ensures same { answers.new ≡ answers.old }
     // After an answer.
     ensures stays { OnOk result
         ((root : Rules)
-        → IsRoot requirements.now constraints.now root
+        → IsRoot aim.now.requirements.now aim.now.constraints.now root
         → IsInOrder A.SolvableId.eq (A.packages answers.old) (A.orders answers.old) root
         encoding.old
         → IsInOrder A.SolvableId.eq (A.packages answers.old) (A.orders answers.old) root
         encoding.new) }
     ensures all { OnOk result (AddsAll encoding.old encoding.new) }
-    ensures turn { OnOk result (KeepsTurn wish encoding.old encoding.new) }
-    ensures decided { IfOk result (IsDecisionOf wish encoding.new) }
+    ensures turn { OnOk result (KeepsTurn aim.now.wish encoding.old encoding.new) }
+    ensures decided { IfOk result (IsDecisionOf aim.now.wish encoding.new) }
     ensures built { OnOk result (IsBuilt encoding.new) }
     // After a refusal.
     ensures cancelled { IfErr result (IsCancelledBy (A.may_cancel answers.old)) }
 {
-    encode(alloc, answers, encoding, requirements, constraints)?;
-    let refusal = choose_and_decide(alloc, answers, encoding, scores, activity, wish)?;
+    encode(
+        alloc,
+        answers,
+        encoding,
+        aim.requirements,
+        aim.constraints,
+        looked,
+    )?;
+    let refusal = choose_and_decide(alloc, answers, encoding, scores, activity, aim.wish, looked)?;
     Ok(refusal)
+}
+
+/// Lets the needs of each solvable that was chosen since the trail was looked at be encoded in its turn; cases that name its
+/// package may hold.
+fn add_new_chosen<A: PackageSource>(
+    alloc: Global,
+    answers: &A,
+    encoding: &mut Encoder<A::NameId, A::SolvableId>,
+    looked: &mut Looked<A::NameId>,
+) -> R<()>
+    ensures { OnOk result (AddsParent encoding.old encoding.new) }
+{
+    let chosen = looked.new_chosen(alloc, encoding)?;
+    for solvable in &chosen {
+        encoding.add_parent(*solvable)?;
+        looked.touch(answers.package(*solvable))?;
+    }
+    Ok(())
+}
+
+/// States the cases that hold by what was chosen since they were looked at, once each was. Whether there was one; if there was
+/// none, nothing changed. Where a clause that came is broken by choices, these are taken away.
+fn fire_touched<A: PackageSource>(
+    alloc: Global,
+    answers: &mut A,
+    encoding: &mut Encoder<A::NameId, A::SolvableId>,
+    looked: &mut Looked<A::NameId>,
+) -> Result<bool, CacheFault<A::Cancel>>
+    requires { IsBuilt encoding.old }
+    // Whatever the answer.
+    ensures same { answers.new ≡ answers.old }
+    // After an answer.
+    ensures stays { OnOk result
+        ((root : Rules)
+        → IsInOrder A.SolvableId.eq (A.packages answers.old) (A.orders answers.old) root
+        encoding.old
+        → IsInOrder A.SolvableId.eq (A.packages answers.old) (A.orders answers.old) root
+        encoding.new) }
+    ensures adds { OnOk result (AddsNeeds encoding.old encoding.new) }
+    ensures fires { IfOk result (λ b. b ≡ true → FiresMore encoding.old encoding.new) }
+    ensures unchanged { IfOk result (λ b. b ≡ false → encoding.new ≡ encoding.old) }
+    ensures built { OnOk result (IsBuilt encoding.new) }
+    // After a refusal.
+    ensures cancelled { IfErr result (IsCancelledBy (A.may_cancel answers.old)) }
+{
+    if !looked.is_begun() {
+        return Ok(false);
+    }
+    find_touched(alloc, answers, encoding, looked)?;
+    let before = encoding.coding.search.clauses.len();
+    let has_fired = fire_each(alloc, answers, encoding, looked.touched())?;
+    looked.end_touched();
+    if !has_fired {
+        return Ok(false);
+    }
+    undo_broken(encoding, before, looked);
+    Ok(true)
+}
+
+/// Looks at what was chosen since the trail was looked at. Whether a parent waits then, or a case became a clause.
+fn look_at_new<A: PackageSource>(
+    alloc: Global,
+    answers: &mut A,
+    encoding: &mut Encoder<A::NameId, A::SolvableId>,
+    looked: &mut Looked<A::NameId>,
+) -> Result<bool, CacheFault<A::Cancel>>
+    requires { IsBuilt encoding.old }
+    // Whatever the answer.
+    ensures same { answers.new ≡ answers.old }
+    // After an answer.
+    ensures stays { OnOk result
+        ((root : Rules)
+        → IsInOrder A.SolvableId.eq (A.packages answers.old) (A.orders answers.old) root
+        encoding.old
+        → IsInOrder A.SolvableId.eq (A.packages answers.old) (A.orders answers.old) root
+        encoding.new) }
+    ensures adds { OnOk result (AddsNeeds encoding.old encoding.new) }
+    ensures more { IfOk result (λ b. b ≡ true → FindsMore encoding.old encoding.new) }
+    ensures none { IfOk result (λ b. b ≡ false → AddsParent encoding.old encoding.new) }
+    ensures built { OnOk result (IsBuilt encoding.new) }
+    // After a refusal.
+    ensures cancelled { IfErr result (IsCancelledBy (A.may_cancel answers.old)) }
+{
+    add_new_chosen(alloc, answers, encoding, looked)?;
+    if encoding.next_parent().is_some() {
+        return Ok(true);
+    }
+    let has_fired = fire_touched(alloc, answers, encoding, looked)?;
+    Ok(has_fired)
+}
+
+/// Looks at all that is chosen, and at all cases that wait. Whether a parent waits then, or a case became a clause.
+fn look_at_all<A: PackageSource>(
+    alloc: Global,
+    answers: &mut A,
+    encoding: &mut Encoder<A::NameId, A::SolvableId>,
+    looked: &mut Looked<A::NameId>,
+) -> Result<bool, CacheFault<A::Cancel>>
+    requires { IsBuilt encoding.old }
+    // Whatever the answer.
+    ensures same { answers.new ≡ answers.old }
+    // After an answer.
+    ensures stays { OnOk result
+        ((root : Rules)
+        → IsInOrder A.SolvableId.eq (A.packages answers.old) (A.orders answers.old) root
+        encoding.old
+        → IsInOrder A.SolvableId.eq (A.packages answers.old) (A.orders answers.old) root
+        encoding.new) }
+    ensures adds { OnOk result (AddsNeeds encoding.old encoding.new) }
+    ensures more { IfOk result (λ b. b ≡ true → FindsMore encoding.old encoding.new) }
+    ensures none { IfOk result
+        (λ b. b ≡ false → FindsNone A.SolvableId.eq encoding.old encoding.new) }
+    ensures built { OnOk result (IsBuilt encoding.new) }
+    // After a refusal.
+    ensures cancelled { IfErr result (IsCancelledBy (A.may_cancel answers.old)) }
+{
+    add_chosen(alloc, encoding)?;
+    if encoding.next_parent().is_some() {
+        return Ok(true);
+    }
+    let has_fired = fire(alloc, answers, encoding, looked)?;
+    Ok(has_fired)
 }
 
 /// What a round came to.
@@ -248,48 +393,39 @@ fn run_round<A: PackageSource, C: ScoreMap<A::NameId>>(
     encoding: &mut Encoder<A::NameId, A::SolvableId>,
     scores: &mut Scores<A::NameId, C>,
     activity: Activity,
-    requirements: &[ConditionalRequirement],
-    constraints: &[VersionSetId],
-    wish: Option<VariableId>,
+    aim: &Aim<'_>,
+    looked: &mut Looked<A::NameId>,
 ) -> Result<Round, CacheFault<A::Cancel>>
     requires built { IsBuilt encoding.old }
     requires rooted { IsRooted encoding.old }
-    requires turn { HasTurn wish encoding.old }
+    requires turn { HasTurn aim.now.wish encoding.old }
     // Whatever the answer.
     ensures same { answers.new ≡ answers.old }
     // After an answer.
     ensures stays { OnOk result
         ((root : Rules)
-        → IsRoot requirements.now constraints.now root
+        → IsRoot aim.now.requirements.now aim.now.constraints.now root
         → IsInOrder A.SolvableId.eq (A.packages answers.old) (A.orders answers.old) root
         encoding.old
         → IsInOrder A.SolvableId.eq (A.packages answers.old) (A.orders answers.old) root
         encoding.new) }
     ensures adds { OnOk result (AddsParents encoding.old encoding.new) }
-    ensures turn { OnOk result (KeepsTurn wish encoding.old encoding.new) }
-    ensures round { IfOk result (IsRound A.SolvableId.eq wish encoding.old encoding.new) }
+    ensures turn { OnOk result (KeepsTurn aim.now.wish encoding.old encoding.new) }
+    ensures round { IfOk result (IsRound A.SolvableId.eq aim.now.wish encoding.old encoding.new) }
     ensures built { OnOk result (IsBuilt encoding.new) }
     // After a refusal.
     ensures cancelled { IfErr result (IsCancelledBy (A.may_cancel answers.old)) }
 {
-    let decided = encode_and_decide(
-        alloc,
-        answers,
-        encoding,
-        scores,
-        activity,
-        requirements,
-        constraints,
-        wish,
-    )?;
+    let decided = encode_and_decide(alloc, answers, encoding, scores, activity, aim, looked)?;
     if let Some(refusal) = decided {
         return Ok(Round::Refused(refusal));
     }
-    add_chosen(alloc, encoding)?;
-    if encoding.next_parent().is_some() {
+    let has_new = look_at_new(alloc, answers, encoding, looked)?;
+    if has_new {
         return Ok(Round::Goes);
     }
-    if fire(alloc, answers, encoding)? {
+    let has_more = look_at_all(alloc, answers, encoding, looked)?;
+    if has_more {
         Ok(Round::Goes)
     } else {
         Ok(Round::Whole)
@@ -327,6 +463,12 @@ pub fn run_turn<A: PackageSource, C: ScoreMap<A::NameId>>(
     // After a refusal.
     ensures cancelled { IfErr result (IsCancelledBy (A.may_cancel answers.old)) }
 {
+    let aim = Aim {
+        requirements,
+        constraints,
+        wish,
+    };
+    let mut looked = Looked::begin(alloc, encoding.coding.search.tracker.stack().len());
     loop {
         match run_round(
             alloc,
@@ -334,9 +476,8 @@ pub fn run_turn<A: PackageSource, C: ScoreMap<A::NameId>>(
             encoding,
             scores,
             activity,
-            requirements,
-            constraints,
-            wish,
+            &aim,
+            &mut looked,
         )? {
             Round::Goes => {}
             Round::Whole => return Ok(None),

@@ -1,0 +1,92 @@
+//! What a clause has to decide, by one walk over its candidates.
+ghost use Rattle.std.specs.Prelude.{◌≡◌, cond, None};
+ghost use Rattle.std.specs.Option.{option_map};
+ghost use Rattle.std.specs.List.{find, count_by, list_any, list_all};
+ghost use Rattle.resolvo_store_core.specs.Signed.{value_under, is_false, is_true, is_open};
+ghost use Rattle.resolvo_store_core.specs.Values.{value_at};
+ghost use Rattle.resolvo_store_core.specs.Pick.{is_eligible, offer};
+
+use resolvo_pool_core::id_map::ScoreMap;
+use resolvo_store_core::decide_queue::{NeedClause, NextDecision};
+use resolvo_store_core::decision_map::DecisionMap;
+use resolvo_store_core::lists::{Candidate, FixedLists};
+use resolvo_store_core::literal::Literal;
+
+/// What a clause has to decide, if it is eligible.
+pub(crate) fn offered<N: Copy + Eq, C: ScoreMap<N>>(
+    need: &NeedClause,
+    lists: &FixedLists<N>,
+    values: &DecisionMap,
+    scores: &C,
+) -> Option<NextDecision>
+where
+    N: Drop,
+    ensures { result ≡ offer lists.now (value_at values.now) (C.score_of scores.now) need.now }
+{
+    if !is_needed(need, lists, values) {
+        return None;
+    }
+    let candidates = lists.candidates(need.requirement)?;
+    let (candidate, candidate_count) = undecided(candidates, values)?;
+    Some(NextDecision {
+        candidate: candidate.literal.variable(),
+        required_by: need.parent,
+        clause_id: need.clause,
+        package_activity: scores.get(candidate.package),
+        candidate_count,
+    })
+}
+
+/// Whether the parent of a clause is true and its condition holds.
+fn is_needed<N: Copy>(need: &NeedClause, lists: &FixedLists<N>, values: &DecisionMap) -> bool
+where
+    N: Drop,
+    ensures { result ≡ is_eligible lists.now (value_at values.now) need.now }
+{
+    if values.value(need.parent) != Some(true) {
+        return false;
+    }
+    match lists.condition(need.condition) {
+        Some(literals) => are_false(literals, values),
+        None => true,
+    }
+}
+
+fn are_false(literals: &[Literal], values: &DecisionMap) -> bool
+    ensures { result ≡ list_all (λ l. is_false (value_under (value_at values.now) l)) literals.now }
+{
+    literals.iter().all(|literal| literal.is_false(values))
+}
+
+/// The first candidate that has no value, and how many have none; nothing where one is true.
+fn undecided<N: Copy>(
+    candidates: &[Candidate<N>],
+    values: &DecisionMap,
+) -> Option<(Candidate<N>, usize)>
+    ensures { result
+        ≡ cond (list_any (λ c. is_true (value_under (value_at values.now) c.literal)) candidates.now)
+        None
+        (option_map
+        (λ c.
+        (c, count_by (λ d. is_open (value_under (value_at values.now) d.literal)) candidates.now))
+        (find (λ c. is_open (value_under (value_at values.now) c.literal)) candidates.now)) }
+{
+    let mut first = None;
+    let mut count = 0;
+    for candidate in candidates {
+        match candidate.literal.eval(values) {
+            Some(true) => return None,
+            Some(false) => {}
+            None => {
+                if first.is_none() {
+                    first = Some(*candidate);
+                }
+                count += 1;
+            }
+        }
+    }
+    match first {
+        Some(candidate) => Some((candidate, count)),
+        None => None,
+    }
+}

@@ -1,0 +1,160 @@
+//! How far a turn has looked: a round looks at what came since. Nothing rests on it, since before a turn ends all is looked at.
+use indexmap::IndexSet;
+use resolvo_encoder::encoder::Encoder;
+use resolvo_packages::package_source::PackageSource;
+use resolvo_pool_core::id::Exact;
+use resolvo_pool_core::want::R;
+use std::alloc::Global;
+use std::fmt::Debug;
+use std::hash::Hash;
+
+/// How far the trail was looked at, and which cases that wait may hold by what was chosen since.
+pub struct Looked<N: Copy + Eq + Hash> {
+    /// So many first entries of the trail were looked at.
+    entries: usize,
+    /// The packages that the listed cases name.
+    names: IndexSet<N>,
+    /// The places of the listed cases that name each of them.
+    places: Vec<Vec<usize>>,
+    /// So many of the cases that wait are listed.
+    listed: usize,
+    /// The places of listed cases that may hold by what was chosen since they were looked at.
+    touched: Vec<usize>,
+    /// Whether each case was looked at once.
+    is_begun: bool,
+}
+
+// split for the prover: what owns one calls this drop, and doesn't drop each field at each exit
+impl<N: Copy + Eq + Hash> Drop for Looked<N> {
+    fn drop(self) {
+        let Looked {
+            entries: _,
+            names: _,
+            places: _,
+            listed: _,
+            touched: _,
+            is_begun: _,
+        } = self;
+    }
+}
+
+impl<N: Copy + Exact + Hash + Debug> Looked<N> {
+    /// Where so many entries stand before the turn, and no case was looked at in it.
+    pub(crate) fn begin(alloc: Global, entries: usize) -> Looked<N> {
+        Looked {
+            entries,
+            names: IndexSet::new(alloc),
+            places: Vec::new(alloc),
+            listed: 0,
+            touched: Vec::new(alloc),
+            is_begun: false,
+        }
+    }
+
+    /// Whether each case was looked at once.
+    pub(crate) fn is_begun(&self) -> bool {
+        self.is_begun
+    }
+
+    /// The places of the cases that may hold, in their order and each once, where they were found.
+    pub(crate) fn touched(&self) -> &[usize] {
+        self.touched.as_slice()
+    }
+
+    /// The cases that may hold were looked at.
+    pub(crate) fn end_touched(&mut self) {
+        self.touched.clear();
+    }
+
+    /// Entries were taken from the trail, and one came since at most.
+    pub(crate) fn go_back<S: Copy + Exact + Hash + Debug>(&mut self, encoding: &Encoder<N, S>) {
+        let end = encoding.coding.search.tracker.stack().len();
+        self.entries = self.entries.min(end.saturating_sub(1));
+    }
+
+    /// The solvables that were chosen since the trail was looked at, in its order. It has been looked at then.
+    pub(crate) fn new_chosen<S: Copy + Exact + Hash + Debug>(
+        &mut self,
+        alloc: Global,
+        encoding: &Encoder<N, S>,
+    ) -> R<Vec<S>> {
+        let trail = encoding.coding.search.tracker.stack();
+        let mut chosen = Vec::new(alloc);
+        let from = self.entries.min(trail.len());
+        for entry in &trail[from..] {
+            if entry.decision.value {
+                if let Some(solvable) = encoding.coding.solvable(entry.decision.variable) {
+                    chosen.push(solvable)?;
+                }
+            }
+        }
+        self.entries = trail.len();
+        Ok(chosen)
+    }
+
+    /// The cases that name this package may hold.
+    pub(crate) fn touch(&mut self, name: N) -> R<()> {
+        if let Some(index) = self.names.get_index_of(&name) {
+            if let Some(places) = self.places.get(index) {
+                self.touched.extend_from_slice(places.as_slice())?;
+            }
+        }
+        Ok(())
+    }
+
+    /// The case at this place names a package.
+    fn name(&mut self, alloc: Global, name: N, place: usize) -> R<()> {
+        let (index, is_new) = self.names.insert_full(name)?;
+        if is_new {
+            self.places.push(Vec::new(alloc))?;
+        }
+        if let Some(places) = self.places.get_mut(index) {
+            places.push(place)?;
+        }
+        Ok(())
+    }
+}
+
+/// All entries and all cases were looked at.
+pub(crate) fn note_all<A: PackageSource>(
+    alloc: Global,
+    answers: &A,
+    encoding: &Encoder<A::NameId, A::SolvableId>,
+    looked: &mut Looked<A::NameId>,
+) -> R<()> {
+    list(alloc, answers, encoding, looked)?;
+    looked.touched.clear();
+    looked.entries = encoding.coding.search.tracker.stack().len();
+    looked.is_begun = true;
+    Ok(())
+}
+
+/// Finds the cases that may hold by what was chosen since they were looked at, and those that came since.
+pub(crate) fn find_touched<A: PackageSource>(
+    alloc: Global,
+    answers: &A,
+    encoding: &Encoder<A::NameId, A::SolvableId>,
+    looked: &mut Looked<A::NameId>,
+) -> R<()> {
+    list(alloc, answers, encoding, looked)?;
+    looked.touched.sort_unstable();
+    looked.touched.dedup();
+    Ok(())
+}
+
+/// Lists the cases that came since, which may hold.
+fn list<A: PackageSource>(
+    alloc: Global,
+    answers: &A,
+    encoding: &Encoder<A::NameId, A::SolvableId>,
+    looked: &mut Looked<A::NameId>,
+) -> R<()> {
+    for place in looked.listed..encoding.deferred.len() {
+        for conjunct in &encoding.deferred[place].conjuncts {
+            looked.name(alloc, answers.set_package(conjunct.version_set()), place)?;
+        }
+        looked.touched.push(place)?;
+    }
+    looked.listed = encoding.deferred.len();
+    Ok(())
+}
