@@ -35,7 +35,8 @@ use Rattle.resolvo_state.specs.declared.atom.ProofAtom.TheVariants.{Solvable}
 use Rattle.resolvo_state.specs.declared.clause_kind.Stated.TheVariants as Says
 use Rattle.resolvo_state.specs.Atoms.{origin}
 use Rattle.resolvo_state.specs.declared.solver_state.SolverState.{SolverState}
-use Rattle.resolvo_state.proofs.Growth.{grows_same}
+use Rattle.resolvo_state.specs.SolverState.{IsCoding}
+use Rattle.resolvo_state.proofs.Growth.{grows_same, stands_in_range}
 use Rattle.resolvo_state.proofs.Origins.{count_is, means_solvable}
 use Rattle.resolvo_state.proofs.Positions.{front_same, front_long, get_last, get_old, get_push}
 use Rattle.resolvo_encoder.specs.Cases.{case_of, sets_case, IsMatching, IsSet, AreSets, IsCaseOf}
@@ -50,7 +51,7 @@ use Rattle.resolvo_encoder.specs.declared.encoder.Deferred.{Deferred}
 use Rattle.resolvo_encoder.specs.declared.encoder.Encoder.{Encoder}
 use Rattle.resolvo_encoder.proofs.BuildLemmas.{built_disjunction, built_in_range, built_states}
 use Rattle.resolvo_encoder.proofs.EnrollLemmas.{disjunction_keeps, fixes_keep, fixes_add, fixes_extend}
-use Rattle.resolvo_encoder.proofs.TellLemmas.{parent_variable_grows, parent_in_range}
+use Rattle.resolvo_encoder.proofs.TellLemmas.{parent_variable_grows}
 use Rattle.resolvo_encoder.proofs.NeedLemmas.{IsReady, need_keeps}
 use Rattle.resolvo_encoder.proofs.RequireLemmas.{each_of, parent_grows, guard_grows, extends_then, some_one}
 
@@ -193,6 +194,11 @@ module _ {N S : Type 0} (same : S → S → Bool) (exact : IsExact same) where
   ])
 
 -- ---- a case becomes a clause
+
+-- a parent's variable is there
+parent_in_range : {N S : Type 0} (c : SolverState N S) (parent : Option S) (v : VariableId) → IsCoding c → IsParentVariable c.atoms.keys parent v → v.0 < count_of c.search
+parent_in_range c None v coding is = let count = count_is c coding in let none : v.0 ≡ 0 = ap (λ (x : VariableId). x.0) is in omega (arith, count, none)
+parent_in_range c (Some s) v coding stands = stands_in_range c v (Solvable s) coding stands
 
 -- the literals of the case's clause have variables
 pub case_in_range : {N S : Type 0} (e : Encoder N S) (parent : Option S) (v : VariableId) (id : DenseId DisjunctionTag ℕ) (given : Disjunction) (ls : FixedLists N) (r : Requirement) → IsBuilt e → FixesDisjunction id.raw given e.lists ls → IsParentVariable e.coding.atoms.keys parent v

@@ -1,4 +1,3 @@
-pub mod ListLemmas
 pub mod PickLemmas
 pub mod CarryLemmas
 pub mod ConditionLemmas

@@ -1,6 +1,6 @@
 -- Rules become clauses that keep solvables out, one after another.
-use Rattle.std.proofs.Common.{◌≡◌, ◌<◌, ◌⊎◌, inl, inr, Bool, true, List, [], ◌∷◌, ◌++◌, map, Option, Some, None, refl, sym, ◌∙◌, ap, subst, arith, ℕ}
-use Rattle.resolvo_sat.specs.State.{history, count_of}
+use Rattle.std.proofs.Common.{◌≡◌, ◌<◌, ◌⊎◌, inl, inr, Bool, true, List, [], ◌∷◌, ◌++◌, map, length, Option, Some, None, refl, sym, ◌∙◌, ap, subst, arith, ℕ}
+use Rattle.resolvo_sat.specs.State.{history}
 use Rattle.resolvo_soundness.specs.SearchEnd.{IsWished}
 use Rattle.resolvo_soundness.specs.First.{IsFirstPick}
 use Rattle.std.specs.Prelude.{Contains}
@@ -12,6 +12,7 @@ use Rattle.resolvo_pool_core.specs.Text.{solvable_of}
 use Rattle.resolvo_pool_core.specs.RuleKeeping.{Packages, Rules, rules_for, is_outside, listing_for}
 use Rattle.resolvo_store_core.specs.Signed.{Signed}
 use Rattle.resolvo_store_core.specs.Clauses.{yes, no}
+use Rattle.resolvo_sat.specs.Steps.{AreInRange}
 use Rattle.resolvo_packages.specs.declared.package_source.Barred.{Barred}
 use Rattle.resolvo_packages.specs.declared.package_source.Offered.{Offered}
 use Rattle.resolvo_packages.specs.declared.package_source.Why.{Why}
@@ -29,11 +30,11 @@ use Rattle.resolvo_state.specs.declared.solver_state.SolverState.{SolverState}
 use Rattle.resolvo_state.specs.declared.clause_kind.Stated.{Stated}
 use Rattle.resolvo_state.specs.declared.clause_kind.Stated.TheVariants as Says
 use Rattle.resolvo_state.specs.Atoms.{origin, StandsFor}
-use Rattle.resolvo_state.specs.SolverState.{IsCoding, Gives}
+use Rattle.resolvo_state.specs.SolverState.{Gives}
 use Rattle.resolvo_state.specs.Registered.{IsRegistered}
 use Rattle.resolvo_state.specs.Statements.{rule_of}
-use Rattle.resolvo_state.proofs.Growth.{grows_same, rules_grow, stands_grow, stands_in_range}
-use Rattle.resolvo_state.proofs.Origins.{count_is, means_atom}
+use Rattle.resolvo_state.proofs.Growth.{grows_same, rules_grow, stands_grow}
+use Rattle.resolvo_state.proofs.Origins.{means_atom}
 use Rattle.resolvo_state.proofs.Positions.{front_same}
 use Rattle.resolvo_state.proofs.RegisterLemmas.{digits_more}
 use Rattle.resolvo_encoder.specs.declared.encoder.Encoder.{Encoder}
@@ -43,22 +44,20 @@ use Rattle.resolvo_encoder.specs.Encoded as E
 use Rattle.resolvo_encoder.specs.Steps.{IsBuilt, Extends}
 use Rattle.resolvo_encoder.specs.ClauseRules.{bar_of, IsRestraint, IsPair, StatesPair, Tells, bar_rules, limit_rules, out_rules}
 use Rattle.resolvo_encoder.proofs.BuildLemmas.{built_gives, built_rest, trail_on}
-use Rattle.resolvo_encoder.proofs.Denials.{Reads, pair_spells, one_spells, not_digit}
+use Rattle.resolvo_encoder.proofs.Denials.{Reads, pair_members, pair_spells, one_spells, not_digit}
 use Rattle.resolvo_encoder.proofs.NeedLemmas.{gives_keeps, clause_keeps}
 use Rattle.resolvo_encoder.proofs.RequireLemmas.{each_of, parent_grows, extends_same, extends_then}
 
--- a variable of the search fits a literal
-pub fits_literal : {N S : Type 0} (c : SolverState N S) (v : VariableId) → IsCoding c → v.0 < count_of c.search → v.0 < 2147483648
-fits_literal c v coding below = let small : count_of c.search < 2147483648 = coding.ready.state.small in omega arith
+-- the literals of a pair have variables
+pub pair_in_range : (count : ℕ) (a b : Signed) (literals : List Signed) → IsPair a b literals → a.variable.0 < count → b.variable.0 < count → AreInRange count literals
+pair_in_range count a b literals pair first second l h = elim (pair_members a b l literals pair h) [
+  | inl is ↦ subst (λ (x : Signed). x.variable.0 < count) is first
+  | inr is ↦ subst (λ (x : Signed). x.variable.0 < count) is second
+]
 
--- what a literal is, is in range
-pub literal_in_range : (count : ℕ) (l m : Signed) → l ≡ m → m.variable.0 < count → l.variable.0 < count
-literal_in_range count l m is below = subst (λ (y : Signed). y.variable.0 < count) (sym is) below
-
--- a parent's variable is there
-pub parent_in_range : {N S : Type 0} (c : SolverState N S) (parent : Option S) (v : VariableId) → IsCoding c → IsParentVariable c.atoms.keys parent v → v.0 < count_of c.search
-parent_in_range c None v coding is = let count = count_is c coding in let none : v.0 ≡ 0 = ap (λ (x : VariableId). x.0) is in omega (arith, count, none)
-parent_in_range c (Some s) v coding stands = stands_in_range c v (Solvable s) coding stands
+pub pair_long : (a b : Signed) (literals : List Signed) → IsPair a b literals → 0 < length literals
+pair_long a b literals (inl two) = subst (λ (x : List Signed). 0 < length x) (sym two) (omega arith)
+pair_long a b literals (inr (both, one)) = subst (λ (x : List Signed). 0 < length x) (sym one) (omega arith)
 
 -- the parent's variable stays its own
 pub parent_variable_grows : {N S : Type 0} (old new : Encoder N S) (parent : Option S) (v : VariableId) → Extends old new → IsParentVariable old.coding.atoms.keys parent v → IsParentVariable new.coding.atoms.keys parent v

@@ -49,7 +49,8 @@ impl<N: Copy + Exact + Hash + Debug + Drop, S: Copy + Exact + Hash + Debug> Enco
             name: one.name,
             solvable: one.solvable,
         };
-        self.state_pair(alloc, stated, first, Literal::new(second, false))
+        self.state_pair(alloc, stated, first, Literal::new(second, false))?;
+        Ok(())
     }
 
     /// States of each of these that one of its package is there.

@@ -18,7 +18,6 @@ ghost use Rattle.resolvo_soundness.specs.SearchEnd.{IsNeedEncoded};
 ghost use Rattle.resolvo_state.specs.declared.atom.ProofAtom.TheVariants.{Gate};
 ghost use Rattle.resolvo_state.specs.Atoms.{StandsFor};
 ghost use Rattle.resolvo_encoder.specs.Encoded.{rules_of, IsGuarded, IsEncoding};
-ghost use Rattle.resolvo_encoder.specs.declared.encoder.Encoder.{Encoder as Begun};
 ghost use Rattle.resolvo_state.specs.Statements.{rule_of};
 ghost use Rattle.resolvo_state.specs.SolverState.{IsBegun, IsCoding, LacksNumber};
 ghost use Rattle.resolvo_encoder.specs.Steps.{Fixes, StatesNeed, IsBuilt, Needs, Extends, NeedsDirectly, Opens, AddsCandidates, IsBegunEncoding, AddsParent, IsNextEncoded, LacksNumberFor};
@@ -123,21 +122,19 @@ impl<N: Copy + Eq + Hash, S: Copy + Eq + Hash> Drop for Encoder<N, S> {
     }
 }
 
-/// An encoding of these, which have just begun, and of nothing else, before the root is a parent.
+/// An encoding of these, which have just begun, and of nothing else.
 fn begun<N: Copy + Exact + Hash + Debug, S: Copy + Exact + Hash + Debug>(
     alloc: Global,
     coding: SolverState<N, S>,
     lists: FixedLists<N>,
     gates: RequirementMap<VariableId>,
+    parents: IndexSet<SolvableIdOrRoot<S>>,
 ) -> Encoder<N, S>
     requires coding { IsBegun coding }
     requires lists { IsEmpty lists }
     requires gates { (r : Requirement) → slot_of gates r ≡ None }
-    ensures none { result.parents.keys ≡ [] }
-    ensures begun { (e : Begun N S)
-        → e ≡ record result { parents = e.parents }
-        → e.parents.keys ≡ Root ∷ []
-        → IsBegunEncoding e }
+    requires parents { parents.keys ≡ Root ∷ [] }
+    ensures { IsBegunEncoding result }
 {
     Encoder {
         coding,
@@ -153,7 +150,7 @@ fn begun<N: Copy + Exact + Hash + Debug, S: Copy + Exact + Hash + Debug>(
             there: IndexSet::new(alloc),
             wishes: Vec::new(alloc),
         },
-        parents: IndexSet::new(alloc),
+        parents,
         encoded: 0,
         deferred: Vec::new(alloc),
         fired: IndexSet::new(alloc),
@@ -169,12 +166,12 @@ impl<N: Copy + Exact + Hash + Debug + Drop, S: Copy + Exact + Hash + Debug> Enco
         ensures built { IfOk result IsBuilt }
         ensures refusal { IsOkUnless result Memory }
     {
-        let coding = SolverState::begin(alloc)?;
-        let gates = RequirementMap::new(alloc)?;
+        let mut parents = IndexSet::new(alloc);
+        parents.insert(SolvableIdOrRoot::Root)?;
         let lists = FixedLists::new(alloc)?;
-        let mut encoder = begun(alloc, coding, lists, gates);
-        encoder.parents.insert(SolvableIdOrRoot::Root)?;
-        Ok(encoder)
+        let gates = RequirementMap::new(alloc)?;
+        let coding = SolverState::begin(alloc)?;
+        Ok(begun(alloc, coding, lists, gates, parents))
     }
 
     /// States that a parent needs one of the candidates that are offered for its requirement, which has
@@ -288,7 +285,8 @@ impl<N: Copy + Exact + Hash + Debug + Drop, S: Copy + Exact + Hash + Debug> Enco
             need,
             case: Vec::new(alloc),
         };
-        self.state_need(alloc, stated, variable, None, need.requirement)
+        self.state_need(alloc, stated, variable, None, need.requirement)?;
+        Ok(())
     }
 
     /// States that a variable is false, or a literal of the condition true, or one of the requirement's

@@ -62,7 +62,8 @@ impl<N: Copy + Exact + Hash + Debug + Drop, S: Copy + Exact + Hash + Debug> Enco
         requires { IsBuilt self.old }
         ensures { OnOk result (Tells S.eq (Rule.bars (Bar.word reason) solvable ∷ []) self.old self.new) }
     {
-        self.deny(alloc, solvable, Stated::Excluded { solvable, reason })
+        self.deny(alloc, solvable, Stated::Excluded { solvable, reason })?;
+        Ok(())
     }
 
     /// States that a parent's version set keeps out the candidates outside it. Where these are many, a variable
@@ -191,7 +192,8 @@ impl<N: Copy + Exact + Hash + Debug + Drop, S: Copy + Exact + Hash + Debug> Enco
         ensures ids { IsErrOf result Ids → LacksNumber self.new.coding }
     {
         let variable = self.give(ProofAtom::Solvable(solvable))?;
-        self.state_pair(alloc, stated, variable, Literal::new(variable, true))
+        self.state_pair(alloc, stated, variable, Literal::new(variable, true))?;
+        Ok(())
     }
 
     /// States that a parent's version set keeps a solvable out.
@@ -213,7 +215,8 @@ impl<N: Copy + Exact + Hash + Debug + Drop, S: Copy + Exact + Hash + Debug> Enco
             version_set,
             barred,
         };
-        self.state_pair(alloc, stated, first, Literal::new(second, true))
+        self.state_pair(alloc, stated, first, Literal::new(second, true))?;
+        Ok(())
     }
 
     /// States that a parent's version set keeps out whatever is outside it.
@@ -233,7 +236,8 @@ impl<N: Copy + Exact + Hash + Debug + Drop, S: Copy + Exact + Hash + Debug> Enco
             parent,
             version_set,
         };
-        self.state_pair(alloc, stated, first, Literal::new(second, true))
+        self.state_pair(alloc, stated, first, Literal::new(second, true))?;
+        Ok(())
     }
 
     /// States that a solvable is outside a version set.
@@ -248,7 +252,8 @@ impl<N: Copy + Exact + Hash + Debug + Drop, S: Copy + Exact + Hash + Debug> Enco
             version_set,
             solvable,
         };
-        self.state_pair(alloc, stated, first, Literal::new(second, false))
+        self.state_pair(alloc, stated, first, Literal::new(second, false))?;
+        Ok(())
     }
 
     /// The variable of the root, or of a solvable.
@@ -260,7 +265,10 @@ impl<N: Copy + Exact + Hash + Debug + Drop, S: Copy + Exact + Hash + Debug> Enco
     {
         match parent {
             None => Ok(VariableId::root()),
-            Some(solvable) => self.give(ProofAtom::Solvable(solvable)),
+            Some(solvable) => {
+                let variable = self.give(ProofAtom::Solvable(solvable))?;
+                Ok(variable)
+            }
         }
     }
 
@@ -271,7 +279,8 @@ impl<N: Copy + Exact + Hash + Debug + Drop, S: Copy + Exact + Hash + Debug> Enco
         ensures stands { IfOk result (λ v. StandsFor self.new.coding.atoms.keys v atom) }
         ensures ids { IsErrOf result Ids → LacksNumber self.new.coding }
     {
-        self.coding.variable(atom)
+        let variable = self.coding.variable(atom)?;
+        Ok(variable)
     }
 
     /// States a rule by the clause that the first is false, or the second literal true.

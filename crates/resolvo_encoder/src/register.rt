@@ -32,7 +32,8 @@ impl<N: Copy + Exact + Hash + Debug + Drop, S: Copy + Exact + Hash + Debug> Enco
         ensures ids { IsErrOf result Ids → LacksNumber self.new.coding }
     {
         self.admit(alloc, offered)?;
-        register_all(alloc, &mut self.registry, &mut self.coding, offered)
+        let given = register_all(alloc, &mut self.registry, &mut self.coding, offered)?;
+        Ok(given)
     }
 
     /// States of each of these whose package a case names that one of it is there.
@@ -66,8 +67,10 @@ impl<N: Copy + Exact + Hash + Debug + Drop, S: Copy + Exact + Hash + Debug> Enco
         ensures ids { IsErrOf result Ids → LacksNumber self.new.coding }
     {
         self.admit_one(alloc, wish)?;
-        self.registry
-            .register(&mut self.coding, wish.name, wish.solvable)
+        let variable = self
+            .registry
+            .register(&mut self.coding, wish.name, wish.solvable)?;
+        Ok(variable)
     }
 }
 

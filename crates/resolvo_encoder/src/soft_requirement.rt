@@ -59,7 +59,8 @@ impl<N: Copy + Exact + Hash + Debug + Drop, S: Copy + Exact + Hash + Debug> Enco
             return Ok(None);
         }
         self.undo_turn();
-        self.choose_or_refute(alloc, variable)
+        let refusal = self.choose_or_refute(alloc, variable)?;
+        Ok(refusal)
     }
 
     /// Chooses a wish that isn't true at the first level of its turn. Where it is false, this tells why.
@@ -108,7 +109,8 @@ impl<N: Copy + Exact + Hash + Debug + Drop, S: Copy + Exact + Hash + Debug> Enco
         // After a refusal.
         ensures ids { IsErrOf result Ids → LacksNumber self.new.coding }
     {
-        self.coding.bar(refusal)
+        let clause = self.coding.bar(refusal)?;
+        Ok(clause)
     }
 
     /// Registers a wish and notes it as the last one. Gives its variable.

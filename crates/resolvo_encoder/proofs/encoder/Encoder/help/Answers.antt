@@ -5,9 +5,6 @@ use Rattle.resolvo_store_core.specs.declared.lists.Candidate.{Candidate}
 use Rattle.resolvo_soundness.specs.Encoding.{IsExact}
 use Rattle.resolvo_encoder.specs.Steps.{Enrols}
 use Rattle.resolvo_encoder.proofs.Helps.{set_helps}
-use Rattle.resolvo_state.specs.declared.atom.ProofAtom.TheVariants.{AtLeastOne}
-use Rattle.resolvo_state.proofs.Growth.{stands_in_range}
-use Rattle.resolvo_encoder.proofs.TellLemmas.{fits_literal}
 use Rattle.resolvo_encoder.proofs.encoder.Encoder.help.Goals as goal
 
 pub returns-clause-helped : goal.returns-clause-helped
@@ -17,8 +14,3 @@ returns-clause-helped g c =
     let literals = c.in_ok-literals.ensures.literals ∙ ap (λ (xs : List (Candidate _)). no c.in_ok-any.any ∷ candidate_literals xs) c.as_slice-2.ensures.value in
     set_helps g.S.PartialEq.eq exact c.args.set.now c.in_ok-any.any c.in_ok-candidates.candidates.items c.in_ok-literals.literals.items c.args.self.now c.help_package.new.self c.give.new.self c.register.new.self
     c.in_ok-help_package.ensures.helped c.in_ok-any.ensures.told c.in_ok-any.ensures.stands enrols literals
-
-pub none_or_outside-requires : goal.none_or_outside-requires
-none_or_outside-requires g c =
-    let coding = c.in_ok-any.ensures.told.built.coding in
-    fits_literal c.give.new.self.coding c.in_ok-any.any coding (stands_in_range c.give.new.self.coding c.in_ok-any.any (AtLeastOne c.args.set.now.name) coding c.in_ok-any.ensures.stands)

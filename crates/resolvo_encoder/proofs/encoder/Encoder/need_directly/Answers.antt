@@ -1,5 +1,4 @@
 use Rattle.std.proofs.Common.{None}
-use Rattle.std.proofs.lemmas.Result.{on_ok_weaker}
 use Rattle.resolvo_sat.specs.State.{count_of}
 use Rattle.resolvo_encoder.proofs.BuildLemmas.{built_in_range, none_in_range}
 use Rattle.resolvo_encoder.proofs.encoder.Encoder.need_directly.Goals as goal
@@ -8,4 +7,4 @@ pub state_need-requires-clause-in_range : goal.state_need-requires-clause-in_ran
 state_need-requires-clause-in_range g c = built_in_range c.args.self.now c.args.variable None c.args.need.requirement c.requires.built c.requires.in_range (none_in_range (count_of c.args.self.now.coding.search))
 
 pub returns-clause-needed : goal.returns-clause-needed
-returns-clause-needed g c = on_ok_weaker c.state_need.result (λ came. record { case = c.new.result; none = c.new.ensures.items; states = came }) c.state_need.ensures.stated
+returns-clause-needed g c = record { case = c.new.result; none = c.new.ensures.items; states = c.in_ok-state_need.ensures.stated }

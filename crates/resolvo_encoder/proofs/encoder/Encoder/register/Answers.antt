@@ -1,4 +1,3 @@
-use Rattle.std.proofs.lemmas.Result.{IfOk-weaker}
 use Rattle.resolvo_soundness.specs.Encoding.{IsExact}
 use Rattle.resolvo_encoder.proofs.EnrollLemmas.{enrols}
 use Rattle.resolvo_encoder.proofs.encoder.Encoder.register.Goals as goal
@@ -9,4 +8,4 @@ register_all-requires g c = record { coding = c.in_ok-admit.ensures.admitted.say
 pub returns-clause-enrolled : goal.returns-clause-enrolled
 returns-clause-enrolled g c =
     let exact : IsExact g.S.PartialEq.eq = record { one = g.met.S.Exact.exact; own = g.met.S.Eq.laws.refl } in
-    IfOk-weaker c.register_all.result _ _ (λ given registers. enrols g.S.PartialEq.eq exact c.args.offered.now given.items c.args.self.now c.admit.new.self c.register_all.new.registry c.register_all.new.coding c.in_ok-admit.ensures.admitted registers) c.register_all.ensures.registered
+    enrols g.S.PartialEq.eq exact c.args.offered.now c.in_ok-given.given.items c.args.self.now c.admit.new.self c.register_all.new.registry c.register_all.new.coding c.in_ok-admit.ensures.admitted c.in_ok-given.ensures.registered
