@@ -1,10 +1,12 @@
 #!/usr/bin/env python3
-"""Runs the crates' tests with each allocation refused in turn: a test then passes, or fails at an assertion or by its result.
+"""Runs the crates' tests with each allocation refused in turn: a test then passes, or fails at an assertion, for want of memory or by its result.
 
-Usage: checks/refusals_in_tests.py [MOST]   (MOST allocations of each test, default 400)
+Usage: checks/refusals_in_tests.py [MOST] [WORD]   (MOST allocations of each test, default 400; of the tests whose names have the word)
 Runs crates/*/out/*_tests, which `rt ci` and `rt test` leave; and crates/resolvo_store_rows/out/resolvo_store_rows, if it is there, over the
-lists of store calls that are written by hand: it then answers as they say, or ends for want of memory. Needs a C compiler, for refuse.c, which is preloaded.
-Status 1 where a test ended otherwise: by a bad access, an abort of its own, or not at all.
+lists of store calls that are written by hand: it then answers as they say, or ends for want of memory. Needs a C compiler, for refuse.c,
+which is preloaded. Status 1 where a test ended otherwise: by a bad access, an abort of its own, or not at all.
+`requests_are_answered` of resolvo_tests asks a solver again that lacked memory; it says `asked again` where that differs from a solver's
+usual answer, and then the status is 1 too.
 """
 import glob
 import os
@@ -17,8 +19,12 @@ import store_calls
 
 HERE = os.path.dirname(os.path.abspath(__file__))
 MOST = int(sys.argv[1]) if len(sys.argv) > 1 else 400
+WORD = sys.argv[2] if len(sys.argv) > 2 else ""
 ROWS = os.path.join(HERE, "../crates/resolvo_store_rows/out/resolvo_store_rows")
-FAILED = re.compile(rb"assertion .*failed|assertion failed|the test failed")
+FAILED = re.compile(rb"assertion .*failed|assertion failed|the test failed|: (Memory|AllocError)\n")
+WRONG = re.compile(rb"asked again")
+# a solver lacked memory, and then answered
+SOLVED = re.compile(rb"lacked memory")
 
 
 def run(library, words, number, given=b""):
@@ -35,15 +41,17 @@ def run(library, words, number, given=b""):
 
 
 def check(library, program, test):
-    faults, count = [], 0
+    faults, count, solved = [], 0, 0
     for number in range(1, MOST + 1):
         status, output, refused = run(library, [program, test], number)
-        if status != 0 and not (refused and FAILED.search(output)):
+        solved += SOLVED.search(output) is not None
+        if status != 0 and (not (refused and FAILED.search(output)) or WRONG.search(output)):
             faults.append(f"{test}: allocation {number} refused: status {status}, {output[-200:]!r}")
         if not refused:
             break
         count = number
-    print(f"{os.path.basename(program)} {test}: {count} refused in turn")
+    again = f", {solved} of them in a solver that then answered" if solved else ""
+    print(f"{os.path.basename(program)} {test}: {count} refused in turn{again}", flush=True)
     return faults
 
 
@@ -74,9 +82,9 @@ def main():
         for program in programs:
             listed = subprocess.run([program, "--list"], capture_output=True, text=True, check=True).stdout
             for line in listed.splitlines():
-                if line.endswith(": test"):
+                if line.endswith(": test") and WORD in line:
                     faults += check(library, program, line.removesuffix(": test"))
-        if os.path.exists(ROWS):
+        if os.path.exists(ROWS) and not WORD:
             for lines in store_calls.kept()[0]:
                 faults += check_list(library, ROWS, lines)
     print("\n".join(faults) if faults else "all as promised")

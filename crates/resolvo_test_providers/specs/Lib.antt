@@ -1,2 +1,2 @@
-pub mod Shelf
+pub mod Renamed
 pub mod Laws

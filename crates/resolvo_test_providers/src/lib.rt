@@ -1,5 +1,4 @@
-//! Sources of packages to try a solver with: one that cancels, and one whose ids are sparse.
+//! A source of packages to try a solver with.
 #![tactic(auto)]
 
-pub mod cancel_after;
-pub mod sparse_provider;
+pub mod test_provider;

@@ -1,12 +1,13 @@
-//! Generated catalogues and requests with lines of all forms but wishes: what the solver chooses keeps all lines, and it refuses only where no
-//! set does.
+//! Generated catalogues and requests with lines of all forms: what the solver chooses keeps all lines, with one version of a package at
+//! most, and it refuses only where no set does.
 
-use super::{catalogue, chosen, request};
-use resolvo_catalogue::provider::Hint;
+use super::{catalogue, request, solved};
+use resolvo::solver::{Solver, UnsolvableOrCancelled};
+use resolvo_catalogue::provider::{CatalogueProvider, Hint};
 use resolvo_catalogue_core::{Catalogue, Request, VersionNo};
-use resolvo_pool_core::want::R;
+use resolvo_pool_core::id::SolvableId;
 use std::alloc::Global;
-use std::test::Fail;
+use std::process::Abort;
 
 /// Whether the set keeps the rules, by the lines.
 fn keeps_by_lines(catalogue: &Catalogue, request: &Request, set: &[VersionNo]) -> bool {
@@ -46,7 +47,7 @@ static BELOW: [&str; 8] = [
     "exclude b 2 old\n",
 ];
 
-static ASKED: [&str; 10] = [
+static ASKED: [&str; 13] = [
     "needs a\n",
     "needs b 2 | c\n",
     "needs c\n",
@@ -57,6 +58,9 @@ static ASKED: [&str; 10] = [
     "limits a 1..3\n",
     "limits b 2\n",
     "needs b if a or c 1\n",
+    "wish a 3\n",
+    "wish b 1\n",
+    "wish c 3\n",
 ];
 
 static VERSIONS: [&str; 9] = [
@@ -71,121 +75,126 @@ static VERSIONS: [&str; 9] = [
     "version b 2\n",
 ];
 
+/// The versions of each package, by their numbers.
+static PACKAGES: [[u32; 3]; 3] = [[0, 6, 3], [4, 8, 1], [5, 2, 7]];
+
 /// The next of a row of numbers that looks random.
 fn next(seed: u32) -> u32 {
     seed.wrapping_mul(1_664_525).wrapping_add(1_013_904_223)
 }
 
 /// Adds each line whose bit is drawn, where `rare` draws in turn must fail.
-fn draw(text: &mut String, lines: &[&str], seed: u32, rare: u32) -> Result<u32, Fail> {
+fn draw(rt: &impl Abort, text: &mut String, lines: &[&str], seed: u32, rare: u32) -> u32 {
     let mut seed = seed;
     for line in lines {
         seed = next(seed);
         if (seed >> 16) % rare.max(1) == 0 {
-            text.push_str(line)?;
+            text.push_str(line).expect(rt, "room");
         }
     }
-    Ok(seed)
+    seed
 }
 
-/// The set that a number from 0 to 63 stands for: of each package none, or its first, second or third version.
-fn members(alloc: Global, number: u32) -> R<Vec<VersionNo>> {
-    let places = [[0u32, 6, 3], [4, 8, 1], [5, 2, 7]];
-    let mut set = Vec::new(alloc);
-    let mut rest = number;
-    for package in &places {
-        let version = rest % 4;
-        if let Some(place) = package.get((version as usize).wrapping_sub(1)) {
-            set.push(VersionNo(*place))?;
-        }
-        rest /= 4;
-    }
-    Ok(set)
-}
-
-/// Adds each version of the lines, with needs that are drawn.
-fn draw_versions(lines: &mut String, seed: u32) -> Result<u32, Fail> {
+/// A generated catalogue, and then a generated request.
+fn generated(rt: &impl Abort, seed: u32, listed: &mut String, asked: &mut String) {
+    let first = seed;
     let mut seed = seed;
     for version in &VERSIONS {
-        lines.push_str(version)?;
-        seed = draw(lines, &OWNED, seed, 8)?;
+        listed.push_str(version).expect(rt, "room");
+        seed = draw(rt, listed, &OWNED, seed, 8);
     }
-    Ok(seed)
+    draw(rt, listed, &BELOW, seed, 4);
+    draw(rt, asked, &ASKED, next(first), 4);
 }
 
-/// A generated catalogue.
-fn generated(alloc: Global, seed: u32) -> Result<String, Fail> {
-    let mut lines = String::new(alloc);
-    let seed = draw_versions(&mut lines, seed)?;
-    draw(&mut lines, &BELOW, seed, 4)?;
-    Ok(lines)
-}
-
-/// A generated request.
-fn wanted(alloc: Global, seed: u32) -> Result<String, Fail> {
-    let mut lines = String::new(alloc);
-    draw(&mut lines, &ASKED, seed, 4)?;
-    Ok(lines)
-}
-
-/// Whether the set of a number keeps all lines.
-fn keeps(alloc: Global, catalogue: &Catalogue, request: &Request, number: u32) -> R<bool> {
-    let set = members(alloc, number)?;
-    Ok(keeps_by_lines(catalogue, request, set.as_slice()))
-}
-
-/// Whether some set of at most one version of each package keeps all lines.
-fn any_keeps(alloc: Global, catalogue: &Catalogue, request: &Request) -> Result<bool, Fail> {
+/// Whether some set of at most one version of each package keeps all lines: of each package none, or its first, second or third version.
+fn any_keeps(rt: &impl Abort, alloc: Global, catalogue: &Catalogue, request: &Request) -> bool {
     for number in 0..64u32 {
-        if keeps(alloc, catalogue, request, number)? {
-            return Ok(true);
+        let mut set = Vec::new(alloc);
+        let mut rest = number;
+        for package in &PACKAGES {
+            if let Some(place) = package.get(((rest % 4) as usize).wrapping_sub(1)) {
+                set.push(VersionNo(*place)).expect(rt, "room");
+            }
+            rest /= 4;
+        }
+        if keeps_by_lines(catalogue, request, set.as_slice()) {
+            return true;
         }
     }
-    Ok(false)
+    false
 }
 
-/// Whether what is chosen keeps all lines, or none of the sets does where nothing is. Counts what is chosen.
-fn answer_agrees(
+/// How many of the set's versions are of the package.
+fn count_of(package: &[u32; 3], set: &[VersionNo]) -> usize {
+    set.iter()
+        .filter(|version| package.contains(&version.0))
+        .count()
+}
+
+/// Whether what is chosen keeps all lines, with at most one version of a package.
+fn is_right(
+    rt: &impl Abort,
     alloc: Global,
-    catalogue: &Catalogue,
-    request: &Request,
-    hint: Hint,
-    kept: &mut u32,
-) -> Result<bool, Fail> {
-    match chosen(alloc, catalogue, request, hint)? {
-        Some(set) => {
-            *kept = kept.saturating_add(1);
-            Ok(keeps_by_lines(catalogue, request, set.as_slice()))
-        }
-        None => Ok(!any_keeps(alloc, catalogue, request)?),
+    (catalogue, request): (&Catalogue, &Request),
+    (provider, chosen): (&CatalogueProvider, &[SolvableId]),
+) -> bool {
+    let mut set = Vec::new(alloc);
+    for one in chosen {
+        set.push(provider.version_of(*one)).expect(rt, "room");
     }
+    PACKAGES
+        .iter()
+        .all(|package| count_of(package, set.as_slice()) <= 1)
+        && keeps_by_lines(catalogue, request, set.as_slice())
 }
 
-/// The same of a generated request.
-fn request_agrees(
-    alloc: Global,
-    catalogue: &Catalogue,
-    seed: u32,
-    kept: &mut u32,
-) -> Result<bool, Fail> {
-    let text = wanted(alloc, next(seed))?;
-    let request = request(alloc, text.as_str(), catalogue)?;
+/// Whether the generated request can be solved over the generated catalogue; the solver says so too. A wish that a lock or an exclusion
+/// bars isn't asked for.
+fn is_solved(rt: &impl Abort, alloc: Global, seed: u32) -> bool {
+    let (mut listed, mut asked) = (String::new(alloc), String::new(alloc));
+    generated(rt, seed, &mut listed, &mut asked);
+    let catalogue = catalogue(rt, alloc, listed.as_str());
+    let request = request(rt, alloc, asked.as_str(), &catalogue);
     let hint = if seed % 2 == 0 { Hint::All } else { Hint::None };
-    answer_agrees(alloc, catalogue, &request, hint, kept)
-}
-
-/// The same of a generated catalogue and request.
-fn pair_agrees(alloc: Global, seed: u32, kept: &mut u32) -> Result<bool, Fail> {
-    let lines = generated(alloc, seed)?;
-    request_agrees(alloc, &catalogue(alloc, lines.as_str())?, seed, kept)
+    let mut provider = CatalogueProvider::new(alloc, &catalogue, hint).expect(rt, "a provider");
+    let root = provider.intern_request(&request).expect(rt, "ids");
+    let mut wishes = Vec::new(alloc);
+    for wish in &root.wishes {
+        if catalogue.barred(VersionNo(wish.into_raw())).is_none() {
+            wishes.push(*wish).expect(rt, "room");
+        }
+    }
+    let asked = (
+        root.requirements.as_slice(),
+        root.constraints.as_slice(),
+        wishes.as_slice(),
+    );
+    let mut solver = Solver::new(alloc, provider);
+    match solved(rt, alloc, &mut solver, asked) {
+        Ok(chosen) => {
+            let found = (solver.provider(), chosen.as_slice());
+            assert!(rt;
+                is_right(rt, alloc, (&catalogue, &request), found),
+                "pair {seed}"
+            );
+            true
+        }
+        Err(UnsolvableOrCancelled::Unsolvable(_)) => {
+            assert!(rt; !any_keeps(rt, alloc, &catalogue, &request), "pair {seed}");
+            false
+        }
+        Err(_) => panic!(rt; "pair {seed} is stopped"),
+    }
 }
 
 #[test]
-fn searches_agree_with_all_sets(rt: HostRuntime) -> Result<(), Fail> {
+fn searches_agree_with_all_sets(rt: HostRuntime) {
     let mut kept = 0u32;
     for seed in 0..400u32 {
-        assert!(rt; pair_agrees(rt.alloc(), seed, &mut kept)?, "pair {seed}");
+        if is_solved(&rt, rt.alloc(), seed) {
+            kept = kept.saturating_add(1);
+        }
     }
-    assert!(rt; kept > 100, "{kept} pairs have a solution");
-    Ok(())
+    assert!(rt; kept > 100 && kept < 300, "{kept} pairs have a solution");
 }
