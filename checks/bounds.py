@@ -15,7 +15,8 @@ import time
 HERE = os.path.dirname(os.path.abspath(__file__))
 TEXT, INPUT, REPORT = 1 << 24, 1 << 25, 1 << 30
 NAMED = b"refused\nrequest line 1\nstep 1 need request line 1 case 1\nstep 2 derive [] by 1\n"
-LINE = 1 << 28
+# well above a power of two: while the buffer of a line grows, the old and the new one are held, which is less than this line
+LINE = 7 << 25
 # of what is held beside a line there is no more than this
 BESIDE = 1 << 26
 
@@ -75,11 +76,14 @@ def message(path):
         file.write(NAMED + b"| " + b"x" * (LINE - 3) + b"\n")
 
 
+# begins the program from a small process: what this one holds would count as the program's own
+MEASURE = "import os, sys; child = os.spawnv(os.P_NOWAIT, sys.argv[1], sys.argv[1:]); print(os.wait4(child, 0)[2].ru_maxrss, file=sys.stderr)"
+
+
 def peak(program, arguments):
     """What is printed, and the most memory that was held, in bytes."""
-    child = subprocess.Popen([program, *arguments], stdout=subprocess.PIPE)
-    output = child.stdout.read()
-    return output, os.wait4(child.pid, 0)[2].ru_maxrss * 1024
+    ended = subprocess.run([sys.executable, "-S", "-c", MEASURE, program, *arguments], capture_output=True)
+    return ended.stdout, int(ended.stderr) * 1024
 
 
 def ask(program, arguments, given=b""):
