@@ -40,7 +40,9 @@ impl<N: Exact, S: Exact> Exact for ProofAtom<N, S> {
     ghost exact = { one_atom Self.eq
         (λ s t h. S.exact s t h)
         (λ m n h. N.exact m n h)
-        (λ q r h. one_requirement (λ a b. Self.eq (Gate a) (Gate b)) (λ v w e. eqb-true v.0 w.0 e) (λ v w e. eqb-true v.0 w.0 e) (λ v w. (refl, refl)) q r h)
+        (λ q r h.
+        one_requirement (λ a b. Self.eq (Gate a) (Gate b)) (λ v w e. eqb-true v.0 w.0 e)
+        (λ v w e. eqb-true v.0 w.0 e) (λ v w. (refl, refl)) q r h)
         (λ v w h. eqb-true v.0 w.0 h)
         (λ m n a b h. (N.exact m n (and_parts _ _ h).0, eqb-true a b (and_parts _ _ h).1))
         (λ s. (λ n. refl, λ r. refl, λ v. refl, λ n b. refl))
