@@ -82,7 +82,7 @@ module _ {N S : Type 0} (same : S → S → Bool) (exact : IsExact same) (p : Pa
     ])
   ]
 
-  -- the literal of a true entry denies its origin
+  -- the negation of a positive entry's literal denies its variable
   denied_entry : (l : Signed) (d : Entry) → literal_of d ≡ negation l → d.decision.value ≡ true → (literal_of d ≡ yes d.decision.variable) × (l ≡ no d.decision.variable)
   denied_entry l d is chosen =
       let truth : literal_of d ≡ yes d.decision.variable = (λ i. record { variable = d.decision.variable; positive = chosen i }) in
@@ -172,7 +172,7 @@ module _ {N S : Type 0} (same : S → S → Bool) (exact : IsExact same) (p : Pa
       nothing [] none l h = both_ways false refl h
       nothing (x ∷ xs) none l h = omega arith
 
--- the reasons make a clause that denies the soft requirement
+-- the clause that refuses a soft requirement is a denial
 pub blame_bars : {N S : Type 0} (e : Encoder N S) (v : VariableId) (literals : List Signed) (causes : List ClauseId) → IsBlamed e v literals causes → IsBar e.coding.search literals causes
 blame_bars e v literals causes blamed = record {
   derived = blamed.derived;

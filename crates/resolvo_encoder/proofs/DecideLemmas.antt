@@ -320,7 +320,7 @@ module _ {N S : Type 0} (same : S → S → Bool) (p : Packages N S) (root : Rul
   queue_asks q (Some (Says.IsThere n s)) at h t fell = absurd h
   queue_asks q (Some Says.Learnt) at h t fell = absurd h
 
-  -- each such requirement has a clause
+  -- a requirement of a chosen parent has a requires clause
   pub has_clause : (r : Requirement) → IsAsked same p (E.rules_of e) (known_of (origin e.coding.atoms.keys) (history e.coding.search)) r → HasClause same p (E.rules_of e) r
   has_clause r (inl k) = inl (k.parent, k.need, k.case, k.stands, k.asks)
   has_clause r (inr k) = inr k.stands

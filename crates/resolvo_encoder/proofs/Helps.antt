@@ -47,7 +47,7 @@ use Rattle.resolvo_encoder.proofs.NeedLemmas.{literal_in, in_literals}
 use Rattle.resolvo_encoder.proofs.RequireLemmas.{each_of, some_one, extends_then, extends_same, registered_before, registered_stays}
 use Rattle.resolvo_encoder.proofs.TellLemmas.{built_noted, helped_noted, there_noted}
 
--- `Extends` holds where only the records change
+-- `Extends` doesn't depend on `recorded`, except for its soft requirements
 pub extends_noted : {N S : Type 0} (old middle : Encoder N S) (x : EncodedOnce N S) → Extends old middle → x.wishes.items ≡ middle.noted.wishes.items → Extends old (record middle { noted = x })
 extends_noted old middle x h wishes = record { grows = h.grows; trail = record { tracker = h.trail.tracker }; wishes = wishes ∙ h.wishes; parents = h.parents; encoded = h.encoded; deferred = h.deferred; fired = h.fired }
 

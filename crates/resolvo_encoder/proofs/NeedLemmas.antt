@@ -425,7 +425,7 @@ module _ {N S : Type 0} (same : S → S → Bool) (exact : IsExact same) (p : Pa
   shared_ready e r who wanted vs w states h = absurd cc
 
   -- A clause that encodes a rule was added, with the rule's literals. None of these is a positive
-  -- literal of a solvable; the rule is no requirement and no digit.
+  -- literal of a solvable, and the rule isn't one of a requires clause or a digit.
   pub clause_keeps : (x : Stated N S) (rule : Rule N S) (literals : List Signed) (id : ClauseId) (old new : Encoder N S) → IsEncoding same p root old → rule_of x ≡ Some rule → IsRestraint rule → IsRule same p root rule
       → Spells (origin old.coding.atoms.keys) literals (literals_of same p rule) → States x literals id old.coding new.coding → SameButCoding old new → IsEncoding same p root new × E.rules_of new rule
   clause_keeps x rule literals id old new e states_rule denial is_rule spells states rest = (carried same exact p root old new e carries, (length old.coding.search.clauses, rule_here))
@@ -473,7 +473,7 @@ module _ {N S : Type 0} (same : S → S → Bool) (exact : IsExact same) (p : Pa
       carries = kept_carries same exact p root lawful old new e states.coding states.grows states.trail rest (λ n low high. subst (λ k. Came same exact p root new k) (sym (place n low high)) right) none
           (digits_more x old.coding new.coding states.stated (not_digit x rule states_rule denial))
 
-  -- a gate's requirement is one of a solvable that has it without condition
+  -- a requirement that some solvable has without condition may have a gate
   pub needed_asks : (s : S) (need : ConditionalRequirement) → Contains (rules_for same p root (Some s)).requirements need → need.condition ≡ None → asks (rules_of (p.dependencies_of s)).requirements need.requirement ≡ true
   needed_asks s need listed free =
       contained_any (λ (n : ConditionalRequirement). not (has_condition n.condition) && same_requirement need.requirement n.requirement) need (rules_of (p.dependencies_of s)).requirements listed

@@ -203,7 +203,7 @@ module _ {N S : Type 0} (old : Encoder N S) (c : SolverState N S) where
     learnt = λ n low high. (let long : length c.search.clauses ≡ length old.coding.search.clauses = ap (λ (cs : List SatClause). length cs) kept.clauses in absurd (omega arith));
   }
 
-  -- a clause of negative literals was added
+  -- the clause of a final conflict was added
   pub bar_goes : (denies : List Signed) (by : List ClauseId) (id : ClauseId) → IsCoding old.coding → Bars denies by id old.coding c → GoesOn old went
   bar_goes denies by id before bars = record {
     rest = step_rest;
@@ -244,7 +244,7 @@ module _ {N S : Type 0} (old : Encoder N S) (c : SolverState N S) where
         let goes = step_goes q e.coding step in
         stays same exact p root lawful old went e goes (positive_on same exact p root lawful old went e goes (step_from q step.progress)) (called_advances (IsChosenFor same p old) (IsChosenFor same p went) (chosen_grows old went goes.grows (λ r h. refl) refl same p) old.coding c q step e.called)
 
-    -- so does a clause of negative literals
+    -- so does the clause of a final conflict
     pub bar_keeps : (denies : List Signed) (by : List ClauseId) (id : ClauseId) → Bars denies by id old.coding c → AreFromClauses old.coding.search denies → IsEncoding same p root old → IsEncoding same p root went
     bar_keeps denies by id bars from e =
         let goes = bar_goes denies by id e.coding bars in

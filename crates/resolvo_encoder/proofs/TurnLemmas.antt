@@ -287,7 +287,7 @@ module _ {N S : Type 0} (same : S → S → Bool) (exact : IsExact same) (p : Pa
         | inr h ↦ absurd (both_ways _ (h p root lawful holds d at members chosen) (subst (λ x. case_holds same p members x ≡ true) (sym which) truth))
       ]
 
-  -- The turn has ended where the clauses are quiet, nothing is left to decide, the root and the
+  -- The turn has ended where the clauses are quiet and nothing is left to decide. The root and the
   -- chosen solvables are encoded, and no deferred case holds.
   pub turn_ended : IsEncoding same p root e → AreSpent same e → (values : ℕ → Option Bool) (score : N → ℕ) → AreValues values (made_true (history e.coding.search))
       → ((n : ℕ) → n < length e.coding.search.clauses → IsQuiet (made_true (history e.coding.search)) (clause_at (clauses_of e.coding.search) n)) → IsDecided e values score

@@ -1,5 +1,5 @@
-//! At-least-one clauses for the packages of conditions: where a registered solvable is chosen, so
-//! is some version of its package. The literals of a case are then false where it holds.
+//! At-least-one clauses for the packages of conditions: a chosen solvable makes its package's at-
+//! least-one variable true. The literals of a case are then false where it holds.
 ghost use Rattle.std.specs.Prelude.{◌≡◌, ◌<◌, ◌∷◌, [], OnOk, IfOk, IsErrOf, IsOkUnless};
 ghost use Rattle.resolvo_pool_core.specs.declared.want.Want.TheVariants.{Memory, Ids};
 ghost use Rattle.resolvo_store_core.specs.Clauses.{no, candidate_literals};

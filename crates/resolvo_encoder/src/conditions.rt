@@ -151,9 +151,8 @@ impl<N: Copy + Exact + Hash + Debug + Drop, S: Copy + Exact + Hash + Debug> Enco
         })
     }
 
-    /// Encodes a case: where each of its version sets has a chosen match, so has the requirement
-    /// among the offered candidates. It adds no clause where a version set excludes the parent
-    /// itself.
+    /// Encodes a case: if each of its version sets has a chosen match, one of the offered
+    /// candidates is chosen. Adds no clause where a version set excludes the parent itself.
     pub fn require_case(
         &mut self,
         alloc: Global,
