@@ -1,4 +1,4 @@
--- What stood before a turn.
+-- The trail before a turn.
 use Rattle.std.proofs.Common.{◌≡◌, ℕ, ◌+◌, ◌-◌, ◌<◌, ◌≤◌, ◌⊎◌, inl, inr, Bool, true, false, List, [], ◌∷◌, ◌++◌, reverse, Option, Some, None, refl, sym, ◌∙◌, ap, subst, arith, lt-ltb, le-ltb}
 use Rattle.std.specs.Prelude.{max, nat_lt, cond, Contains}
 use Rattle.std.proofs.lemmas.Bool.{both_ways}
@@ -46,7 +46,7 @@ pub below_all : (level : ℕ) (h : List Entry) → top_level h < level → below
 below_all level [] low = refl
 below_all level (e ∷ older) low = below_here level e older low
 
--- the trail goes on from it
+-- the trail extends it
 pub below_ends : (level : ℕ) (h : List Entry) → EndsWith (below level h) h
 below_ends level [] = ([], refl)
 below_ends level (e ∷ older) = elim (at_or_above e.level level) [
@@ -54,7 +54,7 @@ below_ends level (e ∷ older) = elim (at_or_above e.level level) [
   | inr high ↦ let (p, is) = below_ends level older in (e ∷ p, ap (λ (x : List Entry). e ∷ x) (is ∙ ap (λ (x : List Entry). p ++ x) (sym (below_further level e older high))))
 ]
 
--- what is left where the entries of the level and above are taken away
+-- the rest where the entries of the level and above are undone
 pub undone_below : (level : ℕ) (old new : List Entry) → IsUndone level old new → top_level new ≤ level → new ≡ below (level + 1) old
 undone_below level [] new u low = u
 undone_below level (e ∷ older) new (inl is) low =
@@ -62,7 +62,7 @@ undone_below level (e ∷ older) new (inl is) low =
     is ∙ sym (below_here (level + 1) e older (omega arith))
 undone_below level (e ∷ older) new (inr (high, u)) low = undone_below level older new u low ∙ sym (below_further (level + 1) e older (omega arith))
 
--- entries do not fall below a level that one before them reached
+-- levels don't fall below one that an earlier entry has
 pub above_choice : (count : ℕ) (cs : List (List Signed)) (level : ℕ) (q rest : List Entry) → IsTrail count cs (q ++ rest) → level ≤ top_level rest → level ≤ top_level (q ++ rest)
 above_choice count cs level [] rest t high = high
 above_choice count cs level (d ∷ q) rest t high =
@@ -77,7 +77,7 @@ below_choice count cs level (d ∷ q) e base t high low =
     let step : top_level (q ++ e ∷ base) ≤ d.level = (level_steps count cs d (q ++ e ∷ base) t.0).0 in
     below_further level d (q ++ e ∷ base) (omega arith) ∙ below_choice count cs level q e base t.1 high low
 
--- an entry below the level stands in the part below it
+-- an entry below the level is in the part below it
 pub stands_below_level : (level : ℕ) (h : List Entry) (d : Entry) (older : List Entry) → StandsOn h d older → d.level < level → StandsOn (below level h) d older
 stands_below_level level [] d older s low = absurd s
 stands_below_level level (e ∷ rest) d older s low = elim (at_or_above e.level level) [
@@ -91,10 +91,10 @@ stands_below_level level (e ∷ rest) d older s low = elim (at_or_above e.level 
 one_above : (base_level : ℕ) → 2 ≤ base_level → max (base_level - 1) 1 + 1 ≡ base_level
 one_above base_level two = omega arith
 
--- ---- a turn that goes on
+-- ---- a turn that continues
 
 module _ {N S : Type 0} where
-  -- the turn of a wish, told over another encoding with the same trail below the level
+  -- the turn of a soft requirement, over another encoding with the same trail below the level
   open_kept : (old new : Encoder N S) (v : VariableId) → IsOpen old v → IsWish new v → new.coding.search.base_level ≡ old.coding.search.base_level → base_of new ≡ base_of old → (has (made_true (history new.coding.search)) (yes v) ≡ true → IsFirst new v) → IsOpen new v
   open_kept old new v o wish base_level base first = record {
     wish = wish;
@@ -114,7 +114,7 @@ module _ {N S : Type 0} where
     wished = subst (λ (xs : List S). Contains xs w.solvable) (sym wishes) w.wished;
   }
 
-  -- where the trail stays
+  -- where the trail is unchanged
   pub same_turns : (old new : Encoder N S) → Grows old.coding new.coding → SameTrail old.coding new.coding → new.noted.wishes.items ≡ old.noted.wishes.items → KeepsTurns old new
   same_turns old new grows trail wishes None = λ first. grows.base_level ∙ first
   same_turns old new grows trail wishes (Some v) = λ o.
@@ -139,7 +139,7 @@ module _ {N S : Type 0} where
   turn_has None a b h k = k h
   turn_has (Some v) a b h k = (k h).0
 
-  -- entries since the turn began are taken away
+  -- the turn's entries are undone
   pub turn_undone : (old new : Encoder N S) → GoesOn old new → Undoes (max (old.coding.search.base_level - 1) 1) old.coding.search new.coding.search → KeepsTurns old new
   turn_undone old new goes undoes None = λ first. goes.grows.base_level ∙ first
   turn_undone old new goes undoes (Some v) = λ o.
@@ -153,7 +153,7 @@ module _ {N S : Type 0} where
         base,
       )
 
-  -- the wish is chosen at the turn's first level
+  -- the soft requirement is decided at the turn's first level
   pub turn_chosen : (old new : Encoder N S) (v : VariableId) (c : ClauseId) → GoesOn old new → Chooses v c old.coding.search new.coding.search → top_level (history old.coding.search) < old.coding.search.base_level → KeepsTurn (Some v) old new
   turn_chosen old new v c goes chosen low o =
       let whole : base_of old ≡ history old.coding.search = below_all old.coding.search.base_level (history old.coding.search) low in
@@ -165,7 +165,7 @@ module _ {N S : Type 0} where
         base,
       )
 
-  -- what the search sets, learns and chooses once the wish is chosen
+  -- a step of the search once the soft requirement is decided
   pub turn_decided : (old new : Encoder N S) (v : VariableId) → GoesOn old new → KeepsFirst old new → has (made_true (history old.coding.search)) (yes v) ≡ true → KeepsTurn (Some v) old new
   turn_decided old new v goes first known o =
       let (c, ends) = o.first known in
@@ -192,11 +192,11 @@ module _ {N S : Type 0} where
         base,
       )
 
-  -- a wish that is to be chosen isn't chosen
+  -- a soft requirement that is to be decided isn't true
   pub open_unchosen : (e : Encoder N S) (v : VariableId) → IsOpen e v → top_level (history e.coding.search) < e.coding.search.base_level → has (made_true (history e.coding.search)) (yes v) ≡ false
   open_unchosen e v o low = subst (λ (h : List Entry). has (made_true h) (yes v) ≡ false) (below_all e.coding.search.base_level (history e.coding.search) low) o.before
 
-  -- ---- what stood up to the turn's first level
+  -- ---- the trail up to the turn's first level
 
   pub first_same : (a : Encoder N S) → KeepsFirst a a
   first_same a = λ base low ends. ends

@@ -1,4 +1,5 @@
--- What a refused wish is blamed on, and that no rule-keeping set holds it with what was chosen before.
+-- The reasons of a refused soft requirement: no rule-keeping set has it beside the earlier
+-- decisions.
 use Rattle.std.proofs.Common.{◌≡◌, ℕ, zero, suc, ◌+◌, ◌<◌, ◌≤◌, ◌⊎◌, inl, inr, Bool, true, false, List, [], ◌∷◌, ◌++◌, length, map, Some, refl, sym, ◌∙◌, ap, subst, arith}
 use Rattle.std.specs.Prelude.{slice_get}
 use Rattle.std.proofs.lemmas.Bool.{both_ways}
@@ -53,7 +54,7 @@ zero_or_more : (n : ℕ) → (n ≡ 0) ⊎ (0 < n)
 zero_or_more zero = inl refl
 zero_or_more (suc n) = inr (omega arith)
 
--- ---- the only choice at the turn's first level
+-- ---- the only decision at the turn's first level
 
 choice_alone : (count : ℕ) (cs : List (List Signed)) (level : ℕ) (v : VariableId) (q : List Entry) (c : Entry) (base : List Entry) (d : Entry) (older : List Entry)
     → IsTrail count cs (q ++ c ∷ base) → c.level ≡ level → top_level base < level → literal_of c ≡ yes v → StandsOn (q ++ c ∷ base) d older → IsChoice d older → d.level ≡ level → literal_of d ≡ yes v
@@ -68,10 +69,10 @@ choice_alone count cs level v (x ∷ q) c base d older t high low is (inl (same,
     absurd (omega arith)
 choice_alone count cs level v (x ∷ q) c base d older t high low is (inr s) choice at = choice_alone count cs level v q c base d older t.1 high low is s choice at
 
--- ---- what a literal denies
+-- ---- the denied solvable of a literal
 
 module _ {N S : Type 0} (same : S → S → Bool) (exact : IsExact same) (p : Packages N S) (root : Rules) (e : Encoder N S) (holds : IsEncoding same p root e) where
-  -- a choice is of the root, or of a solvable
+  -- a decision is of the root, or of a solvable
   choice_solvable : (d : Entry) (older : List Entry) → StandsOn (history e.coding.search) d older → IsChoice d older → (d.decision.variable.0 ≡ 0) ⊎ ((s : S) × StandsFor e.coding.atoms.keys d.decision.variable (Solvable s))
   choice_solvable d older stands is = elim (zero_or_more d.decision.variable.0) [
     | inl zeroth ↦ inl zeroth
@@ -81,7 +82,7 @@ module _ {N S : Type 0} (same : S → S → Bool) (exact : IsExact same) (p : Pa
     ])
   ]
 
-  -- an entry that is true is what its literal denies
+  -- the negation of a positive entry's literal denies its variable
   denied_entry : (l : Signed) (d : Entry) → literal_of d ≡ negation l → d.decision.value ≡ true → (literal_of d ≡ yes d.decision.variable) × (l ≡ no d.decision.variable)
   denied_entry l d is chosen =
       let truth : literal_of d ≡ yes d.decision.variable = (λ i. record { variable = d.decision.variable; positive = chosen i }) in
@@ -95,7 +96,8 @@ module _ {N S : Type 0} (same : S → S → Bool) (exact : IsExact same) (p : Pa
       let (truth, denied) = denied_entry l d is chosen in
       (s, d.decision.variable, denied, named, subst (λ (x : Signed). has (made_true (base_of e)) x ≡ true) truth (known_from_stands (base_of e) (literal_of d) d.level (stands_from_entry (base_of e) d older there)))
 
-  -- a kept choice below the turn's first level is the root's, or of a solvable that was true before the turn
+  -- a kept decision below the turn's first level is the root's, or of a solvable that was true
+  -- before the turn
   denies_low : (l : Signed) (d : Entry) (older : List Entry) → StandsOn (history e.coding.search) d older → literal_of d ≡ negation l → IsKept e.coding.search d older → d.level < e.coding.search.base_level
       → (l ≡ no root_variable) ⊎ DeniesEarlier e l
   denies_low l d older stands is kept low = elim kept.begins [
@@ -108,7 +110,7 @@ module _ {N S : Type 0} (same : S → S → Bool) (exact : IsExact same) (p : Pa
     ]
   ]
 
-  -- what the turn of a chosen wish comes to where choices can't stand together
+  -- the final conflict of a decided soft requirement
   pub refusal_blames : (v : VariableId) (literals : List Signed) (causes : List ClauseId) → IsOpen e v → has (made_true (history e.coding.search)) (yes v) ≡ true → IsRefusal e.coding.search literals causes → IsBlamed e v literals causes
   refusal_blames v literals causes o known refusal = record { derived = refusal.derived; caused = refusal.caused; from = refusal.from; blame = blame }
     where
@@ -130,7 +132,7 @@ module _ {N S : Type 0} (same : S → S → Bool) (exact : IsExact same) (p : Pa
             ]
           ]
 
-  -- what a wish that is false before its turn comes to
+  -- the final conflict of a soft requirement that is false before its turn
   pub reason_blames : (v : VariableId) (literals : List Signed) (causes : List ClauseId) → top_level (history e.coding.search) < e.coding.search.base_level → IsReason e.coding.search (no v) literals causes → IsBlamed e v literals causes
   reason_blames v literals causes low reason = record { derived = reason.derived; caused = reason.caused; from = reason.from; blame = blame }
     where
@@ -142,7 +144,7 @@ module _ {N S : Type 0} (same : S → S → Bool) (exact : IsExact same) (p : Pa
             elim (denies_low l d older stands is kept (omega arith)) [ inl a ↦ inl a | inr a ↦ inr (inr a) ]
       ]
 
-  -- A rule-keeping set that holds what was true before the turn doesn't hold the wish.
+  -- A rule-keeping set with all that was true before the turn doesn't have the soft requirement.
   pub blame_refuses : (same_name : N → N → Bool) → IsExact same_name → (v : VariableId) (s : S) (literals : List Signed) (causes : List ClauseId) → IsBlamed e v literals causes → StandsFor e.coding.atoms.keys v (Solvable s)
       → (chosen : List S) → IsRuleKeeping same p root chosen → ((t : S) → IsTaken e t → is_in same p chosen t ≡ true) → is_in same p chosen s ≡ true → ⊥
   blame_refuses same_name names v s literals causes blamed stands chosen keeping taken held =
@@ -159,7 +161,7 @@ module _ {N S : Type 0} (same : S → S → Bool) (exact : IsExact same) (p : Pa
         | inr (inr (t, u, is, named, truth)) ↦ inr (t, denial l u t is named, taken t (u, named, truth))
       ]
 
-  -- A clause without literals leaves no rule-keeping set.
+  -- A clause without literals excludes each rule-keeping set.
   pub empty_refuses : (same_name : N → N → Bool) → IsExact same_name → (v : VariableId) (literals : List Signed) (causes : List ClauseId) → IsBlamed e v literals causes → length literals ≡ 0
       → (chosen : List S) → IsRuleKeeping same p root chosen → ⊥
   empty_refuses same_name names v literals causes blamed none chosen keeping =
@@ -170,7 +172,7 @@ module _ {N S : Type 0} (same : S → S → Bool) (exact : IsExact same) (p : Pa
       nothing [] none l h = both_ways false refl h
       nothing (x ∷ xs) none l h = omega arith
 
--- what it is blamed on bars it
+-- the clause that refuses a soft requirement is a denial
 pub blame_bars : {N S : Type 0} (e : Encoder N S) (v : VariableId) (literals : List Signed) (causes : List ClauseId) → IsBlamed e v literals causes → IsBar e.coding.search literals causes
 blame_bars e v literals causes blamed = record {
   derived = blamed.derived;

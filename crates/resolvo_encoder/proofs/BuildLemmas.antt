@@ -1,4 +1,4 @@
--- What the calls rest on stays, step by step.
+-- Each step keeps the precondition of the calls.
 use Rattle.std.proofs.Common.{◌≡◌, ℕ, ◌+◌, ◌<◌, ◌≤◌, inl, inr, Bool, false, [], ◌∷◌, ◌++◌, length, Option, Some, None, Vec, Global, refl, sym, ◌∙◌, ap, subst, arith, true}
 use Rattle.std.specs.Prelude.{Contains}
 use Rattle.resolvo_store_core.specs.Lists.{items_or_none}
@@ -47,7 +47,7 @@ use Rattle.resolvo_encoder.proofs.DecideLemmas.{picked, offers, for_listed, open
 use Rattle.resolvo_encoder.proofs.NeedLemmas.{literal_in}
 use Rattle.resolvo_encoder.proofs.RequireLemmas.{put_at, put_other, some_one}
 
--- where the trail stays, so does what was seen of it
+-- the scanned part of the trail is unchanged where the trail is
 pub trail_on : {N S : Type 0} (old new : SolverState N S) → SameTrail old new → IsFrontOf old.search.tracker.trail new.search.tracker.trail
 trail_on old new same = front_equal old.search.tracker.trail new.search.tracker.trail (ap (λ t. t.trail) same.tracker)
 
@@ -77,17 +77,17 @@ built_states x v condition r old new b other s = built_grows old new b s.states.
     (let q : NeedClause = record { parent = v; requirement = r; condition = condition; clause = s.number } in subst (λ qs. Fits (literals_in old.lists) new.needs qs) (sym s.queue) (fits_add (literals_in old.lists) q old.needs new.needs old.queue b.needs s.needs))
     (seen_same old new b s.states.trail s.needs.seen)
 
--- where a variable came, or nothing
+-- where a variable was added, or nothing
 pub built_gives : {N S : Type 0} (atom : ProofAtom N S) (v : VariableId) (old : Encoder N S) (c : SolverState N S) → IsBuilt old → Gives atom v old.coding c → IsBuilt (record old { coding = c })
 built_gives atom v old c b gives =
     let new : Encoder _ _ = record old { coding = c } in
     built_grows old new b gives.coding gives.grows refl refl refl refl refl (digits_same old.coding c gives.stated) b.needs (seen_same old new b gives.trail refl)
 
--- where entries were taken away, and what is known went back to those that stayed
+-- where entries were undone, and the states of requires clauses were reset to those left
 pub built_back : {N S : Type 0} (old : Encoder N S) (c : SolverState N S) (n : UndecidedClauses) → IsBuilt old → IsCoding c → Grows old.coding c → KeepsDigits old.coding c → KeepsFitting old.needs n → IsFrontOf n.seen.items c.search.tracker.trail → IsBuilt (record old { coding = c; needs = n })
 built_back old c n b coding grows digits fits seen = built_grows old (record old { coding = c; needs = n }) b coding grows refl refl refl refl refl digits (fits (literals_in old.lists) old.queue b.needs) seen
 
--- where a disjunction came
+-- where a disjunction was added
 pub built_disjunction : {N S : Type 0} (number : ℕ) (given : Disjunction) (old : Encoder N S) (ls : FixedLists N) → IsBuilt old → FixesDisjunction number given old.lists ls → IsBuilt (record old { lists = ls })
 built_disjunction number given old ls b f = record {
   coding = b.coding;
@@ -99,7 +99,7 @@ built_disjunction number given old ls b f = record {
   seen = b.seen;
 }
 
--- where a gate was noted
+-- where a gate was recorded
 pub built_gate : {N S : Type 0} (old new : Encoder N S) (r : Requirement) (v : VariableId) → IsBuilt old → StandsFor old.coding.atoms.keys v (Gate r) → PutsAt old.gates new.gates r v → new ≡ record old { gates = new.gates } → IsBuilt new
 built_gate {N} {S} old new r v b stands puts is = subst (λ (x : Encoder N S). IsBuilt x) (sym is) (record {
   coding = b.coding;
@@ -115,7 +115,7 @@ built_gate {N} {S} old new r v b stands puts is = subst (λ (x : Encoder N S). I
   seen = b.seen;
 })
 
--- where parents came
+-- where parents were added
 pub built_parents : {N S : Type 0} (old new : Encoder N S) → IsBuilt old → AddsParent old new → IsBuilt new
 built_parents {N} {S} old new b added = subst (λ (x : Encoder N S). IsBuilt x) (sym added.rest) (record {
   coding = b.coding;
@@ -127,11 +127,11 @@ built_parents {N} {S} old new b added = subst (λ (x : Encoder N S). IsBuilt x) 
   seen = b.seen;
 })
 
--- where the needs of the next parent were encoded
+-- where the requirements of the next parent were encoded
 pub built_next : {N S : Type 0} (e : Encoder N S) → IsBuilt e → e.encoded < length e.parents.keys → IsBuilt (record e { encoded = e.encoded + 1 })
 built_next e b below = record { coding = b.coding; tied = b.tied; candidates = b.candidates; gates = b.gates; within = omega arith; needs = b.needs; seen = b.seen }
 
--- where cases came that wait, or one fired
+-- where cases were deferred, or one fired
 pub built_defers : {N S : Type 0} (old new : Encoder N S) → IsBuilt old → Defers old new → IsBuilt new
 built_defers {N} {S} old new b d = subst (λ (x : Encoder N S). IsBuilt x) (sym d.rest) (record { coding = b.coding; tied = b.tied; candidates = b.candidates; gates = b.gates; within = b.within; needs = b.needs; seen = b.seen })
 
@@ -150,13 +150,13 @@ built_begun {N} {S} e begun = record {
   seen = subst (λ es. IsFrontOf es e.coding.search.tracker.trail) (sym begun.seen) (e.coding.search.tracker.trail, refl);
 }
 
--- where what is known of the need clauses is noted
+-- where the states of requires clauses changed
 pub built_needs : {N S : Type 0} (e : Encoder N S) (n : UndecidedClauses) → IsBuilt e → Fits (literals_in e.lists) n e.queue → IsFrontOf n.seen.items e.coding.search.tracker.trail → IsBuilt (record e { needs = n })
 built_needs e n b fits seen = record { coding = b.coding; tied = b.tied; candidates = b.candidates; gates = b.gates; within = b.within; needs = fits; seen = seen }
 
--- ---- what calls ask for
+-- ---- preconditions of calls
 
--- the literals of a need's clause have variables
+-- the variables of a requires clause exist
 pub built_in_range : {N S : Type 0} (e : Encoder N S) (v : VariableId) (condition : Option (DenseId DisjunctionTag ℕ)) (r : Requirement) → IsBuilt e → v.0 < count_of e.coding.search → AreInRange (count_of e.coding.search) (condition_in e.lists condition)
     → AreInRange (count_of e.coding.search) (no v ∷ (condition_in e.lists condition ++ candidate_literals (candidates_in e.lists r)))
 built_in_range e v condition r b below conditioned l h = elim (has-cons (no v) (condition_in e.lists condition ++ candidate_literals (candidates_in e.lists r)) l h) [

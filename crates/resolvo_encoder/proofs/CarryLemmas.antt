@@ -42,7 +42,7 @@ registers_none r c coding tied = record {
   ordered = tt;
 }
 
--- a clause that tells a digit goes on to do so
+-- a clause that encodes a digit still does
 digit_stays : {N S : Type 0} (r t : Registry N) (old new : SolverState N S) (name : N) (n : ℕ) → IsCoding old → Grows old new → ((m : N) (u : VariableId) → IsTracked r m u → IsTracked t m u) → IsDigitClause r old name n → IsDigitClause t new name n
 digit_stays {N} {S} r t old new name n coding grows keeps d =
     let within : n < length old.stated.items = slice_get_within old.stated.items n (Digit name d.solvable d.place d.bit) d.stated in

@@ -1,4 +1,4 @@
--- The literals of conditions stay, as lists and variables come.
+-- The literals of conditions are kept, where lists and variables are added.
 use Rattle.std.proofs.Common.{◌≡◌, ℕ, suc, ◌<◌, ◌≤◌, Bool, true, false, List, [], ◌∷◌, ◌++◌, length, inl, inr, Option, Some, None, refl, sym, ◌∙◌, ap, subst, arith}
 use Rattle.std.specs.List.{list_all}
 use Rattle.std.proofs.lemmas.Bool.{both_ways, and_parts, and_from}
@@ -29,7 +29,7 @@ use Rattle.resolvo_state.proofs.Origins.{origin_front}
 use Rattle.resolvo_state.proofs.Positions.{get_below, front_get, front_long}
 use Rattle.resolvo_encoder.specs.Encoded.{IsCondition, IsQueuedFor}
 
--- a condition that is there keeps its literals where others come behind it
+-- a condition keeps its literals where others are added behind it
 condition_there : {N : Type 0} (old new : FixedLists N) (c : Option (DenseId DisjunctionTag ℕ)) → IsFrontOf old.disjunctions new.disjunctions → HasDisjunction old c → HasDisjunction new c
 condition_there old new None front h = h
 condition_there old new (Some d) front h = let long : length old.disjunctions ≤ length new.disjunctions = front_long old.disjunctions new.disjunctions front in omega (arith, h)
@@ -52,7 +52,7 @@ module _ {N S : Type 0} (same : S → S → Bool) (p : Packages N S) (lists more
       literals : condition_in more c ≡ condition_in lists c
       literals = condition_stays lists more c front h.there
 
-  -- the same decision is made for the clause as variables and lists come
+  -- the clause has the same decision where variables and lists are added
   pub queued_grows : (x : Option (Stated N S)) (q : NeedClause) → IsQueuedFor same p lists old.atoms.keys x q → IsQueuedFor same p more new.atoms.keys x q
   queued_grows None q h = h
   queued_grows (Some Says.Root) q h = h
@@ -71,7 +71,7 @@ module _ {N S : Type 0} (same : S → S → Bool) (p : Packages N S) (lists more
 
 -- ---- clauses in parts
 
--- two lists of literals, one behind the other, have what each means
+-- two lists of literals, one behind the other, have the meanings of both
 pub spells_join : {N S : Type 0} (origin : ℕ → Atom N S) (xs ys : List Signed) (ms ns : List (Literal (Atom N S))) → Spells origin xs ms → Spells origin ys ns → Spells origin (xs ++ ys) (ms ++ ns)
 spells_join origin xs ys ms ns f g = record {
   only = λ l h. elim (has-append xs ys l h) [
@@ -84,7 +84,7 @@ spells_join origin xs ys ms ns f g = record {
   ];
 }
 
--- what is so of each item is so of each literal that is there
+-- a property of each item is one of each literal in the list
 pub all_has : (f : Signed → Bool) (xs : List Signed) (l : Signed) → list_all f xs ≡ true → has xs l ≡ true → f l ≡ true
 all_has f [] l h a = absurd (both_ways false refl a)
 all_has f (x ∷ xs) l h a =

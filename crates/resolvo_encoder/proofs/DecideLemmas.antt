@@ -1,4 +1,4 @@
--- The next decision is one of the queue's clauses', and called for.
+-- The next decision is one of the queue's clauses', and justified.
 use Rattle.std.proofs.Common.{◌≡◌, ℕ, ◌⊎◌, inl, inr, Bool, true, false, not, cond, List, [], ◌∷◌, Option, Some, None, option_map, find, reverse, ◌++◌, refl, sym, ◌∙◌, ap, subst}
 use Rattle.std.specs.Prelude.{Contains}
 use Rattle.std.specs.List.{list_any}
@@ -49,7 +49,7 @@ use Rattle.resolvo_encoder.proofs.ConditionLemmas.{all_has}
 use Rattle.resolvo_encoder.proofs.PickLemmas.{candidate_of, found_first, listed_at, some_same}
 use Rattle.resolvo_encoder.specs.declared.encoder.Encoder.{Encoder}
 
--- ---- which clause a decision is of
+-- ---- the clause of a decision
 
 -- the later of two is one of them
 later_one : (best next : Option NextDecision) (d : NextDecision) → later best next ≡ Some d → (best ≡ Some d) ⊎ (next ≡ Some d)
@@ -87,7 +87,7 @@ module _ {N : Type 0} (names : Named N) (values : ℕ → Option Bool) (score : 
       let (old, here) = later_none best (offer_by names values score r) first in
       (old, λ q a. elim (contains_cases q r rs a) [ inl e ↦ ap (offer_by names values score) e ∙ here | inr b ↦ rest q b ])
 
-  -- a decision is what some clause of the queue has to decide
+  -- a decision is one of some clause of the queue
   pub picked : (rs : List NeedClause) (d : NextDecision) → pick_by names values score rs ≡ Some d → (q : NeedClause) × Contains rs q × (offer_by names values score q ≡ Some d)
   picked rs d h = elim (picked_after None rs d h) [ inl e ↦ absurd cc | inr a ↦ a ]
 
@@ -95,7 +95,7 @@ module _ {N : Type 0} (names : Named N) (values : ℕ → Option Bool) (score : 
   pub none_picked : (rs : List NeedClause) → pick_by names values score rs ≡ None → (q : NeedClause) → Contains rs q → offer_by names values score q ≡ None
   none_picked rs h = (none_after None rs h).1
 
--- ---- what a clause has to decide
+-- ---- the decision of a clause
 
 map_some : {X Y : Type 0} (f : X → Y) (o : Option X) (y : Y) → option_map f o ≡ Some y → (x : X) × (o ≡ Some x) × (f x ≡ y)
 map_some f None y h = absurd cc
@@ -255,7 +255,7 @@ module _ (values : ℕ → Option Bool) (known : List Signed) (agree : AreValues
     | inr e ↦ absurd (elim (open_or_known l e) [ inl o ↦ both_ways _ decided o | inr k ↦ both_ways _ untrue (known_value l k) ])
   ]
 
--- the values that a map keeps of a trail are those that its literals make true
+-- the values in the map of a trail are those that its literals make true
 pub trail_values : (count : ℕ) (cs : List (List Signed)) (es : List Entry) (map : List (Option Assignment)) → IsTrail count cs (reverse es) → ((v : ℕ) → at map v ≡ assigned es v) → AreValues (value_at map) (made_true (reverse es))
 trail_values count cs es map t mapped = record {
   valued = λ l h. valued l (value_at map l.variable.0) refl (true_is count cs es map l t mapped ∙ h);
@@ -266,14 +266,14 @@ trail_values count cs es map t mapped = record {
     valued l None is h = absurd (both_ways false refl (sym (ap (λ (o : Option Bool). is_true (option_map (λ v. beq v l.positive) o)) is) ∙ h))
     valued l (Some b) is h = is ∙ ap Some (beq_true b l.positive (sym (ap (λ (o : Option Bool). is_true (option_map (λ v. beq v l.positive) o)) is) ∙ h))
 
--- ---- what a decision is called for by
+-- ---- the reason of a decision
 
 module _ {N S : Type 0} (same : S → S → Bool) (p : Packages N S) (root : Rules) (e : Encoder N S) where
-  -- the values that the search's map keeps are those that its trail makes true
+  -- the values in the search's map are those that its trail makes true
   pub search_values : IsEncoding same p root e → (map : List (Option Assignment)) → ((v : ℕ) → at map v ≡ assigned e.coding.search.tracker.trail v) → AreValues (value_at map) (made_true (history e.coding.search))
   search_values holds map mapped = trail_values (count_of e.coding.search) (clauses_of e.coding.search) e.coding.search.tracker.trail map holds.coding.ready.state.trail mapped
 
-  -- what a variable stands for is known where the variable is true
+  -- a variable's origin is known where the variable is true
   pub atom_known : (v : VariableId) (a : ProofAtom N S) → StandsFor e.coding.atoms.keys v a → has (made_true (history e.coding.search)) (yes v) ≡ true → Contains (known_of (origin e.coding.atoms.keys) (history e.coding.search)) (plus (atom_of a))
   atom_known v a stands t =
       let means : Means (origin e.coding.atoms.keys) (yes v) (plus (atom_of a)) = means_atom e.coding.atoms.keys (yes v) a stands in
@@ -290,7 +290,8 @@ module _ {N S : Type 0} (same : S → S → Bool) (p : Packages N S) (root : Rul
       let (l, stands, means) = h.spells.each m a in
       subst (λ (x : Literal (Atom N S)). Contains (known_of (origin e.coding.atoms.keys) (history e.coding.search)) (negate x)) (sym means.1) (meaning_stands (origin e.coding.atoms.keys) (made_true (history e.coding.search)) (negation l) (fell l stands) means.0)
 
-  -- a clause of the queue whose parent is true, and whose condition's literals are false, asks for its requirement
+  -- A clause of the queue encodes a requirement of a chosen parent, where its parent is true and
+  -- its condition's literals are false.
   queue_asks : (q : NeedClause) (x : Option (Stated N S)) → stated_at e.coding.stated.items q.clause.0 ≡ x → IsQueuedFor same p e.lists e.coding.atoms.keys x q → has (made_true (history e.coding.search)) (yes q.parent) ≡ true
       → ((l : Signed) → has (condition_in e.lists q.condition) l ≡ true → has (made_true (history e.coding.search)) (negation l) ≡ true)
       → IsAsked same p (E.rules_of e) (known_of (origin e.coding.atoms.keys) (history e.coding.search)) q.requirement
@@ -319,12 +320,12 @@ module _ {N S : Type 0} (same : S → S → Bool) (p : Packages N S) (root : Rul
   queue_asks q (Some (Says.IsThere n s)) at h t fell = absurd h
   queue_asks q (Some Says.Learnt) at h t fell = absurd h
 
-  -- what is asked for has a clause
+  -- a requirement of a chosen parent has a requires clause
   pub has_clause : (r : Requirement) → IsAsked same p (E.rules_of e) (known_of (origin e.coding.atoms.keys) (history e.coding.search)) r → HasClause same p (E.rules_of e) r
   has_clause r (inl k) = inl (k.parent, k.need, k.case, k.stands, k.asks)
   has_clause r (inr k) = inr k.stands
 
-  -- a candidate of a solvable that is false on the trail denies it
+  -- a false candidate's solvable is denied
   candidate_fell : (c : Candidate N) (s : S) → c.literal.positive ≡ true → StandsFor e.coding.atoms.keys c.literal.variable (Solvable s) → has (made_true (history e.coding.search)) (negation c.literal) ≡ true
       → Contains (known_of (origin e.coding.atoms.keys) (history e.coding.search)) (minus (Atom.solvable s))
   candidate_fell c s positive stands h =
@@ -333,7 +334,8 @@ module _ {N S : Type 0} (same : S → S → Bool) (p : Packages N S) (root : Rul
       subst (Contains (known_of (origin e.coding.atoms.keys) (history e.coding.search))) (sym means.1)
       (meaning_stands (origin e.coding.atoms.keys) (made_true (history e.coding.search)) (no c.literal.variable) (subst (λ (x : Signed). has (made_true (history e.coding.search)) x ≡ true) denied h) means.0)
 
-  -- The next decision is called for: it chooses the first candidate that is not false, of what is asked for.
+  -- The next decision is justified: it is the first candidate that isn't false, of a requirement of
+  -- a chosen parent.
   pub choice_taken : IsEncoding same p root e → (values : ℕ → Option Bool) (score : N → ℕ) (d : NextDecision) → AreValues values (made_true (history e.coding.search)) → pick_by (named_by e.lists) values score e.queue ≡ Some d
       → IsFirstPick same p (HasOrder e) (E.rules_of e) (known_of (origin e.coding.atoms.keys) (history e.coding.search)) (meaning (origin e.coding.atoms.keys) (yes d.candidate))
   choice_taken holds values score d agree h =
@@ -372,7 +374,7 @@ module _ {N S : Type 0} (same : S → S → Bool) (p : Packages N S) (root : Rul
       each : (r : Requirement) (x : Candidate N) → Contains (candidates_in e.lists r) x → (t : S) × (x.literal.positive ≡ true) × StandsFor e.coding.atoms.keys x.literal.variable (Solvable t)
       each r x a = let (t, fits, m) = holds.listed r x a in (t, fits.positive, fits.stands)
 
-  -- each choice of the trail chooses a match of what was asked for
+  -- each decision of the trail is for a match of a requirement of a chosen parent
   pub choices_called : IsExact same → IsEncoding same p root e → AreCalledFor (origin e.coding.atoms.keys) (IsCalledFor same p (E.rules_of e) e.noted.wishes.items) (history e.coding.search)
   choices_called exact holds x older stands is other = elim (holds.called x older stands is other) [
     | inl wish ↦ inl wish

@@ -1,4 +1,4 @@
--- Rules that keep solvables out: their clauses.
+-- The clauses of rules that forbid solvables.
 use Rattle.std.proofs.Common.{◌≡◌, ◌<◌, ◌⊎◌, inl, inr, Bool, true, false, List, [], ◌∷◌, ◌++◌, Some, None, refl, sym, ◌∙◌, ap, subst, ℕ}
 use Rattle.std.specs.Prelude.{Contains}
 use Rattle.std.specs.List.{list_any}
@@ -19,7 +19,7 @@ use Rattle.resolvo_encoder.specs.Encoded.{Asks}
 use Rattle.resolvo_encoder.proofs.RequireLemmas.{some_one}
 use Rattle.resolvo_encoder.specs.ClauseRules.{IsRestraint, IsPair}
 
--- whether the literal is that a solvable is chosen
+-- whether the literal is a positive one of a solvable
 abbrev is_choice_of : {N S : Type 0} → Atom N S → Bool → Bool
 is_choice_of (Atom.solvable s) b = b
 is_choice_of (Atom.gate r) b = false
@@ -31,7 +31,7 @@ abbrev is_choice : {N S : Type 0} → Literal (Atom N S) → Bool
 is_choice l = is_choice_of l.atom l.positive
 
 module _ {N S : Type 0} where
-  -- a restraint asks for no match
+  -- a restraint is no requires clause
   pub asks_none : (r : Rule N S) → IsRestraint r → Asks r → ⊥
   asks_none (Rule.needs parent need case) d a = d
   asks_none (Rule.gated s r) d a = a
@@ -60,7 +60,7 @@ module _ {N S : Type 0} where
       none (Rule.has_digit s bit b) d = absurd d
       none (Rule.is_there n s) d = refl
 
-  -- what states it tells no digit
+  -- its kind has no digit
   pub not_digit : (x : Stated N S) (r : Rule N S) → rule_of x ≡ Some r → IsRestraint r → (m : N) (t : S) (at bit : ℕ) → x ≡ Says.Digit m t at bit → ⊥
   not_digit x r states d m t at bit is =
       let one : Rule.has_digit t bit (digit at bit) ≡ r = some_one (Rule.has_digit t bit (digit at bit)) r (sym (ap (λ (y : Stated N S). rule_of y) is) ∙ states) in
@@ -84,7 +84,7 @@ pair_second a b literals (inl two) = subst (λ (x : List Signed). has x b ≡ tr
 pair_second a b literals (inr (both, one)) = subst (λ (x : List Signed). has x b ≡ true) (sym one) (has_here a [] b both)
 
 module _ {N S : Type 0} (origin : ℕ → Atom N S) where
-  -- the literal is the root's denial, and stands for none; or it means the one that is there
+  -- the literal denies the root and has no meaning, or it has the meaning in the list
   abbrev pub Reads : Signed → List (Literal (Atom N S)) → Type 0
   Reads l ms = ((l ≡ no root_variable) × (ms ≡ [])) ⊎ ((m : Literal (Atom N S)) × (ms ≡ m ∷ []) × Means origin l m)
 
@@ -96,7 +96,7 @@ module _ {N S : Type 0} (origin : ℕ → Atom N S) where
   reads_each l ms m (inl (is, none)) h = absurd (contains_none m (subst (λ (x : List (Literal (Atom N S))). Contains x m) none h))
   reads_each l ms m (inr (k, is, means)) h = subst (Means origin l) (sym (contains_one m k (subst (λ (x : List (Literal (Atom N S))). Contains x m) is h))) means
 
-  -- two literals have those that each means
+  -- two literals have the meanings of both
   pub pair_spells : (a b : Signed) (literals : List Signed) (ms ns : List (Literal (Atom N S))) → IsPair a b literals → Reads a ms → Reads b ns → Spells origin literals (ms ++ ns)
   pair_spells a b literals ms ns pair first second = record {
     only = λ l h. elim (pair_members a b l literals pair h) [
@@ -117,7 +117,7 @@ module _ {N S : Type 0} (origin : ℕ → Atom N S) where
       wide_right l (inl is) = inl is
       wide_right l (inr (other, c)) = inr (other, contains_right (meaning origin l) ms ns c)
 
-  -- one literal has what it means
+  -- one literal has its meaning
   pub one_spells : (a : Signed) (literals : List Signed) (m : Literal (Atom N S)) → IsPair a a literals → Means origin a m → Spells origin literals (m ∷ [])
   one_spells a literals m pair means = record {
     only = λ l h. elim (pair_members a a l literals pair h) [ inl is ↦ here l is | inr is ↦ here l is ];

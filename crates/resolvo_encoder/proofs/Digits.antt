@@ -1,4 +1,4 @@
--- The digits that clauses state are those of one place for each solvable.
+-- The digits in clauses are those of one place for each solvable.
 use Rattle.std.proofs.Common.{◌≡◌, ℕ, zero, suc, ◌==◌, ◌&&◌, inl, inr, Bool, false, cond, List, [], ◌∷◌, Option, Some, None, unwrap_or, refl, sym, ◌∙◌, ap, subst, eqb-true, eq-eqb}
 use Rattle.std.proofs.lemmas.Bool.{cases_Bool, and_from, and_parts}
 use Rattle.resolvo_pool_core.specs.RuleKeeping.{Packages, Rules}
@@ -12,7 +12,7 @@ use Rattle.resolvo_state.proofs.RegisterLemmas.{placed_registered, one_place}
 use Rattle.resolvo_encoder.specs.Encoded.{IsEncoding, rules_of}
 use Rattle.resolvo_encoder.specs.declared.encoder.Encoder.{Encoder}
 
--- the digit of the solvable's place that the rule tells, if it tells it
+-- the digit of the solvable's place in the rule, if it has one
 abbrev pub digit_in : {N S : Type 0} → (S → S → Bool) → Option (Rule N S) → S → ℕ → Option Bool
 digit_in same None s bit = None
 digit_in same (Some (Rule.needs parent need case)) s bit = None
@@ -25,16 +25,16 @@ digit_in same (Some (Rule.bars w t)) s bit = None
 digit_in same (Some (Rule.has_digit t k b)) s bit = cond (same t s && (k == bit)) (Some b) None
 digit_in same (Some (Rule.is_there n t)) s bit = None
 
--- the digit of the solvable's place by the first clause that tells it; false where none does
+-- the digit of the solvable's place by the first clause that encodes it; false where none does
 abbrev pub digit_told : {N S : Type 0} → (S → S → Bool) → List (Stated N S) → S → ℕ → Bool
 digit_told same [] s bit = false
 digit_told same (x ∷ stated) s bit = unwrap_or (digit_in same (rule_of x) s bit) (digit_told same stated s bit)
 
--- no two clauses tell different digits of one place
+-- no two clauses encode different digits of one place
 abbrev pub TellOneDigit : {N S : Type 0} → Encoder N S → Type 0
 TellOneDigit {N} {S} e = (s : S) (bit : ℕ) (b c : Bool) → rules_of e (Rule.has_digit s bit b) → rules_of e (Rule.has_digit s bit c) → b ≡ c
 
--- A solvable is registered under its own package alone, has one variable, and that stands at one place.
+-- A solvable is registered under its own package alone, has one variable, and has one place.
 pub tells_one_digit : {N S : Type 0} (same : S → S → Bool) (p : Packages N S) (root : Rules) (e : Encoder N S) → IsEncoding same p root e → TellOneDigit e
 tells_one_digit {N} {S} same p root e holds s bit b c (n, h) (k, j) =
     let (name, place, at, is) = digit_stated e.coding.stated.items n s bit b h in
@@ -46,7 +46,7 @@ tells_one_digit {N} {S} same p root e holds s bit b c (n, h) (k, j) =
     is ∙ ap (λ q. digit q bit) both ∙ sym told
 
 module _ {N S : Type 0} (same : S → S → Bool) (exact : IsExact same) where
-  -- where clauses tell a digit, some clause tells the one that is read off them
+  -- where clauses encode a digit, some clause encodes the one that is found
   told_stands : (stated : List (Stated N S)) (n : ℕ) (s : S) (bit : ℕ) (b : Bool) → rule_at stated n ≡ Some (Rule.has_digit s bit b) → rules_in stated (Rule.has_digit s bit (digit_told same stated s bit))
   told_stands [] n s bit b h = absurd cc
   told_stands (x ∷ stated) zero s bit b h =
@@ -77,6 +77,6 @@ module _ {N S : Type 0} (same : S → S → Bool) (exact : IsExact same) where
             (suc m, i ∙ ap (λ (z : Bool). Some (Rule.has_digit s bit z)) told)
       ]
 
-  -- the digits that are read off the clauses are those that each clause tells
+  -- the found digits agree with those of each clause
   pub digits_agree : (p : Packages N S) (root : Rules) (e : Encoder N S) → IsEncoding same p root e → AgreeWith (rules_of e) (digit_told same e.coding.stated.items)
   digits_agree p root e holds s bit b (n, h) = tells_one_digit same p root e holds s bit (digit_told same e.coding.stated.items s bit) b (told_stands e.coding.stated.items n s bit b h) (n, h)

@@ -1,4 +1,4 @@
--- What is offered is registered, and becomes candidates.
+-- Offered solvables are registered, and become candidates.
 use Rattle.std.proofs.Common.{◌≡◌, ℕ, ◌<◌, ◌≤◌, ◌⊎◌, inl, inr, Bool, true, false, List, [], ◌∷◌, length, Some, refl, sym, ◌∙◌, ap, subst, arith, Vec, Global, is_some, Option, None}
 use Rattle.std.specs.Prelude.{Contains}
 use Rattle.std.proofs.lemmas.Bool.{both_ways}
@@ -41,21 +41,22 @@ no_slot : {X : Type 0} (o : Option X) → is_some o ≡ false → o ≡ None
 no_slot None h = refl
 no_slot (Some x) h = cc
 
--- the registry and the coding went on
+-- the registry and the state are replaced
 abbrev pub enrolled : {N S : Type 0} → Encoder N S → Registry N → SolverState N S → Encoder N S
 enrolled old t c = record old { registry = t; coding = c }
 
--- the lists went on
+-- the lists are replaced
 abbrev pub relisted : {N S : Type 0} → Encoder N S → FixedLists N → Encoder N S
 relisted old ls = record old { lists = ls }
 
 module _ {N S : Type 0} (same : S → S → Bool) (exact : IsExact same) (p : Packages N S) (root : Rules) (lawful : IsLawful p) where
-  -- What is offered is registered, where clauses say that those whose package a case names are there.
+  -- The offered solvables are registered, where those of recorded packages have at-least-one
+  -- clauses.
   pub registers_keep : (offered : List (Offered N S)) (given : List (Candidate N)) (old : Encoder N S) (t : Registry N) (c : SolverState N S) → IsEncoding same p root old → ((o : Offered N S) → Contains offered o → IsListed same p o)
       → ((o : Offered N S) → Contains offered o → Contains old.noted.helped.keys o.name → E.rules_of old (Rule.is_there o.name o.solvable)) → RegistersAll offered given old.registry old.coding t c → IsEncoding same p root (enrolled old t c)
   registers_keep offered given old t c e fits said all = carried same exact p root old (enrolled old t c) e carries
     where
-      -- what is registered is so as one of its package's candidates
+      -- a registered solvable is a candidate of its package
       registered_new : (n : N) (s : S) → IsRegistered t c n s → (n ≡ p.package_of s) × (is_in same p (listed (p.candidates_of (p.package_of s))) s ≡ true)
       registered_new n s a = elim (registered_split same exact p root lawful offered given old.registry t old.coding c e.tied all n s a) [
         | inl b ↦ (let own = e.named n s b in (own, e.candidates s (subst (λ m. IsRegistered old.registry old.coding m s) own b)))
@@ -108,7 +109,8 @@ module _ {N S : Type 0} (same : S → S → Bool) (exact : IsExact same) (p : Pa
         encoded = encoded_keeps same exact p root lawful old (enrolled old t c) e all.grows refl refl refl;
       }
 
-  -- The lists went on: a requirement with a clause has its candidates still, and those are the solvables that meet it.
+  -- The lists are replaced: a requirement with a clause keeps its candidates, and those are the
+  -- solvables that meet it.
   relists : (old : Encoder N S) (ls : FixedLists N) → IsEncoding same p root old → IsFrontOf old.lists.disjunctions ls.disjunctions → KeepsLists old (relisted old ls)
       → ((r : Requirement) (c : Candidate N) → Contains (candidates_in ls r) c → (s : S) × IsCandidate old (p.package_of s) s c × (meets same p r s ≡ true))
       → ((r : Requirement) (s : S) → has_candidates ls r ≡ true → meets same p r s ≡ true → (c : Candidate N) × Contains (candidates_in ls r) c × IsCandidate old (p.package_of s) s c)
@@ -142,7 +144,7 @@ module _ {N S : Type 0} (same : S → S → Bool) (exact : IsExact same) (p : Pa
         encoded = encoded_keeps same exact p root lawful old (relisted old ls) e (grows_same old.coding) refl refl refl;
       }
 
-  -- a disjunction came
+  -- a disjunction was added
   pub disjunction_keeps : (number : ℕ) (given : Disjunction) (old : Encoder N S) (ls : FixedLists N) → IsEncoding same p root old → FixesDisjunction number given old.lists ls → IsEncoding same p root (relisted old ls)
   disjunction_keeps number given old ls e f = relists old ls e (given ∷ [], f.put) (λ r h. slots r)
       (λ r c a. e.listed r c (subst (λ x. Contains (items_or_none x) c) (slots r) a))
@@ -151,7 +153,7 @@ module _ {N S : Type 0} (same : S → S → Bool) (exact : IsExact same) (p : Pa
       slots : (r : Requirement) → slot_of ls.candidates r ≡ slot_of old.lists.candidates r
       slots r = ap (λ cs. slot_of cs r) f.candidates
 
-  -- what is registered became the requirement's candidates
+  -- the registered solvables became the requirement's candidates
   pub candidates_keep : (r : Requirement) (offered : List (Offered N S)) (given : Vec (Candidate N) Global) (old : Encoder N S) (ls : FixedLists N) → IsEncoding same p root old → AreOffered same p r offered → has_candidates old.lists r ≡ false
       → ((o : Offered N S) → Contains offered o → (c : Candidate N) × Contains given.items c × IsOfferedAs old.registry old.coding o c)
       → ((c : Candidate N) → Contains given.items c → (o : Offered N S) × Contains offered o × IsOfferedAs old.registry old.coding o c)
@@ -190,7 +192,7 @@ module _ {N S : Type 0} (same : S → S → Bool) (exact : IsExact same) (p : Pa
             (c, subst (λ x. Contains (items_or_none x) c) (sym is) there, fits)
       ]
 
-  -- what is offered for a requirement became its candidates
+  -- the offered solvables became the requirement's candidates
   pub fixes_keep : (r : Requirement) (offered : List (Offered N S)) (old new : Encoder N S) → IsEncoding same p root old → AreOffered same p r offered → Fixes same r offered old new → IsEncoding same p root new × (has_candidates new.lists r ≡ true)
   fixes_keep r offered old new e h f = elim f.fixed [
     | inl (has, is) ↦ (subst (λ (x : Encoder N S). IsEncoding same p root x) (sym is) e, subst (λ (x : Encoder N S). has_candidates x.lists r ≡ true) (sym is) has)
@@ -217,7 +219,7 @@ module _ {N S : Type 0} (same : S → S → Bool) where
     seen = seen_same old (enrolled old t c) b all.trail refl;
   }
 
-  -- what is offered is admitted, and then registered
+  -- the offered solvables are admitted, and then registered
   pub enrols : IsExact same → (offered : List (Offered N S)) (given : List (Candidate N)) (old middle : Encoder N S) (t : Registry N) (c : SolverState N S) → Admits same offered old middle → RegistersAll offered given middle.registry middle.coding t c
       → Enrols same offered given old (enrolled middle t c)
   enrols exact offered given old middle t c admits all = record {
@@ -241,7 +243,8 @@ module _ {N S : Type 0} (same : S → S → Bool) where
         (extends_then old middle (relisted middle new.lists) enrols.extends (record { grows = grows_same middle.coding; trail = trail_same middle.coding; wishes = refl; parents = refl; encoded = refl; deferred = refl; fired = refl }))
   ]
 
-  -- what is offered for a requirement became its candidates, in its order, and then its candidates stayed
+  -- the offered solvables became the requirement's candidates, in their order, and later steps kept
+  -- these
   pub fixes_add : (r : Requirement) (offered : List (Offered N S)) (old middle new : Encoder N S) → Fixes same r offered old middle → Grows middle.coding new.coding → new.lists.candidates ≡ middle.lists.candidates → AddsCandidates r offered old new
   fixes_add r offered old middle new f grows lists q has = elim f.fixed [
     | inl (there, is) ↦ inl (ap (λ cs. slot_of cs q) lists ∙ ap (λ (x : Encoder N S). slot_of x.lists.candidates q) is)
@@ -258,7 +261,7 @@ module _ {N S : Type 0} (same : S → S → Bool) where
     ]
   ]
 
-  -- the calls' ground stays where what is offered became candidates
+  -- the calls' precondition is kept where offered solvables became candidates
   pub built_fixes : (r : Requirement) (offered : List (Offered N S)) (old new : Encoder N S) → IsBuilt old → Fixes same r offered old new → IsBuilt new
   built_fixes r offered old new b f = elim f.fixed [
     | inl (has, is) ↦ subst (λ (x : Encoder N S). IsBuilt x) (sym is) b

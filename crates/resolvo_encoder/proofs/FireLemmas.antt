@@ -1,4 +1,4 @@
--- Cases wait, and those that hold become clauses.
+-- Cases are deferred, and those that hold are encoded.
 use Rattle.std.proofs.Common.{◌≡◌, ℕ, suc, ◌+◌, ◌<◌, ◌≤◌, ◌⊎◌, inl, inr, Bool, true, false, List, [], ◌∷◌, ◌++◌, length, get_or, Option, Some, None, Vec, Global, is_some, refl, sym, ◌∙◌, ap, subst, arith, length-append}
 use Rattle.resolvo_encoder.specs.declared.encoder.EncodedOnce.{EncodedOnce}
 use Rattle.std.specs.Prelude.{Contains, slice_get}
@@ -55,7 +55,7 @@ use Rattle.resolvo_encoder.proofs.TellLemmas.{parent_variable_grows}
 use Rattle.resolvo_encoder.proofs.NeedLemmas.{IsReady, need_keeps}
 use Rattle.resolvo_encoder.proofs.RequireLemmas.{each_of, parent_grows, guard_grows, extends_then, some_one}
 
--- the literals of a disjunction that came are its own
+-- the literals of an added disjunction are its own
 disjunction_there : {N : Type 0} (id : DenseId DisjunctionTag ℕ) (given : Disjunction) (old new : FixedLists N) → FixesDisjunction id.raw given old new → id.raw < length new.disjunctions
 disjunction_there id given old new f =
     let next : id.raw ≡ length old.disjunctions = f.next in
@@ -65,15 +65,15 @@ disjunction_there id given old new f =
 disjunction_is : {N : Type 0} (id : DenseId DisjunctionTag ℕ) (given : Disjunction) (old new : FixedLists N) → FixesDisjunction id.raw given old new → condition_in new (Some id) ≡ given.literals.items
 disjunction_is id given old new f = ap literals_or_none (ap (slice_get new.disjunctions) f.next ∙ ap (λ (xs : List Disjunction). slice_get xs (length old.disjunctions)) f.put ∙ get_last old.disjunctions given)
 
--- what came last stands behind the others
+-- the last value is behind the others
 pub deferred_last : {X : Type 0} (xs : List X) (x : X) (ys : List X) → ys ≡ xs ++ x ∷ [] → slice_get ys (length xs) ≡ Some x
 deferred_last xs x ys is = subst (λ zs. slice_get zs (length xs) ≡ Some x) (sym is) (get_last xs x)
 
--- what is read at a place stands there
+-- a value at a place is in the list
 pub looked_up : {X : Type 0} (xs ys : List X) (i : ℕ) (x : X) → xs ≡ ys → i < length xs → x ≡ get_or xs i x → slice_get ys i ≡ Some x
 looked_up xs ys i x same below is = subst (λ zs. slice_get zs i ≡ Some x) same (slice_get-get_or xs i x below ∙ ap Some (sym is))
 
--- a value that a list doesn't show does not stand there
+-- a value that isn't found in a list isn't in it
 pub not_contained : {X : Type 0} (eq : X → X → Bool) (xs : List X) (x : X) → eq x x ≡ true → list_any (eq x) xs ≡ false → Contains xs x → ⊥
 not_contained eq xs x own none h = both_ways _ none (contained_any (eq x) x xs h own)
 
@@ -82,7 +82,7 @@ pub none_more : {X : Type 0} (P : X → Type 0) (xs : List X) (x : X) (ys : List
 none_more P xs x ys is all one y h = elim (contains_parts y xs (x ∷ []) (subst (λ zs. Contains zs y) is h)) [ inl k ↦ all y k | inr k ↦ subst P (sym (contains_one y x k)) one ]
 
 module _ {N S : Type 0} (same : S → S → Bool) (exact : IsExact same) (p : Packages N S) (root : Rules) where
-  -- a case came that waits
+  -- a deferred case was added
   pub defer_keeps : (old : Encoder N S) (ds : Vec (Deferred S) Global) (d : Deferred S) → IsEncoding same p root old → ds.items ≡ old.deferred.items ++ d ∷ [] → IsCaseOf same p root d → IsEncoding same p root (record old { deferred = ds })
   defer_keeps old ds d e is own = record {
     coding = e.coding;
@@ -114,7 +114,7 @@ module _ {N S : Type 0} (same : S → S → Bool) (exact : IsExact same) (p : Pa
     called = e.called;
   }
 
-  -- a case that has its clauses fired
+  -- an encoded case has fired
   pub fire_keeps : (old new : Encoder N S) (index : ℕ) → IsEncoding same p root old → index < length old.deferred.items → ((i : ℕ) → Contains new.fired.keys i → Contains old.fired.keys i ⊎ (i ≡ index))
       → ((d : Deferred S) → slice_get old.deferred.items index ≡ Some d → IsNeedEncoded same p (E.rules_of old) d.parent d.need (case_of d.conjuncts.items)) → new ≡ record old { fired = new.fired } → IsEncoding same p root new
   fire_keeps old new index e below only encoded is = subst (λ (x : Encoder N S). IsEncoding same p root x) (sym is) (record {
@@ -147,7 +147,7 @@ module _ {N S : Type 0} (same : S → S → Bool) (exact : IsExact same) (p : Pa
     called = e.called;
   })
 
-  -- the clause of a case came, whose packages were noted
+  -- the clause of a case was added, whose packages are recorded
   pub case_keeps : IsLawful p → (parent : Option S) (need : ConditionalRequirement) (case : Vec VersionSetId Global) (v : VariableId) (id : DenseId DisjunctionTag ℕ) (given : Disjunction) (old : Encoder N S) (ls : FixedLists N) (new : Encoder N S) → IsEncoding same p root old
       → FixesDisjunction id.raw given old.lists ls → has_candidates old.lists need.requirement ≡ true → IsGuarded same p (E.rules_of old) need.requirement → IsParentVariable old.coding.atoms.keys parent v → Contains (rules_for same p root parent).requirements need
       → Contains (cases_for same p need) case.items → AreInRange (count_of old.coding.search) given.literals.items → IsHelped same p old case.items given.literals.items → StatesNeed (Says.Needs parent need case) v (Some id) need.requirement (record old { lists = ls }) new
@@ -193,20 +193,21 @@ module _ {N S : Type 0} (same : S → S → Bool) (exact : IsExact same) where
         absurd (none (m, in_contained same exact p (candidates_of c) m (matching m ∙ match), (l.variable, variable, subst (λ (y : Signed). has (made_true (history e.coding.search)) y ≡ true) literal known)))
   ])
 
--- ---- a case becomes a clause
+-- ---- a case is encoded
 
--- a parent's variable is there
+-- a parent's variable exists
 parent_in_range : {N S : Type 0} (c : SolverState N S) (parent : Option S) (v : VariableId) → IsCoding c → IsParentVariable c.atoms.keys parent v → v.0 < count_of c.search
 parent_in_range c None v coding is = let count = count_is c coding in let none : v.0 ≡ 0 = ap (λ (x : VariableId). x.0) is in omega (arith, count, none)
 parent_in_range c (Some s) v coding stands = stands_in_range c v (Solvable s) coding stands
 
--- the literals of the case's clause have variables
+-- the variables of the case's clause exist
 pub case_in_range : {N S : Type 0} (e : Encoder N S) (parent : Option S) (v : VariableId) (id : DenseId DisjunctionTag ℕ) (given : Disjunction) (ls : FixedLists N) (r : Requirement) → IsBuilt e → FixesDisjunction id.raw given e.lists ls → IsParentVariable e.coding.atoms.keys parent v
     → AreInRange (count_of e.coding.search) given.literals.items → AreInRange (count_of e.coding.search) (no v ∷ (condition_in ls (Some id) ++ literals_in (candidates_in ls r)))
 case_in_range e parent v id given ls r built fixes stands below = built_in_range (record e { lists = ls }) v (Some id) r (built_disjunction id.raw given e ls built fixes) (parent_in_range e.coding parent v built.coding stands)
     (subst (AreInRange (count_of e.coding.search)) (sym (disjunction_is id given e.lists ls fixes)) below)
 
--- What a case that became a clause went through: candidates, the parent's variable, what it rests on, its literals, its clause.
+-- The steps that encode a case: candidates, the parent's variable, at-least-one clauses, its
+-- literals, its clause.
 pub record StatesCase {N S : Type 0} (same : S → S → Bool) (parent : Option S) (need : ConditionalRequirement) (sets : List (ConditionSet N S)) (offered : List (Offered N S)) (old new : Encoder N S) : Type 0 where
   pub fixed : Encoder N S
   pub named : Encoder N S
@@ -249,7 +250,7 @@ module _ {N S : Type 0} (same : S → S → Bool) (exact : IsExact same) (parent
       h.helps.in_range (subst (λ vs. IsHelped same p h.helped vs h.given.literals.items) (sym h.is_case) helped) h.states in
       (last, subst (λ vs. E.rules_of new (Rule.needs parent need vs)) h.is_case rule)
 
--- a case whose version set keeps the parent out has no clause
+-- a case whose version set excludes the parent needs no clause
 pub case_left_out : {N S : Type 0} (same : S → S → Bool) → IsExact same → (p : Packages N S) (rules : Rule N S → Type 0) (parent : Option S) (need : ConditionalRequirement) (sets : List (ConditionSet N S)) (s : S) (c : ConditionSet N S) → AreSets same p sets → parent ≡ Some s → Contains sets c → Contains (offered_solvables c.outside.items) s
     → IsNeedEncoded same p rules parent need (sets_case sets)
 case_left_out same exact p rules parent need sets s c all_sets who stands there =

@@ -1,4 +1,5 @@
--- Clauses say of the registered solvables of a case's packages that one of them is there.
+-- At-least-one clauses for the registered solvables of a case's packages, and the literals of the
+-- case.
 use Rattle.std.proofs.Common.{◌≡◌, ◌<◌, ◌⊎◌, inl, inr, Bool, true, false, List, [], ◌∷◌, ◌++◌, Some, None, refl, sym, ◌∙◌, ap, subst, arith}
 use Rattle.std.specs.Prelude.{Contains}
 use Rattle.std.specs.List.{AllByRecursion}
@@ -46,11 +47,11 @@ use Rattle.resolvo_encoder.proofs.NeedLemmas.{literal_in, in_literals}
 use Rattle.resolvo_encoder.proofs.RequireLemmas.{each_of, some_one, extends_then, extends_same, registered_before, registered_stays}
 use Rattle.resolvo_encoder.proofs.TellLemmas.{built_noted, helped_noted, there_noted}
 
--- where only what is noted changes, what came came
+-- `Extends` doesn't depend on `recorded`, except for its soft requirements
 pub extends_noted : {N S : Type 0} (old middle : Encoder N S) (x : EncodedOnce N S) → Extends old middle → x.wishes.items ≡ middle.noted.wishes.items → Extends old (record middle { noted = x })
 extends_noted old middle x h wishes = record { grows = h.grows; trail = record { tracker = h.trail.tracker }; wishes = wishes ∙ h.wishes; parents = h.parents; encoded = h.encoded; deferred = h.deferred; fired = h.fired }
 
--- the literals go on to have what they mean as variables come
+-- the literals keep their meanings where variables are added
 spells_grow : {N S : Type 0} (old new : SolverState N S) (ls : List Signed) (ms : List (Literal (Atom N S))) → IsCoding old → Grows old new → AreInRange (count_of old.search) ls → Spells (origin old.atoms.keys) ls ms → Spells (origin new.atoms.keys) ls ms
 spells_grow old new ls ms coding grows below h = spells_agree (origin old.atoms.keys) (origin new.atoms.keys) (count_of old.search) (origin_grows old new coding grows) ls ms below h
 
@@ -66,7 +67,7 @@ all_parts : {X : Type 0} (P : X → Type 0) (xs ys : List X) → AllByRecursion 
 all_parts P [] ys h = (tt, h)
 all_parts P (x ∷ xs) ys (a, h) = let (b, c) = all_parts P xs ys h in ((a, b), c)
 
--- these are the solvables that the variables stand for, with the package
+-- these are the solvables of the variables, with the package
 pub record AreOf {N S : Type 0} (atoms : List (ProofAtom N S)) (variables : List VariableId) (name : N) (list : List (Offered N S)) : Type 0 where
   pub each : (v : VariableId) (s : S) → Contains variables v → solvable_of atoms v.0 ≡ Some s → Contains list (record { solvable = s; name = name })
   pub all : (o : Offered N S) → Contains list o → (o.name ≡ name) × ((v : VariableId) × Contains variables v × (solvable_of atoms v.0 ≡ Some o.solvable))
@@ -97,7 +98,7 @@ of_other {N} {S} atoms vs name list v none h = record {
   all = λ o a. (let (named, (w, stands, at)) = h.all o a in (named, (w, contains_left w vs (v ∷ []) stands, at)));
 }
 
--- so they are the registered ones, where the variables are those of the package
+-- they are the registered ones, where the variables are those of the package
 pub those_of : {N S : Type 0} (e : Encoder N S) (name : N) (variables : List VariableId) (list : List (Offered N S)) → ((v : VariableId) → Contains variables v → IsTracked e.registry name v) → ((v : VariableId) → IsTracked e.registry name v → Contains variables v)
     → AreOf e.coding.atoms.keys variables name list → AreThose e name list
 those_of e name variables list tracked all h = record {
@@ -131,7 +132,7 @@ module _ {N S : Type 0} (same : S → S → Bool) (exact : IsExact same) where
         (last, λ o h. elim (contains_parts o xs ys h) [ inl k ↦ rules_grow b.coding c.coding g.extends.grows (Rule.is_there o.name o.solvable) (first o k) | inr k ↦ second o k ]);
   }
 
-  -- the clause came, and is noted
+  -- the clause was added and recorded
   pub says_stated : (o : Offered N S) (old middle : Encoder N S) (x : EncodedOnce N S) → Tells same (Rule.is_there o.name o.solvable ∷ []) old middle → ((t : S) → Contains x.there.keys t → Contains middle.noted.there.keys t ⊎ (t ≡ o.solvable))
       → x ≡ record middle.noted { there = x.there } → SaysThere same (o ∷ []) old (record middle { noted = x })
   says_stated o old middle x tells only others = record {
@@ -149,7 +150,7 @@ module _ {N S : Type 0} (same : S → S → Bool) (exact : IsExact same) where
         );
   }
 
-  -- it came before
+  -- it was added before
   pub says_known : (o : Offered N S) (e : Encoder N S) → IsBuilt e → Contains e.noted.there.keys o.solvable → SaysThere same (o ∷ []) e e
   says_known o e built known = record {
     built = built;
@@ -163,7 +164,7 @@ module _ {N S : Type 0} (same : S → S → Bool) (exact : IsExact same) where
     );
   }
 
-  -- ---- those whose package a case names
+  -- ---- solvables of recorded packages
 
   pub admits_none : (e : Encoder N S) → IsBuilt e → Admits same [] e e
   admits_none e built = record { said = []; each = λ o h named. absurd (contains_none o h); only = λ o h. absurd (contains_none o h); says = says_none e built }
@@ -187,7 +188,7 @@ module _ {N S : Type 0} (same : S → S → Bool) (exact : IsExact same) where
     says = says_then f.said g.said a b c f.says g.says;
   }
 
-  -- ---- a package that a case names
+  -- ---- a package of a case
 
   pub package_known : (name : N) (e : Encoder N S) → IsBuilt e → Contains e.noted.helped.keys name → HelpsPackage same name e e
   package_known name e built known = record { built = built; extends = extends_same e; lists = refl; registry = refl; keeps = λ n h. h; helped = known; encoding = λ p root lawful holds. holds }
@@ -231,7 +232,8 @@ module _ {N S : Type 0} (same : S → S → Bool) (exact : IsExact same) where
         let own : o.name ≡ p.set_package set.version_set = outside_named o h ∙ candidate_named same exact p lawful (p.set_package set.version_set) o.solvable there in
         (outside_named o h, subst (λ n. is_in same p (listed (p.candidates_of n)) o.solvable ≡ true) (sym own) there)
 
-    -- the literals that none of its package is there, or that one outside it is chosen
+    -- the literals that no version of its package is chosen, or that a candidate outside it is
+    -- chosen
     set_spells : (e : Encoder N S) (any : VariableId) (given : List (Candidate N)) → StandsFor e.coding.atoms.keys any (AtLeastOne set.name)
         → ((o : Offered N S) → Contains set.outside.items o → (c : Candidate N) × Contains given c × IsOfferedAs e.registry e.coding o c)
         → ((c : Candidate N) → Contains given c → (o : Offered N S) × Contains set.outside.items o × IsOfferedAs e.registry e.coding o c)
@@ -261,7 +263,8 @@ module _ {N S : Type 0} (same : S → S → Bool) (exact : IsExact same) where
         none : Means (origin e.coding.atoms.keys) (no any) (minus (Atom.any_of (p.set_package set.version_set)))
         none = subst (λ n. Means (origin e.coding.atoms.keys) (no any) (minus (Atom.any_of n))) is_set.named (means_atom e.coding.atoms.keys (no any) (AtLeastOne set.name) stands)
 
-  -- its package is noted, what is outside it is registered, and its literals are given
+  -- its package is recorded, the candidates outside it are registered, and its literals are
+  -- returned
   pub set_helps : (set : ConditionSet N S) (any : VariableId) (given : List (Candidate N)) (literals : List Signed) (old a b c : Encoder N S) → HelpsPackage same set.name old a → Tells same [] a b → StandsFor b.coding.atoms.keys any (AtLeastOne set.name)
       → Enrols same set.outside.items given b c → literals ≡ no any ∷ literals_in given → Helps same (set ∷ []) literals old c
   set_helps set any given literals old a b c first_step tells stands enrols is = record {
@@ -327,7 +330,7 @@ module _ {N S : Type 0} (same : S → S → Bool) (exact : IsExact same) where
       stands w k (inl is) = subst (Contains (case_literals same p (vs ++ ws))) (sym is) (any_in_case same exact p (vs ++ ws) w k)
       stands w k (inr (s, is, out)) = subst (Contains (case_literals same p (vs ++ ws))) (sym is) (outside_in_case same exact p (vs ++ ws) w s k out)
 
-  -- two cases that are helped are so as one
+  -- the literals of two cases are those of both as one
   helped_join : (p : Packages N S) (e : Encoder N S) (vs ws : List VersionSetId) (ls ms : List Signed) → IsHelped same p e vs ls → IsHelped same p e ws ms → IsHelped same p e (vs ++ ws) (ls ++ ms)
   helped_join p e vs ws ls ms f g = record {
     noted = λ v h. elim (contains_parts v vs ws h) [ inl k ↦ f.noted v k | inr k ↦ g.noted v k ];

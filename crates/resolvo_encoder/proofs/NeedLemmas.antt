@@ -1,4 +1,4 @@
--- What a clause of a need, of a gate, or of one that opens it, leaves standing of the packages' encoding.
+-- The clause of a requirement, of a gate, or from a solvable to a gate keeps the invariant.
 use Rattle.std.proofs.Common.{◌≡◌, ℕ, zero, suc, ◌+◌, ◌<◌, ◌≤◌, ◌⊎◌, inl, inr, Bool, true, false, not, ◌&&◌, List, [], ◌∷◌, ◌++◌, length, reverse, is_some, Option, Some, None, Vec, Global, refl, sym, ◌∙◌, ap, subst, arith, length-append}
 use Rattle.std.specs.Prelude.{Contains, slice_get}
 use Rattle.std.proofs.lemmas.Bool.{both_ways}
@@ -58,7 +58,7 @@ use Rattle.resolvo_state.proofs.RegisterLemmas.{digits_same, digits_more, ties_g
 use Rattle.resolvo_encoder.proofs.ConditionLemmas.{queued_grows, spells_join}
 use Rattle.resolvo_encoder.proofs.RequireLemmas.{Came, Carries, carried, candidate_grows, registered_stays, cases_keep, cased_stays, helped_keeps, registered_before, front_lists, queued_keeps, within_keeps, encoded_keeps, gates_keep, put_at, put_other, NoneAsks, kept_carries, guard_grows, noted_grows, some_one}
 
--- the requirement that a rule's clause asks for a match of
+-- the requirement of a rule's requires clause
 abbrev requirement_in : {N S : Type 0} → Requirement → Rule N S → Requirement
 requirement_in r (Rule.needs parent need case) = need.requirement
 requirement_in r (Rule.gated s q) = r
@@ -70,7 +70,7 @@ requirement_in r (Rule.bars w s) = r
 requirement_in r (Rule.has_digit s bit b) = r
 requirement_in r (Rule.is_there n s) = r
 
--- a literal of candidates is one's own
+-- a literal of candidates is that of one candidate
 pub literal_in : {N : Type 0} (cs : List (Candidate N)) (l : Signed) → has (literals_in cs) l ≡ true → (c : Candidate N) × Contains cs c × (c.literal ≡ l)
 literal_in [] l h = absurd (both_ways false refl h)
 literal_in (c ∷ cs) l h = elim (has-cons c.literal (literals_in cs) l h) [
@@ -90,7 +90,7 @@ one_solvable : {N S : Type 0} (t u : S) → (let a : Atom N S = Atom.solvable t 
 one_solvable t u e = cc
 
 module _ {N S : Type 0} (same : S → S → Bool) (exact : IsExact same) (p : Packages N S) (root : Rules) (lawful : IsLawful p) where
-  -- the candidates' literals are that a match of the requirement is chosen
+  -- the candidates' literals mean that a match of the requirement is chosen
   candidates_spell : (e : Encoder N S) → IsEncoding same p root e → (r : Requirement) → has_candidates e.lists r ≡ true → Spells (origin e.coding.atoms.keys) (literals_in (candidates_in e.lists r)) (candidate_literals same p (alternatives_of p.members_of r))
   candidates_spell e holds r has_list = record {
     only = λ l a.
@@ -104,7 +104,7 @@ module _ {N S : Type 0} (same : S → S → Bool) (exact : IsExact same) (p : Pa
         (c.literal, in_literals (candidates_in e.lists r) c stands, subst (Means (origin e.coding.atoms.keys) c.literal) (sym is) (solvable_means e.coding.atoms.keys c.literal s fits.positive fits.stands));
   }
 
-  -- the denial of a parent's variable is what its clauses begin with
+  -- the first literal of a parent's clause denies the parent's variable
   parent_spells : (atoms : List (ProofAtom N S)) (parent : Option S) (v : VariableId) → IsParentVariable atoms parent v → Spells (origin atoms) (no v ∷ []) (parent_literals parent)
   parent_spells atoms parent v is = record {
     only = λ l h. elim (has-cons (no v) [] l h) [ inl i ↦ head parent is l (sym i) | inr a ↦ absurd (both_ways false refl a) ];
@@ -121,7 +121,7 @@ module _ {N S : Type 0} (same : S → S → Bool) (exact : IsExact same) (p : Pa
       back None h m a = absurd (contains_none m a)
       back (Some s) h m a = subst (Means (origin atoms) (no v)) (sym (contains_one m (minus (Atom.solvable s)) a)) (means_atom atoms (no v) (Solvable s) h)
 
-  -- so it is with a gate's
+  -- the same for a gate
   gate_spells : (atoms : List (ProofAtom N S)) (r : Requirement) (v : VariableId) → StandsFor atoms v (Gate r) → Spells (origin atoms) (no v ∷ []) (minus (Atom.gate r) ∷ [])
   gate_spells atoms r v stands = record {
     only = λ l h. elim (has-cons (no v) [] l h) [
@@ -134,11 +134,11 @@ module _ {N S : Type 0} (same : S → S → Bool) (exact : IsExact same) (p : Pa
       gate : Means (origin atoms) (no v) (minus (Atom.gate r))
       gate = means_atom atoms (no v) (Gate r) stands
 
-  -- the literals of a need's clause
+  -- the literals of a requires clause
   abbrev need_literals : Encoder N S → VariableId → Option (DenseId DisjunctionTag ℕ) → Requirement → List Signed
   need_literals e v condition r = no v ∷ (condition_in e.lists condition ++ literals_in (candidates_in e.lists r))
 
-  -- what a clause of a need states is a rule, with its literals
+  -- a requires clause encodes a rule, with its literals
   need_rule : (e : Encoder N S) → IsEncoding same p root e → (x : Stated N S) (v : VariableId) (condition : Option (DenseId DisjunctionTag ℕ)) (r : Requirement) → has_candidates e.lists r ≡ true → IsNeed same p root e.lists e.coding.atoms.keys x v condition r → (q : Rule N S) → rule_of x ≡ Some q
       → IsRule same p root q × Spells (origin e.coding.atoms.keys) (need_literals e v condition r) (literals_of same p q)
   need_rule e holds (Says.Needs parent need case) v condition r has_list (is, stands, conditioned, listed, cased) q one =
@@ -170,7 +170,7 @@ module _ {N S : Type 0} (same : S → S → Bool) (exact : IsExact same) (p : Pa
   need_rule e holds (Says.IsThere n s) v condition r has_list h q one = absurd h
   need_rule e holds Says.Learnt v condition r has_list h q one = absurd h
 
-  -- what decisions are made for, for a clause of a need
+  -- the entry of the decision queue for a requires clause
   need_queued : (ls : FixedLists N) (atoms : List (ProofAtom N S)) (x : Stated N S) (v : VariableId) (condition : Option (DenseId DisjunctionTag ℕ)) (r : Requirement) (number : ClauseId) → IsNeed same p root ls atoms x v condition r → IsQueuedFor same p ls atoms (Some x) (record { parent = v; requirement = r; condition = condition; clause = number })
   need_queued ls atoms (Says.Needs parent need case) v condition r number (is, stands, conditioned, listed, cased) = (sym is, conditioned, stands)
   need_queued ls atoms (Says.Shared w) v condition r number (is, free, stands, asked) = (sym is, free, stands)
@@ -185,7 +185,7 @@ module _ {N S : Type 0} (same : S → S → Bool) (exact : IsExact same) (p : Pa
   need_queued ls atoms (Says.IsThere n s) v condition r number h = absurd h
   need_queued ls atoms Says.Learnt v condition r number h = absurd h
 
-  -- a condition's literal that a solvable is chosen is of one outside a version set of the case
+  -- a positive literal of a condition is that of a solvable outside a version set of the case
   need_condition : (ls : FixedLists N) (atoms : List (ProofAtom N S)) (x : Stated N S) (v : VariableId) (condition : Option (DenseId DisjunctionTag ℕ)) (r : Requirement) → IsNeed same p root ls atoms x v condition r
       → (l : Signed) (s : S) → has (condition_in ls condition) l ≡ true → Means (origin atoms) l (plus (Atom.solvable s))
       → (parent : Option S) × (need : ConditionalRequirement) × (case : List VersionSetId) × (w : VersionSetId) × (rule_of x ≡ Some (Rule.needs parent need case)) × Contains case w × (is_outside same p w s ≡ true)
@@ -233,7 +233,7 @@ module _ {N S : Type 0} (same : S → S → Bool) (exact : IsExact same) (p : Pa
   asks_need ls atoms (Says.IsThere n s) v condition r h q a = absurd h
   asks_need ls atoms Says.Learnt v condition r h q a = absurd h
 
-  -- the place, the literals and what is stated of a clause that came
+  -- the place, the literals and the kind of an added clause
   module _ (x : Stated N S) (literals : List Signed) (id : ClauseId) (old new : SolverState N S) (before : IsCoding old) (states : States x literals id old new) where
     pub came_at : (n : ℕ) → length old.search.clauses ≤ n → n < length new.search.clauses → n ≡ length old.search.clauses
     came_at n low high =
@@ -250,12 +250,13 @@ module _ {N S : Type 0} (same : S → S → Bool) (exact : IsExact same) (p : Pa
         subst (λ n. slice_get new.stated.items n ≡ Some x) before.each
         (subst (λ (xs : List (Stated N S)). slice_get xs (length old.stated.items) ≡ Some x) (sym states.stated) (get_last old.stated.items x))
 
-  -- what the clause of a case rests on: its packages are noted, and what is outside its version sets is registered
+  -- the precondition of a case's clause: its packages are recorded, and the candidates outside its
+  -- version sets are registered
   abbrev pub IsReady : Encoder N S → Stated N S → Type 0
   IsReady e x = (parent : Option S) (need : ConditionalRequirement) (case : List VersionSetId) (w : VersionSetId) → rule_of x ≡ Some (Rule.needs parent need case) → Contains case w
       → Contains e.noted.helped.keys (p.set_package w) × ((s : S) → is_outside same p w s ≡ true → Registered same p root e s)
 
-  -- A clause of a need, or of a gate, came.
+  -- The clause of a requirement, or of a gate, was added.
   pub need_keeps : (x : Stated N S) (v : VariableId) (condition : Option (DenseId DisjunctionTag ℕ)) (r : Requirement) (old new : Encoder N S) → IsEncoding same p root old → has_candidates old.lists r ≡ true → IsGuarded same p (E.rules_of old) r
       → IsNeed same p root old.lists old.coding.atoms.keys x v condition r → IsReady old x → StatesNeed x v condition r old new → IsEncoding same p root new × ((q : Rule N S) → rule_of x ≡ Some q → E.rules_of new q)
   need_keeps x v condition r old new e has_list guarded need ready came = (carried same exact p root old new e carries, λ q is. (length old.coding.search.clauses, rule_stated new.coding.stated.items (length old.coding.search.clauses) x stated_here ∙ is))
@@ -394,7 +395,7 @@ module _ {N S : Type 0} (same : S → S → Bool) (exact : IsExact same) (p : Pa
         encoded = encoded_keeps same exact p root lawful old new e came.states.grows came.parents came.encoded came.deferred;
       }
 
-  -- a need without condition is stated for the case that asks for nothing
+  -- a requirement without condition is encoded for the empty case
   plain_need : (e : Encoder N S) (parent : Option S) (need : ConditionalRequirement) (case : Vec VersionSetId Global) (v : VariableId) → case.items ≡ [] → Needs same p root parent need → IsParentVariable e.coding.atoms.keys parent v
       → IsNeed same p root e.lists e.coding.atoms.keys (Says.Needs parent need case) v None need.requirement
   plain_need e parent need case v none needs stands = (
@@ -409,7 +410,7 @@ module _ {N S : Type 0} (same : S → S → Bool) (exact : IsExact same) (p : Pa
     subst (λ vs. Contains (cases_for same p need) vs) (sym none) (subst (λ c. Contains (cases_under p.condition_of c) []) (sym needs.free) (contains_only [])),
   )
 
-  -- the clause of a parent's need without condition came
+  -- the clause of a parent's requirement without condition was added
   pub needed_keeps : (parent : Option S) (need : ConditionalRequirement) (v : VariableId) (old new : Encoder N S) → IsEncoding same p root old → has_candidates old.lists need.requirement ≡ true → IsGuarded same p (E.rules_of old) need.requirement
       → IsParentVariable old.coding.atoms.keys parent v → Needs same p root parent need → NeedsDirectly parent need v old new → IsEncoding same p root new × E.rules_of new (Rule.needs parent need [])
   needed_keeps parent need v old new e has_list guarded stands needs came =
@@ -419,12 +420,12 @@ module _ {N S : Type 0} (same : S → S → Bool) (exact : IsExact same) (p : Pa
       ready : IsReady old (Says.Needs parent need came.case)
       ready who wanted vs w states h = let which : came.case.items ≡ vs = cc in absurd (contains_none w (subst (λ xs. Contains xs w) (sym which ∙ came.none) h))
 
-  -- the clause of a gate rests on no case
+  -- the clause of a gate has no case
   pub shared_ready : (e : Encoder N S) (r : Requirement) → IsReady e (Says.Shared r)
   shared_ready e r who wanted vs w states h = absurd cc
 
-  -- A clause came that states a rule, with its literals; none of these makes a solvable true, and the rule asks for no
-  -- match and tells no digit.
+  -- A clause that encodes a rule was added, with the rule's literals. None of these is a positive
+  -- literal of a solvable, and the rule isn't one of a requires clause or a digit.
   pub clause_keeps : (x : Stated N S) (rule : Rule N S) (literals : List Signed) (id : ClauseId) (old new : Encoder N S) → IsEncoding same p root old → rule_of x ≡ Some rule → IsRestraint rule → IsRule same p root rule
       → Spells (origin old.coding.atoms.keys) literals (literals_of same p rule) → States x literals id old.coding new.coding → SameButCoding old new → IsEncoding same p root new × E.rules_of new rule
   clause_keeps x rule literals id old new e states_rule denial is_rule spells states rest = (carried same exact p root old new e carries, (length old.coding.search.clauses, rule_here))
@@ -472,13 +473,13 @@ module _ {N S : Type 0} (same : S → S → Bool) (exact : IsExact same) (p : Pa
       carries = kept_carries same exact p root lawful old new e states.coding states.grows states.trail rest (λ n low high. subst (λ k. Came same exact p root new k) (sym (place n low high)) right) none
           (digits_more x old.coding new.coding states.stated (not_digit x rule states_rule denial))
 
-  -- a solvable that has a need, without condition, asks for its requirement
+  -- a requirement that some solvable has without condition may have a gate
   pub needed_asks : (s : S) (need : ConditionalRequirement) → Contains (rules_for same p root (Some s)).requirements need → need.condition ≡ None → asks (rules_of (p.dependencies_of s)).requirements need.requirement ≡ true
   needed_asks s need listed free =
       contained_any (λ (n : ConditionalRequirement). not (has_condition n.condition) && same_requirement need.requirement n.requirement) need (rules_of (p.dependencies_of s)).requirements listed
       (ap (λ c. not (has_condition c) && same_requirement need.requirement need.requirement) free ∙ same_requirement-self need.requirement)
 
-  -- the clause that a solvable opens a gate came
+  -- the clause from a solvable to a gate was added
   pub gated_keeps : (s : S) (v gate : VariableId) (need : ConditionalRequirement) (id : ClauseId) (old new : Encoder N S) → IsEncoding same p root old
       → Contains (rules_for same p root (Some s)).requirements need → need.condition ≡ None → StandsFor old.coding.atoms.keys v (Solvable s) → StandsFor old.coding.atoms.keys gate (Gate need.requirement)
       → States (Says.Gated s need.requirement) (no v ∷ yes gate ∷ []) id old.coding new.coding → SameButCoding old new
@@ -489,7 +490,7 @@ module _ {N S : Type 0} (same : S → S → Bool) (exact : IsExact same) (p : Pa
       (inr (minus (Atom.solvable s), refl, means_atom old.coding.atoms.keys (no v) (Solvable s) stands)) (inr (plus (Atom.gate need.requirement), refl, means_atom old.coding.atoms.keys (yes gate) (Gate need.requirement) opens)))
       states rest
 
-  -- a variable came, or nothing
+  -- a variable was added, or nothing
   pub gives_keeps : (a : ProofAtom N S) (v : VariableId) (old new : Encoder N S) → IsEncoding same p root old → Gives a v old.coding new.coding → SameButCoding old new → IsEncoding same p root new
   gives_keeps a v old new e gives rest = carried same exact p root old new e
       (kept_carries same exact p root lawful old new e gives.coding gives.grows gives.trail rest (λ n low high. absurd (nothing n low high)) (λ n q low high at b. nothing n low high) (digits_same old.coding new.coding gives.stated))
@@ -497,7 +498,7 @@ module _ {N S : Type 0} (same : S → S → Bool) (exact : IsExact same) (p : Pa
       nothing : (n : ℕ) → length old.coding.search.clauses ≤ n → n < length new.coding.search.clauses → ⊥
       nothing n low high = let same_length : length new.coding.search.clauses ≡ length old.coding.search.clauses = ap length gives.clauses in omega arith
 
-  -- a gate is noted, whose clause is there
+  -- a gate is recorded, whose clause was added
   pub gate_noted : (old new : Encoder N S) (r : Requirement) (v : VariableId) → IsEncoding same p root old → StandsFor old.coding.atoms.keys v (Gate r) → E.rules_of old (Rule.shared r)
       → PutsAt old.gates new.gates r v → new ≡ record old { gates = new.gates } → IsEncoding same p root new
   gate_noted old new r v e stands rule puts is = subst (λ (x : Encoder N S). IsEncoding same p root x) (sym is) (record {
@@ -527,7 +528,7 @@ module _ {N S : Type 0} (same : S → S → Bool) (exact : IsExact same) (p : Pa
     called = e.called;
   })
 
-  -- At its start the encoding is one of any packages.
+  -- The first encoding satisfies the invariant for any packages.
   pub begun_encodes : (e : Encoder N S) → IsBegunEncoding e → IsEncoding same p root e
   begun_encodes e b = record {
     coding = b.coding.coding;

@@ -1,4 +1,4 @@
--- A wish is noted, and taken back.
+-- A soft requirement is recorded, and removed.
 use Rattle.std.proofs.Common.{◌≡◌, ◌<◌, inl, inr, Bool, true, false, List, [], ◌∷◌, ◌++◌, length, Option, Some, None, Vec, Global, refl, sym, ◌∙◌, ap, subst, arith}
 use Rattle.std.proofs.lemmas.Bool.{both_ways}
 use Rattle.std.proofs.lemmas.List.{length_push, same_from_push}
@@ -33,18 +33,18 @@ use Rattle.resolvo_encoder.proofs.TellLemmas.{built_noted}
 use Rattle.resolvo_encoder.specs.Steps.{IsBuilt, IsListed}
 use Rattle.resolvo_encoder.specs.SoftRequirement.{RegistersWish, Notes, IsUntaken, TakesBack}
 
--- the encoding with other wishes
+-- the encoding with other soft requirements
 abbrev pub rewished : {N S : Type 0} → Encoder N S → Vec S Global → Encoder N S
 rewished e ws = record e { noted = record e.noted { wishes = ws } }
 
--- what stands on a trail is known
+-- the literal of an entry on the trail is known
 on_known : (h : List Entry) (e : Entry) (older : List Entry) → StandsOn h e older → has (made_true h) (literal_of e) ≡ true
 on_known h e older stands = known_from_stands h (literal_of e) e.level (stands_from_entry h e older stands)
 
 module _ {N S : Type 0} (same : S → S → Bool) (exact : IsExact same) where
-  -- ---- a wish comes
+  -- ---- a soft requirement is added
 
-  -- a wish is registered as what is offered is
+  -- a soft requirement is registered as an offered solvable is
   pub wish_registers : (one : Offered N S) (v : VariableId) (old middle : Encoder N S) (t : Registry N) (c : SolverState N S) → Admits same (one ∷ []) old middle → Registers one.name one.solvable v middle.registry middle.coding t c
       → RegistersWish same one v old (enrolled middle t c)
   wish_registers one v old middle t c admits came = record {
@@ -58,7 +58,8 @@ module _ {N S : Type 0} (same : S → S → Bool) (exact : IsExact same) where
       given : Candidate N
       given = record { literal = yes v; «package» = one.name }
 
-  -- The encoding is one of the packages still where the wishes are registered, and each choice is called for.
+  -- The invariant is kept where the soft requirements are registered, and each decision is
+  -- justified.
   wishes_keep : (p : Packages N S) (root : Rules) (e : Encoder N S) (ws : Vec S Global) → IsEncoding same p root e → ((s : S) → Contains ws.items s → Registered same p root e s)
       → AreCalledFor (origin e.coding.atoms.keys) (IsChosenFor same p (rewished e ws)) (history e.coding.search) → IsEncoding same p root (rewished e ws)
   wishes_keep p root e ws h wished called = record {
@@ -84,7 +85,7 @@ module _ {N S : Type 0} (same : S → S → Bool) (exact : IsExact same) where
     called = called;
   }
 
-  -- a registered wish more
+  -- one more registered soft requirement
   wish_more : (p : Packages N S) (root : Rules) (e : Encoder N S) (ws : Vec S Global) (s : S) → ws.items ≡ e.noted.wishes.items ++ s ∷ [] → Registered same p root e s → IsEncoding same p root e → IsEncoding same p root (rewished e ws)
   wish_more p root e ws s more registered h = wishes_keep p root e ws h each called
     where
@@ -106,7 +107,7 @@ module _ {N S : Type 0} (same : S → S → Bool) (exact : IsExact same) where
       called : AreCalledFor (origin e.coding.atoms.keys) (IsChosenFor same p (rewished e ws)) (history e.coding.search)
       called x older stands choice other = wider (known_of (origin e.coding.atoms.keys) older) (meaning (origin e.coding.atoms.keys) (literal_of x)) (h.called x older stands choice other)
 
-  -- a wish is registered, and noted behind the others
+  -- a soft requirement is registered, and recorded behind the others
   pub wish_notes : (one : Offered N S) (v : VariableId) (old middle : Encoder N S) (ws : Vec S Global) → RegistersWish same one v old middle → ws.items ≡ middle.noted.wishes.items ++ one.solvable ∷ [] → Notes same one v old (rewished middle ws)
   wish_notes one v old middle ws r more = record {
     built = built_noted middle (record middle.noted { wishes = ws }) r.enrols.built;
@@ -124,9 +125,9 @@ module _ {N S : Type 0} (same : S → S → Bool) (exact : IsExact same) where
         (r.enrols.encoding p root lawful e (λ o h. subst (IsListed same p) (sym (contains_one o one h)) listed));
   }
 
-  -- ---- the last wish goes
+  -- ---- the last soft requirement is removed
 
-  -- the last wish goes, which isn't chosen
+  -- the last soft requirement is removed, which isn't chosen
   wish_less : (p : Packages N S) (root : Rules) (e : Encoder N S) (ws : Vec S Global) (s : S) → e.noted.wishes.items ≡ ws.items ++ s ∷ []
       → ((v : VariableId) → StandsFor e.coding.atoms.keys v (Solvable s) → has (made_true (history e.coding.search)) (yes v) ≡ false) → IsEncoding same p root e → IsEncoding same p root (rewished e ws)
   wish_less p root e ws s less open_one h = wishes_keep p root e ws h (λ t a. h.wished t (subst (λ (xs : List S). Contains xs t) (sym less) (contains_left t ws.items (s ∷ []) a))) called

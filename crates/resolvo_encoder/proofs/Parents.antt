@@ -1,4 +1,4 @@
--- Parents come, and their needs are encoded in turn.
+-- Parents are added, and their requirements are encoded in turn.
 use Rattle.std.proofs.Common.{◌≡◌, ℕ, suc, ◌+◌, ◌<◌, ◌≤◌, ◌⊎◌, inl, inr, Bool, true, false, List, [], ◌∷◌, ◌++◌, length, cond, Option, Some, refl, sym, subst, arith, length-append}
 use Rattle.std.specs.Prelude.{slice_get, Contains}
 use Rattle.std.specs.List.{list_any}
@@ -14,7 +14,7 @@ use Rattle.resolvo_encoder.specs.Encoded.{IsParentEncoded, IsEncoding}
 use Rattle.resolvo_encoder.specs.Steps.{AddsParent, IsNextEncoded}
 use Rattle.resolvo_encoder.specs.declared.encoder.Encoder.{Encoder}
 
--- what is put into a list without repeats comes behind the others, or stood there
+-- a value inserted into a list without repeats is appended, or was in it
 pub front_insert : {X : Type 0} (eq : X → X → Bool) (xs : List X) (x : X) → IsFrontOf xs (insert_key eq xs x)
 front_insert {X} eq xs x = go (list_any (eq x) xs)
   where
@@ -22,11 +22,11 @@ front_insert {X} eq xs x = go (list_any (eq x) xs)
     go true = front_same xs
     go false = (x ∷ [], refl)
 
--- a value that equals one of a list stands there
+-- a value that equals one of a list is in it
 pub any_stands : {X : Type 0} (eq : X → X → Bool) (xs : List X) (x : X) → ((y : X) → eq x y ≡ true → y ≡ x) → list_any (eq x) xs ≡ true → Contains xs x
 any_stands eq xs x exact h = let (y, stands, same) = any_contained (eq x) xs h in subst (Contains xs) (exact y same) stands
 
--- what is put into a list stands there
+-- an inserted value is in the list
 pub inserted : {X : Type 0} (eq : X → X → Bool) (xs : List X) (x : X) → ((y : X) → eq x y ≡ true → y ≡ x) → Contains (insert_key eq xs x) x
 inserted {X} eq xs x exact = go (list_any (eq x) xs) refl
   where
@@ -34,11 +34,11 @@ inserted {X} eq xs x exact = go (list_any (eq x) xs) refl
     go true h = any_stands eq xs x exact h
     go false h = contains_right x xs (x ∷ []) (contains_first x x [] refl)
 
--- what stands in the front of a list stands in it
+-- a value in the prefix of a list is in it
 pub front_contains : {X : Type 0} (xs ys : List X) (x : X) → IsFrontOf xs ys → Contains xs x → Contains ys x
 front_contains xs ys x (more, is) h = subst (λ zs. Contains zs x) (sym is) (contains_left x xs more h)
 
--- a value that does not stand there makes the list longer by one
+-- a value that isn't in the list makes it longer by one
 pub inserted_long : {X : Type 0} (eq : X → X → Bool) (xs : List X) (x : X) → ((y : X) → eq x y ≡ true → y ≡ x) → (Contains xs x → ⊥) → length (insert_key eq xs x) ≡ suc (length xs)
 inserted_long {X} eq xs x exact fresh = go (list_any (eq x) xs) refl
   where
@@ -46,7 +46,7 @@ inserted_long {X} eq xs x exact fresh = go (list_any (eq x) xs) refl
     go true h = absurd (fresh (any_stands eq xs x exact h))
     go false h = let long : length (xs ++ x ∷ []) ≡ length xs + 1 = length-append xs (x ∷ []) in omega (arith, long)
 
--- what stands in a list stood there before a value was put into it, or is the value
+-- a value of the list was in it before the insertion, or is the inserted one
 pub inserted_only : {X : Type 0} (eq : X → X → Bool) (xs : List X) (x y : X) → Contains (insert_key eq xs x) y → Contains xs y ⊎ (y ≡ x)
 inserted_only {X} eq xs x y = go (list_any (eq x) xs)
   where
@@ -55,7 +55,7 @@ inserted_only {X} eq xs x y = go (list_any (eq x) xs)
     go false h = elim (contains_parts y xs (x ∷ []) h) [ inl a ↦ inl a | inr a ↦ inr (contains_one y x a) ]
 
 module _ {N S : Type 0} (same : S → S → Bool) (p : Packages N S) (root : Rules) where
-  -- more parents leave the encoding one
+  -- more parents keep the invariant
   pub parent_keeps : (old new : Encoder N S) → IsEncoding same p root old → AddsParent old new → IsEncoding same p root new
   parent_keeps old new e added = subst (λ (x : Encoder N S). IsEncoding same p root x) (sym added.rest) (record {
     coding = e.coding;
@@ -82,7 +82,7 @@ module _ {N S : Type 0} (same : S → S → Bool) (p : Packages N S) (root : Rul
     called = e.called;
   })
 
-  -- the needs of one parent more are encoded
+  -- the requirements of one parent more are encoded
   pub next_keeps : (e : Encoder N S) → IsEncoding same p root e → e.encoded < length e.parents.keys → IsNextEncoded same p root e → IsEncoding same p root (record e { encoded = e.encoded + 1 })
   next_keeps old e below next = record {
     coding = e.coding;

@@ -26,7 +26,7 @@ use Rattle.resolvo_encoder.specs.declared.encoder.Encoder.{Encoder}
 
 -- ---- candidates of solvables
 
--- they stay so as variables come
+-- they are kept where variables are added
 pub candidates_grow : {N S : Type 0} (old new : SolverState N S) (cs : List (Candidate N)) (list : List S) → Grows old new → AreCandidates old.atoms.keys cs list → AreCandidates new.atoms.keys cs list
 candidates_grow old new [] [] grows h = tt
 candidates_grow old new [] (s ∷ ss) grows h = absurd h
@@ -48,7 +48,7 @@ candidates_both atoms [] ds (s ∷ ss) ts h k = absurd h
 candidates_both atoms (c ∷ cs) ds [] ts h k = absurd h
 candidates_both atoms (c ∷ cs) ds (s ∷ ss) ts (a, b, rest) k = (a, b, candidates_both atoms cs ds ss ts rest k)
 
--- candidates that each stand for a solvable are those of a list
+-- candidates that each represent a solvable are those of a list
 candidates_list : {N S : Type 0} (atoms : List (ProofAtom N S)) (cs : List (Candidate N)) → ((c : Candidate N) → Contains cs c → (s : S) × (c.literal.positive ≡ true) × StandsFor atoms c.literal.variable (Solvable s)) → (list : List S) × AreCandidates atoms cs list
 candidates_list atoms [] each = ([], tt)
 candidates_list atoms (c ∷ cs) each =
@@ -94,13 +94,13 @@ module _ {N S : Type 0} (old new : Encoder N S) (grows : Grows old.coding new.co
   pub taken_grows : (same : S → S → Bool) (p : Packages N S) (known : List (Literal (Atom N S))) (l : Literal (Atom N S)) → IsFirstPick same p (HasOrder old) (E.rules_of old) known l → IsFirstPick same p (HasOrder new) (E.rules_of new) known l
   taken_grows same p known l k = first_pick_grows same p (E.rules_of old) (E.rules_of new) (rules_grow old.coding new.coding grows) (HasOrder old) (HasOrder new) known l order_stays k
 
-  -- what was chosen for a wish, or as a first pick, was so still
+  -- a decision for a soft requirement, or a first pick, remains one
   pub chosen_grows : new.noted.wishes.items ≡ old.noted.wishes.items → (same : S → S → Bool) (p : Packages N S) (known : List (Literal (Atom N S))) (l : Literal (Atom N S)) → IsChosenFor same p old known l → IsChosenFor same p new known l
   chosen_grows wishes same p known l (inl w) = inl (record { solvable = w.solvable; is = w.is; wished = subst (λ (ws : List S). is_in same p ws w.solvable ≡ true) (sym wishes) w.wished })
   chosen_grows wishes same p known l (inr k) = inr (taken_grows same p known l k)
 
 module _ {N S : Type 0} (orders : Requirement → List S → Type 0) where
-  -- what is offered in an order leaves all ordered
+  -- solvables offered in an order leave all candidates ordered
   pub ordered_adds : (r : Requirement) (offered : List (Offered N S)) (old new : Encoder N S) → Grows old.coding new.coding → AddsCandidates r offered old new → orders r (offered_solvables offered) → AreOrdered orders old → AreOrdered orders new
   ordered_adds r offered old new grows adds here before q has = elim (adds q has) [
     | inr (is, are) ↦ (offered_solvables offered, subst (λ x. orders x (offered_solvables offered)) (sym is) here, are)
@@ -109,7 +109,7 @@ module _ {N S : Type 0} (orders : Requirement → List S → Type 0) where
         (list, ordered, subst (λ x. AreCandidates new.coding.atoms.keys (items_or_none x) list) (sym stays) (candidates_grow old.coding new.coding (candidates_in old.lists q) list grows are))
   ]
 
-  -- so does what leaves the lists as they were
+  -- so does a step that keeps the lists
   pub ordered_stays : (old new : Encoder N S) → Grows old.coding new.coding → new.lists ≡ old.lists → AreOrdered orders old → AreOrdered orders new
   ordered_stays old new grows lists before q has =
       let (list, ordered, are) = before q (subst (λ ls. has_candidates ls q ≡ true) lists has) in
@@ -126,7 +126,7 @@ module _ {N S : Type 0} (orders : Requirement → List S → Type 0) where
 
 -- ---- the first that passes
 
--- what is found stands behind others that don't pass
+-- the value that is found is behind others that don't pass
 pub found_first : {X : Type 0} (f : X → Bool) (xs : List X) (x : X) → find f xs ≡ Some x → (before : List X) × (after : List X) × (xs ≡ before ++ x ∷ after) × (f x ≡ true) × ((y : X) → Contains before y → f y ≡ false)
 found_first f [] x h = absurd cc
 found_first {X} f (y ∷ ys) x h = go (f y) refl h (found_first f ys x)

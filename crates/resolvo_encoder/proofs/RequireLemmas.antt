@@ -1,4 +1,4 @@
--- What each step of encoding leaves standing of the packages' encoding.
+-- Each step of encoding keeps the invariant.
 use Rattle.std.proofs.Common.{◌≡◌, ℕ, ◌<◌, ◌≤◌, ◌⊎◌, inl, inr, Bool, true, false, List, [], ◌∷◌, length, Option, Some, None, refl, sym, ◌∙◌, ap, subst, arith, Vec, Global, ◌==◌, eqb-true, eq-eqb, unwrap_or, is_some}
 use Rattle.std.specs.Prelude.{Contains, slice_get, MatchOption}
 use Rattle.std.specs.List.{AllByRecursion}
@@ -56,15 +56,15 @@ use Rattle.resolvo_state.proofs.Rules.{rule_stated}
 use Rattle.resolvo_state.proofs.Growth.{grows_same, grows_then, stands_grow, rules_grow, bar_grows, stated_grows, rule_split, rules_split, spelled_grows, registered_grows, called_grows_trail, trail_same, trail_then}
 
 module _ {N S : Type 0} (same : S → S → Bool) (exact : IsExact same) (p : Packages N S) (root : Rules) where
-  -- what came with the clause of this number
+  -- the added clause of this number is right
   pub record Came (new : Encoder N S) (n : ℕ) : Type 0 where
     pub stated : Stated N S
     pub at : stated_at new.coding.stated.items n ≡ Some stated
     pub rule : (r : Rule N S) → rule_of stated ≡ Some r → IsRule same p root r × Spells (origin new.coding.atoms.keys) (clause_at (clauses_of new.coding.search) n) (literals_of same p r)
     pub positive : (l : Signed) (s : S) → has (clause_at (clauses_of new.coding.search) n) l ≡ true → Means (origin new.coding.atoms.keys) l (plus (Atom.solvable s)) → Registered same p root new s
 
-  -- The encoding stays one of the packages where what came with each clause is right, and so are the lists, the queue and
-  -- the parents.
+  -- The invariant is kept where each added clause is right, and so are the lists, the queue and the
+  -- parents.
   pub record Carries (old new : Encoder N S) : Type 0 where
     pub coding : IsCoding new.coding
     pub grows : Grows old.coding new.coding
@@ -126,33 +126,33 @@ module _ {N S : Type 0} (same : S → S → Bool) (exact : IsExact same) (p : Pa
   pub candidate_grows : (old new : Encoder N S) (n : N) (s : S) (c : Candidate N) → Grows old.coding new.coding → ((m : N) (u : VariableId) → IsTracked old.registry m u → IsTracked new.registry m u) → IsCandidate old n s c → IsCandidate new n s c
   candidate_grows old new n s c grows keeps h = record { positive = h.positive; stands = stands_grow old.coding new.coding c.literal.variable (Solvable s) grows h.stands; tracked = keeps n c.literal.variable h.tracked }
 
-  -- a need that is encoded stays so
+  -- an encoded requirement remains encoded
   pub need_grows : (old new : Encoder N S) (parent : Option S) (need : ConditionalRequirement) (case : List VersionSetId) → Grows old.coding new.coding → IsNeedEncoded same p (E.rules_of old) parent need case → IsNeedEncoded same p (E.rules_of new) parent need case
   need_grows old new parent need case grows (inl a) = inl (rules_grow old.coding new.coding grows (Rule.needs parent need case) a)
   need_grows old new parent need case grows (inr (inl (s, e, a, b))) = inr (inl (s, e, rules_grow old.coding new.coding grows (Rule.gated s need.requirement) a, rules_grow old.coding new.coding grows (Rule.shared need.requirement) b))
   need_grows old new parent need case grows (inr (inr a)) = inr (inr a)
 
-  -- what bars candidates of a requirement's packages goes on to be stated
+  -- locks and exclusions of a requirement's packages remain encoded
   pub guard_grows : (old new : Encoder N S) (r : Requirement) → Grows old.coding new.coding → IsGuarded same p (E.rules_of old) r → IsGuarded same p (E.rules_of new) r
   guard_grows old new r grows h v s a barred = bar_grows old.coding new.coding grows s (h v s a barred)
 
-  -- a limit that is encoded stays so
+  -- an encoded constraint remains encoded
   pub limit_grows : (old new : Encoder N S) (parent : Option S) (v : VersionSetId) → Grows old.coding new.coding → IsLimitEncoded same p (E.rules_of old) parent v → IsLimitEncoded same p (E.rules_of new) parent v
   limit_grows old new parent v grows h s outside = elim (h s outside) [
     | inl a ↦ inl (rules_grow old.coding new.coding grows (Rule.limits parent v s) a)
     | inr (a, b) ↦ inr (rules_grow old.coding new.coding grows (Rule.limits_outside parent v) a, rules_grow old.coding new.coding grows (Rule.is_out v s) b)
   ]
 
-  -- a case that waits goes on to do so, or has its clauses
+  -- a deferred case remains deferred, or is encoded
   pub deferred_grows : (old new : Encoder N S) (parent : Option S) (need : ConditionalRequirement) (case : List VersionSetId) → IsFrontOf old.deferred.items new.deferred.items → IsDeferred old parent need case → IsDeferred new parent need case
   deferred_grows old new parent need case front (i, d, at, a, b, c) = (i, d, front_get old.deferred.items new.deferred.items i d front at, a, b, c)
 
-  -- a case that is encoded, or waits, stays so
+  -- a case that is encoded or deferred remains so
   pub case_grows : (old new : Encoder N S) (parent : Option S) (need : ConditionalRequirement) (case : List VersionSetId) → Grows old.coding new.coding → IsFrontOf old.deferred.items new.deferred.items → IsCaseEncoded same p old parent need case → IsCaseEncoded same p new parent need case
   case_grows old new parent need case grows front (inl a) = inl (need_grows old new parent need case grows a)
   case_grows old new parent need case grows front (inr a) = inr (deferred_grows old new parent need case front a)
 
-  -- a parent that is encoded stays so
+  -- an encoded parent remains encoded
   pub parent_grows : (old new : Encoder N S) (parent : Option S) → Grows old.coding new.coding → IsFrontOf old.deferred.items new.deferred.items → IsParentEncoded same p old root parent → IsParentEncoded same p new root parent
   parent_grows old new parent grows front h = record {
     needs = λ need case a b. case_grows old new parent need case grows front (h.needs need case a b);
@@ -161,18 +161,18 @@ module _ {N S : Type 0} (same : S → S → Bool) (exact : IsExact same) (p : Pa
     unknown = λ s is a. bar_grows old.coding new.coding grows s (h.unknown s is a);
   }
 
-  -- what is noted goes on to be stated
+  -- recorded packages and version sets remain encoded
   pub noted_grows : (old new : Encoder N S) → Grows old.coding new.coding → new.noted ≡ old.noted → IsNoted same p (E.rules_of old) old.noted → IsNoted same p (E.rules_of new) new.noted
   noted_grows old new grows noted h = record {
     packages = λ n s a barred. bar_grows old.coding new.coding grows s (h.packages n s (subst (λ (x : EncodedOnce N S). Contains x.packages.keys n) noted a) barred);
     version_sets = λ v s a outside. rules_grow old.coding new.coding grows (Rule.is_out v s) (h.version_sets v s (subst (λ (x : EncodedOnce N S). Contains x.version_sets.keys v) noted a) outside);
   }
 
-  -- a registered solvable stays so
+  -- a registered solvable remains registered
   pub registered_stays : (old new : Encoder N S) (n : N) (s : S) → Grows old.coding new.coding → ((m : N) (u : VariableId) → IsTracked old.registry m u → IsTracked new.registry m u) → IsRegistered old.registry old.coding n s → IsRegistered new.registry new.coding n s
   registered_stays old new n s grows keeps (v, stands, tracked) = (v, stands_grow old.coding new.coding v (Solvable s) grows stands, keeps n v tracked)
 
-  -- The cases that wait and that fired are those that did.
+  -- The deferred cases and the fired ones are unchanged.
   pub cases_keep : (old new : Encoder N S) → AreCased same p root old → Grows old.coding new.coding → new.deferred ≡ old.deferred → new.fired ≡ old.fired → new.noted ≡ old.noted
       → ((parent : Option S) (need : ConditionalRequirement) (case : List VersionSetId) (v : VersionSetId) → E.rules_of new (Rule.needs parent need case) → Contains case v → Contains new.noted.helped.keys (p.set_package v) × ((s : S) → is_outside same p v s ≡ true → Registered same p root new s))
       → ((n : N) (s : S) → Contains new.noted.helped.keys n → IsRegistered new.registry new.coding n s → E.rules_of new (Rule.is_there n s)) → AreCased same p root new
@@ -185,7 +185,7 @@ module _ {N S : Type 0} (same : S → S → Bool) (exact : IsExact same) (p : Pa
     there = λ s h. rules_grow old.coding new.coding grows (Rule.is_there (p.package_of s) s) (e.there s (subst (λ (x : EncodedOnce N S). Contains x.there.keys s) noted h));
   }
 
-  -- what an old clause of a case rests on stands
+  -- the packages of an encoded case remain recorded, and the candidates outside registered
   pub cased_stays : (old new : Encoder N S) → AreCased same p root old → Grows old.coding new.coding → new.noted ≡ old.noted → ((m : N) (u : VariableId) → IsTracked old.registry m u → IsTracked new.registry m u)
       → (parent : Option S) (need : ConditionalRequirement) (case : List VersionSetId) (v : VersionSetId) → E.rules_of old (Rule.needs parent need case) → Contains case v
       → Contains new.noted.helped.keys (p.set_package v) × ((s : S) → is_outside same p v s ≡ true → Registered same p root new s)
@@ -193,12 +193,12 @@ module _ {N S : Type 0} (same : S → S → Bool) (exact : IsExact same) (p : Pa
       let (named, out) = e.cased parent need case v stands h in
       (subst (λ (x : EncodedOnce N S). Contains x.helped.keys (p.set_package v)) (sym noted) named, λ s o. registered_stays old new (p.package_of s) s grows keeps (out s o))
 
--- what a map by requirement has at one where it was put
+-- the value of a map by requirement where it was put
 pub put_at : {V : Type 0} (m n : List (Option V) × List (Option V)) (r : Requirement) (x : V) → PutsAt m n r x → slot_of n r ≡ Some x
 put_at m n (Single v) x f = f.0.0
 put_at m n (Union u) x f = f.0.0
 
--- another requirement has what it had
+-- another requirement keeps its value
 pub put_other : {V : Type 0} (m n : List (Option V) × List (Option V)) (r q : Requirement) (x : V) → PutsAt m n r x → (q ≡ r) ⊎ (slot_of n q ≡ slot_of m q)
 put_other m n (Single v) (Single w) x f = elim (cases_Bool (w.0 == v.0)) [
   | inl e ↦ inl (ap (λ k. Single (record { 0 = k })) (eqb-true w.0 v.0 e))
@@ -211,11 +211,11 @@ put_other m n (Union u) (Union w) x f = elim (cases_Bool (w.0 == u.0)) [
   | inr e ↦ inr (f.0.1 w.0 (λ i. both_ways (w.0 == u.0) e (eq-eqb w.0 u.0 i)))
 ]
 
--- the candidates of a requirement that got them
+-- the candidates of a requirement that received them
 pub fix_at : {N : Type 0} (r : Requirement) (given : Vec (Candidate N) Global) (old new : FixedLists N) → FixesCandidates r given old new → slot_of new.candidates r ≡ Some given
 fix_at r given old new f = put_at old.candidates new.candidates r given f.put
 
--- another requirement has those that it had
+-- another requirement keeps its candidates
 pub fix_other : {N : Type 0} (r q : Requirement) (given : Vec (Candidate N) Global) (old new : FixedLists N) → FixesCandidates r given old new → (q ≡ r) ⊎ (slot_of new.candidates q ≡ slot_of old.candidates q)
 fix_other r q given old new f = put_other old.candidates new.candidates r q given f.put
 
@@ -227,7 +227,7 @@ pub some_one : {X : Type 0} (x y : X) → Some x ≡ Some y → x ≡ y
 some_one x y e = ap (λ o. unwrap_or o x) e
 
 module _ {N S : Type 0} (same : S → S → Bool) (exact : IsExact same) (p : Packages N S) (root : Rules) (lawful : IsLawful p) where
-  -- what meets a requirement is a candidate of its package
+  -- a match of a requirement is a candidate of its package
   pub meets_listed : (r : Requirement) (s : S) → meets same p r s ≡ true → is_in same p (listed (p.candidates_of (p.package_of s))) s ≡ true
   meets_listed r s h =
       let (v, stands, match) = any_contained (λ w. is_match same p w s) (alternatives_of p.members_of r) h in
@@ -243,7 +243,7 @@ module _ {N S : Type 0} (same : S → S → Bool) (exact : IsExact same) (p : Pa
   pub meets_offer : (r : Requirement) (offered : List (Offered N S)) (s : S) → AreOffered same p r offered → meets same p r s ≡ true → (o : Offered N S) × Contains offered o × (s ≡ o.solvable)
   meets_offer r offered s h m = map_contains (λ (x : Offered N S). x.solvable) s offered (in_contained same exact p (offered_solvables offered) s (h.matches s ∙ m))
 
-  -- a registered solvable was registered, or offered
+  -- a registered solvable was registered before, or is offered
   pub registered_split : (offered : List (Offered N S)) (given : List (Candidate N)) (r t : Registry N) (old new : SolverState N S) → AreTied r old → RegistersAll offered given r old t new
       → (n : N) (s : S) → IsRegistered t new n s → IsRegistered r old n s ⊎ ((o : Offered N S) × Contains offered o × (n ≡ o.name) × (o.solvable ≡ s))
   registered_split offered given r t old new tied all n s (v, stands, tracked) = elim (all.only n v tracked) [
@@ -262,7 +262,7 @@ module _ {N S : Type 0} (same : S → S → Bool) (exact : IsExact same) (p : Pa
       go (Some y) at h = subst (λ z. IsQueuedFor same p new.lists new.coding.atoms.keys z q) (sym (stated_grows old.coding new.coding grows q.clause.0 y at))
           (queued_grows same p old.lists new.lists old.coding new.coding front grows (Some y) q (subst (λ z. IsQueuedFor same p old.lists old.coding.atoms.keys z q) at h))
 
-  -- conditions stay where the lists do
+  -- conditions are unchanged where the lists are
   pub front_lists : (old new : Encoder N S) → new.lists ≡ old.lists → IsFrontOf old.lists.disjunctions new.lists.disjunctions
   front_lists old new lists = front_equal old.lists.disjunctions new.lists.disjunctions (ap (λ (ls : FixedLists N). ls.disjunctions) lists)
 
@@ -272,7 +272,7 @@ module _ {N S : Type 0} (same : S → S → Bool) (exact : IsExact same) (p : Pa
       let (stands, rule) = e.gates r v (sym (ap (λ gs. slot_of gs r) gates) ∙ at) in
       (stands_grow old.coding new.coding v (Gate r) grows stands, rules_grow old.coding new.coding grows (Rule.shared r) rule)
 
-  -- no clause that came asks for a match
+  -- no added clause is a requires clause
   abbrev pub NoneAsks : Encoder N S → Encoder N S → Type 0
   NoneAsks old new = (n : ℕ) (r : Rule N S) → length old.coding.search.clauses ≤ n → n < length new.coding.search.clauses → rule_at new.coding.stated.items n ≡ Some r → Asks r → ⊥
 
@@ -303,7 +303,7 @@ module _ {N S : Type 0} (same : S → S → Bool) (exact : IsExact same) (p : Pa
       parent_grows same exact p root old new (solvable_of parent) grows (front_equal old.deferred.items new.deferred.items (ap (λ (ds : Vec (Deferred S) Global). ds.items) deferred))
       (e.encoded i parent (subst (λ n. i < n) encoded below) (sym (ap (λ ps. slice_get ps.keys i) parents) ∙ at))
 
-  -- no clause of a case came
+  -- no clause of a case was added
   pub cased_keeps : (old new : Encoder N S) → IsEncoding same p root old → IsCoding new.coding → Grows old.coding new.coding → new.noted ≡ old.noted → ((m : N) (u : VariableId) → IsTracked old.registry m u → IsTracked new.registry m u) → NoneAsks old new
       → (parent : Option S) (need : ConditionalRequirement) (case : List VersionSetId) (v : VersionSetId) → E.rules_of new (Rule.needs parent need case) → Contains case v
       → Contains new.noted.helped.keys (p.set_package v) × ((s : S) → is_outside same p v s ≡ true → Registered same p root new s)
@@ -317,7 +317,7 @@ module _ {N S : Type 0} (same : S → S → Bool) (exact : IsExact same) (p : Pa
       → (n : N) (s : S) → Contains new.noted.helped.keys n → IsRegistered new.registry new.coding n s → E.rules_of new (Rule.is_there n s)
   helped_keeps old new e grows noted back n s h a = rules_grow old.coding new.coding grows (Rule.is_there n s) (e.helped n s (subst (λ (x : EncodedOnce N S). Contains x.helped.keys n) noted h) (back n s a))
 
-  -- what is registered was so, where the registry stays
+  -- registered solvables were so before, where the registry is unchanged
   pub registered_before : (old new : Encoder N S) → AreTied old.registry old.coding → Grows old.coding new.coding → new.registry ≡ old.registry → (n : N) (s : S) → IsRegistered new.registry new.coding n s → IsRegistered old.registry old.coding n s
   registered_before old new tied grows registry n s (u, stands, there) =
       let k = subst (λ (t : Registry N). IsTracked t n u) registry there in
@@ -335,7 +335,8 @@ module _ {N S : Type 0} (same : S → S → Bool) (exact : IsExact same) (p : Pa
     | inr (n, low, high, at) ↦ absurd (none n (Rule.shared r) low high at tt)
   ]
 
-  -- where registered solvables, lists, queue and parents stay, and what came with each clause is right
+  -- where registered solvables, lists, queue and parents are unchanged, and each added clause is
+  -- right
   pub kept_carries : (old new : Encoder N S) → IsEncoding same p root old → IsCoding new.coding → Grows old.coding new.coding → SameTrail old.coding new.coding → SameButCoding old new
       → ((n : ℕ) → length old.coding.search.clauses ≤ n → n < length new.coding.search.clauses → Came same exact p root new n) → NoneAsks old new → KeepsDigits old.coding new.coding → Carries same exact p root old new
   kept_carries old new e coding grows trail rest came none kept = record {
@@ -367,7 +368,7 @@ module _ {N S : Type 0} (same : S → S → Bool) (exact : IsExact same) (p : Pa
       back : (n : N) (s : S) → IsRegistered new.registry new.coding n s → IsRegistered old.registry old.coding n s
       back = registered_before old new e.tied grows rest.registry
 
-  -- a clause that tells a digit comes right
+  -- an added clause of a digit is right
   pub digit_came : (old new : Encoder N S) (name : N) (n : ℕ) → (d : IsDigitClause new.registry new.coding name n) → name ≡ p.package_of d.solvable → is_in same p (listed (p.candidates_of (p.package_of d.solvable))) d.solvable ≡ true → Came same exact p root new n
   digit_came old new name n d e candidate = record {
     stated = Says.Digit name d.solvable d.place d.bit;
@@ -391,14 +392,14 @@ module _ {N S : Type 0} (same : S → S → Bool) (exact : IsExact same) (p : Pa
       solvable_no_digit : (s : S) (m : N) (bit : ℕ) → Atom.solvable s ≡ Atom.digit m bit → ⊥
       solvable_no_digit s m bit e = cc
 
--- what came in two steps came
+-- two steps make one
 pub extends_then : {N S : Type 0} (a b c : Encoder N S) → Extends a b → Extends b c → Extends a c
 extends_then a b c f g = record { grows = grows_then a.coding b.coding c.coding f.grows g.grows; trail = trail_then a.coding b.coding c.coding f.trail g.trail; wishes = g.wishes ∙ f.wishes; parents = g.parents ∙ f.parents; encoded = g.encoded ∙ f.encoded; deferred = g.deferred ∙ f.deferred; fired = g.fired ∙ f.fired }
 
 pub extends_same : {N S : Type 0} (e : Encoder N S) → Extends e e
 extends_same e = record { grows = grows_same e.coding; trail = trail_same e.coding; wishes = refl; parents = refl; encoded = refl; deferred = refl; fired = refl }
 
--- what is so of an answer that is none
+-- a property of an answer that is none
 pub where_none : {X : Type 0} (o : Option X) (P : Type 0) (Q : X → Type 0) → MatchOption o P Q → is_some o ≡ false → P
 where_none None P Q h none = h
 where_none (Some x) P Q h none = absurd (both_ways true none refl)

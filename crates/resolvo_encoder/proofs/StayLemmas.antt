@@ -1,4 +1,4 @@
--- The encoding stays one of the packages while the search goes on.
+-- The invariant of the encoding is kept by the search.
 use Rattle.std.proofs.Common.{◌≡◌, ℕ, ◌+◌, ◌*◌, ◌-◌, ◌^◌, ◌<◌, ◌≤◌, inl, inr, Bool, true, List, [], ◌∷◌, ◌++◌, length, Some, None, Vec, Global, HashSet, BuildHasherDefault, FoldHasher, refl, sym, ◌∙◌, ap, subst, arith, reverse}
 use Rattle.resolvo_sat.specs.Analysis.{AreFromClauses}
 use Rattle.std.specs.Prelude.{slice_get, Contains}
@@ -53,7 +53,7 @@ use Rattle.resolvo_encoder.proofs.CarryLemmas.{split_at}
 use Rattle.resolvo_encoder.proofs.PickLemmas.{chosen_grows}
 use Rattle.resolvo_encoder.proofs.RequireLemmas.{candidate_grows, cases_keep, cased_stays, helped_keeps, front_lists, queued_keeps, gates_keep, within_keeps, encoded_keeps, guard_grows, noted_grows}
 
--- what was learnt states no rule
+-- a learnt clause encodes no rule
 nothing_stated : {N S : Type 0} (old new : Encoder N S) → GoesOn old new → (n : ℕ) (r : Rule N S) → length old.coding.search.clauses ≤ n → n < length new.coding.search.clauses → rule_at new.coding.stated.items n ≡ Some r → ⊥
 nothing_stated old new goes n r low high at = let none : None ≡ Some r = sym (rule_stated new.coding.stated.items n Says.Learnt (goes.learnt n low high)) ∙ at in absurd cc
 
@@ -65,7 +65,8 @@ digits_kept old new coding goes n name s place bit h = elim (stated_split old.co
 ]
 
 module _ {N S : Type 0} (same : S → S → Bool) (exact : IsExact same) (p : Packages N S) (root : Rules) (lawful : IsLawful p) where
-  -- The encoding stays one of the packages where solvables that clauses may make true are registered, and choices are called for.
+  -- The invariant is kept where the solvables of positive literals are registered, and decisions
+  -- are justified.
   stays : (old new : Encoder N S) → IsEncoding same p root old → GoesOn old new → AreRegistered (Registered same p root new) new.coding
       → AreCalledFor (origin new.coding.atoms.keys) (IsChosenFor same p new) (history new.coding.search) → IsEncoding same p root new
   stays old new e goes positive called = record {
@@ -115,11 +116,12 @@ module _ {N S : Type 0} (same : S → S → Bool) (exact : IsExact same) (p : Pa
       clause_back r (inl (parent, need, case, stands, is)) = inl (parent, need, case, rule_back (Rule.needs parent need case) stands, is)
       clause_back r (inr stands) = inr (rule_back (Rule.shared r) stands)
 
-  -- what is registered stays so where only clauses came that were learnt
+  -- registered solvables are the same where only learnt clauses were added
   registered_on : (old new : Encoder N S) → GoesOn old new → (s : S) → Registered same p root old s → Registered same p root new s
   registered_on old new goes s (v, stands, there) = (v, subst (λ (a : HashSet (ProofAtom N S) (BuildHasherDefault FoldHasher)). StandsFor a.keys v (Solvable s)) (sym goes.atoms) stands, subst (λ (t : Registry N). IsTracked t (p.package_of s) v) (sym goes.rest.registry) there)
 
-  -- so are the solvables that clauses may make true where each literal of a clause that came stood in an earlier one
+  -- so are the solvables of positive literals, where each literal of an added clause is in an
+  -- earlier one
   positive_on : (old new : Encoder N S) → IsEncoding same p root old → GoesOn old new
       → ((n : ℕ) (l : Signed) → length old.coding.search.clauses ≤ n → n < length new.coding.search.clauses → has (clause_at (clauses_of new.coding.search) n) l ≡ true → (k : ℕ) × (has (clause_at (clauses_of old.coding.search) k) l ≡ true))
       → AreRegistered (Registered same p root new) new.coding
@@ -135,7 +137,7 @@ same_variables old new v w StepResult.Complete h = h.extends.same.variables
 same_variables old new v w (StepResult.Learnt id) h = h.variables
 same_variables old new v w (StepResult.Refused r) h = h.2.same.variables
 
--- a step keeps what stood before the turn
+-- a step keeps the trail before the turn
 step_earlier : (old new : SatState) (v w : WatchLists) (q : StepResult) → IsProgress old v new w q → KeepsUpTo (old.base_level - 1) old new
 step_earlier old new v w StepResult.Complete h = λ base low ends. extends_earlier old new base h.extends ends
 step_earlier old new v w (StepResult.Learnt id) h = λ base low ends. h.earlier base (omega arith) ends
@@ -171,7 +173,7 @@ module _ {N S : Type 0} (old : Encoder N S) (c : SolverState N S) where
     learnt = step_learns q before step;
   }
 
-  -- each literal of a learnt clause stood in an earlier one
+  -- each literal of a learnt clause is in an earlier one
   step_from : (q : StepResult) → IsProgress old.coding.search old.coding.watching c.search c.watching q → (n : ℕ) (l : Signed) → length old.coding.search.clauses ≤ n → n < length c.search.clauses
       → has (clause_at (clauses_of c.search) n) l ≡ true → (k : ℕ) × (has (clause_at (clauses_of old.coding.search) k) l ≡ true)
   step_from StepResult.Complete h n l low high stands = let long : length c.search.clauses ≡ length old.coding.search.clauses = ap (λ (cs : List SatClause). length cs) h.extends.same.clauses in absurd (omega arith)
@@ -184,7 +186,7 @@ module _ {N S : Type 0} (old : Encoder N S) (c : SolverState N S) where
       let here : clause_at (clauses_of c.search) n ≡ h.clause.literals.items = ap (λ (cs : List (List Signed)). clause_at cs n) added ∙ ap (λ (k : ℕ). clause_at (lists old.coding.search.clauses ++ h.clause.literals.items ∷ []) k) place ∙ clause_at_end (lists old.coding.search.clauses) h.clause.literals.items in
       h.from l (subst (λ (ls : List Signed). has ls l ≡ true) here stands)
 
-  -- where clauses, variables, and what they stand for and state, are what they were
+  -- where clauses, variables, origins and kinds are unchanged
   pub kept_goes : KeepsCode old.coding c → c.search.base_level ≡ old.coding.search.base_level → KeepsUpTo (old.coding.search.base_level - 1) old.coding.search c.search → GoesOn old went
   kept_goes kept base_level earlier = record {
     rest = step_rest;
@@ -201,7 +203,7 @@ module _ {N S : Type 0} (old : Encoder N S) (c : SolverState N S) where
     learnt = λ n low high. (let long : length c.search.clauses ≡ length old.coding.search.clauses = ap (λ (cs : List SatClause). length cs) kept.clauses in absurd (omega arith));
   }
 
-  -- a clause that only denies came
+  -- the clause of a final conflict was added
   pub bar_goes : (denies : List Signed) (by : List ClauseId) (id : ClauseId) → IsCoding old.coding → Bars denies by id old.coding c → GoesOn old went
   bar_goes denies by id before bars = record {
     rest = step_rest;
@@ -217,7 +219,7 @@ module _ {N S : Type 0} (old : Encoder N S) (c : SolverState N S) where
         subst (λ (k : ℕ). slice_get c.stated.items k ≡ Some Says.Learnt) place (subst (λ (xs : List (Stated N S)). slice_get xs (length old.coding.stated.items) ≡ Some Says.Learnt) (sym bars.stated) (get_last old.coding.stated.items Says.Learnt));
   }
 
-  -- each of its literals stood in an earlier clause
+  -- each of its literals is in an earlier clause
   bar_from : (denies : List Signed) (by : List ClauseId) (id : ClauseId) → Bars denies by id old.coding c → AreFromClauses old.coding.search denies → (n : ℕ) (l : Signed) → length old.coding.search.clauses ≤ n → n < length c.search.clauses
       → has (clause_at (clauses_of c.search) n) l ≡ true → (k : ℕ) × (has (clause_at (clauses_of old.coding.search) k) l ≡ true)
   bar_from denies by id bars from n l low high stands =
@@ -231,25 +233,25 @@ module _ {N S : Type 0} (old : Encoder N S) (c : SolverState N S) where
   pub choice_goes : (v : VariableId) (clause : ClauseId) → Chooses v clause old.coding.search c.search → KeepsCode old.coding c → GoesOn old went
   choice_goes v clause chosen kept = kept_goes kept chosen.same.base_level (λ base low ends. choice_earlier old.coding.search c.search v clause base chosen ends)
 
-  -- entries that are taken away since the turn began leave what stood before it
+  -- undoing the turn's entries keeps the trail before it
   pub undo_goes : (level : ℕ) → old.coding.search.base_level - 1 ≤ level → Undoes level old.coding.search c.search → KeepsCode old.coding c → GoesOn old went
   undo_goes level low undoes kept = kept_goes kept undoes.same.base_level (λ base under ends. undo_earlier old.coding.search c.search level base undoes (omega arith) ends)
 
   module _ (same : S → S → Bool) (exact : IsExact same) (p : Packages N S) (root : Rules) (lawful : IsLawful p) where
-    -- a step of the search leaves the encoding one of the packages
+    -- a step of the search keeps the invariant
     pub step_keeps : (q : StepResult) → Advances old.coding c q → IsEncoding same p root old → IsEncoding same p root went
     step_keeps q step e =
         let goes = step_goes q e.coding step in
         stays same exact p root lawful old went e goes (positive_on same exact p root lawful old went e goes (step_from q step.progress)) (called_advances (IsChosenFor same p old) (IsChosenFor same p went) (chosen_grows old went goes.grows (λ r h. refl) refl same p) old.coding c q step e.called)
 
-    -- so does a clause that only denies
+    -- so does the clause of a final conflict
     pub bar_keeps : (denies : List Signed) (by : List ClauseId) (id : ClauseId) → Bars denies by id old.coding c → AreFromClauses old.coding.search denies → IsEncoding same p root old → IsEncoding same p root went
     bar_keeps denies by id bars from e =
         let goes = bar_goes denies by id e.coding bars in
         stays same exact p root lawful old went e goes (positive_on same exact p root lawful old went e goes (bar_from denies by id bars from))
         (called_grows_trail (IsChosenFor same p old) (IsChosenFor same p went) (chosen_grows old went goes.grows (λ r h. refl) refl same p) old.coding c e.coding goes.grows bars.trail e.called)
 
-    -- so does a choice that is called for
+    -- so does a justified decision
     pub choice_keeps : (v : VariableId) (clause : ClauseId) → Chooses v clause old.coding.search c.search → KeepsCode old.coding c
         → IsChosenFor same p old (known_of (origin old.coding.atoms.keys) (history old.coding.search)) (meaning (origin old.coding.atoms.keys) (yes v)) → IsEncoding same p root old → IsEncoding same p root went
     choice_keeps v clause chosen kept now e =
@@ -258,7 +260,7 @@ module _ {N S : Type 0} (old : Encoder N S) (c : SolverState N S) where
         (positive_on same exact p root lawful old went e goes (λ n l low high stands. (let long : length c.search.clauses ≡ length old.coding.search.clauses = ap (λ (cs : List SatClause). length cs) kept.clauses in absurd (omega arith))))
         (called_chooses (IsChosenFor same p old) (IsChosenFor same p went) (chosen_grows old went goes.grows (λ r h. refl) refl same p) old.coding c v clause chosen kept now e.called)
 
-    -- so do entries that are taken away
+    -- so does undoing entries
     pub undo_keeps : (level : ℕ) → old.coding.search.base_level - 1 ≤ level → Undoes level old.coding.search c.search → KeepsCode old.coding c → IsEncoding same p root old → IsEncoding same p root went
     undo_keeps level low undoes kept e =
         let goes = undo_goes level low undoes kept in
@@ -266,7 +268,7 @@ module _ {N S : Type 0} (old : Encoder N S) (c : SolverState N S) where
         (positive_on same exact p root lawful old went e goes (λ n l low high stands. (let long : length c.search.clauses ≡ length old.coding.search.clauses = ap (λ (cs : List SatClause). length cs) kept.clauses in absurd (omega arith))))
         (called_undoes (IsChosenFor same p old) (IsChosenFor same p went) (chosen_grows old went goes.grows (λ r h. refl) refl same p) old.coding c level undoes kept e.called)
 
--- ---- what is known of the need clauses is noted, and nothing else
+-- ---- only the states of requires clauses change
 
 module _ {N S : Type 0} (e : Encoder N S) (needs : UndecidedClauses) where
   pub needs_go : IsCoding e.coding → GoesOn e (record e { needs = needs })
@@ -308,7 +310,7 @@ learnt_heavier id s t w h =
 pub choice_gains : (v : VariableId) (clause : ClauseId) (s t : SatState) → Chooses v clause s t → weight_left t < weight_left s
 choice_gains v clause s t chosen = weight_falls s t chosen.state (same_count s t chosen.same.variables) (choice_heavier s t v clause chosen)
 
--- what is set leaves no more to gain
+-- assignments leave no more weight to gain
 pub complete_gains : (s t : SatState) (w : WatchLists) → Completes s t w → weight_left t ≤ weight_left s
 complete_gains s t w h =
     let count : count_of t ≡ count_of s = same_count s t h.extends.same.variables in

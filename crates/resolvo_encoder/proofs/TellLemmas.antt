@@ -1,4 +1,4 @@
--- Rules become clauses that keep solvables out, one after another.
+-- Rules that forbid solvables are encoded as clauses, one after another.
 use Rattle.std.proofs.Common.{◌≡◌, ◌<◌, ◌⊎◌, inl, inr, Bool, true, List, [], ◌∷◌, ◌++◌, map, length, Option, Some, None, refl, sym, ◌∙◌, ap, subst, arith, ℕ}
 use Rattle.resolvo_sat.specs.State.{history}
 use Rattle.resolvo_soundness.specs.SearchEnd.{IsWished}
@@ -48,7 +48,7 @@ use Rattle.resolvo_encoder.proofs.Denials.{Reads, pair_members, pair_spells, one
 use Rattle.resolvo_encoder.proofs.NeedLemmas.{gives_keeps, clause_keeps}
 use Rattle.resolvo_encoder.proofs.RequireLemmas.{each_of, parent_grows, extends_same, extends_then}
 
--- the literals of a pair have variables
+-- the variables of a pair exist
 pub pair_in_range : (count : ℕ) (a b : Signed) (literals : List Signed) → IsPair a b literals → a.variable.0 < count → b.variable.0 < count → AreInRange count literals
 pair_in_range count a b literals pair first second l h = elim (pair_members a b l literals pair h) [
   | inl is ↦ subst (λ (x : Signed). x.variable.0 < count) is first
@@ -59,12 +59,12 @@ pub pair_long : (a b : Signed) (literals : List Signed) → IsPair a b literals 
 pair_long a b literals (inl two) = subst (λ (x : List Signed). 0 < length x) (sym two) (omega arith)
 pair_long a b literals (inr (both, one)) = subst (λ (x : List Signed). 0 < length x) (sym one) (omega arith)
 
--- the parent's variable stays its own
+-- the parent keeps its variable
 pub parent_variable_grows : {N S : Type 0} (old new : Encoder N S) (parent : Option S) (v : VariableId) → Extends old new → IsParentVariable old.coding.atoms.keys parent v → IsParentVariable new.coding.atoms.keys parent v
 parent_variable_grows old new None v h is = is
 parent_variable_grows old new (Some s) v h stands = stands_grow old.coding new.coding v (Solvable s) h.grows stands
 
--- its denial is what a clause of the parent begins with
+-- the first literal of a parent's clause denies the parent
 pub parent_reads : {N S : Type 0} (atoms : List (ProofAtom N S)) (parent : Option S) (v : VariableId) → IsParentVariable atoms parent v → Reads (origin atoms) (no v) (parent_literals parent)
 parent_reads atoms None v is = inl (ap no is, refl)
 parent_reads atoms (Some s) v stands = inr (minus (Atom.solvable s), refl, means_atom atoms (no v) (Solvable s) stands)
@@ -99,7 +99,7 @@ module _ {N S : Type 0} (same : S → S → Bool) (exact : IsExact same) where
   pub tells_more : {X : Type 0} (rule : X → Rule N S) (xs : List X) (x : X) (a b c : Encoder N S) → Tells same (map rule xs) a b → Tells same (rule x ∷ []) b c → Tells same (map rule (xs ++ x ∷ [])) a c
   tells_more rule xs x a b c f g = subst (λ (rs : List (Rule N S)). Tells same rs a c) (sym (map-append rule xs (x ∷ []))) (tells_then (map rule xs) (rule x ∷ []) a b c f g)
 
-  -- a variable came, or nothing
+  -- a variable was added, or nothing
   pub gives_tells : (atom : ProofAtom N S) (v : VariableId) (old : Encoder N S) (c : SolverState N S) → IsBuilt old → Gives atom v old.coding c → Tells same [] old (record old { coding = c })
   gives_tells atom v old c built gives = record {
     built = built_gives atom v old c built gives;
@@ -113,7 +113,7 @@ module _ {N S : Type 0} (same : S → S → Bool) (exact : IsExact same) where
     );
   }
 
-  -- a clause of two literals came, which are the rule's
+  -- a clause of two literals was added, which are the rule's
   pub pair_tells : (x : Stated N S) (rule : Rule N S) (a b : Signed) (old new : Encoder N S) → IsBuilt old → rule_of x ≡ Some rule → IsRestraint rule
       → ((p : Packages N S) (literals : List Signed) → IsPair a b literals → Spells (origin old.coding.atoms.keys) literals (literals_of same p rule)) → StatesPair x a b old new → Tells same (rule ∷ []) old new
   pair_tells x rule a b old new built is denial spells came = record {
@@ -127,14 +127,14 @@ module _ {N S : Type 0} (same : S → S → Bool) (exact : IsExact same) where
         (keeps, λ r h. subst (λ (y : Rule N S). E.rules_of new y) (sym (contains_one r rule h)) stands);
   }
 
-  -- the parent's version set keeps a solvable out
+  -- the parent's version set forbids a solvable
   pub limit_tells : (parent : Option S) (v : VersionSetId) (s : S) (first second : VariableId) (old new : Encoder N S) → IsBuilt old → IsParentVariable old.coding.atoms.keys parent first → StandsFor old.coding.atoms.keys second (Solvable s)
       → StatesPair (Says.Limits parent v s) (no first) (no second) old new → Tells same (Rule.limits parent v s ∷ []) old new
   limit_tells parent v s first second old new built is stands = pair_tells (Says.Limits parent v s) (Rule.limits parent v s) (no first) (no second) old new built refl tt
       (λ p literals pair. pair_spells (origin old.coding.atoms.keys) (no first) (no second) literals (parent_literals parent) (minus (Atom.solvable s) ∷ []) pair (parent_reads old.coding.atoms.keys parent first is)
       (inr (minus (Atom.solvable s), refl, means_atom old.coding.atoms.keys (no second) (Solvable s) stands)))
 
-  -- it keeps out whatever is outside it
+  -- it forbids all candidates outside it
   pub outside_tells : (parent : Option S) (v : VersionSetId) (first second : VariableId) (old new : Encoder N S) → IsBuilt old → IsParentVariable old.coding.atoms.keys parent first → StandsFor old.coding.atoms.keys second (Outside v)
       → StatesPair (Says.LimitsOutside parent v) (no first) (no second) old new → Tells same (Rule.limits_outside parent v ∷ []) old new
   outside_tells parent v first second old new built is stands = pair_tells (Says.LimitsOutside parent v) (Rule.limits_outside parent v) (no first) (no second) old new built refl tt
@@ -148,21 +148,21 @@ module _ {N S : Type 0} (same : S → S → Bool) (exact : IsExact same) where
       (λ p literals pair. pair_spells (origin old.coding.atoms.keys) (no first) (yes second) literals (minus (Atom.solvable s) ∷ []) (plus (Atom.outside v) ∷ []) pair
       (inr (minus (Atom.solvable s), refl, means_atom old.coding.atoms.keys (no first) (Solvable s) is)) (inr (plus (Atom.outside v), refl, means_atom old.coding.atoms.keys (yes second) (Outside v) stands)))
 
-  -- one of its package is there
+  -- an at-least-one clause
   pub there_tells : (n : N) (s : S) (first second : VariableId) (old new : Encoder N S) → IsBuilt old → StandsFor old.coding.atoms.keys first (Solvable s) → StandsFor old.coding.atoms.keys second (AtLeastOne n)
       → StatesPair (Says.IsThere n s) (no first) (yes second) old new → Tells same (Rule.is_there n s ∷ []) old new
   there_tells n s first second old new built is stands = pair_tells (Says.IsThere n s) (Rule.is_there n s) (no first) (yes second) old new built refl tt
       (λ p literals pair. pair_spells (origin old.coding.atoms.keys) (no first) (yes second) literals (minus (Atom.solvable s) ∷ []) (plus (Atom.any_of n) ∷ []) pair
       (inr (minus (Atom.solvable s), refl, means_atom old.coding.atoms.keys (no first) (Solvable s) is)) (inr (plus (Atom.any_of n), refl, means_atom old.coding.atoms.keys (yes second) (AtLeastOne n) stands)))
 
-  -- a solvable is kept out
+  -- a solvable is forbidden
   pub bar_tells : (x : Stated N S) (w : Bar S) (s : S) (v : VariableId) (old new : Encoder N S) → IsBuilt old → rule_of x ≡ Some (Rule.bars w s) → StandsFor old.coding.atoms.keys v (Solvable s) → StatesPair x (no v) (no v) old new → Tells same (Rule.bars w s ∷ []) old new
   bar_tells x w s v old new built is stands = pair_tells x (Rule.bars w s) (no v) (no v) old new built is tt
       (λ p literals pair. one_spells (origin old.coding.atoms.keys) (no v) literals (minus (Atom.solvable s)) pair (means_atom old.coding.atoms.keys (no v) (Solvable s) stands))
 
-  -- ---- what is noted
+  -- ---- records
 
-  -- what is kept out of a package is so by its listing
+  -- a solvable is forbidden by the listing of its package
   pub kept_by_listing : (p : Packages N S) (n : N) (b : Barred S) → (p.package_of b.solvable ≡ n) × KeepsOut same (listing_or_empty (p.candidates_of n)) b.solvable b.why → rules.KeepsOut same p (bar_of b.why) b.solvable
   kept_by_listing p n b (named, kept) = go b.why (subst (λ m. KeepsOut same (listing_or_empty (p.candidates_of m)) b.solvable b.why) (sym named) kept)
     where
@@ -171,7 +171,7 @@ module _ {N S : Type 0} (same : S → S → Bool) (exact : IsExact same) where
       go (Excluded reason) h = inl h
 
   module _ (p : Packages N S) (root : Rules) where
-    -- what is barred of a package are rules of the problem
+    -- the locks and exclusions of a package are rules of the problem
     pub bars_are_rules : (n : N) (list : List (Barred S)) → AreBarred same p n list → (r : Rule N S) → Contains (bar_rules list) r → IsRule same p root r
     bars_are_rules n list barred r h =
         let (b, there, is) = map_contains (λ (x : Barred S). Rule.bars (bar_of x.why) x.solvable) r list h in
@@ -182,7 +182,7 @@ module _ {N S : Type 0} (same : S → S → Bool) (exact : IsExact same) where
         let (b, there, is) = map_contains (λ (x : Barred S). x.solvable) s list (in_contained same exact p (barred_solvables list) s (barred.each s listed bars)) in
         subst (λ y. HasBar rules y) (sym is) (bar_of b.why, each (Rule.bars (bar_of b.why) b.solvable) (contains_map (λ (x : Barred S). Rule.bars (bar_of x.why) x.solvable) b list there))
 
-    -- what is offered as outside a version set is, and nothing else is
+    -- the solvables offered as outside a version set are exactly those outside it
     offered_outside : (v : VersionSetId) (list : List (Offered N S)) (o : Offered N S) → AreOutside same p v list → Contains list o → is_outside same p v o.solvable ≡ true
     offered_outside v list o outside h = sym (outside.outside o.solvable) ∙ contained_in same exact p (offered_solvables list) o.solvable (contains_map (λ (x : Offered N S). x.solvable) o list h)
 
@@ -202,7 +202,7 @@ module _ {N S : Type 0} (same : S → S → Bool) (exact : IsExact same) where
         let (o, there, is) = map_contains (λ (x : Offered N S). x.solvable) s list (in_contained same exact p (offered_solvables list) s (outside.outside s ∙ h)) in
         subst (λ y. rules (rule y)) (sym is) (each (rule o.solvable) (contains_map (λ (x : Offered N S). rule x.solvable) o list there))
 
-    -- What was stated is noted, of packages, version sets and solvables.
+    -- The encoded packages, version sets and solvables are recorded.
     pub noted_keeps : (old : Encoder N S) (x : EncodedOnce N S) → IsEncoding same p root old → IsNoted same p (E.rules_of old) x
         → ((n : N) → Contains old.noted.helped.keys n → Contains x.helped.keys n) → ((n : N) (s : S) → Contains x.helped.keys n → IsRegistered old.registry old.coding n s → E.rules_of old (Rule.is_there n s))
         → ((s : S) → Contains x.there.keys s → E.rules_of old (Rule.is_there (p.package_of s) s)) → x.wishes.items ≡ old.noted.wishes.items → IsEncoding same p root (record old { noted = x })
@@ -253,13 +253,13 @@ module _ {N S : Type 0} (same : S → S → Bool) (exact : IsExact same) where
       ];
     }) (λ m h. h) e.cases.helped e.cases.there refl)
 
-    -- a package is noted of whose registered solvables clauses say that one is there
+    -- a package is recorded whose registered solvables have at-least-one clauses
     pub helped_noted : (old : Encoder N S) (x : EncodedOnce N S) (n : N) → IsEncoding same p root old → ((m : N) → Contains x.helped.keys m → Contains old.noted.helped.keys m ⊎ (m ≡ n)) → ((m : N) → Contains old.noted.helped.keys m → Contains x.helped.keys m) → x ≡ record old.noted { helped = x.helped }
         → ((s : S) → IsRegistered old.registry old.coding n s → E.rules_of old (Rule.is_there n s)) → IsEncoding same p root (record old { noted = x })
     helped_noted old x n e only keeps others there = subst (λ (y : EncodedOnce N S). IsEncoding same p root (record old { noted = y })) (sym others) (noted_keeps old (record old.noted { helped = x.helped }) e (record { packages = e.noted.packages; version_sets = e.noted.version_sets }) keeps
         (λ m s h a. elim (only m h) [ inl b ↦ e.cases.helped m s b a | inr is ↦ subst (λ y. E.rules_of old (Rule.is_there y s)) (sym is) (there s (subst (λ y. IsRegistered old.registry old.coding y s) is a)) ]) e.cases.there refl)
 
-    -- a solvable is noted of which a clause says so
+    -- a solvable is recorded that has an at-least-one clause
     pub there_noted : (old : Encoder N S) (x : EncodedOnce N S) (s : S) → IsEncoding same p root old → ((t : S) → Contains x.there.keys t → Contains old.noted.there.keys t ⊎ (t ≡ s)) → x ≡ record old.noted { there = x.there }
         → E.rules_of old (Rule.is_there (p.package_of s) s) → IsEncoding same p root (record old { noted = x })
     there_noted old x s e only others stands = subst (λ (y : EncodedOnce N S). IsEncoding same p root (record old { noted = y })) (sym others) (noted_keeps old (record old.noted { there = x.there }) e (record { packages = e.noted.packages; version_sets = e.noted.version_sets }) (λ m h. h) e.cases.helped

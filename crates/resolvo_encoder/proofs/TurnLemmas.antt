@@ -1,4 +1,4 @@
--- The end of a turn, for what was encoded of a problem.
+-- The end of a turn over the encoding of a problem.
 use Rattle.std.proofs.Common.{◌≡◌, ℕ, suc, ◌<◌, ◌≤◌, ◌⊎◌, inl, inr, Bool, true, false, List, [], ◌∷◌, ◌++◌, length, Option, Some, None, refl, sym, ◌∙◌, ap, subst, arith}
 use Rattle.std.specs.Prelude.{Contains}
 use Rattle.std.proofs.lemmas.Bool.{both_ways, cases_Bool, and_from}
@@ -60,7 +60,7 @@ use Rattle.resolvo_encoder.proofs.ConditionLemmas.{has_all}
 use Rattle.resolvo_encoder.proofs.DecideLemmas.{nothing_offered, known_false, known_parent, value_known, open_or_known, has_clause, choices_called}
 use Rattle.resolvo_encoder.specs.declared.encoder.Encoder.{Encoder}
 
--- levels begin at 1, which is the root's alone or a level above it
+-- levels begin at 1, the root's level, or above it
 first_level : (count : ℕ) (cs : List (List Signed)) (h : List Entry) (d : Entry) (older : List Entry) → IsTrail count cs h → IsRooted h → StandsOn h d older → (1 ≤ d.level) × ((literal_of d ≡ yes root_variable) ⊎ (1 ≤ top_level older))
 first_level count cs [] d older t r s = absurd s
 first_level count cs (e ∷ []) d older t (is, level) (inl (same, rest)) = let one : e.level ≡ d.level = ap (λ (x : Entry). x.level) same in (omega arith, inl (ap literal_of (sym same) ∙ is))
@@ -72,7 +72,7 @@ first_level count cs (e ∷ f ∷ more) d older t r (inl (same, rest)) =
     (omega arith, inr (subst (λ (es : List Entry). 1 ≤ top_level es) rest below))
 first_level count cs (e ∷ f ∷ more) d older t r (inr s) = first_level count cs (f ∷ more) d older t.1 r s
 
--- what is refused at the first level denies the root alone
+-- a final conflict at the first level denies the root alone
 pub root_denied : {N S : Type 0} (e : Encoder N S) → IsCoding e.coding → e.coding.search.base_level ≡ 1 → (literals : List Signed) (causes : List ClauseId) → IsRefusal e.coding.search literals causes → (l : Signed) → has literals l ≡ true → l ≡ no root_variable
 root_denied e coding first literals causes refusal l h =
     let (d, older, stands, is, kept) = refusal.denies l h in
@@ -87,7 +87,7 @@ root_denied e coding first literals causes refusal l h =
     ]
 
 module _ {N S : Type 0} (same : S → S → Bool) (exact : IsExact same) (p : Packages N S) (root : Rules) (lawful : IsLawful p) (e : Encoder N S) where
-  -- What holds of the clauses whatever stands on the trail.
+  -- The properties of the clauses that don't depend on the trail.
   pub register : IsEncoding same p root e → Ending.AreRegistered same p (E.rules_of e) root (Registered same p root e) e.noted.wishes.items
   register holds = record {
     rule = holds.rule;
@@ -100,7 +100,7 @@ module _ {N S : Type 0} (same : S → S → Bool) (exact : IsExact same) (p : Pa
     bar = λ r v s has h barred. holds.bar r has v s h barred;
   }
 
-  -- a clause that states a rule is one of the clauses
+  -- a clause that encodes a rule is one of the clauses
   rule_within : IsEncoding same p root e → (n : ℕ) (r : Rule N S) → rule_at e.coding.stated.items n ≡ Some r → n < length e.coding.search.clauses
   rule_within holds n r h =
       let (x, at, is) = stated_rule e.coding.stated.items n r h in
@@ -108,7 +108,7 @@ module _ {N S : Type 0} (same : S → S → Bool) (exact : IsExact same) (p : Pa
       let long : length e.coding.stated.items ≡ length e.coding.search.clauses = holds.coding.each in
       omega arith
 
-  -- a clause that is quiet has a literal that is not false
+  -- a quiet clause has a literal that isn't false
   unfallen : IsEncoding same p root e → (clause : List Signed) → IsQuiet (made_true (history e.coding.search)) clause → (l : Signed) × (has clause l ≡ true) × (has (made_true (history e.coding.search)) (negation l) ≡ false)
   unfallen holds clause (inr (l, m, a, b, differ, c, d)) = (l, a, c)
   unfallen holds clause (inl (l, a, b)) = (
@@ -120,14 +120,14 @@ module _ {N S : Type 0} (same : S → S → Bool) (exact : IsExact same) (p : Pa
     ],
   )
 
-  -- a literal of the search whose opposite's meaning is known is false
+  -- a literal of the search is false where its negation's meaning is known
   denied : IsEncoding same p root e → (l : Signed) (n : ℕ) (m : Literal (Atom N S)) → has (clause_at (clauses_of e.coding.search) n) l ≡ true → 0 < l.variable.0 → meaning (origin e.coding.atoms.keys) l ≡ m
       → Contains (known_of (origin e.coding.atoms.keys) (history e.coding.search)) (negate m) → has (made_true (history e.coding.search)) (negation l) ≡ true
   denied holds l n m stands other is h = found (origin e.coding.atoms.keys) (count_of e.coding.search) (coding_once e.coding holds.coding) (made_true (history e.coding.search)) (negation l)
       (λ x a. known_in_range (count_of e.coding.search) (clauses_of e.coding.search) (history e.coding.search) x holds.coding.ready.state.trail a)
       other (holds.coding.ready.state.in_range n l stands) (subst (λ (x : Literal (Atom N S)). Contains (known_of (origin e.coding.atoms.keys) (history e.coding.search)) (negate x)) (sym is) h)
 
-  -- A literal of a clause that asks, which is not false, is that a match of the requirement is chosen.
+  -- A literal of a requires clause that isn't false means a chosen match of the requirement.
   asking_candidate : IsEncoding same p root e → (n : ℕ) (r : Requirement) (k : Ending.IsAsked same p (E.rules_of e) (known_of (origin e.coding.atoms.keys) (history e.coding.search)) r) (l : Signed)
       → rule_at e.coding.stated.items n ≡ Some (Ending.asking same p (E.rules_of e) (known_of (origin e.coding.atoms.keys) (history e.coding.search)) r k)
       → has (clause_at (clauses_of e.coding.search) n) l ≡ true → has (made_true (history e.coding.search)) (negation l) ≡ false
@@ -164,7 +164,7 @@ module _ {N S : Type 0} (same : S → S → Bool) (exact : IsExact same) (p : Pa
         | inr c ↦ candidate other r refl c
       ]
 
-  -- what a variable stands for makes it true where it is known
+  -- a variable is true where its origin is known
   atom_found : IsEncoding same p root e → (v : VariableId) (a : ProofAtom N S) → StandsFor e.coding.atoms.keys v a → Contains (known_of (origin e.coding.atoms.keys) (history e.coding.search)) (plus (atom_of a)) → has (made_true (history e.coding.search)) (yes v) ≡ true
   atom_found holds v a stands t =
       let means : Means (origin e.coding.atoms.keys) (yes v) (plus (atom_of a)) = means_atom e.coding.atoms.keys (yes v) a stands in
@@ -186,7 +186,7 @@ module _ {N S : Type 0} (same : S → S → Bool) (exact : IsExact same) (p : Pa
         other (subst (λ n. l.variable.0 < n) (sym (count_is e.coding holds.coding)) (h.in_range l a)) (fell (meaning (origin e.coding.atoms.keys) l) c)
   ]
 
-  -- the clause of the queue is of what is asked for, its parent is true, and its condition's literals are false
+  -- the queue's clause for a requirement has a true parent, and its condition's literals are false
   record IsAsking (r : Requirement) (q : NeedClause) : Type 0 where
     requirement : q.requirement ≡ r
     condition : (l : Signed) → has (condition_in e.lists q.condition) l ≡ true → has (made_true (history e.coding.search)) (negation l) ≡ true
@@ -227,7 +227,7 @@ module _ {N S : Type 0} (same : S → S → Bool) (exact : IsExact same) (p : Pa
   rule_asks r (inl k) = tt
   rule_asks r (inr k) = tt
 
-  -- the candidate of a solvable has the literal that means it
+  -- the candidate of a solvable has the solvable's literal
   candidate_is : IsEncoding same p root e → (name : N) (s : S) (c : Candidate N) (l : Signed) → IsCandidate e name s c → Means (origin e.coding.atoms.keys) l (plus (Atom.solvable s)) → c.literal ≡ l
   candidate_is holds name s c l fits means =
       let (positive, stands) = means_solvable e.coding.atoms.keys l s means in
@@ -235,7 +235,8 @@ module _ {N S : Type 0} (same : S → S → Bool) (exact : IsExact same) (p : Pa
       let sign : c.literal.positive ≡ l.positive = fits.positive ∙ sym positive in
       λ i. record { variable = variable i; positive = sign i }
 
-  -- an asking clause of the queue with a candidate that is not false has a true one, where nothing is left to decide
+  -- where nothing is left to decide, a requires clause with a candidate that isn't false has a true
+  -- one
   true_candidate : IsEncoding same p root e → (values : ℕ → Option Bool) (score : N → ℕ) → AreValues values (made_true (history e.coding.search)) → (r : Requirement) (q : NeedClause) (c : Candidate N) → IsAsking r q
       → offer_by (named_by e.lists) values score q ≡ None → Contains (candidates_in e.lists r) c → has (made_true (history e.coding.search)) (negation c.literal) ≡ false
       → (d : Candidate N) × Contains (candidates_in e.lists r) d × (has (made_true (history e.coding.search)) d.literal ≡ true)
@@ -247,7 +248,7 @@ module _ {N S : Type 0} (same : S → S → Bool) (exact : IsExact same) (p : Pa
         (d, subst (λ y. Contains (candidates_in e.lists y) d) asking.requirement listed, value_known values (made_true (history e.coding.search)) agree d.literal is)
   ]
 
-  -- What is asked for is met, where the clauses are quiet and nothing is left to decide.
+  -- Requirements are met, where the clauses are quiet and nothing is left to decide.
   pub met : IsEncoding same p root e → (values : ℕ → Option Bool) (score : N → ℕ) → AreValues values (made_true (history e.coding.search))
       → ((n : ℕ) → n < length e.coding.search.clauses → IsQuiet (made_true (history e.coding.search)) (clause_at (clauses_of e.coding.search) n)) → IsDecided e values score
       → (r : Requirement) → Ending.IsAsked same p (E.rules_of e) (known_of (origin e.coding.atoms.keys) (history e.coding.search)) r
@@ -265,8 +266,8 @@ module _ {N S : Type 0} (same : S → S → Bool) (exact : IsExact same) (p : Pa
       let (t, one, suits) = holds.listed r d there in
       (t, suits, (d.literal, known, solvable_means e.coding.atoms.keys d.literal t one.positive one.stands))
 
-  -- The needs and the limits of the root and of the members are clauses, and so is what bars them: a case that waited and that holds
-  -- in the members was fired.
+  -- The requirements, constraints, locks and exclusions of the root and of the members are encoded:
+  -- a deferred case that holds in the members has fired.
   members_encoded : IsEncoding same p root e → AreSpent same e → (members : List S) → AreChosen e.coding.atoms.keys (made_true (history e.coding.search)) members → AreAmongEncoded e members → Ending.AreEncoded same p (E.rules_of e) root members
   members_encoded holds spent members chosen among = record {
     need = λ parent need case member listed one truth. elim ((encoded parent member).needs need case listed one) [ inl a ↦ a | inr waits ↦ fired parent need case waits truth ];
@@ -286,8 +287,8 @@ module _ {N S : Type 0} (same : S → S → Bool) (exact : IsExact same) (p : Pa
         | inr h ↦ absurd (both_ways _ (h p root lawful holds d at members chosen) (subst (λ x. case_holds same p members x ≡ true) (sym which) truth))
       ]
 
-  -- Where the clauses are quiet, nothing is left to decide, the needs of the root and of the chosen solvables are clauses, and
-  -- no case that waits holds, the turn has ended.
+  -- The turn has ended where the clauses are quiet and nothing is left to decide. The root and the
+  -- chosen solvables are encoded, and no deferred case holds.
   pub turn_ended : IsEncoding same p root e → AreSpent same e → (values : ℕ → Option Bool) (score : N → ℕ) → AreValues values (made_true (history e.coding.search))
       → ((n : ℕ) → n < length e.coding.search.clauses → IsQuiet (made_true (history e.coding.search)) (clause_at (clauses_of e.coding.search) n)) → IsDecided e values score
       → (members : List S) → AreChosen e.coding.atoms.keys (made_true (history e.coding.search)) members → AreAmongEncoded e members
@@ -306,8 +307,8 @@ module _ {N S : Type 0} (same : S → S → Bool) (exact : IsExact same) (p : Pa
     encoded = members_encoded holds spent members chosen among;
   }
 
-  -- The chosen solvables keep all rules, but that wishes may be barred whose packages nobody names, and they are what the root
-  -- and the wishes among them reach.
+  -- The chosen solvables keep all rules, except locks and exclusions of soft requirements whose
+  -- packages nobody names. They are those that the root and the chosen soft requirements reach.
   pub turn_accepts : (same_name : N → N → Bool) → IsExact same_name → IsEncoding same p root e → AreSpent same e → (values : ℕ → Option Bool) (score : N → ℕ) → AreValues values (made_true (history e.coding.search))
       → ((n : ℕ) → n < length e.coding.search.clauses → IsQuiet (made_true (history e.coding.search)) (clause_at (clauses_of e.coding.search) n)) → IsDecided e values score
       → (members : List S) → AreChosen e.coding.atoms.keys (made_true (history e.coding.search)) members → AreAmongEncoded e members → Ending.IsAccepted same p root e.noted.wishes.items members
@@ -315,17 +316,18 @@ module _ {N S : Type 0} (same : S → S → Bool) (exact : IsExact same) (p : Pa
       turn_accepted same exact same_name names p root (origin e.coding.atoms.keys) (E.rules_of e) (Registered same p root e) e.noted.wishes.items (count_of e.coding.search) e.coding.search.clauses (history e.coding.search) members
       (turn_ended holds spent values score agree quiet decided members chosen among)
 
-  -- the end of a turn before the first wish
+  -- the end of a turn before the first soft requirement
   ended_alone : (members : List S) → e.noted.wishes.items ≡ [] → IsTurnEnd (origin e.coding.atoms.keys) same p (E.rules_of e) root (Registered same p root e) e.noted.wishes.items (count_of e.coding.search) e.coding.search.clauses (history e.coding.search) members
       → IsTurnEnd (origin e.coding.atoms.keys) same p (E.rules_of e) root (Registered same p root e) [] (count_of e.coding.search) e.coding.search.clauses (history e.coding.search) members
   ended_alone members alone t = subst (λ (ws : List S). IsTurnEnd (origin e.coding.atoms.keys) same p (E.rules_of e) root (Registered same p root e) ws (count_of e.coding.search) e.coding.search.clauses (history e.coding.search) members) alone t
 
-  -- before the first wish each choice was a first pick
+  -- before the first soft requirement each decision was a first pick
   picked_alone : e.noted.wishes.items ≡ [] → (known : List (Literal (Atom N S))) (l : Literal (Atom N S)) → IsChosenFor same p e known l → IsFirstPick same p (HasOrder e) (E.rules_of e) known l
   picked_alone alone known l (inl w) = absurd (both_ways false refl (subst (λ (ws : List S). is_in same p ws w.solvable ≡ true) alone w.wished))
   picked_alone alone known l (inr k) = k
 
-  -- Before the first wish the chosen solvables keep all rules, and are those that the root reaches.
+  -- Before the first soft requirement the chosen solvables keep all rules, and are those that the
+  -- root reaches.
   pub turn_keeps : (same_name : N → N → Bool) → IsExact same_name → IsEncoding same p root e → AreSpent same e → (values : ℕ → Option Bool) (score : N → ℕ) → AreValues values (made_true (history e.coding.search))
       → ((n : ℕ) → n < length e.coding.search.clauses → IsQuiet (made_true (history e.coding.search)) (clause_at (clauses_of e.coding.search) n)) → IsDecided e values score
       → (members : List S) → AreChosen e.coding.atoms.keys (made_true (history e.coding.search)) members → AreAmongEncoded e members → e.noted.wishes.items ≡ []
@@ -335,7 +337,7 @@ module _ {N S : Type 0} (same : S → S → Bool) (exact : IsExact same) (p : Pa
       let accepted = turn_accepted same exact same_name names p root (origin e.coding.atoms.keys) (E.rules_of e) (Registered same p root e) [] (count_of e.coding.search) e.coding.search.clauses (history e.coding.search) members ended in
       (turn_keeps_rules same exact same_name names p root (origin e.coding.atoms.keys) (E.rules_of e) (Registered same p root e) (count_of e.coding.search) e.coding.search.clauses (history e.coding.search) members ended, accepted.reached, accepted.inside)
 
-  -- Before the first wish they were chosen in the order in which they are tried.
+  -- Before the first soft requirement they were chosen in the order of preference.
   pub turn_preferred : (same_name : N → N → Bool) → IsExact same_name → IsEncoding same p root e → AreSpent same e → (orders : Requirement → List S → Type 0) → AreOrdered orders e → (values : ℕ → Option Bool) (score : N → ℕ) → AreValues values (made_true (history e.coding.search))
       → ((n : ℕ) → n < length e.coding.search.clauses → IsQuiet (made_true (history e.coding.search)) (clause_at (clauses_of e.coding.search) n)) → IsDecided e values score
       → (members : List S) → AreChosen e.coding.atoms.keys (made_true (history e.coding.search)) members → AreAmongEncoded e members → e.noted.wishes.items ≡ [] → ArePreferred same p orders root members
@@ -343,15 +345,15 @@ module _ {N S : Type 0} (same : S → S → Bool) (exact : IsExact same) (p : Pa
       turn_prefers same exact same_name names p root (origin e.coding.atoms.keys) (E.rules_of e) (Registered same p root e) orders (digit_told same e.coding.stated.items) (count_of e.coding.search) e.coding.search.clauses (history e.coding.search) members
       (ended_alone members alone (turn_ended holds spent values score agree quiet decided members chosen among)) (λ x older stands is other. taken_ordered orders e same p ordered _ _ (picked_alone alone _ _ (holds.called x older stands is other))) (digits_agree same exact p root e holds)
 
-  -- A clause that denies choices of the first level alone, by clauses that digits of places agree with, leaves no
-  -- rule-keeping set.
+  -- A clause that denies decisions of the first level alone, by clauses that agree with the digits
+  -- of places, excludes each rule-keeping set.
   refused_by : (same_name : N → N → Bool) → IsExact same_name → IsEncoding same p root e → e.coding.search.base_level ≡ 1 → (literals : List Signed) (causes : List ClauseId) → IsRefusal e.coding.search literals causes
       → (bits : S → ℕ → Bool) → AgreeWith (E.rules_of e) bits → (chosen : List S) → IsRuleKeeping same p root chosen → ⊥
   refused_by same_name names holds first literals causes refusal bits agree chosen keeping =
       turn_refused same exact same_name names p root (origin e.coding.atoms.keys) (E.rules_of e) (Registered same p root e) (count_of e.coding.search) e.coding.search.clauses literals causes bits [] chosen
       (coding_coded same p (Registered same p root e) e.coding holds.coding holds.spelled holds.positive) holds.rule agree refusal.derived (λ l h. inl (root_denied e holds.coding first literals causes refusal l h)) keeping (λ s h. absurd (both_ways false refl h))
 
-  -- A clause that denies choices of the first level alone leaves no rule-keeping set.
+  -- A clause that denies decisions of the first level alone excludes each rule-keeping set.
   pub refused : (same_name : N → N → Bool) → IsExact same_name → IsEncoding same p root e → e.coding.search.base_level ≡ 1 → (literals : List Signed) (causes : List ClauseId) → IsRefusal e.coding.search literals causes
       → (chosen : List S) → IsRuleKeeping same p root chosen → ⊥
   refused same_name names holds first literals causes refusal chosen keeping =

@@ -1,4 +1,4 @@
--- The turn of a wish.
+-- The turn of a soft requirement.
 use Rattle.std.proofs.Common.{◌≡◌, ℕ, inl, inr, Bool, false, List, Option, Some, None, refl, sym}
 use Rattle.std.proofs.lemmas.Bool.{cases_Bool}
 use Rattle.resolvo_pool_core.specs.declared.id.VariableId.{VariableId}
@@ -41,7 +41,7 @@ retied e level h = record {
 pub floor_built : {N S : Type 0} (e : Encoder N S) (level : ℕ) → IsCoding (floored e level).coding → IsBuilt e → IsBuilt (floored e level)
 floor_built e level coding b = record { coding = coding; tied = retied e level b.tied; candidates = b.candidates; gates = b.gates; within = b.within; needs = b.needs; seen = b.seen }
 
--- it is one of the packages still
+-- it still satisfies the invariant
 pub floor_keeps : {N S : Type 0} (same : S → S → Bool) (p : Packages N S) (root : Rules) (e : Encoder N S) (level : ℕ) → IsCoding (floored e level).coding → IsEncoding same p root e → IsEncoding same p root (floored e level)
 floor_keeps same p root e level coding h = record {
   coding = coding;
@@ -66,14 +66,14 @@ floor_keeps same p root e level coding h = record {
   called = h.called;
 }
 
--- ---- the choice of a wish
+-- ---- the decision of a soft requirement
 
 -- a variable that is neither true nor refuted is undecided
 pub open_wish : (s : SatState) (v : VariableId) (o : Option FinalConflict) → IsRefuted s v o → o ≡ None → has (made_true (history s)) (yes v) ≡ false → IsUndecided (made_true (history s)) (yes v)
 open_wish s v None unfalse is open_one = record { not_true = open_one; not_false = elim (cases_Bool (has (made_true (history s)) (no v))) [ inl t ↦ absurd (unfalse t) | inr f ↦ f ] }
 open_wish s v (Some r) refuted is open_one = absurd cc
 
--- a wish is chosen for itself
+-- a soft requirement justifies its own decision
 pub wish_chosen : {N S : Type 0} (same : S → S → Bool) → IsExact same → (p : Packages N S) (e : Encoder N S) (v : VariableId) (known : List (Literal (Atom N S))) → IsWish e v → IsChosenFor same p e known (meaning (origin e.coding.atoms.keys) (yes v))
 wish_chosen same exact p e v known w = inl (record {
   solvable = w.solvable;

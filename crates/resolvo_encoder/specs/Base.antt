@@ -1,4 +1,5 @@
--- What stood before a turn, what the turn keeps of it, and what a refused wish is blamed on.
+-- The trail before a turn, the part of it that the turn keeps, and the reasons of a refused soft
+-- requirement.
 use Rattle.std.specs.Prelude.{◌≡◌, ℕ, ◌+◌, ◌<◌, ◌≤◌, ◌⊎◌, nat_lt, cond, true, false, List, [], ◌∷◌, length, Option, Some, None}
 use Rattle.resolvo_pool_core.specs.declared.id.ClauseId.{ClauseId}
 use Rattle.resolvo_pool_core.specs.declared.id.VariableId.{VariableId}
@@ -16,20 +17,21 @@ use Rattle.resolvo_state.specs.Atoms.{StandsFor}
 use Rattle.resolvo_encoder.specs.declared.encoder.Encoder.{Encoder}
 use Rattle.resolvo_encoder.specs.SoftRequirement.{IsWish}
 
--- the part of a trail, newest first, that stands below a level
+-- the part of a trail, newest first, that is below a level
 abbrev pub below : ℕ → List Entry → List Entry
 below level [] = []
 below level (e ∷ older) = cond (nat_lt e.level level) (e ∷ older) (below level older)
 
--- what stood before the turn
+-- the trail before the turn
 abbrev pub base_of : {N S : Type 0} → Encoder N S → List Entry
 base_of e = below e.coding.search.base_level (history e.coding.search)
 
--- the wish's choice is the first entry of its turn
+-- the soft requirement's decision is the first entry of its turn
 abbrev pub IsFirst : {N S : Type 0} → Encoder N S → VariableId → Type 0
 IsFirst e v = (c : ClauseId) × EndsWith (choice_entry v c (base_of e) ∷ base_of e) (history e.coding.search)
 
--- The turn is the wish's, which was not true before it; where it is true, its choice is the turn's first entry.
+-- The turn is the soft requirement's, which wasn't true before. Where it is true, its decision is
+-- the turn's first entry.
 pub record IsOpen {N S : Type 0} (e : Encoder N S) (v : VariableId) : Type 0 where
   pub wish : IsWish e v
   pub later : 2 ≤ e.coding.search.base_level
@@ -37,21 +39,21 @@ pub record IsOpen {N S : Type 0} (e : Encoder N S) (v : VariableId) : Type 0 whe
   pub before : has (made_true (base_of e)) (yes v) ≡ false
   pub first : has (made_true (history e.coding.search)) (yes v) ≡ true → IsFirst e v
 
--- the turn is the root's, or this wish's
+-- the turn is the root's, or this soft requirement's
 abbrev pub HasTurn : {N S : Type 0} → Option VariableId → Encoder N S → Type 0
 HasTurn None e = e.coding.search.base_level ≡ 1
 HasTurn (Some v) e = IsOpen e v
 
--- it still is, and before it stands what stood
+-- the turn and the trail before it are unchanged
 abbrev pub KeepsTurn : {N S : Type 0} → Option VariableId → Encoder N S → Encoder N S → Type 0
 KeepsTurn None old new = HasTurn None old → HasTurn None new
 KeepsTurn (Some v) old new = IsOpen old v → IsOpen new v × (base_of new ≡ base_of old)
 
--- so it is whosever turn it is
+-- the same for any turn
 abbrev pub KeepsTurns : {N S : Type 0} → Encoder N S → Encoder N S → Type 0
 KeepsTurns old new = (wish : Option VariableId) → KeepsTurn wish old new
 
--- what stood up to the turn's first level stands
+-- the trail up to the turn's first level is kept
 abbrev pub KeepsFirst : {N S : Type 0} → Encoder N S → Encoder N S → Type 0
 KeepsFirst old new = KeepsUpTo old.coding.search.base_level old.coding.search new.coding.search
 
@@ -63,18 +65,19 @@ IsTaken e s = (u : VariableId) × StandsFor e.coding.atoms.keys u (Solvable s) �
 abbrev pub DeniesEarlier : {N S : Type 0} → Encoder N S → Signed → Type 0
 DeniesEarlier {N} {S} e l = (s : S) × (u : VariableId) × (l ≡ no u) × StandsFor e.coding.atoms.keys u (Solvable s) × (has (made_true (base_of e)) (yes u) ≡ true)
 
--- each literal denies the root, the wish, or a solvable that was true before its turn
+-- each literal denies the root, the soft requirement, or a solvable that was true before its turn
 abbrev pub IsBlame : {N S : Type 0} → Encoder N S → VariableId → List Signed → Type 0
 IsBlame e v literals = (l : Signed) → has literals l ≡ true → (l ≡ no root_variable) ⊎ ((l ≡ no v) ⊎ DeniesEarlier e l)
 
--- The clause follows from its causes, in which its literals stand, and tells why the wish can't be chosen.
+-- The clause follows from its causes, has only their literals, and explains why the soft
+-- requirement can't be chosen.
 pub record IsBlamed {N S : Type 0} (e : Encoder N S) (v : VariableId) (literals : List Signed) (causes : List ClauseId) : Type 0 where
   pub derived : IsDerived (clauses_of e.coding.search) literals causes
   pub caused : 0 < length causes
   pub from : AreFromClauses e.coding.search literals
   pub blame : IsBlame e v literals
 
--- the wish is chosen; or it is false by what stood before its turn, and this is why
+-- the soft requirement is chosen; or it is false by the trail before its turn, for this reason
 abbrev pub IsTried : {N S : Type 0} → Encoder N S → VariableId → Option FinalConflict → Type 0
 IsTried e v None = has (made_true (history e.coding.search)) (yes v) ≡ true
 IsTried e v (Some r) = IsReason e.coding.search (no v) r.literals.items r.causes.items × (top_level (history e.coding.search) < e.coding.search.base_level)

@@ -1,4 +1,4 @@
--- The cases of conditions, and how they are kept until they become clauses.
+-- The cases of conditions, and how they are deferred until they are encoded.
 use Rattle.std.specs.Prelude.{◌≡◌, ℕ, Bool, List, map, slice_get, Option, Some, Contains}
 use Rattle.std.specs.List.{AllByRecursion}
 use Rattle.resolvo_pool_core.specs.declared.id.VersionSetId.{VersionSetId}
@@ -12,7 +12,7 @@ use Rattle.resolvo_encoder.specs.declared.encoder.Deferred.{Deferred}
 use Rattle.resolvo_encoder.specs.declared.encoder.Encoder.{Encoder}
 use Rattle.resolvo_encoder.specs.declared.conditions.ConditionSet.{ConditionSet}
 
--- the version sets of a case that waits
+-- the version sets of a deferred case
 abbrev pub case_of : {S : Type 0} → List (DeferredConjunct S) → List VersionSetId
 case_of conjuncts = map version_set_of conjuncts
 
@@ -20,7 +20,7 @@ case_of conjuncts = map version_set_of conjuncts
 abbrev pub sets_case : {N S : Type 0} → List (ConditionSet N S) → List VersionSetId
 sets_case sets = map (λ c. c.version_set) sets
 
--- some place of what waits has this case of this parent's need
+-- this case of this parent's requirement is deferred
 abbrev pub IsDeferred : {N S : Type 0} → Encoder N S → Option S → ConditionalRequirement → List VersionSetId → Type 0
 IsDeferred {N} {S} e parent need case = (i : ℕ) × (d : Deferred S) × (slice_get e.deferred.items i ≡ Some d) × (d.parent ≡ parent) × (d.need ≡ need) × (case_of d.conjuncts.items ≡ case)
 
@@ -32,7 +32,7 @@ module _ {N S : Type 0} (same : S → S → Bool) (p : Packages N S) where
   abbrev pub AreConjuncts : List (DeferredConjunct S) → Type 0
   AreConjuncts conjuncts = AllByRecursion IsMatching conjuncts
 
-  -- the version set has its package, and the candidates of that outside it
+  -- the version set with its package, and the package's candidates outside it
   pub record IsSet (c : ConditionSet N S) : Type 0 where
     pub named : c.name ≡ p.set_package c.version_set
     pub outside : AreOutside same p c.version_set c.outside.items
@@ -40,7 +40,7 @@ module _ {N S : Type 0} (same : S → S → Bool) (p : Packages N S) where
   abbrev pub AreSets : List (ConditionSet N S) → Type 0
   AreSets sets = AllByRecursion IsSet sets
 
-  -- what waits is a case of a need of its parent
+  -- the deferred case is one of its parent's requirement
   pub record IsCaseOf (root : Rules) (d : Deferred S) : Type 0 where
     pub conjuncts : AreConjuncts d.conjuncts.items
     pub listed : Contains (rules_for same p root d.parent).requirements d.need

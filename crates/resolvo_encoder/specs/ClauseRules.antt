@@ -1,4 +1,4 @@
--- Rules become clauses that keep solvables out.
+-- The clauses that forbid solvables.
 use Rattle.std.specs.Prelude.{◌≡◌, ◌⊎◌, Bool, List, [], ◌∷◌, map, Option, Contains}
 use Rattle.resolvo_pool_core.specs.declared.id.ClauseId.{ClauseId}
 use Rattle.resolvo_pool_core.specs.declared.id.VersionSetId.{VersionSetId}
@@ -15,7 +15,7 @@ use Rattle.resolvo_encoder.specs.declared.encoder.Encoder.{Encoder}
 use Rattle.resolvo_encoder.specs.Encoded.{rules_of, IsEncoding}
 use Rattle.resolvo_encoder.specs.Steps.{SameButCoding, Extends, IsBuilt}
 
--- the rule's clause makes no solvable true, asks for no match, and tells no digit
+-- the rule's clause makes no solvable true, isn't a requires clause, and encodes no digit
 abbrev pub IsRestraint : {N S : Type 0} → Rule N S → Type 0
 IsRestraint (Rule.needs parent need case) = ⊥
 IsRestraint (Rule.gated s r) = Unit {0}
@@ -27,11 +27,11 @@ IsRestraint (Rule.bars w s) = Unit {0}
 IsRestraint (Rule.has_digit s bit b) = ⊥
 IsRestraint (Rule.is_there n s) = Unit {0}
 
--- the clause has these two literals, or the one that both are
+-- the clause has these two literals, or one where both are the same
 abbrev pub IsPair : Signed → Signed → List Signed → Type 0
 IsPair a b literals = (literals ≡ a ∷ b ∷ []) ⊎ ((a ≡ b) × (literals ≡ a ∷ []))
 
--- a clause of these two literals came
+-- a clause of these two literals was added
 pub record StatesPair {N S : Type 0} (x : Stated N S) (a b : Signed) (old new : Encoder N S) : Type 0 where
   pub number : ClauseId
   pub literals : List Signed
@@ -40,7 +40,7 @@ pub record StatesPair {N S : Type 0} (x : Stated N S) (a b : Signed) (old new : 
   pub rest : SameButCoding old new
   pub needs : new.needs ≡ old.needs
 
--- Clauses came that state these rules, if they are rules of the problem.
+-- Clauses that encode these rules were added, if the problem has these rules.
 pub record Tells {N S : Type 0} (same : S → S → Bool) (rules : List (Rule N S)) (old new : Encoder N S) : Type 0 where
   pub built : IsBuilt new
   pub extends : Extends old new
@@ -49,16 +49,16 @@ pub record Tells {N S : Type 0} (same : S → S → Bool) (rules : List (Rule N 
   pub noted : new.noted ≡ old.noted
   pub encoding : (p : Packages N S) (root : Rules) → IsLawful p → IsEncoding same p root old → ((r : Rule N S) → Contains rules r → IsRule same p root r) → IsEncoding same p root new × ((r : Rule N S) → Contains rules r → rules_of new r)
 
--- what keeps a solvable out, as a rule names it
+-- the reason for which a solvable is forbidden, as a rule gives it
 abbrev pub bar_of : {S : Type 0} → Why S → Bar S
 bar_of (Locked locked) = Bar.lock locked
 bar_of (Excluded reason) = Bar.word reason
 
--- the rules that keep each of these out
+-- the rules that forbid each of these
 abbrev pub bar_rules : {N S : Type 0} → List (Barred S) → List (Rule N S)
 bar_rules list = map (λ b. Rule.bars (bar_of b.why) b.solvable) list
 
--- the rules that a parent's version set keeps each of these out
+-- the rules by which a parent's constraint forbids each of these
 abbrev pub limit_rules : {N S : Type 0} → Option S → VersionSetId → List (Offered N S) → List (Rule N S)
 limit_rules parent v list = map (λ o. Rule.limits parent v o.solvable) list
 

@@ -1,4 +1,4 @@
--- Which cases wait, which are due, and which became clauses.
+-- Which cases are deferred, which are due, and which are encoded.
 use Rattle.std.specs.Prelude.{◌≡◌, ℕ, suc, ◌-◌, ◌<◌, ◌⊎◌, Bool, true, false, List, length, slice_get, Some, Contains}
 use Rattle.resolvo_pool_core.specs.declared.id.VariableId.{VariableId}
 use Rattle.resolvo_pool_core.specs.RuleKeeping.{Packages, Rules, IsLawful}
@@ -21,12 +21,12 @@ use Rattle.resolvo_encoder.specs.declared.encoder.Deferred.{Deferred}
 use Rattle.resolvo_encoder.specs.declared.encoder.Encoder.{Encoder}
 
 module _ {N S : Type 0} where
-  -- cases came behind the others, or none
+  -- cases were added behind the others, or none
   pub record Defers (old new : Encoder N S) : Type 0 where
     pub front : IsFrontOf old.deferred.items new.deferred.items
     pub rest : new ≡ record old { deferred = new.deferred }
 
-  -- the case at the place became a clause
+  -- the case at the place was encoded
   pub record Fires (index : ℕ) (old new : Encoder N S) : Type 0 where
     pub fired : Contains new.fired.keys index
     pub front : IsFrontOf old.fired.keys new.fired.keys
@@ -34,11 +34,11 @@ module _ {N S : Type 0} where
     pub small : length new.fired.keys < 18446744073709551616
     pub rest : new ≡ record old { fired = new.fired }
 
-  -- how many cases wait still
+  -- the number of deferred cases that haven't fired
   abbrev pub waiting_count : Encoder N S → ℕ
   waiting_count e = length e.deferred.items - length e.fired.keys
 
-  -- this is what waits at the place
+  -- the deferred case at the place
   pub record IsWaiting (e : Encoder N S) (index : ℕ) (w : DeferredRequirement S) : Type 0 where
     pub deferred : Deferred S
     pub at : slice_get e.deferred.items index ≡ Some deferred
@@ -61,12 +61,12 @@ module _ {N S : Type 0} where
     pub chosen : (c : DeferredConjunct S) → Contains deferred.conjuncts.items c → IsOneChosen e (candidates_of c)
 
   module _ (same : S → S → Bool) (e : Encoder N S) where
-    -- the case at the place became a clause, or it doesn't hold in what is chosen
+    -- the case at the place is encoded, or it doesn't hold in the chosen solvables
     abbrev pub IsSpent : ℕ → Type 0
     IsSpent index = Contains e.fired.keys index
         ⊎ ((p : Packages N S) (root : Rules) → IsLawful p → IsEncoding same p root e → (d : Deferred S) → slice_get e.deferred.items index ≡ Some d
         → (members : List S) → AreChosen e.coding.atoms.keys (made_true (history e.coding.search)) members → case_holds same p members (case_of d.conjuncts.items) ≡ false)
 
-    -- no case that waits holds in what is chosen
+    -- no deferred case holds in the chosen solvables
     abbrev pub AreSpent : Type 0
     AreSpent = (i : ℕ) → i < length e.deferred.items → IsSpent i

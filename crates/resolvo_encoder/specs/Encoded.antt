@@ -1,4 +1,4 @@
--- What was encoded, and what it tells of the packages.
+-- The invariant of the encoder: its clauses, and the rules of packages that they encode.
 use Rattle.std.specs.Prelude.{◌≡◌, ℕ, suc, ◌<◌, ◌≤◌, ◌⊎◌, Bool, true, List, [], ◌∷◌, length, slice_get, Option, Some, None, Contains}
 use Rattle.resolvo_pool_core.specs.declared.id.DenseId.{DenseId}
 use Rattle.resolvo_pool_core.specs.declared.id.DisjunctionTag.{DisjunctionTag}
@@ -38,7 +38,7 @@ use Rattle.resolvo_encoder.specs.declared.encoder.Encoder.{Encoder}
 use Rattle.resolvo_encoder.specs.declared.encoder.EncodedOnce.{EncodedOnce}
 use Rattle.resolvo_encoder.specs.Cases.{case_of, IsDeferred, IsCaseOf}
 
--- the rules that clauses state
+-- the rules that clauses encode
 abbrev pub rules_of : {N S : Type 0} → Encoder N S → Rule N S → Type 0
 rules_of e = rules_in e.coding.stated.items
 
@@ -47,7 +47,7 @@ abbrev pub IsParentVariable : {N S : Type 0} → List (ProofAtom N S) → Option
 IsParentVariable atoms None v = v ≡ root_variable
 IsParentVariable atoms (Some s) v = StandsFor atoms v (Solvable s)
 
--- the candidate's literal is that the solvable, which is registered, is chosen
+-- the candidate's literal is the positive one of the registered solvable's variable
 pub record IsCandidate {N S : Type 0} (e : Encoder N S) (name : N) (s : S) (c : Candidate N) : Type 0 where
   pub positive : c.literal.positive ≡ true
   pub stands : StandsFor e.coding.atoms.keys c.literal.variable (Solvable s)
@@ -60,26 +60,27 @@ AreCandidates atoms [] (s ∷ ss) = ⊥
 AreCandidates atoms (c ∷ cs) [] = ⊥
 AreCandidates atoms (c ∷ cs) (s ∷ ss) = (c.literal.positive ≡ true) × StandsFor atoms c.literal.variable (Solvable s) × AreCandidates atoms cs ss
 
--- the requirement has got these candidates, in this order
+-- the requirement has these candidates, in this order
 abbrev pub HasOrder : {N S : Type 0} → Encoder N S → Requirement → List S → Type 0
 HasOrder e r list = (has_candidates e.lists r ≡ true) × AreCandidates e.coding.atoms.keys (candidates_in e.lists r) list
 
--- the candidates that requirements have got are in an order of theirs
+-- the candidates of each requirement are in one of its orders
 abbrev pub AreOrdered : {N S : Type 0} → (Requirement → List S → Type 0) → Encoder N S → Type 0
 AreOrdered {N} {S} orders e = (r : Requirement) → has_candidates e.lists r ≡ true → (list : List S) × orders r list × AreCandidates e.coding.atoms.keys (candidates_in e.lists r) list
 
--- what a choice is made for: a wish; or a requirement that was asked for, whose first candidate it is that was not false
+-- A decision is for a soft requirement, or for a requirement of a chosen parent. Then it is the
+-- first candidate that wasn't false.
 abbrev pub IsChosenFor : {N S : Type 0} → (S → S → Bool) → Packages N S → Encoder N S → List (Literal (Atom N S)) → Literal (Atom N S) → Type 0
 IsChosenFor same p e known l = IsWished same p (rules_of e) e.noted.wishes.items l ⊎ IsFirstPick same p (HasOrder e) (rules_of e) known l
 
 module _ {N S : Type 0} (same : S → S → Bool) (p : Packages N S) (lists : FixedLists N) where
-  -- the literals of the condition are those of the case, of variables that are there
+  -- the literals of the condition are those of the case, over existing variables
   pub record IsCondition (atoms : List (ProofAtom N S)) (condition : Option (DenseId DisjunctionTag ℕ)) (case : List VersionSetId) : Type 0 where
     pub there : HasDisjunction lists condition
     pub in_range : AreInRange (suc (length atoms)) (condition_in lists condition)
     pub spells : Spells (origin atoms) (condition_in lists condition) (case_literals same p case)
 
-  -- decisions are made for the clause that states this: one of a need, or of a gate
+  -- the clause of this kind is in the decision queue: that of a requirement, or of a gate
   abbrev pub IsQueuedFor : List (ProofAtom N S) → Option (Stated N S) → NeedClause → Type 0
   IsQueuedFor atoms None q = ⊥
   IsQueuedFor atoms (Some Says.Root) q = ⊥
@@ -95,7 +96,7 @@ module _ {N S : Type 0} (same : S → S → Bool) (p : Packages N S) (lists : Fi
   IsQueuedFor atoms (Some (Says.IsThere n s)) q = ⊥
   IsQueuedFor atoms (Some Says.Learnt) q = ⊥
 
--- the rule's clause asks for a match of a requirement
+-- the rule's clause is a requires clause
 abbrev pub Asks : {N S : Type 0} → Rule N S → Type 0
 Asks (Rule.needs parent need case) = Unit {0}
 Asks (Rule.gated s r) = ⊥
@@ -108,26 +109,27 @@ Asks (Rule.has_digit s bit b) = ⊥
 Asks (Rule.is_there n s) = ⊥
 
 module _ {N S : Type 0} (same : S → S → Bool) (p : Packages N S) (rules : Rule N S → Type 0) where
-  -- what locks and exclusions bar in the requirement's packages is stated
+  -- clauses encode the locks and exclusions of the requirement's packages
   abbrev pub IsGuarded : Requirement → Type 0
   IsGuarded r = (v : VersionSetId) (s : S) → Contains (alternatives_of p.members_of r) v → IsBarredIn same p (p.set_package v) s → HasBar rules s
 
-  -- a clause keeps out each candidate outside the parent's version set, or two clauses do
+  -- one clause, or two, forbid each candidate outside the parent's version set
   abbrev pub IsLimitEncoded : Option S → VersionSetId → Type 0
   IsLimitEncoded parent v = (s : S) → is_outside same p v s ≡ true → rules (Rule.limits parent v s) ⊎ (rules (Rule.limits_outside parent v) × rules (Rule.is_out v s))
 
-  -- What locks and exclusions bar in the noted packages is stated, and what is outside the noted version sets.
+  -- Clauses encode the locks and exclusions of the recorded packages, and the candidates outside
+  -- the recorded version sets.
   pub record IsNoted (noted : EncodedOnce N S) : Type 0 where
     pub packages : (n : N) (s : S) → Contains noted.packages.keys n → IsBarredIn same p n s → HasBar rules s
     pub version_sets : (v : VersionSetId) (s : S) → Contains noted.version_sets.keys v → is_outside same p v s ≡ true → rules (Rule.is_out v s)
 
 module _ {N S : Type 0} (same : S → S → Bool) (p : Packages N S) where
-  -- the case of the parent's need has its clauses, or it waits
+  -- the case of the parent's requirement is encoded, or deferred
   abbrev pub IsCaseEncoded : Encoder N S → Option S → ConditionalRequirement → List VersionSetId → Type 0
   IsCaseEncoded e parent need case = IsNeedEncoded same p (rules_of e) parent need case ⊎ IsDeferred e parent need case
 
-  -- The parent's needs and limits are clauses, but for cases that wait, and so is what bars candidates that its limits name,
-  -- and the parent itself if its dependencies are unknown.
+  -- The parent's requirements and constraints are encoded, except deferred cases. So are the locks
+  -- and exclusions of constrained packages, and the parent's unknown dependencies.
   pub record IsParentEncoded (e : Encoder N S) (root : Rules) (parent : Option S) : Type 0 where
     pub needs : (need : ConditionalRequirement) (case : List VersionSetId) → Contains (rules_for same p root parent).requirements need → Contains (cases_for same p need) case → IsCaseEncoded e parent need case
     pub limits : (v : VersionSetId) → Contains (rules_for same p root parent).constraints v → IsLimitEncoded same p (rules_of e) parent v
@@ -135,50 +137,55 @@ module _ {N S : Type 0} (same : S → S → Bool) (p : Packages N S) where
     pub unknown : (s : S) → parent ≡ Some s → is_unknown (p.dependencies_of s) ≡ true → HasBar (rules_of e) s
 
 module _ {N S : Type 0} (same : S → S → Bool) (p : Packages N S) (root : Rules) where
-  -- the solvable is registered as one of its package's
+  -- the solvable is registered with its package
   abbrev pub Registered : Encoder N S → S → Type 0
   Registered e s = IsRegistered e.registry e.coding (p.package_of s) s
 
-  -- What holds of the cases of conditions.
+  -- The invariant of the cases of conditions.
   pub record AreCased (e : Encoder N S) : Type 0 where
-    -- what waits is a case of a need of its parent; what fired has its clauses
+    -- a deferred case is one of its parent's requirement; a fired one is encoded
     pub waiting : (i : ℕ) (d : Deferred S) → slice_get e.deferred.items i ≡ Some d → IsCaseOf same p root d
     pub places : (i : ℕ) → Contains e.fired.keys i → i < length e.deferred.items
     pub fired : (i : ℕ) (d : Deferred S) → Contains e.fired.keys i → slice_get e.deferred.items i ≡ Some d → IsNeedEncoded same p (rules_of e) d.parent d.need (case_of d.conjuncts.items)
-    -- the packages that a case with a clause names are noted, and what is outside its version sets is registered
+    -- the packages of an encoded case are recorded, and the candidates outside its version sets are
+    -- registered
     pub cased : (parent : Option S) (need : ConditionalRequirement) (case : List VersionSetId) (v : VersionSetId) → rules_of e (Rule.needs parent need case) → Contains case v
         → Contains e.noted.helped.keys (p.set_package v) × ((s : S) → is_outside same p v s ≡ true → Registered e s)
-    -- a clause says of each registered solvable of a noted package that one of them is there
+    -- each registered solvable of a recorded package has its at-least-one clause
     pub helped : (n : N) (s : S) → Contains e.noted.helped.keys n → IsRegistered e.registry e.coding n s → rules_of e (Rule.is_there n s)
     pub there : (s : S) → Contains e.noted.there.keys s → rules_of e (Rule.is_there (p.package_of s) s)
 
-  -- What holds of the encoding between its steps.
+  -- The invariant of the encoding between its steps.
   pub record IsEncoding (e : Encoder N S) : Type 0 where
     pub coding : IsCoding e.coding
     pub tied : AreTied e.registry e.coding
-    -- each clause that states a rule has its literals, and the rule is one of the problem
+    -- each clause that encodes a rule has the rule's literals, and the problem has this rule
     pub spelled : Spelled same p e.coding
     pub rule : (r : Rule N S) → rules_of e r → IsRule same p root r
-    -- what clauses may make true is registered, and what is registered is a candidate of its package
+    -- the solvables of positive literals are registered, and a registered solvable is a candidate
+    -- of its package
     pub positive : AreRegistered (Registered e) e.coding
     pub named : (n : N) (s : S) → IsRegistered e.registry e.coding n s → n ≡ p.package_of s
     pub candidates : (s : S) → Registered e s → is_in same p (listed (p.candidates_of (p.package_of s))) s ≡ true
     -- the candidates of a requirement are the solvables that meet it
     pub listed : (r : Requirement) (c : Candidate N) → Contains (candidates_in e.lists r) c → (s : S) × IsCandidate e (p.package_of s) s c × (meets same p r s ≡ true)
     pub offered : (r : Requirement) (s : S) → has_candidates e.lists r ≡ true → meets same p r s ≡ true → (c : Candidate N) × Contains (candidates_in e.lists r) c × IsCandidate e (p.package_of s) s c
-    -- each need clause, and each gate's, has its candidates, and decisions are made for it
+    -- the requirement of each requires clause has its candidates, and the clause is in the decision
+    -- queue
     pub fixed : (r : Requirement) → HasClause same p (rules_of e) r → has_candidates e.lists r ≡ true
     pub queued : (q : NeedClause) → Contains e.queue q → IsQueuedFor same p e.lists e.coding.atoms.keys (stated_at e.coding.stated.items q.clause.0) q
     pub asked : (n : ℕ) (r : Rule N S) → rule_at e.coding.stated.items n ≡ Some r → Asks r → (q : NeedClause) × Contains e.queue q × (q.clause.0 ≡ n)
     -- each gate has its clause
     pub gates : (r : Requirement) (v : VariableId) → slot_of e.gates r ≡ Some v → StandsFor e.coding.atoms.keys v (Gate r) × rules_of e (Rule.shared r)
-    -- what bars candidates of requirements with a clause is stated, and so is what is noted
+    -- the locks and exclusions of candidates of requires clauses are encoded, and so is all that is
+    -- recorded
     pub bar : (r : Requirement) → HasClause same p (rules_of e) r → IsGuarded same p (rules_of e) r
     pub noted : IsNoted same p (rules_of e) e.noted
     pub cases : AreCased e
-    -- the needs and the limits of the first parents are clauses, but for cases that wait
+    -- the requirements and constraints of the first parents are encoded, except deferred cases
     pub within : e.encoded ≤ length e.parents.keys
     pub encoded : (i : ℕ) (parent : SolvableIdOrRoot S) → i < e.encoded → slice_get e.parents.keys i ≡ Some parent → IsParentEncoded same p e root (solvable_of parent)
-    -- each wish is registered; each choice is one, or the first candidate that was not false, of a requirement that was asked for
+    -- Each soft requirement is registered. Each decision is for one, or is the first candidate of a
+    -- requirement that wasn't false.
     pub wished : (s : S) → Contains e.noted.wishes.items s → Registered e s
     pub called : AreCalledFor (origin e.coding.atoms.keys) (IsChosenFor same p e) (history e.coding.search)

@@ -1,5 +1,5 @@
--- What the clauses of a case rest on: its packages are noted, what is outside its version sets is registered, and clauses say
--- of each registered solvable of these packages that one is there.
+-- At-least-one clauses, and the literals of a case over them: its packages are recorded, and the
+-- candidates outside its version sets are registered.
 use Rattle.std.specs.Prelude.{◌≡◌, Bool, true, List, Contains}
 use Rattle.resolvo_pool_core.specs.declared.id.VariableId.{VariableId}
 use Rattle.resolvo_pool_core.specs.declared.id.VersionSetId.{VersionSetId}
@@ -19,13 +19,13 @@ use Rattle.resolvo_encoder.specs.declared.conditions.ConditionSet.{ConditionSet}
 use Rattle.resolvo_encoder.specs.declared.encoder.Encoder.{Encoder}
 
 module _ {N S : Type 0} where
-  -- these are the registered solvables of the package, with it
+  -- the registered solvables of the package, with it
   pub record AreThose (e : Encoder N S) (name : N) (list : List (Offered N S)) : Type 0 where
     pub each : (s : S) → IsRegistered e.registry e.coding name s → Contains list (record { solvable = s; name = name })
     pub all : (o : Offered N S) → Contains list o → (o.name ≡ name) × IsRegistered e.registry e.coding name o.solvable
 
   module _ (same : S → S → Bool) where
-    -- Clauses came that say of these that one of their package is there, if they are candidates of it.
+    -- At-least-one clauses of these solvables were added, if they are candidates of their packages.
     pub record SaysThere (list : List (Offered N S)) (old new : Encoder N S) : Type 0 where
       pub built : IsBuilt new
       pub extends : Extends old new
@@ -35,14 +35,14 @@ module _ {N S : Type 0} where
       pub encoding : (p : Packages N S) (root : Rules) → IsLawful p → IsEncoding same p root old → ((o : Offered N S) → Contains list o → IsListed same p o)
           → IsEncoding same p root new × ((o : Offered N S) → Contains list o → rules_of new (Rule.is_there o.name o.solvable))
 
-    -- Such clauses came for those whose package is noted, if for no others.
+    -- At-least-one clauses were added for those whose package is recorded, and for no others.
     pub record Admits (offered : List (Offered N S)) (old new : Encoder N S) : Type 0 where
       pub said : List (Offered N S)
       pub each : (o : Offered N S) → Contains offered o → Contains old.noted.helped.keys o.name → Contains said o
       pub only : (o : Offered N S) → Contains said o → Contains offered o
       pub says : SaysThere said old new
 
-    -- The package is noted, and such clauses came for its registered solvables.
+    -- The package is recorded, and its registered solvables have at-least-one clauses.
     pub record HelpsPackage (name : N) (old new : Encoder N S) : Type 0 where
       pub built : IsBuilt new
       pub extends : Extends old new
@@ -52,13 +52,14 @@ module _ {N S : Type 0} where
       pub helped : Contains new.noted.helped.keys name
       pub encoding : (p : Packages N S) (root : Rules) → IsLawful p → IsEncoding same p root old → IsEncoding same p root new
 
-    -- The case's packages are noted, what is outside its version sets is registered, and these are its literals.
+    -- The case's packages are recorded, the candidates outside its version sets are registered, and
+    -- these are its literals.
     pub record IsHelped (p : Packages N S) (e : Encoder N S) (case : List VersionSetId) (literals : List Signed) : Type 0 where
       pub noted : (v : VersionSetId) → Contains case v → Contains e.noted.helped.keys (p.set_package v)
       pub registered : (v : VersionSetId) (s : S) → Contains case v → is_outside same p v s ≡ true → IsRegistered e.registry e.coding (p.package_of s) s
       pub spells : Spells (origin e.coding.atoms.keys) literals (case_literals same p case)
 
-    -- So it is with the case of these version sets, whose literals are those.
+    -- The same for the case of these version sets, with these literals.
     pub record Helps (sets : List (ConditionSet N S)) (literals : List Signed) (old new : Encoder N S) : Type 0 where
       pub built : IsBuilt new
       pub extends : Extends old new

@@ -1,4 +1,4 @@
--- The search goes on over an encoding: what it learns, chooses and comes to.
+-- The steps of the search over an encoding: propagation, learnt clauses, decisions and their end.
 use Rattle.std.specs.Prelude.{◌≡◌, ℕ, ◌-◌, ◌<◌, ◌≤◌, Bool, true, false, Option, Some, None, length}
 use Rattle.resolvo_store_core.specs.Lists.{named_by}
 use Rattle.resolvo_store_core.specs.Pick.{pick_by}
@@ -18,14 +18,14 @@ use Rattle.resolvo_encoder.specs.TurnLevels.{AreValues, IsDecided}
 use Rattle.resolvo_encoder.specs.declared.decide.Step.{Step}
 use Rattle.resolvo_encoder.specs.declared.encoder.Encoder.{Encoder}
 
--- what the trail's values and the scores let choose next
+-- the next decision by the trail's values and the scores
 pub record IsNext {N S : Type 0} (score : N → ℕ) (e : Encoder N S) (next : Option NextDecision) : Type 0 where
   pub values : ℕ → Option Bool
   pub agree : AreValues values (made_true (history e.coding.search))
   pub picked : pick_by (named_by e.lists) values score e.queue ≡ next
 
--- Literals were set, and each clause that came was learnt; what variables stand for, and all but the search, is what it was, and
--- so is what stood before the turn.
+-- Literals were assigned, and each added clause is learnt. The variables, their origins, all but
+-- the search, and the trail before the turn are unchanged.
 pub record GoesOn {N S : Type 0} (old new : Encoder N S) : Type 0 where
   pub rest : SameButCoding old new
   pub coding : IsCoding new.coding
@@ -39,7 +39,7 @@ pub record GoesOn {N S : Type 0} (old new : Encoder N S) : Type 0 where
 abbrev pub AreQuiet : {N S : Type 0} → Encoder N S → Type 0
 AreQuiet e = (n : ℕ) → n < length e.coding.search.clauses → IsQuiet (made_true (history e.coding.search)) (clause_at (clauses_of e.coding.search) n)
 
--- nothing is left to set or to choose
+-- nothing is left to propagate or decide
 pub record IsSettled {N S : Type 0} (e : Encoder N S) : Type 0 where
   pub quiet : AreQuiet e
   pub values : ℕ → Option Bool
@@ -51,19 +51,19 @@ pub record IsSettled {N S : Type 0} (e : Encoder N S) : Type 0 where
 abbrev pub IsHeavier : {N S : Type 0} → Encoder N S → Encoder N S → Type 0
 IsHeavier old new = weight_left new.coding.search < weight_left old.coding.search
 
--- what one step came to
+-- the result of one step
 abbrev pub IsStep : {N S : Type 0} → Encoder N S → Encoder N S → Step → Type 0
 IsStep old new Step.Settled = IsSettled new
 IsStep old new Step.Chosen = IsHeavier old new
 IsStep old new (Step.Learnt clause) = IsHeavier old new × (clause.0 < length new.coding.search.clauses)
 IsStep old new (Step.Refused r) = IsRefusal new.coding.search r.literals.items r.causes.items
 
--- whether something was chosen, or nothing is left to choose
+-- whether a decision was made, or nothing is left to decide
 abbrev pub IsChoice : {N S : Type 0} → Encoder N S → Encoder N S → Bool → Type 0
 IsChoice old new true = IsHeavier old new
 IsChoice old new false = AreQuiet old → IsSettled new
 
--- what the search came to: nothing is left to set or to choose, or choices can't stand together
+-- the result of the search: nothing is left to propagate or decide, or a final conflict
 abbrev pub IsDecision : {N S : Type 0} → Encoder N S → Option FinalConflict → Type 0
 IsDecision e None = IsSettled e
 IsDecision e (Some r) = IsRefusal e.coding.search r.literals.items r.causes.items

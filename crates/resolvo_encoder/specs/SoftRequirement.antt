@@ -1,4 +1,4 @@
--- How the turn of a wish begins, and how wishes are noted.
+-- The begin of a soft requirement's turn, and the record of soft requirements.
 use Rattle.std.specs.Prelude.{◌++◌, ◌∷◌, [], List, Bool, ◌≡◌, ◌+◌, false, Contains}
 use Rattle.resolvo_pool_core.specs.declared.id.VariableId.{VariableId}
 use Rattle.resolvo_pool_core.specs.RuleKeeping.{Packages, Rules, IsLawful}
@@ -20,21 +20,21 @@ use Rattle.resolvo_encoder.specs.Steps.{IsBuilt, IsListed, Enrols}
 abbrev pub turn_of : {N S : Type 0} → Encoder N S → Encoder N S
 turn_of e = record e { coding = record e.coding { search = record e.coding.search { base_level = top_level (history e.coding.search) + 1 } } }
 
--- the variable is a wish's
+-- the variable is a soft requirement's
 pub record IsWish {N S : Type 0} (e : Encoder N S) (v : VariableId) : Type 0 where
   pub solvable : S
   pub stands : StandsFor e.coding.atoms.keys v (Solvable solvable)
   pub wished : Contains e.noted.wishes.items solvable
 
--- The wish is registered, with this variable; no other solvable came. Where a case names its package, a clause says that one of
--- it is there.
+-- The soft requirement is registered, with this variable, and no other solvable. It has an
+-- at-least-one clause if its package is recorded.
 pub record RegistersWish {N S : Type 0} (same : S → S → Bool) (one : Offered N S) (v : VariableId) (old new : Encoder N S) : Type 0 where
   pub candidate : Candidate N
   pub enrols : Enrols same (one ∷ []) (candidate ∷ []) old new
   pub stands : StandsFor new.coding.atoms.keys v (Solvable one.solvable)
   pub tracked : IsTracked new.registry one.name v
 
--- The wish is registered, with this variable, and noted behind the others.
+-- The soft requirement is registered, with this variable, and recorded behind the others.
 pub record Notes {N S : Type 0} (same : S → S → Bool) (one : Offered N S) (v : VariableId) (old new : Encoder N S) : Type 0 where
   pub built : IsBuilt new
   pub stands : StandsFor new.coding.atoms.keys v (Solvable one.solvable)
@@ -48,11 +48,11 @@ pub record Notes {N S : Type 0} (same : S → S → Bool) (one : Offered N S) (v
   pub fired : new.fired ≡ old.fired
   pub encoding : (p : Packages N S) (root : Rules) → IsLawful p → IsEncoding same p root old → IsListed same p one → IsEncoding same p root new
 
--- there is a last wish, and it isn't chosen
+-- there is a last soft requirement, and it isn't chosen
 abbrev pub IsUntaken : {N S : Type 0} → Encoder N S → Type 0
 IsUntaken {N} {S} e = (front : List S) × (s : S) × (e.noted.wishes.items ≡ front ++ s ∷ []) × ((v : VariableId) → StandsFor e.coding.atoms.keys v (Solvable s) → has (made_true (history e.coding.search)) (yes v) ≡ false)
 
--- The last wish was taken back, and nothing else changed.
+-- The last soft requirement was removed, and nothing else changed.
 pub record TakesBack {N S : Type 0} (same : S → S → Bool) (old new : Encoder N S) : Type 0 where
   pub built : IsBuilt new
   pub wishes : (front : List S) (s : S) → old.noted.wishes.items ≡ front ++ s ∷ [] → new.noted.wishes.items ≡ front

@@ -36,9 +36,9 @@ use Rattle.resolvo_state.specs.SolverState.{IsCoding, IsBegun, Grows, LacksNumbe
 use Rattle.resolvo_state.specs.Registered.{AreTied, IsTracked, IsDigitClause, IsNothing, Registers}
 use Rattle.resolvo_encoder.specs.declared.encoder.Encoder.{Encoder}
 
--- What the calls rest on, whatever the packages are: the search is ready, registered solvables are tied, candidates are
--- solvables that are to be chosen, each gate is its requirement's, and what is known of the need clauses is so for entries that
--- begin the trail.
+-- The precondition of the calls, for any packages: the search is ready, registered solvables are
+-- tied to their packages, candidates are positive literals of solvables, each gate is its
+-- requirement's. The states of requires clauses fit a prefix of the trail.
 pub record IsBuilt {N S : Type 0} (e : Encoder N S) : Type 0 where
   pub coding : IsCoding e.coding
   pub tied : AreTied e.registry e.coding
@@ -48,14 +48,15 @@ pub record IsBuilt {N S : Type 0} (e : Encoder N S) : Type 0 where
   pub needs : Fits (literals_in e.lists) e.needs e.queue
   pub seen : IsFrontOf e.needs.seen.items e.coding.search.tracker.trail
 
--- No number is left for what a call would add for a requirement: a variable, a clause, or a disjunction. Or the requirement's own
--- index is one beyond those that have a list of candidates.
+-- No number is left for a variable, clause or disjunction that a call adds for a requirement. Or
+-- the requirement's own index exceeds those that can have candidates.
 pub data LacksNumberFor {N S : Type 0} (r : Requirement) (e : Encoder N S) : Type 0 where
   coding : LacksNumber e.coding → LacksNumberFor r e
   disjunctions : disjunction_count e.lists ≡ 4294967295 → LacksNumberFor r e
   requirement : index_in r ≡ 4294967295 → LacksNumberFor r e
 
--- clauses and what they state came, and the trail, the wishes and the parents stay, and so do the cases that wait
+-- clauses with their kinds were added; trail, soft requirements, parents and deferred cases are
+-- unchanged
 pub record Extends {N S : Type 0} (old new : Encoder N S) : Type 0 where
   pub grows : Grows old.coding new.coding
   pub trail : SameTrail old.coding new.coding
@@ -65,18 +66,19 @@ pub record Extends {N S : Type 0} (old new : Encoder N S) : Type 0 where
   pub deferred : new.deferred ≡ old.deferred
   pub fired : new.fired ≡ old.fired
 
--- the candidate's literal is that what is offered, which is registered, is chosen
+-- the candidate is the positive literal of the offered, registered solvable
 pub record IsOfferedAs {N S : Type 0} (r : Registry N) (c : SolverState N S) (o : Offered N S) (candidate : Candidate N) : Type 0 where
   pub positive : candidate.literal.positive ≡ true
   pub stands : StandsFor c.atoms.keys candidate.literal.variable (Solvable o.solvable)
   pub tracked : IsTracked r o.name candidate.literal.variable
 
--- What is offered is registered, and given as a candidate.
+-- The offered solvable is registered, and returned as a candidate.
 pub record RegistersOne {N S : Type 0} (o : Offered N S) (candidate : Candidate N) (r : Registry N) (old : SolverState N S) (t : Registry N) (new : SolverState N S) : Type 0 where
   pub literal : candidate.literal.positive ≡ true
   pub registers : Registers o.name o.solvable candidate.literal.variable r old t new
 
--- What is offered is registered, and given as candidates; no other solvable came. Each clause that came tells a digit.
+-- The offered solvables are registered, no others, and returned as candidates. Each added clause
+-- encodes a digit.
 pub record RegistersAll {N S : Type 0} (offered : List (Offered N S)) (given : List (Candidate N)) (r : Registry N) (old : SolverState N S) (t : Registry N) (new : SolverState N S) : Type 0 where
   pub coding : IsCoding new
   pub grows : Grows old new
@@ -89,11 +91,12 @@ pub record RegistersAll {N S : Type 0} (offered : List (Offered N S)) (given : L
   pub all : (c : Candidate N) → Contains given c → (o : Offered N S) × Contains offered o × IsOfferedAs t new o c
   pub ordered : AreCandidates new.atoms.keys given (offered_solvables offered)
 
--- a requirement that has got candidates keeps them
+-- a requirement that has candidates keeps them
 abbrev pub KeepsLists : {N S : Type 0} → Encoder N S → Encoder N S → Type 0
 KeepsLists old new = (r : Requirement) → has_candidates old.lists r ≡ true → slot_of new.lists.candidates r ≡ slot_of old.lists.candidates r
 
--- a requirement that has candidates had them, or it is this one, and they are what is offered, in its order
+-- a requirement that has candidates had them, or it is this one and has the offered ones, in their
+-- order
 abbrev pub AddsCandidates : {N S : Type 0} → Requirement → List (Offered N S) → Encoder N S → Encoder N S → Type 0
 AddsCandidates r offered old new = (q : Requirement) → has_candidates new.lists q ≡ true
     → (slot_of new.lists.candidates q ≡ slot_of old.lists.candidates q) ⊎ ((q ≡ r) × AreCandidates new.coding.atoms.keys (candidates_in new.lists q) (offered_solvables offered))
@@ -102,7 +105,8 @@ AddsCandidates r offered old new = (q : Requirement) → has_candidates new.list
 abbrev pub IsListed : {N S : Type 0} → (S → S → Bool) → Packages N S → Offered N S → Type 0
 IsListed same p o = (o.name ≡ p.package_of o.solvable) × (is_in same p (listed (p.candidates_of o.name)) o.solvable ≡ true)
 
--- What is offered is registered, and given as candidates; where a case names its package, a clause says that it is there.
+-- The offered solvables are registered, and returned as candidates. Those of a recorded package
+-- have at-least-one clauses.
 pub record Enrols {N S : Type 0} (same : S → S → Bool) (offered : List (Offered N S)) (given : List (Candidate N)) (old new : Encoder N S) : Type 0 where
   pub built : IsBuilt new
   pub extends : Extends old new
@@ -114,13 +118,13 @@ pub record Enrols {N S : Type 0} (same : S → S → Bool) (offered : List (Offe
   pub ordered : AreCandidates new.coding.atoms.keys given (offered_solvables offered)
   pub encoding : (p : Packages N S) (root : Rules) → IsLawful p → IsEncoding same p root old → ((o : Offered N S) → Contains offered o → IsListed same p o) → IsEncoding same p root new
 
--- what is offered became the requirement's candidates, unless it had them
+-- the offered solvables are the requirement's candidates, unless it had some
 pub record Fixes {N S : Type 0} (same : S → S → Bool) (r : Requirement) (offered : List (Offered N S)) (old new : Encoder N S) : Type 0 where
   pub fixed : ((has_candidates old.lists r ≡ true) × (new ≡ old))
       ⊎ ((has_candidates old.lists r ≡ false) × (middle : Encoder N S) × (given : Vec (Candidate N) Global) × Enrols same offered given.items old middle × FixesCandidates r given middle.lists new.lists × (new ≡ record middle { lists = new.lists }))
 
--- A clause came that states this of a variable: it is false, or a literal of the condition is true, or one of the requirement's
--- candidates is chosen. Decisions are made for it.
+-- A requires clause of this kind was added: the variable is false, a literal of the condition is
+-- true, or a candidate is chosen. It is in the decision queue.
 pub record StatesNeed {N S : Type 0} (stated : Stated N S) (v : VariableId) (condition : Option (DenseId DisjunctionTag ℕ)) (r : Requirement) (old new : Encoder N S) : Type 0 where
   pub number : ClauseId
   pub states : States stated (no v ∷ (condition_in old.lists condition ++ candidate_literals (candidates_in old.lists r))) number old.coding new.coding
@@ -135,8 +139,8 @@ pub record StatesNeed {N S : Type 0} (stated : Stated N S) (v : VariableId) (con
   pub deferred : new.deferred ≡ old.deferred
   pub fired : new.fired ≡ old.fired
 
--- The clause of a case of a parent's need, or of the gate of a requirement that some solvable asks for; the variable is the
--- parent's or the gate's, the condition's literals those of the case.
+-- The kind is a case of a parent's requirement, or the gate of a requirement that some solvable
+-- has. The variable is the parent's or the gate's, the condition's literals are the case's.
 abbrev pub IsNeed : {N S : Type 0} → (S → S → Bool) → Packages N S → Rules → FixedLists N → List (ProofAtom N S) → Stated N S → VariableId → Option (DenseId DisjunctionTag ℕ) → Requirement → Type 0
 IsNeed same p root lists atoms Says.Root v condition r = ⊥
 IsNeed same p root lists atoms (Says.Needs parent need case) v condition r = (need.requirement ≡ r) × IsParentVariable atoms parent v × IsCondition same p lists atoms condition case.items × Contains (rules_for same p root parent).requirements need × Contains (cases_for same p need) case.items
@@ -151,7 +155,7 @@ IsNeed same p root lists atoms (Says.Digit n s place bit) v condition r = ⊥
 IsNeed same p root lists atoms (Says.IsThere n s) v condition r = ⊥
 IsNeed same p root lists atoms Says.Learnt v condition r = ⊥
 
--- the clauses, variables and what these mean changed, and what is known of the need clauses, and nothing else
+-- only the clauses, the variables, their origins, and the states of requires clauses changed
 pub record SameButCoding {N S : Type 0} (old new : Encoder N S) : Type 0 where
   pub registry : new.registry ≡ old.registry
   pub lists : new.lists ≡ old.lists
@@ -163,25 +167,25 @@ pub record SameButCoding {N S : Type 0} (old new : Encoder N S) : Type 0 where
   pub deferred : new.deferred ≡ old.deferred
   pub fired : new.fired ≡ old.fired
 
--- the parent has the need, without condition
+-- the parent has the requirement, without condition
 pub record Needs {N S : Type 0} (same : S → S → Bool) (p : Packages N S) (root : Rules) (parent : Option S) (need : ConditionalRequirement) : Type 0 where
   pub listed : Contains (rules_for same p root parent).requirements need
   pub free : need.condition ≡ None
 
--- the clause of the parent's need came
+-- the clause of the parent's requirement was added
 pub record NeedsDirectly {N S : Type 0} (parent : Option S) (need : ConditionalRequirement) (v : VariableId) (old new : Encoder N S) : Type 0 where
   pub case : Vec VersionSetId Global
   pub none : case.items ≡ []
   pub states : StatesNeed (Says.Needs parent need case) v None need.requirement old new
 
--- the clause that the solvable opens the gate came
+-- the clause from the solvable to the gate was added
 pub record Opens {N S : Type 0} (s : S) (v gate : VariableId) (r : Requirement) (old new : Encoder N S) : Type 0 where
   pub number : ClauseId
   pub states : States (Says.Gated s r) (no v ∷ yes gate ∷ []) number old.coding new.coding
   pub rest : SameButCoding old new
   pub needs : new.needs ≡ old.needs
 
--- the root alone is there, and its needs are to be encoded
+-- there is only the root, whose requirements aren't encoded yet
 pub record IsBegunEncoding {N S : Type 0} (e : Encoder N S) : Type 0 where
   pub coding : IsBegun e.coding
   pub registry : IsNothing e.registry
@@ -200,11 +204,11 @@ pub record IsBegunEncoding {N S : Type 0} (e : Encoder N S) : Type 0 where
   pub deferred : e.deferred.items ≡ []
   pub fired : e.fired.keys ≡ []
 
--- parents came behind the others, or none
+-- parents were added behind the others, or none
 pub record AddsParent {N S : Type 0} (old new : Encoder N S) : Type 0 where
   pub front : IsFrontOf old.parents.keys new.parents.keys
   pub rest : new ≡ record old { parents = new.parents }
 
--- the needs and the limits of the next parent are clauses, but for cases that wait
+-- the requirements and constraints of the next parent are encoded, except deferred cases
 abbrev pub IsNextEncoded : {N S : Type 0} → (S → S → Bool) → Packages N S → Rules → Encoder N S → Type 0
 IsNextEncoded {N} {S} same p root e = (parent : SolvableIdOrRoot S) → slice_get e.parents.keys e.encoded ≡ Some parent → IsParentEncoded same p e root (solvable_of parent)

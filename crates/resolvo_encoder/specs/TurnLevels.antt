@@ -1,4 +1,4 @@
--- What the end of a turn rests on.
+-- The conditions for the end of a turn.
 use Rattle.std.specs.Prelude.{◌≡◌, ℕ, ◌<◌, Bool, true, List, Option, Some, None, slice_get, Contains}
 use Rattle.resolvo_pool_core.specs.declared.solver_id.SolvableIdOrRoot.TheVariants.{Root, Solvable}
 use Rattle.resolvo_store_core.specs.Signed.{Signed, has}
@@ -16,7 +16,7 @@ pub record AreValues (values : ℕ → Option Bool) (known : List Signed) : Type
 abbrev pub IsDecided : {N S : Type 0} → Encoder N S → (ℕ → Option Bool) → (N → ℕ) → Type 0
 IsDecided e values score = (q : NeedClause) → Contains e.queue q → offer_by (named_by e.lists) values score q ≡ None
 
--- the root and each of these solvables are among the parents whose needs are clauses
+-- the root and each of these solvables are among the encoded parents
 pub record AreAmongEncoded {N S : Type 0} (e : Encoder N S) (members : List S) : Type 0 where
   pub root : (i : ℕ) × (i < e.encoded) × (slice_get e.parents.keys i ≡ Some Root)
   pub each : (s : S) → Contains members s → (i : ℕ) × (i < e.encoded) × (slice_get e.parents.keys i ≡ Some (Solvable s))

@@ -1,5 +1,5 @@
-//! The packages that cases name: a clause says of each of their registered solvables that one of them is there, so that the
-//! literals of a case, once it holds, are all false.
+//! At-least-one clauses for the packages of conditions: a chosen solvable makes its package's at-
+//! least-one variable true. The literals of a case are then false where it holds.
 ghost use Rattle.std.specs.Prelude.{◌≡◌, ◌<◌, ◌∷◌, [], OnOk, IfOk, IsErrOf, IsOkUnless};
 ghost use Rattle.resolvo_pool_core.specs.declared.want.Want.TheVariants.{Memory, Ids};
 ghost use Rattle.resolvo_store_core.specs.Clauses.{no, candidate_literals};
@@ -23,7 +23,7 @@ use std::fmt::Debug;
 use std::hash::Hash;
 
 impl<N: Copy + Exact + Hash + Debug + Drop, S: Copy + Exact + Hash + Debug> Encoder<N, S> {
-    /// States of a solvable that one of its package is there, once.
+    /// Adds the at-least-one clause of a solvable, once.
     pub(crate) fn add_at_least_one(&mut self, alloc: Global, one: Offered<N, S>) -> R<()>
         requires { IsBuilt self.old }
         ensures said { OnOk result (SaysThere S.eq (one ∷ []) self.old self.new) }
@@ -37,7 +37,7 @@ impl<N: Copy + Exact + Hash + Debug + Drop, S: Copy + Exact + Hash + Debug> Enco
         Ok(())
     }
 
-    /// The clause that one of a solvable's package is there.
+    /// The at-least-one clause: a chosen solvable makes its package's at-least-one variable true.
     fn state_there(&mut self, alloc: Global, one: Offered<N, S>) -> R<()>
         requires { IsBuilt self.old }
         ensures told { OnOk result (Tells S.eq (Rule.is_there one.name one.solvable ∷ []) self.old self.new) }
@@ -53,7 +53,7 @@ impl<N: Copy + Exact + Hash + Debug + Drop, S: Copy + Exact + Hash + Debug> Enco
         Ok(())
     }
 
-    /// States of each of these that one of its package is there.
+    /// Adds the at-least-one clause of each of these.
     fn say_each_there(&mut self, alloc: Global, list: &[Offered<N, S>]) -> R<()>
         requires { IsBuilt self.old }
         ensures said { OnOk result (SaysThere S.eq list.now self.old self.new) }
@@ -81,7 +81,8 @@ impl<N: Copy + Exact + Hash + Debug + Drop, S: Copy + Exact + Hash + Debug> Enco
         Ok(registered)
     }
 
-    /// Notes that a case names a package, and states of its registered solvables that one of it is there.
+    /// Records a condition's package, and adds the at-least-one clauses of its registered
+    /// solvables.
     fn help_package(&mut self, alloc: Global, name: N) -> R<()>
         requires { IsBuilt self.old }
         ensures helped { OnOk result (HelpsPackage S.eq name self.old self.new) }
@@ -96,8 +97,8 @@ impl<N: Copy + Exact + Hash + Debug + Drop, S: Copy + Exact + Hash + Debug> Enco
         Ok(())
     }
 
-    /// Notes the package of a version set, registers what is outside it, and gives the literals that the
-    /// version set has no chosen match.
+    /// Records the package of a version set, registers the candidates outside it, and returns the
+    /// literals of "no match is chosen".
     fn help(&mut self, alloc: Global, set: &ConditionSet<N, S>) -> R<Vec<Literal>>
         requires { IsBuilt self.old }
         ensures helped { IfOk result (λ v. Helps S.eq (set.now ∷ []) v.items self.old self.new) }
@@ -129,7 +130,7 @@ impl<N: Copy + Exact + Hash + Debug + Drop, S: Copy + Exact + Hash + Debug> Enco
     }
 }
 
-/// That none of a package is there, or that one of these is chosen.
+/// The literals of "no version is chosen, or one of these is".
 fn none_or_outside<N>(alloc: Global, any: VariableId, outside: &[Candidate<N>]) -> R<Vec<Literal>>
     requires { any.0 < 2147483648 }
     ensures literals { IfOk result (λ v. v.items ≡ no any ∷ candidate_literals outside.now) }

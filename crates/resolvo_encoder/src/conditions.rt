@@ -1,5 +1,6 @@
-//! The cases of conditions. A case of a parent's need waits until each of its version sets has a chosen match, and then it becomes
-//! a clause. It keeps its place among those that wait; the places of those that became clauses are noted.
+//! The cases of conditions. A case of a parent's requirement is deferred until each of its version
+//! sets has a chosen match, and then encoded. It keeps its place in the list of deferred cases;
+//! `fired` has the places of the encoded ones.
 ghost use Rattle.std.specs.Prelude.{◌≡◌, ◌<◌, true, false, length, slice_get, Some, OnOk, IfOk, Contains, IsErrOf, IsOkUnless};
 ghost use Rattle.resolvo_pool_core.specs.declared.want.Want.TheVariants.{Memory, Ids};
 ghost use Rattle.resolvo_pool_core.specs.RuleKeeping.{Packages, Rules, IsLawful, rules_for};
@@ -28,7 +29,7 @@ use std::alloc::Global;
 use std::fmt::Debug;
 use std::hash::Hash;
 
-/// A version set of a case that fires: its package, and the candidates of that outside it.
+/// A version set of a case that fires: its package, and the package's candidates outside it.
 #[derive(Drop)]
 pub struct ConditionSet<N, S> {
     pub version_set: VersionSetId,
@@ -36,7 +37,7 @@ pub struct ConditionSet<N, S> {
     pub outside: Vec<Offered<N, S>>,
 }
 
-/// What waits.
+/// A deferred case.
 #[derive(Drop)]
 pub struct DeferredRequirement<S> {
     pub parent: Option<S>,
@@ -45,7 +46,7 @@ pub struct DeferredRequirement<S> {
 }
 
 impl<N: Copy + Exact + Hash + Debug + Drop, S: Copy + Exact + Hash + Debug> Encoder<N, S> {
-    /// Lets a case of a parent's need wait until each of its version sets has a chosen match.
+    /// Defers a case of a parent's requirement until each of its version sets has a chosen match.
     pub fn defer(
         &mut self,
         parent: Option<S>,
@@ -73,7 +74,8 @@ impl<N: Copy + Exact + Hash + Debug + Drop, S: Copy + Exact + Hash + Debug> Enco
         Ok(())
     }
 
-    /// Whether the case at this place isn't a clause yet, and each of its version sets has a chosen match.
+    /// Whether the case at this place isn't encoded yet, and each of its version sets has a chosen
+    /// match.
     pub fn is_due(&self, index: usize) -> bool
         requires { IsBuilt self.now }
         ensures due { result ≡ true
@@ -149,8 +151,8 @@ impl<N: Copy + Exact + Hash + Debug + Drop, S: Copy + Exact + Hash + Debug> Enco
         })
     }
 
-    /// States a case of a parent's need: where each of its version sets has a chosen match, one of the candidates that are offered
-    /// for its requirement is chosen. It states nothing where one of these version sets keeps the parent itself out.
+    /// Encodes a case: if each of its version sets has a chosen match, one of the offered
+    /// candidates is chosen. Adds no clause where a version set excludes the parent itself.
     pub fn require_case(
         &mut self,
         alloc: Global,
@@ -191,7 +193,7 @@ impl<N: Copy + Exact + Hash + Debug + Drop, S: Copy + Exact + Hash + Debug> Enco
         Ok(())
     }
 
-    /// The case at this place became a clause.
+    /// Marks the case at this place as encoded.
     pub fn end_case(&mut self, index: usize) -> R<()>
         requires { index < length self.old.deferred.items }
         ensures fired { OnOk result (Fires index self.old self.new) }
@@ -212,7 +214,7 @@ impl<N: Copy + Exact + Hash + Debug + Drop, S: Copy + Exact + Hash + Debug> Enco
         Ok(())
     }
 
-    /// How many cases wait still.
+    /// The number of deferred cases that haven't fired.
     pub fn deferred_count(&self) -> usize
         ensures { result ≡ waiting_count self.now }
     {
@@ -220,7 +222,7 @@ impl<N: Copy + Exact + Hash + Debug + Drop, S: Copy + Exact + Hash + Debug> Enco
     }
 }
 
-/// Whether the parent is a solvable that one of these version sets keeps out.
+/// Whether the parent is a solvable outside one of these version sets.
 fn keeps_out<N, S: Copy + Exact + Hash + Debug>(
     sets: &[ConditionSet<N, S>],
     parent: Option<S>,
@@ -257,7 +259,7 @@ fn is_offered<N, S: Copy + Exact + Hash + Debug>(offered: &[Offered<N, S>], solv
     false
 }
 
-/// The version sets of a case that waits.
+/// The version sets of a deferred case.
 fn version_sets_of<S>(alloc: Global, conjuncts: &[DeferredConjunct<S>]) -> R<Vec<VersionSetId>>
     ensures case { IfOk result (λ v. v.items ≡ case_of conjuncts.now) }
     ensures refusal { IsOkUnless result Memory }

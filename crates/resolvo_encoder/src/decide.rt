@@ -1,4 +1,4 @@
-//! The search goes on over what was encoded: it sets what follows, learns and chooses.
+//! The steps of the search over the encoding: propagate, learn, decide.
 ghost use Rattle.std.specs.Prelude.{◌≡◌, ◌-◌, max, IfOk, OnOk, IsErrOf, IsOkUnless};
 ghost use Rattle.resolvo_pool_core.specs.declared.want.Want.TheVariants.{Memory, Ids};
 ghost use Rattle.resolvo_pool_core.specs.RuleKeeping.{Packages, Rules, IsLawful};
@@ -25,21 +25,21 @@ use std::alloc::Global;
 use std::fmt::Debug;
 use std::hash::Hash;
 
-/// What one step came to.
+/// The result of one step.
 #[derive(Debug, Drop)]
 pub enum Step {
-    /// Nothing is left to set or to choose.
+    /// Nothing is left to propagate or decide.
     Settled,
-    /// A candidate was chosen.
+    /// A candidate was decided.
     Chosen,
-    /// A clause was broken, and this one was learnt from it.
+    /// A clause was falsified, and this one was learnt from it.
     Learnt(ClauseId),
-    /// A clause was broken by choices that the turn does not go behind.
+    /// A clause was falsified by decisions below the turn's base level.
     Refused(FinalConflict),
 }
 
 impl<N: Copy + Exact + Hash + Debug + Drop, S: Copy + Exact + Hash + Debug> Encoder<N, S> {
-    /// The candidate that is to be chosen next, if one is. What is found of need clauses is noted.
+    /// The next candidate to decide, if one is left. Updates the states of requires clauses.
     pub fn next_decision<C: ScoreMap<N>>(
         &mut self,
         scores: &Scores<N, C>,
@@ -57,7 +57,7 @@ impl<N: Copy + Exact + Hash + Debug + Drop, S: Copy + Exact + Hash + Debug> Enco
         Ok(next)
     }
 
-    /// Chooses the next candidate, or tells that none is left to choose.
+    /// Decides the next candidate. False where none is left.
     pub fn choose_next<C: ScoreMap<N>>(&mut self, scores: &Scores<N, C>) -> R<bool>
         requires { IsBuilt self.old }
         // After an answer.
@@ -82,7 +82,7 @@ impl<N: Copy + Exact + Hash + Debug + Drop, S: Copy + Exact + Hash + Debug> Enco
         }
     }
 
-    /// Takes what was chosen since the turn began away, and what follows from it.
+    /// Undoes the turn's decisions, and the assignments after them.
     pub fn undo_turn(&mut self)
         requires { IsBuilt self.old }
         // What the call promises.
@@ -101,7 +101,7 @@ impl<N: Copy + Exact + Hash + Debug + Drop, S: Copy + Exact + Hash + Debug> Enco
         look_back(&mut self.needs, &self.coding.search.tracker);
     }
 
-    /// Sets what follows; then learns where a clause is broken, and chooses where none is.
+    /// Propagates; then learns from a falsified clause, or decides where there is none.
     pub fn step<C: ScoreMap<N>>(&mut self, alloc: Global, scores: &Scores<N, C>) -> R<Step>
         requires { IsBuilt self.old }
         // After an answer.
@@ -135,7 +135,7 @@ impl<N: Copy + Exact + Hash + Debug + Drop, S: Copy + Exact + Hash + Debug> Enco
     }
 }
 
-/// What is known of the need clauses goes back to the entries that stayed, where some were taken away.
+/// Resets the states of requires clauses to the entries that are left on the trail.
 fn look_back(needs: &mut UndecidedClauses, trail: &DecisionTracker)
     ensures seen { IsFrontOf needs.new.seen.items trail.now.trail }
     ensures fits { KeepsFitting needs.old needs.new }

@@ -1,6 +1,5 @@
-//! What was encoded: the clauses with what they state, the registered solvables, the candidates of
-//! requirements, the need clauses in their order, the parents whose needs are encoded in turn, and the
-//! cases of conditions that wait.
+//! The state of the encoder: clauses with their kinds, registered solvables, candidates of
+//! requirements, the queue of requires clauses, parents, and deferred cases of conditions.
 ghost use Rattle.std.specs.Prelude.{◌≡◌, ◌⊎◌, ◌<◌, ◌∷◌, ◌++◌, [], true, Some, None, OnOk, IfOk, IsSome, Contains, slice_get, length, ◌+◌, IsErrOf, IsOkUnless};
 ghost use Rattle.resolvo_pool_core.specs.declared.want.Want.TheVariants.{Memory, Ids};
 ghost use Rattle.indexmap.specs.IndexSet.{insert_key};
@@ -41,21 +40,23 @@ use std::alloc::Global;
 use std::fmt::Debug;
 use std::hash::Hash;
 
-/// From so many candidates on a gate stands between a requirement and those that ask for it, and a variable between a
-/// limit and those that it keeps out.
+/// From so many candidates on, a requirement gets a gate, and a constraint an auxiliary variable
+/// for the candidates outside.
 pub const GATED: usize = 4;
 
-/// What was stated of packages, version sets and solvables as a whole, each once.
+/// The packages, version sets and solvables that are encoded once, as a whole.
 pub struct EncodedOnce<N: Copy + Eq + Hash, S: Copy + Eq + Hash> {
-    /// The packages whose locks and exclusions are clauses.
+    /// The packages whose locks and exclusions are encoded.
     pub packages: IndexSet<N>,
-    /// The version sets for which clauses say which candidates are outside.
+    /// The version sets for which clauses encode which candidates are outside.
     pub version_sets: IndexSet<VersionSetId>,
-    /// The packages that cases name: a clause says of each registered solvable of theirs that one of them is there.
+    /// The packages of encoded cases: each of their registered solvables has an at-least-one
+    /// clause.
     pub helped: IndexSet<N>,
-    /// The solvables of which such a clause says it.
+    /// The solvables with an at-least-one clause.
     pub there: IndexSet<S>,
-    /// The accepted wishes, and behind them the one whose turn it is. An equal one may stand twice.
+    /// The accepted soft requirements, then the one of the current turn. An equal one may occur
+    /// twice.
     pub wishes: Vec<S>,
 }
 
@@ -72,7 +73,7 @@ impl<N: Copy + Eq + Hash, S: Copy + Eq + Hash> Drop for EncodedOnce<N, S> {
     }
 }
 
-/// A case of a parent's need, which waits until each of its version sets has a chosen match.
+/// A case of a parent's requirement, deferred until each of its version sets has a chosen match.
 #[derive(Drop)]
 pub struct Deferred<S> {
     pub parent: Option<S>,
@@ -80,26 +81,26 @@ pub struct Deferred<S> {
     pub conjuncts: Vec<DeferredConjunct<S>>,
 }
 
-/// What was encoded so far.
+/// The state of the encoder.
 pub struct Encoder<N: Copy + Eq + Hash, S: Copy + Eq + Hash> {
     pub coding: SolverState<N, S>,
     pub registry: Registry<N>,
     pub lists: FixedLists<N>,
     pub queue: DecideQueue,
-    /// What is known of the queue's clauses, which spares the next decision to look at each. It goes back
-    /// where entries are taken from the trail.
+    /// The states of the queue's clauses, which spare the next decision a scan of each. They are
+    /// reset where entries are taken from the trail.
     pub needs: UndecidedClauses,
     /// The gate of each requirement that has one.
     pub gates: RequirementMap<VariableId>,
-    /// What was stated of packages, version sets and solvables as a whole.
+    /// The packages, version sets and solvables that are encoded once.
     pub noted: EncodedOnce<N, S>,
-    /// The parents whose needs are to be encoded, first come first.
+    /// The parents whose requirements are to be encoded, in order of arrival.
     pub parents: IndexSet<SolvableIdOrRoot<S>>,
-    /// How many of them were.
+    /// The number of encoded parents.
     pub encoded: usize,
-    /// The cases of needs with a condition, in the order in which their parents came.
+    /// The cases of conditional requirements, in the order of their parents.
     pub deferred: Vec<Deferred<S>>,
-    /// The places of those that became clauses.
+    /// The places of the encoded cases.
     pub fired: IndexSet<usize>,
 }
 
@@ -122,7 +123,7 @@ impl<N: Copy + Eq + Hash, S: Copy + Eq + Hash> Drop for Encoder<N, S> {
     }
 }
 
-/// An encoding of these, which have just begun, and of nothing else.
+/// The encoder of these new parts, otherwise empty.
 fn begun<N: Copy + Exact + Hash + Debug, S: Copy + Exact + Hash + Debug>(
     alloc: Global,
     coding: SolverState<N, S>,
@@ -158,7 +159,7 @@ fn begun<N: Copy + Exact + Hash + Debug, S: Copy + Exact + Hash + Debug>(
 }
 
 impl<N: Copy + Exact + Hash + Debug + Drop, S: Copy + Exact + Hash + Debug> Encoder<N, S> {
-    /// Nothing but the root, whose needs are to be encoded.
+    /// The encoder with only the root, whose requirements are to be encoded.
     pub fn begin(alloc: Global) -> R<Encoder<N, S>>
         ensures begun { IfOk result IsBegunEncoding }
         ensures encoding { IfOk result
@@ -174,8 +175,8 @@ impl<N: Copy + Exact + Hash + Debug + Drop, S: Copy + Exact + Hash + Debug> Enco
         Ok(begun(alloc, coding, lists, gates, parents))
     }
 
-    /// States that a parent needs one of the candidates that are offered for its requirement, which has
-    /// no condition. Where they are many, and the parent is not the root, a gate stands between.
+    /// Encodes a parent's unconditional requirement over the offered candidates. Where they are
+    /// many, and the parent isn't the root, it uses a gate.
     pub fn require(
         &mut self,
         alloc: Global,
@@ -213,7 +214,7 @@ impl<N: Copy + Exact + Hash + Debug + Drop, S: Copy + Exact + Hash + Debug> Enco
         }
     }
 
-    /// States that a solvable needs one of the candidates of its requirement, of which there are so many.
+    /// Encodes a solvable's requirement, which has so many candidates.
     fn require_of(
         &mut self,
         alloc: Global,
@@ -248,7 +249,7 @@ impl<N: Copy + Exact + Hash + Debug + Drop, S: Copy + Exact + Hash + Debug> Enco
         Ok(())
     }
 
-    /// Registers what is offered for a requirement, and notes it as its candidates, once.
+    /// Registers the offered solvables as a requirement's candidates, once.
     pub(crate) fn fix_candidates(
         &mut self,
         alloc: Global,
@@ -267,7 +268,7 @@ impl<N: Copy + Exact + Hash + Debug + Drop, S: Copy + Exact + Hash + Debug> Enco
         Ok(())
     }
 
-    /// States a need without a gate.
+    /// Encodes a requirement without a gate.
     fn need_directly(
         &mut self,
         alloc: Global,
@@ -289,8 +290,8 @@ impl<N: Copy + Exact + Hash + Debug + Drop, S: Copy + Exact + Hash + Debug> Enco
         Ok(())
     }
 
-    /// States that a variable is false, or a literal of the condition true, or one of the requirement's
-    /// candidates is chosen, and lets decisions be made for it.
+    /// Adds a requires clause, and puts it into the decision queue: a variable is false, or a
+    /// literal of the condition is true, or a candidate is chosen.
     pub(crate) fn state_need(
         &mut self,
         alloc: Global,
@@ -320,7 +321,7 @@ impl<N: Copy + Exact + Hash + Debug + Drop, S: Copy + Exact + Hash + Debug> Enco
         Ok(())
     }
 
-    /// The variable of the gate of a requirement that some solvable asks for, with its clause.
+    /// The variable of a requirement's gate, added with its clause where there is none.
     fn gate(&mut self, alloc: Global, requirement: Requirement) -> R<VariableId>
         requires { IsBuilt self.old }
         // After an answer.
@@ -354,7 +355,7 @@ impl<N: Copy + Exact + Hash + Debug + Drop, S: Copy + Exact + Hash + Debug> Enco
         Ok(gate)
     }
 
-    /// States that a solvable opens a gate.
+    /// Adds the clause from a solvable to a gate.
     fn open_gate(
         &mut self,
         alloc: Global,
@@ -380,8 +381,8 @@ impl<N: Copy + Exact + Hash + Debug + Drop, S: Copy + Exact + Hash + Debug> Enco
         Ok(())
     }
 
-    /// The literals that a parent, or a gate, has not come, that a condition doesn't hold, or that a
-    /// candidate has.
+    /// The literals of a requires clause: the denial of the parent or gate, the condition's, and
+    /// the candidates'.
     fn literals_of(
         &self,
         alloc: Global,
@@ -408,7 +409,7 @@ impl<N: Copy + Exact + Hash + Debug + Drop, S: Copy + Exact + Hash + Debug> Enco
         Ok(literals)
     }
 
-    /// The parent whose needs are to be encoded next, if one is left.
+    /// The parent whose requirements are to be encoded next, if one is left.
     pub fn next_parent(&self) -> Option<SolvableIdOrRoot<S>>
         ensures parent { result ≡ slice_get self.now.parents.keys self.now.encoded }
         ensures bounded { self.now.encoded < 18446744073709551616 }
@@ -416,7 +417,7 @@ impl<N: Copy + Exact + Hash + Debug + Drop, S: Copy + Exact + Hash + Debug> Enco
         self.parents.get_index(self.encoded).copied()
     }
 
-    /// Lets the needs of a solvable be encoded in their turn, unless they were or will be.
+    /// Adds a solvable to the parents, unless it is one.
     pub fn add_parent(&mut self, solvable: S) -> R<()>
         ensures added { OnOk result (AddsParent self.old self.new) }
         ensures encoding { OnOk result
@@ -431,7 +432,7 @@ impl<N: Copy + Exact + Hash + Debug + Drop, S: Copy + Exact + Hash + Debug> Enco
         Ok(())
     }
 
-    /// The needs of the next parent were encoded.
+    /// Marks the next parent as encoded.
     pub fn end_parent(&mut self)
         requires { self.old.encoded < length self.old.parents.keys }
         ensures next { self.new ≡ record self.old { encoded = self.old.encoded + 1 } }
@@ -448,7 +449,7 @@ impl<N: Copy + Exact + Hash + Debug + Drop, S: Copy + Exact + Hash + Debug> Enco
     }
 }
 
-/// Puts the literals of candidates behind the others.
+/// Appends the literals of candidates.
 pub(crate) fn push_candidates<N>(candidates: &[Candidate<N>], literals: &mut Vec<Literal>) -> R<()>
     ensures pushed { OnOk result (literals.new.items ≡ literals.old.items ++ candidate_literals candidates.now) }
     ensures refusal { IsOkUnless result Memory }
@@ -459,7 +460,7 @@ pub(crate) fn push_candidates<N>(candidates: &[Candidate<N>], literals: &mut Vec
     Ok(())
 }
 
-/// Puts a value behind the others, unless it stands there.
+/// Appends a value, unless it is in the set.
 pub fn add_key<K: Copy + Eq + Hash + Drop>(keys: &mut IndexSet<K>, key: K) -> R<()>
     ensures front { OnOk result (IsFrontOf keys.old.keys keys.new.keys) }
     ensures stands { OnOk result

@@ -1,5 +1,5 @@
-//! What keeps solvables out becomes clauses: limits, locks, exclusions, and dependencies that are unknown. The encoder
-//! calls it for each parent, and for the packages that its needs and limits name.
+//! Clauses that forbid solvables: constraints, locks, exclusions, and unknown dependencies. The
+//! encoder adds them for each parent, and for the packages of its requirements and constraints.
 ghost use Rattle.std.specs.Prelude.{◌≡◌, ◌<◌, ◌∷◌, [], true, Option, Some, OnOk, IfOk, IsSome, Contains, IsErrOf, IsOkUnless};
 ghost use Rattle.resolvo_pool_core.specs.declared.want.Want.TheVariants.{Memory, Ids};
 ghost use Rattle.std.specs.Bool.{Decides};
@@ -28,14 +28,14 @@ use std::fmt::Debug;
 use std::hash::Hash;
 
 impl<N: Copy + Exact + Hash + Debug + Drop, S: Copy + Exact + Hash + Debug> Encoder<N, S> {
-    /// Whether it was stated what locks and exclusions keep out of a package.
+    /// Whether the locks and exclusions of a package are encoded.
     pub fn is_encoded(&self, name: N) -> bool
         ensures { Decides result (Contains self.now.noted.packages.keys name) }
     {
         self.noted.packages.contains(&name)
     }
 
-    /// States what locks and exclusions keep out of a package.
+    /// Encodes the locks and exclusions of a package.
     pub fn bar(&mut self, alloc: Global, name: N, barred: &[Barred<S>]) -> R<()>
         requires { IsBuilt self.old }
         // After an answer.
@@ -57,7 +57,7 @@ impl<N: Copy + Exact + Hash + Debug + Drop, S: Copy + Exact + Hash + Debug> Enco
         Ok(())
     }
 
-    /// States that a solvable is kept out, since its dependencies are unknown.
+    /// Forbids a solvable, since its dependencies are unknown.
     pub fn exclude(&mut self, alloc: Global, solvable: S, reason: StringId) -> R<()>
         requires { IsBuilt self.old }
         ensures { OnOk result (Tells S.eq (Rule.bars (Bar.word reason) solvable ∷ []) self.old self.new) }
@@ -66,8 +66,8 @@ impl<N: Copy + Exact + Hash + Debug + Drop, S: Copy + Exact + Hash + Debug> Enco
         Ok(())
     }
 
-    /// States that a parent's version set keeps out the candidates outside it. Where these are many, a variable
-    /// stands for being outside.
+    /// Encodes a parent's constraint: it forbids the candidates outside a version set. Where these
+    /// are many, the clauses share an auxiliary variable.
     pub fn limit(
         &mut self,
         alloc: Global,
@@ -100,7 +100,7 @@ impl<N: Copy + Exact + Hash + Debug + Drop, S: Copy + Exact + Hash + Debug> Enco
         Ok(())
     }
 
-    /// States which candidates are outside a version set of some parent, once.
+    /// Encodes which candidates are outside a version set, once for all parents.
     fn leave_out(
         &mut self,
         alloc: Global,
@@ -134,7 +134,7 @@ impl<N: Copy + Exact + Hash + Debug + Drop, S: Copy + Exact + Hash + Debug> Enco
         Ok(())
     }
 
-    /// States that each of these is kept out.
+    /// Forbids each of these.
     fn bar_each(&mut self, alloc: Global, barred: &[Barred<S>]) -> R<()>
         requires { IsBuilt self.old }
         ensures told { OnOk result (Tells S.eq (bar_rules barred.now) self.old self.new) }
@@ -146,7 +146,7 @@ impl<N: Copy + Exact + Hash + Debug + Drop, S: Copy + Exact + Hash + Debug> Enco
         Ok(())
     }
 
-    /// States that a parent's version set keeps each of these out.
+    /// Encodes that a parent's version set forbids each of these.
     fn limit_each(
         &mut self,
         alloc: Global,
@@ -164,7 +164,7 @@ impl<N: Copy + Exact + Hash + Debug + Drop, S: Copy + Exact + Hash + Debug> Enco
         Ok(())
     }
 
-    /// States that each of these is outside a version set.
+    /// Encodes that each of these is outside a version set.
     fn state_outside(
         &mut self,
         alloc: Global,
@@ -181,7 +181,7 @@ impl<N: Copy + Exact + Hash + Debug + Drop, S: Copy + Exact + Hash + Debug> Enco
         Ok(())
     }
 
-    /// States by a clause of one literal that a solvable is kept out.
+    /// Forbids a solvable by a unit clause.
     fn deny(&mut self, alloc: Global, solvable: S, stated: Stated<N, S>) -> R<()>
         requires built { IsBuilt self.old }
         requires rule { IsSome (rule_of stated) }
@@ -196,7 +196,7 @@ impl<N: Copy + Exact + Hash + Debug + Drop, S: Copy + Exact + Hash + Debug> Enco
         Ok(())
     }
 
-    /// States that a parent's version set keeps a solvable out.
+    /// Encodes that a parent's version set forbids a solvable.
     fn limit_one(
         &mut self,
         alloc: Global,
@@ -219,7 +219,7 @@ impl<N: Copy + Exact + Hash + Debug + Drop, S: Copy + Exact + Hash + Debug> Enco
         Ok(())
     }
 
-    /// States that a parent's version set keeps out whatever is outside it.
+    /// Encodes that a parent's version set forbids all candidates outside it.
     fn limit_outside(
         &mut self,
         alloc: Global,
@@ -240,7 +240,7 @@ impl<N: Copy + Exact + Hash + Debug + Drop, S: Copy + Exact + Hash + Debug> Enco
         Ok(())
     }
 
-    /// States that a solvable is outside a version set.
+    /// Encodes that a solvable is outside a version set.
     fn state_out(&mut self, alloc: Global, version_set: VersionSetId, solvable: S) -> R<()>
         requires { IsBuilt self.old }
         ensures told { OnOk result (Tells S.eq (Rule.is_out version_set solvable ∷ []) self.old self.new) }
@@ -272,7 +272,7 @@ impl<N: Copy + Exact + Hash + Debug + Drop, S: Copy + Exact + Hash + Debug> Enco
         }
     }
 
-    /// The variable that stands for this.
+    /// The variable of this origin, added where there is none.
     pub(crate) fn give(&mut self, atom: ProofAtom<N, S>) -> R<VariableId>
         requires { IsBuilt self.old }
         ensures told { OnOk result (Tells S.eq [] self.old self.new) }
@@ -283,7 +283,8 @@ impl<N: Copy + Exact + Hash + Debug + Drop, S: Copy + Exact + Hash + Debug> Enco
         Ok(variable)
     }
 
-    /// States a rule by the clause that the first is false, or the second literal true.
+    /// Encodes a rule by a clause of two literals: the first variable is false, or the second
+    /// literal true.
     pub(crate) fn state_pair(
         &mut self,
         alloc: Global,
@@ -306,7 +307,7 @@ impl<N: Copy + Exact + Hash + Debug + Drop, S: Copy + Exact + Hash + Debug> Enco
     }
 }
 
-/// That the first is false, and the second literal, unless it is the same.
+/// The denial of the first, and the second literal, unless it is the same.
 fn pair_of(alloc: Global, first: VariableId, second: Literal) -> R<Vec<Literal>>
     requires { first.0 < 2147483648 }
     ensures pair { IfOk result (λ v. IsPair (no first) second v.items) }
@@ -322,7 +323,7 @@ fn pair_of(alloc: Global, first: VariableId, second: Literal) -> R<Vec<Literal>>
     Ok(literals)
 }
 
-/// What a clause states that keeps this out.
+/// The kind of the unit clause that forbids a solvable for this reason.
 fn barred_by<N, S: Copy>(barred: Barred<S>) -> Stated<N, S>
     ensures { rule_of result ≡ Some (Rule.bars (bar_of barred.why) barred.solvable) }
 {

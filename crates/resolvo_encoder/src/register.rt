@@ -1,5 +1,5 @@
-//! Solvables are registered, as the candidates of a requirement, since they are outside a case's version set, or as wishes. Where
-//! a case names their package, a clause says first that one of it is there.
+//! Registers solvables: candidates of a requirement, candidates outside a case's version set, and
+//! soft requirements. First it adds the at-least-one clauses of those whose package is recorded.
 ghost use Rattle.std.specs.Prelude.{◌≡◌, ◌∷◌, [], OnOk, IfOk, IsErrOf};
 ghost use Rattle.resolvo_pool_core.specs.declared.want.Want.TheVariants.{Ids};
 ghost use Rattle.resolvo_state.specs.SolverState.{IsCoding, LacksNumber};
@@ -21,7 +21,7 @@ use std::fmt::Debug;
 use std::hash::Hash;
 
 impl<N: Copy + Exact + Hash + Debug + Drop, S: Copy + Exact + Hash + Debug> Encoder<N, S> {
-    /// Registers what is offered, and gives it as candidates.
+    /// Registers the offered solvables, and returns them as candidates.
     pub(crate) fn register(
         &mut self,
         alloc: Global,
@@ -36,7 +36,7 @@ impl<N: Copy + Exact + Hash + Debug + Drop, S: Copy + Exact + Hash + Debug> Enco
         Ok(given)
     }
 
-    /// States of each of these whose package a case names that one of it is there.
+    /// Adds the at-least-one clauses of those whose package is recorded.
     fn admit(&mut self, alloc: Global, offered: &[Offered<N, S>]) -> R<()>
         requires { IsBuilt self.old }
         ensures admitted { OnOk result (Admits S.eq offered.now self.old self.new) }
@@ -48,7 +48,7 @@ impl<N: Copy + Exact + Hash + Debug + Drop, S: Copy + Exact + Hash + Debug> Enco
         Ok(())
     }
 
-    /// States that one of its package is there, if a case names that.
+    /// Adds the at-least-one clause of a solvable, if its package is recorded.
     fn admit_one(&mut self, alloc: Global, one: Offered<N, S>) -> R<()>
         requires { IsBuilt self.old }
         ensures admitted { OnOk result (Admits S.eq (one ∷ []) self.old self.new) }
@@ -60,7 +60,7 @@ impl<N: Copy + Exact + Hash + Debug + Drop, S: Copy + Exact + Hash + Debug> Enco
         Ok(())
     }
 
-    /// Registers a wish, and gives its variable.
+    /// Registers a soft requirement, and returns its variable.
     pub(crate) fn register_soft(&mut self, alloc: Global, wish: Offered<N, S>) -> R<VariableId>
         requires { IsBuilt self.old }
         ensures registered { IfOk result (λ v. RegistersWish S.eq wish v self.old self.new) }
@@ -74,7 +74,7 @@ impl<N: Copy + Exact + Hash + Debug + Drop, S: Copy + Exact + Hash + Debug> Enco
     }
 }
 
-/// Registers what is offered, and gives it as candidates.
+/// Registers the offered solvables, and returns them as candidates.
 fn register_all<N: Copy + Exact + Hash + Debug, S: Copy + Exact + Hash + Debug>(
     alloc: Global,
     registry: &mut Registry<N>,
@@ -95,7 +95,7 @@ fn register_all<N: Copy + Exact + Hash + Debug, S: Copy + Exact + Hash + Debug>(
     Ok(candidates)
 }
 
-/// Registers what is offered, and gives it as a candidate.
+/// Registers an offered solvable, and returns it as a candidate.
 fn register_one<N: Copy + Exact + Hash + Debug, S: Copy + Exact + Hash + Debug>(
     registry: &mut Registry<N>,
     coding: &mut SolverState<N, S>,

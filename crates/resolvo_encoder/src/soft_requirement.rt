@@ -1,5 +1,5 @@
-//! The turn of a wish: it is chosen at the turn's first level, or barred by a clause that tells why it can't stand beside what
-//! was chosen before.
+//! The turn of a soft requirement: it is decided at the turn's first level, or denied by a clause
+//! that explains its conflict with earlier turns.
 ghost use Rattle.std.specs.Prelude.{◌≡◌, ◌<◌, length, Some, IfOk, OnOk, IsErrOf, IsOkUnless};
 ghost use Rattle.resolvo_pool_core.specs.declared.want.Want.TheVariants.{Memory, Ids};
 ghost use Rattle.resolvo_pool_core.specs.RuleKeeping.{Packages, Rules, IsLawful};
@@ -24,7 +24,7 @@ use std::fmt::Debug;
 use std::hash::Hash;
 
 impl<N: Copy + Exact + Hash + Debug + Drop, S: Copy + Exact + Hash + Debug> Encoder<N, S> {
-    /// Begins a turn: no jump goes below the next level. What stands is what stood before it.
+    /// Begins a turn: no backjump goes below the next level. The trail is unchanged.
     pub fn begin_turn(&mut self)
         requires { IsBuilt self.old }
         ensures begun { self.new ≡ turn_of self.old }
@@ -38,7 +38,8 @@ impl<N: Copy + Exact + Hash + Debug + Drop, S: Copy + Exact + Hash + Debug> Enco
         self.coding.set_floor(level);
     }
 
-    /// Chooses a wish at the first level of its turn, unless it is chosen. Where it is false before, this tells why.
+    /// Decides a soft requirement at the first level of its turn, unless it is true. Where it is
+    /// already false, returns the final conflict.
     pub fn assume_soft(&mut self, alloc: Global, variable: VariableId) -> R<Option<FinalConflict>>
         requires built { IsBuilt self.old }
         requires turn { HasTurn (Some variable) self.old }
@@ -63,7 +64,8 @@ impl<N: Copy + Exact + Hash + Debug + Drop, S: Copy + Exact + Hash + Debug> Enco
         Ok(refusal)
     }
 
-    /// Chooses a wish that isn't true at the first level of its turn. Where it is false, this tells why.
+    /// Decides a soft requirement that isn't true at the first level of its turn. Where it is
+    /// false, returns the final conflict.
     fn choose_or_refute(&mut self, alloc: Global, variable: VariableId) -> R<Option<FinalConflict>>
         requires built { IsBuilt self.old }
         requires above { top_level (history self.old.coding.search) < self.old.coding.search.base_level }
@@ -88,7 +90,7 @@ impl<N: Copy + Exact + Hash + Debug + Drop, S: Copy + Exact + Hash + Debug> Enco
         Ok(None)
     }
 
-    /// Adds the clause of a refusal, which bars what can't stand together.
+    /// Adds the clause of a final conflict.
     pub fn learn_refusal(&mut self, refusal: FinalConflict) -> R<ClauseId>
         requires built { IsBuilt self.old }
         requires some { 0 < length refusal.literals.items }
@@ -113,7 +115,7 @@ impl<N: Copy + Exact + Hash + Debug + Drop, S: Copy + Exact + Hash + Debug> Enco
         Ok(clause)
     }
 
-    /// Registers a wish and notes it as the last one. Gives its variable.
+    /// Registers a soft requirement, records it as the last one, and returns its variable.
     pub fn note_soft(&mut self, alloc: Global, wish: Offered<N, S>) -> R<VariableId>
         requires { IsBuilt self.old }
         ensures { IfOk result (λ v. Notes S.eq wish v self.old self.new) }
@@ -123,7 +125,7 @@ impl<N: Copy + Exact + Hash + Debug + Drop, S: Copy + Exact + Hash + Debug> Enco
         Ok(variable)
     }
 
-    /// Takes the last wish back, which isn't chosen.
+    /// Removes the last soft requirement, which isn't chosen.
     pub fn drop_soft(&mut self)
         requires built { IsBuilt self.old }
         requires untaken { IsUntaken self.old }

@@ -1,5 +1,5 @@
 use Rattle.resolvo_encoder.proofs.conditions.keeps_out.Given as goal
 
--- nothing is kept
+-- no property is needed
 abbrev pub invariant-loop-set : goal.invariant-loop-set
 invariant-loop-set g l = Unit {0}

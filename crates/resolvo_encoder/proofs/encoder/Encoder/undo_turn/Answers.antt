@@ -8,7 +8,7 @@ use Rattle.resolvo_encoder.proofs.StayLemmas.{digits_kept, goes_then, needs_go, 
 use Rattle.resolvo_encoder.proofs.Bases.{turn_undone}
 use Rattle.resolvo_encoder.proofs.encoder.Encoder.undo_turn.Goals as goal
 
--- what stood before the turn isn't above the level
+-- the trail before the turn isn't above the level
 above_earlier : (base_level below level : ℕ) → below ≡ base_level - 1 → level ≡ max below 1 → base_level - 1 ≤ level
 above_earlier base_level below level is one = omega arith
 
