@@ -1,5 +1,5 @@
 //! The graph of a conflict: the root, the node of requirements without candidates, and the ends of
-//! the links of the conflict's rules, in their order.
+//! the links of the rules, in their order.
 ghost use Rattle.std.specs.Prelude.{◌≡◌, ◌<◌, ◌++◌, length, IfOk, OnOk, IsOkUnless};
 ghost use Rattle.indexmap.specs.IndexSet.{insert_key, insert_all};
 ghost use Rattle.resolvo_graph.specs.declared.graph.ConflictNode.{ConflictNode};
