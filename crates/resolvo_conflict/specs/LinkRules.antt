@@ -76,7 +76,6 @@ needed parent q (c ∷ cs) = map (λ s. Links.Requires parent q (Some s)) (c ∷
 
 -- The links of a rule with those that it is drawn together with: parents of gates, version sets of
 -- constraints, and versions outside. A digit is linked to the version before it.
--- it.
 module _ {S : Type 0} (offered : Requirement → List S) (gates : List (Requirement × S)) (limits : List (VersionSetId × Option S)) (outsides : List (VersionSetId × S)) where
   abbrev pub links_at : {N : Type 0} → Option S → ProofRule N S → List (Link S)
   links_at before (Needs parent q case) = needed parent q (offered q)
