@@ -19,7 +19,7 @@ use Rattle.resolvo.specs.Conflicts.{Left, left_of, IsLeft}
 use Rattle.resolvo.specs.declared.conflict.KeptConflict.{KeptConflict}
 use Rattle.resolvo.specs.Solver.{Kept, HasNothing, IfEnded, IsAnswer, IsStopped, Keeps, Leaves, stopped_by}
 
--- the steps of what is solved are right
+-- the steps of a solved problem are right
 solved_steps : {N S : Type 0} (same : S → S → Bool) (p : Packages N S) (root : Rules) (orders : Requirement → List S → Type 0) (wishes : List S) (s : Solved N S) → IsSolved same p orders root wishes s → AreRightSteps same p root s.proof.items
 solved_steps same p root orders wishes s solved = record { proof = solved.proof; drawn = solved.drawn; signs = solved.signs; one_place = solved.one_place }
 

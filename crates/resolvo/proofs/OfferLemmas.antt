@@ -1,4 +1,4 @@
--- What was offered for the requirements of a conflict is right.
+-- The offers for the requirements of a conflict are right.
 use Rattle.std.proofs.Common.{◌≡◌, ◌+◌, ◌<◌, ◌∷◌, inl, inr, ℕ, Bool, true, false, [], List, take, length, get_or, cond, Some, Result, Ok, Err, refl, sym, ◌∙◌, ap, subst}
 use Rattle.std.specs.Prelude.{Contains}
 use Rattle.std.proofs.lemmas.Bool.{both_ways, cases_Bool}

@@ -243,7 +243,7 @@ module _ {N S : Type 0} (same : S → S → Bool) (a b : Encoder N S) (one : Off
         none,
       )
 
-      -- the added clause denies only the soft requirement and what was chosen before its turn
+      -- the added clause denies only the soft requirement and the choices before its turn
       down_reason : IsCoding a.coding → IsExact same → (same_name : N → N → Bool) → IsExact same_name → (p : Packages N S) (root : Rules) → IsEncoding same p root c → (clause : ClauseId) → IsLearntAs d.coding r.literals.items clause
           → IsReasonOf d.coding (λ t. (t ≡ one.solvable) ⊎ IsTrue a t) clause.0
       down_reason coding exact same_name names p root holds clause learnt = record {

@@ -20,7 +20,7 @@ use Rattle.resolvo.specs.declared.prove.Solved.{Solved}
 use Rattle.resolvo.specs.Solve.{AreChosenOnce, HasSteps, HaveProofs, IsFound, IsListedIn, IsPreferred, IsSearch, Holds, IsSolved}
 use Rattle.resolvo.proofs.Reasons.{reason_proof}
 
--- what follows from the property of an answer
+-- a consequence of the property of an answer
 pub ok_then : {X E : Type 0} (P Q : X → Type 0) (r : Result X E) → ((x : X) → P x → Q x) → IfOk r P → IfOk r Q
 ok_then P Q (Ok v) so h = so v h
 ok_then P Q (Err e) so h = tt

@@ -87,7 +87,7 @@ module _ {N S : Type 0} (e : Encoder N S) (v : VariableId) where
   refused_empty r (inr (reason, low)) none = record { derived = reason.derived; caused = reason.caused; from = reason.from; denies = λ l h. absurd (both_ways false refl (subst (λ (ls : List Signed). has ls l ≡ true) none h)) }
 
   module _ (same : S → S → Bool) (exact : IsExact same) (p : Packages N S) (root : Rules) (holds : IsEncoding same p root e) (same_name : N → N → Bool) (names : IsExact same_name) (o : IsOpen e v) where
-    -- the soft requirement is refused by what was chosen before its turn
+    -- the soft requirement is refused by the choices before its turn
     pub refused_blamed : (r : FinalConflict) → IsRefusedBy (Some v) e r → IsBlamed e v r.literals.items r.causes.items
     refused_blamed r (inl (refusal, has)) = refusal_blames same exact p root e holds v r.literals.items r.causes.items o has refusal
     refused_blamed r (inr (reason, low)) = reason_blames same exact p root e holds v r.literals.items r.causes.items low reason
@@ -100,7 +100,7 @@ module _ {N S : Type 0} (e : Encoder N S) (v : VariableId) where
     pub taken_true : (before : Encoder N S) → IsCoding before.coding → IsFrontOf before.coding.atoms.keys e.coding.atoms.keys → base_of e ≡ history before.coding.search → (t : S) → IsTaken e t → IsTrue before t
     taken_true before coding front base t (u, stands, truth) = true_before before e coding front t u stands (subst (λ (h : List Entry). has (made_true h) (yes u) ≡ true) base truth)
 
-    -- no rule-keeping set includes the soft requirement with what was chosen before
+    -- no rule-keeping set includes the soft requirement with the earlier choices
     pub refused_denied : (before : Encoder N S) → IsCoding before.coding → IsFrontOf before.coding.atoms.keys e.coding.atoms.keys → base_of e ≡ history before.coding.search → (s : S) → StandsFor e.coding.atoms.keys v (Solvable s)
         → (r : FinalConflict) → IsRefusedBy (Some v) e r → IsDenied same p root before s
     refused_denied before coding front base s stands r refused = λ set keeping holds_all held.

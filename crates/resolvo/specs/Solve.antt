@@ -78,7 +78,7 @@ pub record DeniesOnly {N S : Type 0} (steps : List (ProofStep N S)) (among : S �
   pub denies : (l : ProofLiteral N S) → Contains literals.items l → (l.positive ≡ false) × ((s : S) × (l.atom ≡ Solvable s) × among s)
 
 -- The turn's step, which a refused soft requirement has, is derived. It denies only the soft
--- requirement and what was chosen before its turn.
+-- requirement and the choices before its turn.
 pub record HasProof {N S : Type 0} (steps : List (ProofStep N S)) (chosen : List S) (t : Turn S) : Type 0 where
   pub accepted : t.accepted ≡ true → t.step ≡ None
   pub refused : t.accepted ≡ false → (k : ℕ) × (t.step ≡ Some k) × DeniesOnly steps (IsDeniable chosen t) k

@@ -43,7 +43,7 @@ pub record Kept (P N S : Type 0) : Type 0 where
 abbrev pub HoldsConflict : {P N S : Type 0} → Kept P N S → List ClauseId → Type 0
 HoldsConflict {P} {N} {S} k clauses = (l : Left S) × (k.conflict ≡ Some l) × (l.clauses ≡ clauses)
 
--- The graph is that of the conflict that is kept, with what was offered.
+-- The graph of the conflict that is kept, with the offers.
 abbrev pub IsGraphOf : {P N S : Type 0} → (N → N → Bool) → (S → S → Bool) → (S → N) → Kept P N S → Graph S → Type 0
 IsGraphOf {P} {N} {S} same_name same name_of k g = (l : Left S) → k.conflict ≡ Some l → g ≡ conflict_drawing same_name same name_of (offered_by l.offers) (conflict_rules k.proof)
 

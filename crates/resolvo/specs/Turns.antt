@@ -33,7 +33,7 @@ abbrev pub first_of : {S : Type 0} → List S → List (Turn S) → ℕ
 first_of chosen [] = length chosen
 first_of chosen (t ∷ later) = t.begin
 
--- the soft requirement, or what was chosen before its turn
+-- the soft requirement, or the choices before its turn
 abbrev pub IsDeniable : {S : Type 0} → List S → Turn S → S → Type 0
 IsDeniable chosen t s = (s ≡ t.solvable) ⊎ Contains (take t.begin chosen) s
 
@@ -99,7 +99,7 @@ pub record AreRight {N S : Type 0} (same : S → S → Bool) (p : Packages N S) 
   pub accepted : IsAccepted same p root (accepted_of (reverse t.turns.items)) t.chosen.keys
 
 -- An accepted soft requirement has no step. The step of a refused one is that of a learnt clause,
--- which denies only the soft requirement and what was chosen before its turn.
+-- which denies only the soft requirement and the choices before its turn.
 pub record HasReason {N S : Type 0} (c : SolverState N S) (chosen : List S) (t : Turn S) : Type 0 where
   pub accepted : t.accepted ≡ true → t.step ≡ None
   pub refused : t.accepted ≡ false → (k : ℕ) × (t.step ≡ Some k) × IsReasonOf c (IsDeniable chosen t) (suc k)

@@ -199,7 +199,7 @@ pub fn run_soft_requirement<A: PackageSource, C: ScoreMap<A::NameId>>(
     Ok(wished)
 }
 
-/// Records the outcome of a soft requirement's turn, after what was chosen in it. The conflict, if
+/// Records the outcome of a soft requirement's turn, after its choices. The conflict, if
 /// no solvables keep all rules.
 fn note_outcome<N: Copy + Exact + Hash + Debug, S: Copy + Exact + Hash + Debug>(
     alloc: Global,

@@ -58,7 +58,7 @@ impl<C> From<CacheFault<C>> for UnsolvableOrCancelled<C> {
     }
 }
 
-/// A solver over a provider, which is asked each question once.
+/// A solver over a provider, which gets each query once.
 #[derive(Drop)]
 pub struct Solver<D: DependencyProvider> {
     alloc: Global,

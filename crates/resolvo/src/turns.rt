@@ -48,7 +48,7 @@ impl<S: Copy + Exact + Hash + Debug> Turns<S> {
         }
     }
 
-    /// Lists what the trail chooses, in its order, after what is listed.
+    /// Lists what the trail chooses, in its order, after the listed ones.
     pub fn list<N: Copy + Exact + Hash + Debug>(
         &mut self,
         alloc: Global,

@@ -207,7 +207,7 @@ cases_more (y ∷ xs) x = ap (λ zs. y.items ∷ zs) (cases_more xs x)
 pub taken_stands : (xs : List (Vec VersionSetId Global)) (i : ℕ) (x : Vec VersionSetId Global) → take (i + 1) xs ≡ take i xs ++ x ∷ [] → Contains (cases_of xs) x.items
 taken_stands xs i x more = contains_map (λ (v : Vec VersionSetId Global). v.items) x xs (taken_contained (i + 1) xs x (subst (λ (ys : List (Vec VersionSetId Global)). Contains ys x) (sym more) (contains_right x (take i xs) (x ∷ []) (contains_only x))))
 
--- constraints, and what forbids the candidates that they name
+-- constraints, and the locks and exclusions of the candidates that they name
 pub more_limited : {N S : Type 0} (same : S → S → Bool) (exact : IsExact same) (p : Packages N S) (root : Rules) (a b : Encoder N S) (parent : Option S) (done : List VersionSetId) (last : VersionSetId) → AddsNeeds a b
     → ((v : VersionSetId) → Contains done v → IsLimitEncoded same p (rules_of a) parent v × IsGuarded same p (rules_of a) (Single v)) → IsLimitEncoded same p (rules_of b) parent last × IsGuarded same p (rules_of b) (Single last)
     → (v : VersionSetId) → Contains (done ++ last ∷ []) v → IsLimitEncoded same p (rules_of b) parent v × IsGuarded same p (rules_of b) (Single v)

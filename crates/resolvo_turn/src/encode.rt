@@ -171,8 +171,8 @@ fn require<A: PackageSource>(
     Ok(())
 }
 
-/// Encodes that a parent needs a candidate of a requirement without a condition, and what forbids
-/// the candidates.
+/// Encodes that a parent needs a candidate of a requirement without a condition, and the locks and
+/// exclusions of the candidates.
 fn encode_plain_need<A: PackageSource>(
     alloc: Global,
     answers: &mut A,
@@ -312,8 +312,8 @@ fn limit<A: PackageSource>(
     Ok(())
 }
 
-/// Encodes that a parent's constraint keeps out the candidates outside it, and what forbids the
-/// others.
+/// Encodes that a parent's constraint keeps out the candidates outside it, and the locks and
+/// exclusions of the others.
 fn encode_limit<A: PackageSource>(
     alloc: Global,
     answers: &mut A,

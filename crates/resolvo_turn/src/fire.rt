@@ -97,7 +97,7 @@ fn state_case<A: PackageSource>(
     Ok(())
 }
 
-/// Encodes a case of a parent's requirement, and what forbids its candidates.
+/// Encodes a case of a parent's requirement, and the locks and exclusions of its candidates.
 fn encode_case<A: PackageSource>(
     alloc: Global,
     answers: &mut A,

@@ -9,7 +9,7 @@ use std::alloc::Global;
 use std::fmt::Debug;
 use std::hash::Hash;
 
-/// How far the trail is scanned, and which deferred cases may hold by what was chosen since.
+/// How far the trail is scanned, and which deferred cases may hold by the choices since.
 pub struct Looked<N: Copy + Eq + Hash> {
     /// The number of scanned entries of the trail.
     entries: usize,
@@ -19,7 +19,7 @@ pub struct Looked<N: Copy + Eq + Hash> {
     places: Vec<Vec<usize>>,
     /// The number of listed cases, of those that are deferred.
     listed: usize,
-    /// The places of listed cases that may hold by what was chosen since their last scan.
+    /// The places of listed cases that may hold by the choices since their last scan.
     touched: Vec<usize>,
     /// Whether each case was scanned once.
     is_begun: bool,
@@ -130,7 +130,7 @@ pub(crate) fn note_all<A: PackageSource>(
     Ok(())
 }
 
-/// Finds the cases that may hold by what was chosen since their last scan, and the new ones.
+/// Finds the cases that may hold by the choices since their last scan, and the new ones.
 pub(crate) fn find_touched<A: PackageSource>(
     alloc: Global,
     answers: &A,

@@ -272,7 +272,7 @@ fn add_new_chosen<A: PackageSource>(
     Ok(())
 }
 
-/// Encodes the cases that hold by what was chosen since their last scan, once each was scanned.
+/// Encodes the cases that hold by the choices since their last scan, once each was scanned.
 /// Answers whether there was one; if not, nothing changed. Undoes the turn's decisions if a new
 /// clause is falsified.
 fn fire_touched<A: PackageSource>(
@@ -312,7 +312,7 @@ fn fire_touched<A: PackageSource>(
     Ok(true)
 }
 
-/// Scans what was chosen since the last scan. Whether there is a parent to encode then, or a case
+/// Scans the choices since the last scan. Whether there is a parent to encode then, or a case
 /// became a clause.
 fn look_at_new<A: PackageSource>(
     alloc: Global,
