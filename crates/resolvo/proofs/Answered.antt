@@ -1,4 +1,4 @@
--- What a solver answers and leaves, by what was found or by what stopped it.
+-- The answer and the results of a solver, by the result of the search or by its stop.
 use Rattle.std.proofs.Common.{◌≡◌, Bool, List, [], length, Option, Result, Ok, Err, Vec, Global, sym, ◌∙◌, ap, subst}
 use Rattle.std.specs.Option.{option_map}
 use Rattle.std.specs.Prelude.{IfOk}
@@ -19,12 +19,12 @@ use Rattle.resolvo.specs.Conflicts.{Left, left_of, IsLeft}
 use Rattle.resolvo.specs.declared.conflict.KeptConflict.{KeptConflict}
 use Rattle.resolvo.specs.Solver.{Kept, HasNothing, IfEnded, IsAnswer, IsStopped, Keeps, Leaves, stopped_by}
 
--- the steps of what is solved are right
+-- the steps of a solved problem are right
 solved_steps : {N S : Type 0} (same : S → S → Bool) (p : Packages N S) (root : Rules) (orders : Requirement → List S → Type 0) (wishes : List S) (s : Solved N S) → IsSolved same p orders root wishes s → AreRightSteps same p root s.proof.items
 solved_steps same p root orders wishes s solved = record { proof = solved.proof; drawn = solved.drawn; signs = solved.signs; one_place = solved.one_place }
 
 module _ {P N S C : Type 0} (old : Kept P N S) where
-  -- what is kept of a search is what it found
+  -- the kept result of a search is right
   pub kept_answers : (same : S → S → Bool) (p : Packages N S) (root : Rules) (orders : Requirement → List S → Type 0) (wishes : List S) (s : Solved N S) (told : Vec ClauseId Global) (left : Option (KeptConflict S)) (r : Result (Vec S Global) (UnsolvableOrCancelled C)) (new : Kept P N S) → Keeps s told (option_map left_of left) old r new → IsSolved same p orders root wishes s → IsLeft same p orders s.found s.proof.items told.items left
       → IsAnswer same p root orders wishes r new
   kept_answers same p root orders wishes s told left (Ok v) new (turns, found, kept) solved is =
@@ -42,7 +42,7 @@ module _ {P N S C : Type 0} (old : Kept P N S) where
   kept_answers same p root orders wishes s told left (Err Memory) new h solved is = absurd h
   kept_answers same p root orders wishes s told left (Err Ids) new h solved is = absurd h
 
-  -- a search that came to its end has an answer
+  -- a search that ended has an answer
   pub kept_ended : (s : Solved N S) (told : Vec ClauseId Global) (left : Option (Left S)) (r : Result (Vec S Global) (UnsolvableOrCancelled C)) (new : Kept P N S) (Q : Type 0) → Keeps s told left old r new → Q → IfEnded r Q
   kept_ended s told left (Ok v) new Q h q = q
   kept_ended s told left (Err (Unsolvable conflict)) new Q h q = q
@@ -66,7 +66,7 @@ module _ {P N S C : Type 0} (old : Kept P N S) where
   kept_count s told left (Err Memory) new h = absurd h
   kept_count s told left (Err Ids) new h = absurd h
 
-  -- nothing was chosen twice
+  -- nothing is chosen twice
   pub kept_once : (s : Solved N S) (told : Vec ClauseId Global) (left : Option (Left S)) (r : Result (Vec S Global) (UnsolvableOrCancelled C)) (new : Kept P N S) → Keeps s told left old r new → AreChosenOnce s.found → IfOk r (λ v. AreOnce v.items)
   kept_once s told left (Ok v) new (turns, found, kept) once = subst AreChosenOnce found once
   kept_once s told left (Err (Unsolvable conflict)) new h once = tt
@@ -74,7 +74,7 @@ module _ {P N S C : Type 0} (old : Kept P N S) where
   kept_once s told left (Err Memory) new h once = tt
   kept_once s told left (Err Ids) new h once = tt
 
-  -- what is left after it
+  -- its results
   pub kept_leaves : (same : S → S → Bool) (p : Packages N S) (orders : Requirement → List S → Type 0) (s : Solved N S) (told : Vec ClauseId Global) (left : Option (KeptConflict S)) (r : Result (Vec S Global) (UnsolvableOrCancelled C)) (new : Kept P N S) → old.turns ≡ [] → Keeps s told (option_map left_of left) old r new → IsLeft same p orders s.found s.proof.items told.items left → EndsSo s.found s.proof.items → Counts s.found s.clause_count (length s.proof.items) → Leaves r new
   kept_leaves same p orders s told left (Ok v) new none (turns, found, kept) is ends counts =
       subst (λ (k : Kept P N S). Leaves {C = C} (Ok v) k) (sym kept)
@@ -95,7 +95,7 @@ module _ {P N S C : Type 0} (old : Kept P N S) where
   kept_provider s told left (Err Memory) new h = absurd h
   kept_provider s told left (Err Ids) new h = absurd h
 
--- a search that was stopped has none
+-- a search that stopped has none
 pub stopped_ended : (S : Type 0) {C : Type 0} (f : CacheFault C) (Q : Type 0) → IfEnded {S = S} (Err (stopped_by f)) Q
 stopped_ended S fault.Memory Q = tt
 stopped_ended S fault.Ids Q = tt
@@ -106,7 +106,7 @@ stopped_stopped S may fault.Memory h = tt
 stopped_stopped S may fault.Ids h = tt
 stopped_stopped S may (fault.Cancelled c) h = h
 
--- and leaves nothing
+-- and no results
 pub stopped_leaves : {P N S C : Type 0} (f : CacheFault C) (k : Kept P N S) → HasNothing k → Leaves (Err (stopped_by f)) k
 stopped_leaves fault.Memory k h = h
 stopped_leaves fault.Ids k h = h

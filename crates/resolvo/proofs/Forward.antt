@@ -1,4 +1,4 @@
--- The turns of the wishes, from the first one on.
+-- The turns of the soft requirements, from the first one on.
 use Rattle.std.proofs.Common.{◌≡◌, ℕ, suc, Bool, reverse, List, [], ◌∷◌, ◌++◌, length, refl, sym, ◌∙◌, ap, subst, append_assoc, arith}
 use Rattle.std.proofs.lemmas.List.{append-nil, length-reverse, reverse-append}
 use Rattle.resolvo_pool_core.specs.RuleKeeping.{Packages, Rules}
@@ -25,18 +25,18 @@ module _ {N S : Type 0} (same : S → S → Bool) (p : Packages N S) (root : Rul
       let ((begin, one, rest), later) = from_first ws (w ∷ before) ts (t ∷ earlier) (let x : suc (length ws) ≡ suc (length ts) = long in omega arith) shifted in
       (rest, (begin, one, later))
 
-  -- there is a turn for each wish
+  -- there is a turn for each soft requirement
   pub one_each : (wishes : List S) (turns : List (Turn S)) → AreWished same p root chosen first wishes turns → length wishes ≡ length turns
   one_each wishes turns h = sym (length-reverse wishes) ∙ same_long (reverse wishes) (reverse turns) h.turns ∙ length-reverse turns
 
-  -- the turns of the wishes stand in their order
+  -- the turns of the soft requirements are in their order
   pub wished_in_turn : (wishes : List S) (turns : List (Turn S)) → AreWished same p root chosen first wishes turns → AreInTurn same p root chosen first [] wishes turns
   wished_in_turn wishes turns h =
       let (none, all) = from_first wishes [] turns [] (one_each wishes turns h)
       (subst (λ (xs : List S). AreTurns same p root chosen first xs (reverse turns ++ [])) (sym (append-nil (reverse wishes))) (subst (λ (xs : List (Turn S)). AreTurns same p root chosen first (reverse wishes) xs) (sym (append-nil (reverse turns))) h.turns)) in
       all
 
--- how many were chosen after these turns, and before them so many
+-- the number of choices after these turns, and before them so many
 abbrev pub end_after : {S : Type 0} → ℕ → List (Turn S) → ℕ
 end_after n [] = n
 end_after n (t ∷ later) = end_after t.end later

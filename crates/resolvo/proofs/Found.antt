@@ -1,4 +1,4 @@
--- What a search found is true.
+-- The result of a search is true.
 use Rattle.std.proofs.Common.{◌≡◌, ℕ, suc, Bool, true, false, take, reverse, List, [], ◌∷◌, ◌++◌, length, Option, Some, None, Vec, Global, refl, sym, ◌∙◌, ap, subst, arith}
 use Rattle.std.specs.Prelude.{slice_get, is_some, Contains}
 use Rattle.std.proofs.lemmas.Bool.{both_ways}
@@ -43,23 +43,23 @@ use Rattle.resolvo.proofs.TrailLemmas.{trail_once}
 pub begun_rooted : {N S : Type 0} (e : Encoder N S) → IsBegunEncoding e → IsRooted e
 begun_rooted {N} {S} e begun = subst (λ (ks : List (SolvableIdOrRoot S)). slice_get ks 0 ≡ Some Root) (sym begun.parents) refl
 
--- nothing is kept yet that could be out of order
+-- nothing is chosen yet that could be out of order
 pub begun_in_order : {N S : Type 0} (same : S → S → Bool) (p : Packages N S) (orders : Requirement → List S → Type 0) (root : Rules) (e : Encoder N S) → IsBegunEncoding e → IsEncoding same p root e → IsInOrder same p orders root e
 begun_in_order same p orders root e begun holds = record { encoding = holds; ordered = λ r has. absurd (both_ways _ (ap is_some (begun.lists.candidates r)) has) }
 
--- a turn before which others stand is the first one's
+-- a turn with turns before it isn't the first one
 last_begin : {N S : Type 0} (same : S → S → Bool) (p : Packages N S) (root : Rules) (chosen : List S) (first : ℕ) (t : Turn S) (ws : List S) (later : List (Turn S)) → AreTurns same p root chosen first ws (later ++ t ∷ []) → t.begin ≡ first
 last_begin same p root chosen first t [] [] h = absurd h
 last_begin same p root chosen first t (w ∷ ws) [] (begin, one, rest) = begin
 last_begin same p root chosen first t [] (u ∷ later) h = absurd h
 last_begin same p root chosen first t (w ∷ ws) (u ∷ later) (begin, one, rest) = last_begin same p root chosen first t ws later rest
 
--- so many were chosen in the root's turn
+-- the number of choices in the root's turn
 pub first_is : {N S : Type 0} (same : S → S → Bool) (p : Packages N S) (root : Rules) (chosen : List S) (first : ℕ) (wishes : List S) (turns : List (Turn S)) → AreWished same p root chosen first wishes turns → first ≡ first_of chosen turns
 first_is same p root chosen first wishes [] h = h.whole
 first_is same p root chosen first wishes (t ∷ later) h = sym (last_begin same p root chosen first t (reverse wishes) (reverse later) (subst (λ (ts : List (Turn _)). AreTurns same p root chosen first (reverse wishes) ts) (reverse-append (t ∷ []) later) h.turns))
 
--- the first ones of what begins a list are its first ones
+-- a prefix of a list is its first items
 first_front : {X : Type 0} (xs ys : List X) → IsFrontOf xs ys → take (length xs) ys ≡ xs
 first_front [] ys h = refl
 first_front (x ∷ xs) ys (more, is) = ap (take (suc (length xs))) is ∙ ap (λ zs. x ∷ zs) (first_front xs (xs ++ more) (more, refl))
@@ -69,7 +69,7 @@ pub no_reasons : {N S : Type 0} (c : SolverState N S) (t : Turns S) → t.turns.
 no_reasons {N} {S} c t none turn h = absurd (contains_none turn (subst (λ (ts : List (Turn S)). Contains ts turn) none h))
 
 module _ {N S : Type 0} (same_name : N → N → Bool) (names : IsExact same_name) (same : S → S → Bool) (exact : IsExact same) (p : Packages N S) (orders : Requirement → List S → Type 0) (root : Rules) (lawful : IsLawful p) (e : Encoder N S) where
-  -- the end of the root's turn: what is chosen is right, and was preferred
+  -- the end of the root's turn: its choices are right, and preferred
   pub root_right : IsInOrder same p orders root e → e.noted.wishes.items ≡ [] → IsTurn same None e None → (t : Turns S) → t.turns.items ≡ [] → AreChosen e.coding.atoms.keys (made_true (history e.coding.search)) t.chosen.keys
       → AreRight same p root (length t.chosen.keys) [] t × ArePreferred same p orders root t.chosen.keys
   root_right holds alone (settled, whole, spent, wish) t none chosen =
@@ -93,7 +93,7 @@ module _ {N S : Type 0} (same_name : N → N → Bool) (names : IsExact same_nam
   root_refused holds first r refusal = λ chosen keeping. refused same exact p root lawful e same_name names holds.encoding first r.literals.items r.causes.items refusal chosen keeping
 
 module _ {N S : Type 0} (same : S → S → Bool) (p : Packages N S) (orders : Requirement → List S → Type 0) (root : Rules) (wishes : List S) (e : Encoder N S) (old t : Turns S) (front : IsFrontOf old.chosen.keys t.chosen.keys) where
-  -- what all turns found
+  -- the result of all turns
   pub turns_found : ArePreferred same p orders root old.chosen.keys → (o : Option FinalConflict) → IsNextRight same p root (length old.chosen.keys) wishes e t o → StandSo e t o → (f : SearchResult S) → IsFoundIn t o f → IsFound same p root wishes e f × IsPreferred same p orders root f
   turns_found preferred None (right, reasons) at (Chosen v turns) (solvables, told) =
       let first : length old.chosen.keys ≡ first_of v.items turns.items = first_is same p root t.chosen.keys (length old.chosen.keys) wishes t.turns.items right.wished ∙ ap (λ (xs : List S). first_of xs t.turns.items) (sym solvables) ∙ ap (λ (ts : Vec (Turn S) Global). first_of v.items ts.items) (sym told) in
@@ -112,14 +112,14 @@ module _ {N S : Type 0} (same : S → S → Bool) (p : Packages N S) (orders : R
     tt,
   )
 
--- what all turns list is what the trail chooses
+-- all turns list the choices of the trail
 pub later_listed : {N S : Type 0} (e : Encoder N S) (t : Turns S) (o : Option FinalConflict) → IsCoding e.coding → StandSo e t o → (f : SearchResult S) → IsFoundIn t o f → IsListedIn e f
 later_listed e t None coding at (Chosen v turns) (solvables, told) = let is = solvables ∙ at.chosen in record { in_order = is; once = subst AreOnce (sym is) (trail_once e coding); encoded = subst (AreAmongEncoded e) (sym solvables) at.encoded }
 later_listed e t None coding at (Clash q) h = absurd h
 later_listed e t (Some r) coding stands (Chosen v turns) h = absurd h
 later_listed e t (Some r) coding stands (Clash q) h = tt
 
--- a clash in a wish's turn denies nothing but the root
+-- a clash in a soft requirement's turn denies only the root
 pub later_denial : {N S : Type 0} (e : Encoder N S) (t : Turns S) (o : Option FinalConflict) → StandSo e t o → (f : SearchResult S) → IsFoundIn t o f → IsDenial e.coding f
 later_denial e t None at (Chosen v turns) h = tt
 later_denial e t None at (Clash q) h = absurd h

@@ -1,4 +1,4 @@
--- What is chosen turn by turn.
+-- The choices, turn by turn.
 use Rattle.std.proofs.Common.{◌≡◌, ℕ, zero, suc, cond, get_or, ◌<◌, ◌≤◌, Bool, true, false, take, reverse, List, [], ◌∷◌, ◌++◌, length, refl, sym, ◌∙◌, ap, subst, arith}
 use Rattle.std.specs.Prelude.{Contains}
 use Rattle.std.proofs.lemmas.List.{take_all}
@@ -15,11 +15,11 @@ use Rattle.resolvo.specs.Turns.{AreRight, AreTurns, IsTurnOf, accepted_by, accep
 use Rattle.resolvo.specs.declared.turns.Turn.{Turn}
 use Rattle.resolvo.specs.declared.turns.Turns.{Turns}
 
--- an item stands in its list
+-- an item is in its list
 pub item_contained : {S : Type 0} (xs : List S) (i : ℕ) (x : S) → i < length xs → x ≡ get_or xs i x → Contains xs x
 item_contained xs i x low is = (i, low, sym is)
 
--- ---- a wish that is chosen already
+-- ---- a soft requirement that is true already
 
 module _ {N S : Type 0} (same : S → S → Bool) (exact : IsExact same) (p : Packages N S) (root : Rules) where
   -- it may be counted among the accepted ones
@@ -38,18 +38,18 @@ module _ {N S : Type 0} (same : S → S → Bool) (exact : IsExact same) (p : Pa
       inside : (t : S) → IsReached same p root (wishes ++ s ∷ []) members t → is_in same p members t ≡ true
       inside t a = a members (record { inside = λ u b. b; wished = λ u b c. c; matches = λ parent need u a b c d e. e })
 
--- ---- one turn more
+-- ---- one more turn
 
 take_part : {X : Type 0} (n : ℕ) (xs more : List X) → n ≤ length xs → take n (xs ++ more) ≡ take n xs
 take_part zero xs more low = refl
 take_part (suc n) [] more low = absurd (omega arith)
 take_part (suc n) (x ∷ xs) more low = ap (λ ys. x ∷ ys) (take_part n xs more (omega arith))
 
--- the first ones stay
+-- the first items are kept
 take_front : {X : Type 0} (n : ℕ) (xs ys : List X) → n ≤ length xs → IsFrontOf xs ys → take n ys ≡ take n xs
 take_front n xs ys low (more, is) = ap (take n) is ∙ take_part n xs more low
 
--- and the accepted wishes are what the turns tell
+-- and the accepted soft requirements are those of the turns
 pub accepted_next : {S : Type 0} (t : Turn S) (earlier : List (Turn S)) (s : S) → t.accepted ≡ true → t.solvable ≡ s → accepted_of (t ∷ earlier) ≡ accepted_of earlier ++ s ∷ []
 accepted_next t earlier s so is = ap (λ b. cond b (accepted_of earlier ++ t.solvable ∷ []) (accepted_of earlier)) so ∙ ap (λ x. accepted_of earlier ++ x ∷ []) is
 
@@ -57,7 +57,7 @@ pub refused_next : {S : Type 0} (t : Turn S) (earlier : List (Turn S)) → t.acc
 refused_next t earlier so = ap (λ b. cond b (accepted_of earlier ++ t.solvable ∷ []) (accepted_of earlier)) so
 
 module _ {N S : Type 0} (same : S → S → Bool) (p : Packages N S) (root : Rules) where
-  -- what was told of earlier turns stays
+  -- earlier turns are still right
   turn_stays : (xs ys accepted : List S) (w : S) (t : Turn S) → IsFrontOf xs ys → IsTurnOf same p root xs accepted w t → IsTurnOf same p root ys accepted w t
   turn_stays xs ys accepted w t front h =
       let low : t.end ≤ length xs = h.within in
@@ -81,7 +81,7 @@ module _ {N S : Type 0} (same : S → S → Bool) (p : Packages N S) (root : Rul
   turns_stay xs ys first (w ∷ ws) [] front h = absurd h
   turns_stay xs ys first (w ∷ ws) (t ∷ ts) front (begin, one, rest) = (begin, turn_stays xs ys (accepted_of ts) w t front one, turns_stay xs ys first ws ts front rest)
 
-  -- a turn more was right
+  -- one more turn is right
   pub next_right : (first : ℕ) (done : List S) (s : S) (t u : Turns S) (turn : Turn S) → AreRight same p root first done t → IsFrontOf t.chosen.keys u.chosen.keys → u.turns.items ≡ t.turns.items ++ turn ∷ []
       → turn.begin ≡ length t.chosen.keys → turn.end ≡ length u.chosen.keys → turn.solvable ≡ s → IsAccepted same p root (accepted_of (turn ∷ reverse t.turns.items)) u.chosen.keys → turn.accepted ≡ is_in same p u.chosen.keys s → (turn.accepted ≡ false → turn.end ≡ turn.begin)
       → (turn.accepted ≡ false → (set : List S) → IsRuleKeeping same p root set → ((r : S) → is_in same p t.chosen.keys r ≡ true → is_in same p set r ≡ true) → is_in same p set s ≡ true → ⊥)

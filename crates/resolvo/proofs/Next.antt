@@ -1,4 +1,4 @@
--- One wish more: what its turn came to is told, and what is chosen is listed.
+-- One more soft requirement: its turn is recorded, and its choices are listed.
 use Rattle.std.proofs.Common.{◌≡◌, ℕ, zero, suc, ◌-◌, ◌<◌, ◌≤◌, ◌⊎◌, cond, inl, inr, Bool, true, false, take, reverse, List, [], ◌∷◌, ◌++◌, length, Option, Some, None, Vec, Global, HashSet, BuildHasherDefault, FoldHasher, refl, sym, ◌∙◌, ap, subst, arith}
 use Rattle.std.specs.Prelude.{Contains}
 use Rattle.std.proofs.lemmas.Bool.{both_ways, cases_Bool}
@@ -43,14 +43,14 @@ use Rattle.resolvo.proofs.ListLemmas.{accepted_more, accepted_next, next_right, 
 use Rattle.resolvo_turn.proofs.EndLemmas.{contains_longer}
 use Rattle.resolvo.proofs.TrailLemmas.{listed_are_chosen, listed_on_trail, trail_stays}
 
--- ---- the accepted wishes and reasons
+-- ---- the accepted soft requirements and reasons
 
--- the accepted wishes after a turn
+-- the accepted soft requirements after a turn
 wishes_told : {S : Type 0} (accepted : List S) (s : S) (turn : Turn S) (earlier : List (Turn S)) (b : Bool) → turn.accepted ≡ b → turn.solvable ≡ s → accepted ≡ accepted_of earlier → cond b (accepted ++ s ∷ []) accepted ≡ accepted_of (turn ∷ earlier)
 wishes_told {S} accepted s turn earlier true so is same = ap (λ (ws : List S). ws ++ s ∷ []) same ∙ sym (accepted_next turn earlier s so is)
 wishes_told accepted s turn earlier false so is same = same ∙ sym (refused_next turn earlier so)
 
--- the first ones of a list stand in front of the first ones of a longer one
+-- the first items of a list are a prefix of those of a longer one
 front_taken : {X : Type 0} (n : ℕ) (xs more : List X) → IsFrontOf (take n xs) (take n (xs ++ more))
 front_taken zero xs more = ([], refl)
 front_taken (suc n) [] more = (take (suc n) more, refl)
@@ -90,7 +90,7 @@ reason_stays c d chosen longer atoms clauses stated front t r = record {
 }
 
 module _ {N S : Type 0} where
-  -- what is chosen is true, and what is true is chosen
+  -- the chosen are true, and the true are chosen
   pub chosen_true : (e : Encoder N S) (members : List S) → AreChosen e.coding.atoms.keys (made_true (history e.coding.search)) members → (s : S) → Contains members s → IsTrue e s
   chosen_true e members are s h =
       let (l, known, means) = are.each s h in
@@ -100,7 +100,7 @@ module _ {N S : Type 0} where
   pub true_chosen : (e : Encoder N S) (members : List S) → AreChosen e.coding.atoms.keys (made_true (history e.coding.search)) members → (s : S) → IsTrue e s → Contains members s
   true_chosen e members are s (u, stands, known) = are.all (yes u) s known (solvable_means e.coding.atoms.keys (yes u) s refl stands)
 
-  -- what is encoded stays so
+  -- an encoded parent stays encoded
   among_stays : (a b : Encoder N S) (members : List S) → KeepsTrail a b → AreAmongEncoded a members → AreAmongEncoded b members
   among_stays a b members keeps among =
       let further : a.encoded ≤ b.encoded = keeps.encoded in
@@ -109,7 +109,7 @@ module _ {N S : Type 0} where
         each = λ s h. (let (i, low, at) = among.each s h in (i, omega arith, front_get a.parents.keys b.parents.keys i (Place.Solvable s) keeps.parents at));
       }
 
-  -- ---- the turn is told
+  -- ---- the turn is recorded
 
   pub next_at : (a b : Encoder N S) (t m u : Turns S) (s : S) (begin : ℕ) (w : SoftOutcome) → AreAt a t → m.chosen.keys ≡ on_trail b → m.turns ≡ t.turns → Records s begin w m u
       → b.noted.wishes.items ≡ cond (was_accepted w) (a.noted.wishes.items ++ s ∷ []) a.noted.wishes.items → AreAmongEncoded b m.chosen.keys → AreAt b u
@@ -122,7 +122,7 @@ module _ {N S : Type 0} where
       }
 
   module _ (same : S → S → Bool) (exact : IsExact same) (p : Packages N S) (root : Rules) where
-    -- what was told of it is right
+    -- the recorded turn is right
     pub next_told : (a b : Encoder N S) (t m u : Turns S) (first : ℕ) (done : List S) (s : S) (w : SoftOutcome) → AreAt a t → AreRight same p root first done t → IsFrontOf t.chosen.keys m.chosen.keys → m.turns ≡ t.turns → Records s (length t.chosen.keys) w m u
         → b.noted.wishes.items ≡ cond (was_accepted w) (a.noted.wishes.items ++ s ∷ []) a.noted.wishes.items → IsAccepted same p root b.noted.wishes.items m.chosen.keys → was_accepted w ≡ is_in same p m.chosen.keys s → (was_accepted w ≡ false → m.chosen.keys ≡ t.chosen.keys)
         → (was_accepted w ≡ false → IsDenied same p root a s) → AreRight same p root first (done ++ s ∷ []) u
@@ -136,7 +136,7 @@ module _ {N S : Type 0} where
         (λ so. told.tells.end_is ∙ ap (λ (xs : List S). length xs) (same_keys (sym told.tells.accepted ∙ so)) ∙ sym told.tells.begin_is)
         (λ so set keeping all held. denied (sym told.tells.accepted ∙ so) set keeping (λ r truth. all r (contained_in same exact p t.chosen.keys r (true_chosen a t.chosen.keys (listed_are_chosen a t.chosen.keys at.chosen) r truth))) held)
 
-    -- a wish is among the listed ones exactly if the trail chooses it
+    -- a soft requirement is listed exactly if the trail chooses it
     pub told_true : (b : Encoder N S) (members : List S) (s : S) → AreChosen b.coding.atoms.keys (made_true (history b.coding.search)) members → IsTrue b s → true ≡ is_in same p members s
     told_true b members s are truth = sym (contained_in same exact p members s (true_chosen b members are s truth))
 
@@ -146,7 +146,7 @@ module _ {N S : Type 0} where
       | inr none ↦ sym none
     ]
 
-    -- the end of the turn of a wish that was chosen
+    -- the end of the turn of a chosen soft requirement
     pub chosen_accepted : (same_name : N → N → Bool) → IsExact same_name → IsLawful p → (orders : Requirement → List S → Type 0) (b : Encoder N S) (wish : Option VariableId) (members : List S) → IsInOrder same p orders root b → IsTurn same wish b None
         → AreChosen b.coding.atoms.keys (made_true (history b.coding.search)) members → IsAccepted same p root b.noted.wishes.items members
     chosen_accepted same_name names lawful orders b wish members holds (settled, whole, spent, has) are =
@@ -162,7 +162,7 @@ module _ {N S : Type 0} where
         | inr now ↦ subst (λ (x : Turn S). HasReason b.coding u.chosen.keys x) (sym (contains_one turn told.turn now)) new
       ]
 
-  -- an accepted wish needs none
+  -- an accepted soft requirement needs none
   accepted_reason : (b : Encoder N S) (m u : Turns S) (s : S) (begin : ℕ) (w : SoftOutcome) (told : Records s begin w m u) → was_accepted w ≡ true → step_of w ≡ None → HasReason b.coding u.chosen.keys told.turn
   accepted_reason b m u s begin w told so none = record {
     accepted = λ h. told.tells.step ∙ none;
@@ -189,7 +189,7 @@ module _ {N S : Type 0} where
         );
       }
 
-  -- ---- what each turn comes to
+  -- ---- the outcome of each turn
 
   module _ (same : S → S → Bool) (a b : Encoder N S) (t u : Turns S) (s : S) (coding : IsCoding a.coding) (at : AreAt a t) (keeps : KeepsTrail a b) where
     stays_chosen : history b.coding.search ≡ history a.coding.search → t.chosen.keys ≡ on_trail b

@@ -1,4 +1,4 @@
--- A problem that asks nothing is solved by nothing.
+-- A problem without requirements has the empty solution.
 use Rattle.std.proofs.Common.{◌≡◌, ◌+◌, ◌<◌, Bool, true, false, take, List, [], ◌∷◌, length, ℕ, Option, Some, None, Vec, Global, refl, sym, ◌∙◌, ap, subst, arith, inl, inr}
 use Rattle.std.specs.Prelude.{slice_get, Contains}
 use Rattle.std.proofs.lemmas.Bool.{both_ways, cases_Bool}
@@ -28,7 +28,7 @@ use Rattle.resolvo.specs.Turns.{AreWished, first_of, on_trail}
 use Rattle.resolvo.specs.Solve.{AreOnTrail, IsFound, IsPreferred}
 use Rattle.resolvo.proofs.Found.{begun_rooted}
 
--- what isn't true is false
+-- a literal that isn't true is false
 is_none : (b : Bool) → (b ≡ true → ⊥) → b ≡ false
 is_none true none = absurd (none refl)
 is_none false none = refl
@@ -77,7 +77,7 @@ module _ {N S : Type 0} (same : S → S → Bool) (p : Packages N S) (root : Rul
     first = λ tried tries by set firsts s. sym (is_none (is_in same p set s) (λ h. both_ways false refl (firsts.least [] (λ parent need t member stated binds is. absurd (no_member_needs parent need member stated)) s h)));
   }
 
-  -- so it is what was found
+  -- so the empty set is the result
   pub nothing_found : (orders : Requirement → List S → Type 0) (e : Encoder N S) (v : Vec S Global) (turns : Vec (Turn S) Global) → v.items ≡ [] → turns.items ≡ [] → IsFound same p root [] e (Chosen v turns) × IsPreferred same p orders root (Chosen v turns)
   nothing_found orders e v turns empty none = (
     (
@@ -100,7 +100,7 @@ module _ {N S : Type 0} (same : S → S → Bool) (p : Packages N S) (root : Rul
         unknown = λ s h. (let no : None ≡ Some s = h in absurd cc);
       })
 
--- a parent is left to be encoded
+-- a parent is to be encoded
 pub parent_left : {N S : Type 0} (e : Encoder N S) → IsBegunEncoding e → e.encoded < length e.parents.keys
 parent_left {N} {S} e begun =
     let one : length e.parents.keys ≡ 1 = ap (λ (ks : List (SolvableIdOrRoot S)). length ks) begun.parents in

@@ -1,4 +1,4 @@
--- What was offered for the requirements of a conflict is right.
+-- The offers for the requirements of a conflict are right.
 use Rattle.std.proofs.Common.{◌≡◌, ◌+◌, ◌<◌, ◌∷◌, inl, inr, ℕ, Bool, true, false, [], List, take, length, get_or, cond, Some, Result, Ok, Err, refl, sym, ◌∙◌, ap, subst}
 use Rattle.std.specs.Prelude.{Contains}
 use Rattle.std.proofs.lemmas.Bool.{both_ways, cases_Bool}
@@ -24,7 +24,7 @@ use Rattle.resolvo.specs.Solver.{Kept, IsTrueOf}
 use Rattle.resolvo_conflict.specs.Offered.{was_offered, offered_by, IsOffered}
 use Rattle.resolvo_conflict.specs.declared.offers.Offers.{Offers}
 
--- no memory, or no ids, is no cancelling
+-- no memory, or no ids, is no cancellation
 pub want_stops : {C : Type 0} (may : C → Type 0) (w : Want) → IsCancelledBy may (fault_of w)
 want_stops may want.Memory = tt
 want_stops may want.Ids = tt
@@ -34,13 +34,13 @@ pub want_ends : {X C : Type 0} (may : C → Type 0) (r : Result X (CacheFault C)
 want_ends may (Ok x) w h = tt
 want_ends may (Err f) w h = subst (IsCancelledBy may) (sym h) (want_stops may w)
 
--- what the answers offer is right, of the answers before too, which tell the same
+-- the offers of the answers are right, and of the answers before, which are the same
 pub right_from : {A N S : Type 0} (same : S → S → Bool) (packages : A → Packages N S) (orders : A → Requirement → List S → Type 0) (old now : A) (q : Requirement) (items : List (Offered N S)) (list : List S) → now ≡ old → list ≡ offered_solvables items
     → AreOffered same (packages now) q items → orders now q (offered_solvables items) → IsRightOffer same (packages old) (orders old) q list
 right_from same packages orders old now q items list tells is offered ordered =
     subst (IsRightOffer same (packages old) (orders old) q) (sym is) (subst (λ a. IsRightOffer same (packages a) (orders a) q (offered_solvables items)) tells (record { ordered = ordered; matches = offered.matches }))
 
--- what was asked for is noted
+-- each requirement so far is recorded
 pub noted_more : {S : Type 0} (qs : List Requirement) (i : ℕ) (d : Requirement) (old new : Offers S) (candidates : List S) → i < length qs → IsOffered old (get_or qs i d) candidates new → ((r : Requirement) → Contains (take i qs) r → was_offered old r ≡ true)
     → (r : Requirement) → Contains (take (i + 1) qs) r → was_offered new r ≡ true
 noted_more qs i d old new candidates low is noted r h = elim (contains_parts r (take i qs) (get_or qs i d ∷ []) (subst (λ (xs : List Requirement). Contains xs r) (take_more qs i d low) h)) [
@@ -52,7 +52,7 @@ noted_more qs i d old new candidates low is noted r h = elim (contains_parts r (
 ]
 
 module _ {S : Type 0} (Q : Requirement → List S → Type 0) where
-  -- what was offered stays, and the new offer is right
+  -- earlier offers are kept, and the new offer is right
   pub right_more : (q : Requirement) (old new : Offers S) (candidates : List S) → IsOffered old q candidates new → Q q candidates → ((r : Requirement) → was_offered old r ≡ true → Q r (offered_by old r)) → (r : Requirement) → was_offered new r ≡ true → Q r (offered_by new r)
   right_more q old new candidates is this right r was = elim (cases_Bool (same_requirement r q)) [
     | inl e ↦ subst (λ (x : Requirement). Q x (offered_by new x)) (sym (same_requirement_true r q e)) (at_it (was_offered old q) refl)
@@ -65,7 +65,7 @@ module _ {S : Type 0} (Q : Requirement → List S → Type 0) where
       at_it true e = subst (Q q) (sym (is.given ∙ ap (λ (x : Bool). cond x (offered_by old q) candidates) e)) (right q e)
       at_it false e = subst (Q q) (sym (is.given ∙ ap (λ (x : Bool). cond x (offered_by old q) candidates) e)) this
 
--- what tells the truth of the offers and the steps that are kept is true
+-- a true graph of the kept offers and steps
 pub kept_true : {P N S : Type 0} (same : S → S → Bool) (name_of : S → N) (k : Kept P N S) (r : Result (Graph S) Want) (offers : Offers S) (steps : List (ProofStep N S)) → ((l : Left S) → k.conflict ≡ Some l → offers ≡ l.offers) → steps ≡ k.proof → IfOk r (TellsTruth same name_of (offered_by offers) steps) → IfOk r (IsTrueOf same name_of k)
 kept_true same name_of k (Err w) offers steps given is told = tt
 kept_true same name_of k (Ok g) offers steps given is told = λ l at.

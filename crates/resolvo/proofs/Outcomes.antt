@@ -1,4 +1,4 @@
--- What the turn of a wish comes to, from what its parts came to.
+-- The outcome of a soft requirement's turn, from its parts.
 use Rattle.std.proofs.Common.{◌≡◌, ℕ, ◌-◌, ◌<◌, ◌≤◌, ◌⊎◌, inl, inr, Bool, true, false, List, [], ◌∷◌, reverse, length, Option, Some, None, refl, sym, ◌∙◌, ap, subst, arith}
 use Rattle.std.specs.Prelude.{max, slice_get, Contains, IfSome}
 use Rattle.resolvo_pool_core.specs.declared.solver_id.SolvableIdOrRoot.TheVariants as Place
@@ -49,7 +49,7 @@ use Rattle.resolvo.specs.declared.soft_requirements.SoftOutcome.{SoftOutcome}
 use Rattle.resolvo_turn.proofs.EndLemmas.{still_rooted}
 use Rattle.resolvo.proofs.Wishes.{refused_all, refused_bars, refused_blamed, refused_denied, refused_empty, taken_true}
 
--- ---- a turn is taken back
+-- ---- a turn is undone
 
 bars_clauses : (s t : SatState) (literals : List Signed) (causes : List ClauseId) → t.clauses ≡ s.clauses → IsBar s literals causes → IsBar t literals causes
 bars_clauses s t literals causes same b = record {
@@ -59,7 +59,7 @@ bars_clauses s t literals causes same b = record {
   negative = b.negative;
 }
 
--- the clause that is added is learnt, and not the root's
+-- the added clause is learnt, and not the root's
 bars_learnt : {N S : Type 0} (a b : SolverState N S) (literals : List Signed) (causes : List ClauseId) (clause : ClauseId) → IsCoding a → Bars literals causes clause a b → IsLearntAs b literals clause
 bars_learnt {N} {S} a b literals causes clause coding barred =
     let some : 0 < length a.stated.items = slice_get_within a.stated.items 0 Root coding.first in
@@ -74,7 +74,7 @@ bars_learnt {N} {S} a b literals causes clause coding barred =
     }
 
 module _ {N S : Type 0} (a b : Encoder N S) (undone : Undoes (max (a.coding.search.base_level - 1) 1) a.coding.search b.coding.search) (turn : KeepsTurns a b) where
-  -- what is left is what stood before it
+  -- the trail is that before the turn
   pub undone_base : (v : VariableId) → IsOpen a v → history b.coding.search ≡ base_of a
   undone_base v o =
       let (p, base) = turn (Some v) o in
@@ -83,7 +83,7 @@ module _ {N S : Type 0} (a b : Encoder N S) (undone : Undoes (max (a.coding.sear
       let low : top_level (history b.coding.search) ≤ max (a.coding.search.base_level - 1) 1 = undone.low in
       sym (below_all b.coding.search.base_level (history b.coding.search) (omega arith)) ∙ base
 
-  -- the refusal's clause may be added
+  -- the conflict's clause may be added
   pub undone_bars : (r : FinalConflict) → IsRefusable a r → IsBar b.coding.search r.literals.items r.causes.items
   undone_bars r (v, o, last, refused) = bars_clauses a.coding.search b.coding.search r.literals.items r.causes.items undone.same.clauses (refused_bars a v r refused)
 
@@ -94,7 +94,7 @@ module _ {N S : Type 0} (a b : Encoder N S) (undone : Undoes (max (a.coding.sear
     wishes_left : c.noted.wishes.items ≡ a.noted.wishes.items
     wishes_left = ap (λ (n : EncodedOnce N S). n.wishes.items) (learnt.rest.noted ∙ goes.rest.noted)
 
-    -- the wish isn't chosen any more
+    -- the soft requirement isn't chosen any more
     pub undone_untaken : (r : FinalConflict) → IsRefusable a r → IsUntaken c
     undone_untaken r (v, o, (front, s, last, stands), refused) = (
       front,
@@ -117,7 +117,7 @@ module _ {N S : Type 0} (a b : Encoder N S) (undone : Undoes (max (a.coding.sear
             encoded = ap (λ (x : Encoder N S). x.encoded) taken.rest ∙ learnt.rest.encoded ∙ goes.rest.encoded;
           }
 
-      -- the refusal's clause was learnt
+      -- the conflict's clause was learnt
       refuse_learnt : IsCoding b.coding → IsLearntAs d.coding literals clause
       refuse_learnt before = subst (λ (x : SolverState N S). IsLearntAs x literals clause) (sym (ap (λ (x : Encoder N S). x.coding) taken.rest)) (bars_learnt b.coding c.coding literals causes clause before barred)
 
@@ -128,7 +128,7 @@ module _ {N S : Type 0} (a b : Encoder N S) (undone : Undoes (max (a.coding.sear
         subst (λ (ls : List Signed). IsLearntAs d.coding ls clause) are (refuse_learnt before),
       )
 
--- ---- a wish is noted
+-- ---- a soft requirement is recorded
 
 module _ {N S : Type 0} (same : S → S → Bool) (a b : Encoder N S) (one : Offered N S) (v : VariableId) (notes : Notes same one v a b) where
   pub noted_same : history b.coding.search ≡ history a.coding.search
@@ -151,7 +151,7 @@ module _ {N S : Type 0} (same : S → S → Bool) (a b : Encoder N S) (one : Off
   pub noted_in_order : (p : Packages N S) (orders : Requirement → List S → Type 0) (root : Rules) → IsLawful p → IsListed same p one → IsInOrder same p orders root a → IsInOrder same p orders root b
   noted_in_order p orders root lawful listed e = record { encoding = notes.encoding p root lawful e.encoding listed; ordered = ordered_stays orders a b notes.grows notes.lists e.ordered }
 
-  -- the wish is chosen already
+  -- the soft requirement is true already
   pub noted_stood : has (made_true (history b.coding.search)) (yes v) ≡ true → IsOutcome same one.solvable a b SoftOutcome.Stood
   noted_stood known = (notes.wishes, noted_same, (v, notes.stands, known))
 
@@ -243,7 +243,7 @@ module _ {N S : Type 0} (same : S → S → Bool) (a b : Encoder N S) (one : Off
         none,
       )
 
-      -- the added clause denies the wish and what was chosen before its turn, and nothing else
+      -- the added clause denies only the soft requirement and the choices before its turn
       down_reason : IsCoding a.coding → IsExact same → (same_name : N → N → Bool) → IsExact same_name → (p : Packages N S) (root : Rules) → IsEncoding same p root c → (clause : ClauseId) → IsLearntAs d.coding r.literals.items clause
           → IsReasonOf d.coding (λ t. (t ≡ one.solvable) ⊎ IsTrue a t) clause.0
       down_reason coding exact same_name names p root holds clause learnt = record {

@@ -26,7 +26,7 @@ use Rattle.resolvo.specs.Turns.{HasReason, IsDeniable}
 use Rattle.resolvo.specs.Solve.{DeniesOnly, HasProof}
 
 module _ {N S : Type 0} (c : SolverState N S) (steps : List (ProofStep N S)) (are : AreSteps c steps) where
-  -- a literal whose meaning is that of one that denies a solvable denies it
+  -- a literal denies a solvable if its meaning is that of one that does
   denies_one : (among : S → Type 0) (x : Signed) (l : ProofLiteral N S) → DeniesOne c among x → Means (origin c.atoms.keys) x (literal_in l) → (l.positive ≡ false) × ((s : S) × (l.atom ≡ Solvable s) × among s)
   denies_one among x l (inl root) (other, is) = absurd (let later : 0 < x.variable.0 = other in let first : x.variable.0 ≡ 0 = ap (λ (y : Signed). y.variable.0) root in omega arith)
   denies_one among x l (inr (s, u, no_u, stands, inside)) (other, is) = (
@@ -47,7 +47,7 @@ module _ {N S : Type 0} (c : SolverState N S) (steps : List (ProofStep N S)) (ar
         denies_one among x l (denies x known) means);
   }
 
-  -- what a learnt clause states is no rule
+  -- a learnt clause encodes no rule
   learnt_step : (x : Stated N S) (held : SatClause) (step : ProofStep N S) → x ≡ Says.Learnt → IsStepOf c.atoms.keys x held step → IsDerivation c.atoms.keys held.literals.items held.causes.items step
   learnt_step x held step is (inl (r, rule, told)) = absurd (let none : Some r ≡ None = subst (λ (y : Stated N S). IsTold y (Some r)) is told in cc)
   learnt_step x held step is (inr (learnt, derivation)) = derivation

@@ -1,4 +1,4 @@
--- What a search found holds, with its proof.
+-- The result of a search holds, with its proof.
 use Rattle.std.proofs.Common.{◌≡◌, ℕ, suc, ◌+◌, ◌<◌, ◌∷◌, [], Bool, List, length, Some, Result, Ok, Err, sym, subst, arith}
 use Rattle.std.specs.Prelude.{IfOk, slice_get}
 use Rattle.resolvo_pool_core.specs.declared.requirement.Requirement.{Requirement}
@@ -20,12 +20,12 @@ use Rattle.resolvo.specs.declared.prove.Solved.{Solved}
 use Rattle.resolvo.specs.Solve.{AreChosenOnce, HasSteps, HaveProofs, IsFound, IsListedIn, IsPreferred, IsSearch, Holds, IsSolved}
 use Rattle.resolvo.proofs.Reasons.{reason_proof}
 
--- what follows from what is so of an answer
+-- a consequence of the property of an answer
 pub ok_then : {X E : Type 0} (P Q : X → Type 0) (r : Result X E) → ((x : X) → P x → Q x) → IfOk r P → IfOk r Q
 ok_then P Q (Ok v) so h = so v h
 ok_then P Q (Err e) so h = tt
 
--- what is so of an answer where something else is so
+-- the property of an answer by another one
 pub with_given : {X E : Type 0} (r : Result X E) (G : Type 0) (P : X → Type 0) → IfOk r (λ v. G → P v) → G → IfOk r P
 with_given (Ok v) G P h given = h given
 with_given (Err e) G P h given = tt
@@ -52,7 +52,7 @@ module _ {N S : Type 0} (same : S → S → Bool) (p : Packages N S) (orders : R
   found_proofs e (Chosen v turns) steps are h = λ t there. reason_proof e.coding steps are v.items t (h.1 t there)
   found_proofs e (Clash r) steps are h = tt
 
-  -- what was found, with the steps of its clauses
+  -- the result, with the steps of its clauses
   pub search_solved : (e : Encoder N S) (f : SearchResult S) (x : Solved N S) → IsSearch same p orders root wishes e f → x.found ≡ f → Proves e.coding x.proof.items
       → ((alike : S → S → Bool) (q : Packages N S) → Spelled alike q e.coding → AreDrawn alike q x.proof.items) → HaveOneSigns x.proof.items
       → ((r : Registry N) (package_of : S → N) → AreTied r e.coding → AreNamedBy r e.coding package_of → HaveOnePlace x.proof.items) → HasSteps e.coding f x.proof.items

@@ -1,4 +1,4 @@
--- What is listed is what the trail chooses, in its order.
+-- The listed solvables are the choices of the trail, in its order.
 use Rattle.std.proofs.Common.{◌≡◌, ◌<◌, Bool, cond, reverse, List, [], ◌∷◌, ◌++◌, length, Some, None, refl, sym, ◌∙◌, ap, subst, append_assoc, append-nil, arith}
 use Rattle.std.specs.Prelude.{slice_get, Contains}
 use Rattle.std.proofs.lemmas.List.{reverse-reverse}
@@ -23,9 +23,9 @@ use Rattle.resolvo_encoder.specs.declared.encoder.Encoder.{Encoder}
 use Rattle.resolvo.specs.Turns.{on_trail}
 use Rattle.resolvo.specs.Wished.{KeepsTrail}
 
--- ---- what is put into a list
+-- ---- insertion into a list
 
--- a value that comes behind others in a list without repeats does not stand among these
+-- a value after others in a list without repeats is not among these
 fresh : {X : Type 0} (keys : List X) (x : X) (xs : List X) → AreOnce (keys ++ x ∷ xs) → IsPlace keys x None
 fresh keys x xs once k at =
     let low : k < length keys = slice_get_within keys k x at in
@@ -33,31 +33,31 @@ fresh keys x xs once k at =
     let same : k ≡ length keys = once k (length keys) x (get_front keys (x ∷ xs) k x at) (subst (λ (ys : List _). slice_get ys (length keys) ≡ Some x) (append_assoc keys (x ∷ []) xs) here) in
     omega arith
 
--- one value more is put into it
+-- one more value is inserted
 pub inserted_more : {X : Type 0} (same : X → X → Bool) (keys members more before after : List X) (x : X) → more ≡ members ++ x ∷ [] → before ≡ insert_all same keys members → after ≡ insert_key same before x → after ≡ insert_all same keys more
 inserted_more same keys members more before after x is so put = put ∙ ap (λ (ks : List _). insert_key same ks x) so ∙ sym (ap (insert_all same keys) is ∙ fold-append (insert_key same) keys members (x ∷ []))
 
 module _ {X : Type 0} (same : X → X → Bool) (exact : IsExact same) where
-  -- what stands there is not put there again
+  -- a value that is there is not inserted again
   inserted_there : (keys xs : List X) → ((x : X) → Contains xs x → Contains keys x) → insert_all same keys xs ≡ keys
   inserted_there keys [] there = refl
   inserted_there keys (x ∷ xs) there =
       let one : insert_key same keys x ≡ keys = ap (λ b. cond b keys (keys ++ x ∷ [])) (contained_any (same x) x keys (there x (contains_first x x xs refl)) (exact.own x)) in
       ap (λ (ks : List X). insert_all same ks xs) one ∙ inserted_there keys xs (λ y h. there y (contains_later y x xs h))
 
-  -- what does not comes behind the others
+  -- another one is inserted at the end
   inserted_fresh : (keys xs : List X) → AreOnce (keys ++ xs) → insert_all same keys xs ≡ keys ++ xs
   inserted_fresh keys [] once = sym (append-nil keys)
   inserted_fresh keys (x ∷ xs) once =
       let one : insert_key same keys x ≡ keys ++ x ∷ [] = pushed_is same x keys (exact.one x) (fresh keys x xs once) in
       ap (λ (ks : List X). insert_all same ks xs) one ∙ inserted_fresh (keys ++ x ∷ []) xs (subst AreOnce (sym (append_assoc keys (x ∷ []) xs)) once) ∙ append_assoc keys (x ∷ []) xs
 
-  -- a list that goes on from what is there, and holds nothing twice, takes its place
+  -- a list without repeats that extends the listed ones replaces them
   pub all_inserted : (keys xs : List X) → AreOnce xs → IsFrontOf keys xs → insert_all same keys xs ≡ xs
   all_inserted keys xs once (more, is) =
       ap (insert_all same keys) is ∙ fold-append (insert_key same) keys keys more ∙ ap (λ (ks : List X). insert_all same ks more) (inserted_there keys keys (λ x h. h)) ∙ inserted_fresh keys more (subst AreOnce is once) ∙ sym is
 
--- ---- what the trail chooses
+-- ---- the choices of the trail
 
 module _ {N S : Type 0} where
   pub trail_chosen : (e : Encoder N S) → AreChosen e.coding.atoms.keys (made_true (history e.coding.search)) (on_trail e)
@@ -66,28 +66,28 @@ module _ {N S : Type 0} where
   pub listed_are_chosen : (e : Encoder N S) (members : List S) → members ≡ on_trail e → AreChosen e.coding.atoms.keys (made_true (history e.coding.search)) members
   listed_are_chosen e members is = subst (λ (xs : List S). AreChosen e.coding.atoms.keys (made_true (history e.coding.search)) xs) (sym is) (trail_chosen e)
 
-  -- none of it twice
+  -- each once
   pub trail_once : (e : Encoder N S) → IsCoding e.coding → AreOnce (on_trail e)
   trail_once e coding = subst (λ (es : List Entry). AreOnce (choices e.coding.atoms.keys es)) (reverse-reverse e.coding.search.tracker.trail) (choices_once e.coding.atoms.keys (count_of e.coding.search) (clauses_of e.coding.search) (history e.coding.search) coding.distinct coding.ready.state.trail)
 
-  -- variables that came later stand on no earlier trail
+  -- newer variables are on no earlier trail
   trail_kept : (a b : Encoder N S) → IsCoding a.coding → IsFrontOf a.coding.atoms.keys b.coding.atoms.keys → choices b.coding.atoms.keys a.coding.search.tracker.trail ≡ on_trail a
   trail_kept a b coding front =
       let back : reverse (history a.coding.search) ≡ a.coding.search.tracker.trail = reverse-reverse a.coding.search.tracker.trail in
       ap (choices b.coding.atoms.keys) (sym back) ∙ choices_kept a.coding.atoms.keys b.coding.atoms.keys (count_of a.coding.search) (clauses_of a.coding.search) (history a.coding.search) coding.ready.state.trail (count_is a.coding coding) front ∙ ap (choices a.coding.atoms.keys) back
 
-  -- a trail that is what it was chooses what it did
+  -- an unchanged trail has the same choices
   pub trail_stays : (a b : Encoder N S) → IsCoding a.coding → KeepsTrail a b → history b.coding.search ≡ history a.coding.search → on_trail b ≡ on_trail a
   trail_stays a b coding keeps same =
       let one : b.coding.search.tracker.trail ≡ a.coding.search.tracker.trail = sym (reverse-reverse b.coding.search.tracker.trail) ∙ ap reverse same ∙ reverse-reverse a.coding.search.tracker.trail in
       ap (choices b.coding.atoms.keys) one ∙ trail_kept a b coding keeps.atoms
 
-  -- where the trail went on, what is listed of it is what it chooses
+  -- where the trail was extended, the listed solvables are its choices
   pub listed_on_trail : (same : S → S → Bool) → IsExact same → (a b : Encoder N S) (old new : List S) → IsCoding a.coding → IsCoding b.coding → KeepsTrail a b → old ≡ on_trail a → new ≡ insert_all same old (on_trail b) → new ≡ on_trail b
   listed_on_trail same exact a b old new coding after keeps at listed =
       let goes_on : IsFrontOf (choices b.coding.atoms.keys a.coding.search.tracker.trail) (on_trail b) = choices_go_on b.coding.atoms.keys a.coding.search.tracker.trail b.coding.search.tracker.trail keeps.ends in
       listed ∙ all_inserted same exact old (on_trail b) (trail_once b after) (subst (λ (xs : List S). IsFrontOf xs (on_trail b)) (trail_kept a b coding keeps.atoms ∙ sym at) goes_on)
 
-  -- so is what is listed first
+  -- so are those that are listed first
   pub first_on_trail : (same : S → S → Bool) → IsExact same → (e : Encoder N S) (old new : List S) → IsCoding e.coding → old ≡ [] → new ≡ insert_all same old (on_trail e) → new ≡ on_trail e
   first_on_trail same exact e old new coding none listed = listed ∙ all_inserted same exact old (on_trail e) (trail_once e coding) (on_trail e, ap (λ (xs : List S). xs ++ on_trail e) (sym none))

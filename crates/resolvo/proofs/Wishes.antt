@@ -1,4 +1,4 @@
--- The turns of wishes.
+-- The turns of soft requirements.
 use Rattle.std.proofs.Common.{◌≡◌, suc, ◌<◌, ◌≤◌, inl, inr, Bool, true, false, List, [], length, Some, refl, sym, ◌∙◌, ap, subst, arith}
 use Rattle.std.specs.Prelude.{not}
 use Rattle.resolvo_pool_core.specs.declared.id.VariableId.{VariableId}
@@ -33,12 +33,12 @@ use Rattle.resolvo_turn.specs.Turn.{IsRefusedBy}
 use Rattle.resolvo.specs.Wished.{IsDenied, IsTrue}
 use Rattle.resolvo_turn.proofs.AddLemmas.{all_then, needs_parents, parents_in_order, parents_needs}
 
--- the root stands at the first level
+-- the root is true at the first level
 pub above_root : {N S : Type 0} (e : Encoder N S) → IsBuilt e → 1 ≤ top_level (history e.coding.search)
 above_root e built = level_le_last (count_of e.coding.search) (clauses_of e.coding.search) (history e.coding.search) (yes root_variable) 1 built.coding.ready.state.trail (root_stands (history e.coding.search) built.coding.ready.state.rooted)
 
 module _ {N S : Type 0} (e begun first : Encoder N S) (is : begun ≡ turn_of e) (added : AddsParent begun first) where
-  -- a turn begins, and the wish is a parent
+  -- a turn begins, and the soft requirement is a parent
   pub begun_turn : (v : VariableId) → IsBuilt e → IsWish e v → has (made_true (history e.coding.search)) (yes v) ≡ false → IsOpen first v × (base_of first ≡ history e.coding.search)
   begun_turn v built wish unchosen =
       let (o, base) = turn_begun e v wish (above_root e built) unchosen in
@@ -52,7 +52,7 @@ module _ {N S : Type 0} (e begun first : Encoder N S) (is : begun ≡ turn_of e)
   begun_in_turn same p orders root holds order = parents_in_order same p orders root begun first
       (subst (λ (x : Encoder N S). IsInOrder same p orders root x) (sym is) (record { encoding = subst (λ (x : Encoder N S). IsEncoding same p root x) is holds; ordered = order.ordered })) added
 
--- a variable that was true stood for what it stands for
+-- the origin of a variable that was true then is the same now
 true_before : {N S : Type 0} (a b : Encoder N S) → IsCoding a.coding → IsFrontOf a.coding.atoms.keys b.coding.atoms.keys → (s : S) (u : VariableId) → StandsFor b.coding.atoms.keys u (Solvable s) → has (made_true (history a.coding.search)) (yes u) ≡ true → IsTrue a s
 true_before a b coding front s u stands known =
     let range : u.0 < count_of a.coding.search = known_in_range (count_of a.coding.search) (clauses_of a.coding.search) (history a.coding.search) (yes u) coding.ready.state.trail known in
@@ -61,14 +61,14 @@ true_before a b coding front s u stands known =
     let is : x ≡ Solvable s = stands_same b.coding.atoms.keys u x (Solvable s) (stands_front a.coding.atoms.keys b.coding.atoms.keys u x front (k, place, at)) stands in
     (u, subst (λ y. StandsFor a.coding.atoms.keys u y) is (k, place, at), known)
 
--- ---- what a refused turn tells
+-- ---- a refused turn
 
--- a literal that denies a kept choice is negative
+-- a literal that denies an assumption is negative
 denial_negative : (s : SatState) (l : Signed) → DeniesKept s l → l.positive ≡ false
 denial_negative s l (d, older, stands, is, kept) = ap (λ (x : Signed). x.positive) (sym (negation-negation l) ∙ ap negation (sym is)) ∙ ap not kept.chosen
 
 module _ {N S : Type 0} (e : Encoder N S) (v : VariableId) where
-  -- a refused turn has a clause that only denies
+  -- a refused turn has a clause of denials
   pub refused_bars : (r : FinalConflict) → IsRefusedBy (Some v) e r → IsBar e.coding.search r.literals.items r.causes.items
   refused_bars r (inl (refusal, has)) = record { derived = refusal.derived; caused = refusal.caused; from = refusal.from; negative = λ l h. denial_negative e.coding.search l (refusal.denies l h) }
   refused_bars r (inr (reason, low)) = record {
@@ -81,13 +81,13 @@ module _ {N S : Type 0} (e : Encoder N S) (v : VariableId) where
     ];
   }
 
-  -- and without literals it is a refusal of the root's turn
+  -- and without literals it refutes the root's turn
   pub refused_empty : (r : FinalConflict) → IsRefusedBy (Some v) e r → r.literals.items ≡ [] → IsRefusal e.coding.search r.literals.items r.causes.items
   refused_empty r (inl (refusal, has)) none = refusal
   refused_empty r (inr (reason, low)) none = record { derived = reason.derived; caused = reason.caused; from = reason.from; denies = λ l h. absurd (both_ways false refl (subst (λ (ls : List Signed). has ls l ≡ true) none h)) }
 
   module _ (same : S → S → Bool) (exact : IsExact same) (p : Packages N S) (root : Rules) (holds : IsEncoding same p root e) (same_name : N → N → Bool) (names : IsExact same_name) (o : IsOpen e v) where
-    -- the wish is blamed on what was chosen before its turn
+    -- the soft requirement is refused by the choices before its turn
     pub refused_blamed : (r : FinalConflict) → IsRefusedBy (Some v) e r → IsBlamed e v r.literals.items r.causes.items
     refused_blamed r (inl (refusal, has)) = refusal_blames same exact p root e holds v r.literals.items r.causes.items o has refusal
     refused_blamed r (inr (reason, low)) = reason_blames same exact p root e holds v r.literals.items r.causes.items low reason
@@ -96,11 +96,11 @@ module _ {N S : Type 0} (e : Encoder N S) (v : VariableId) where
     pub refused_all : (r : FinalConflict) → IsRefusedBy (Some v) e r → r.literals.items ≡ [] → (set : List S) → IsRuleKeeping same p root set → ⊥
     refused_all r refused none set keeping = empty_refuses same exact p root e holds same_name names v r.literals.items r.causes.items (refused_blamed r refused) (ap (λ ls. length ls) none) set keeping
 
-    -- what was chosen before the turn is what the trail chose then
+    -- the trail's choices before the turn
     pub taken_true : (before : Encoder N S) → IsCoding before.coding → IsFrontOf before.coding.atoms.keys e.coding.atoms.keys → base_of e ≡ history before.coding.search → (t : S) → IsTaken e t → IsTrue before t
     taken_true before coding front base t (u, stands, truth) = true_before before e coding front t u stands (subst (λ (h : List Entry). has (made_true h) (yes u) ≡ true) base truth)
 
-    -- no rule-keeping set holds the wish with what was chosen before
+    -- no rule-keeping set includes the soft requirement with the earlier choices
     pub refused_denied : (before : Encoder N S) → IsCoding before.coding → IsFrontOf before.coding.atoms.keys e.coding.atoms.keys → base_of e ≡ history before.coding.search → (s : S) → StandsFor e.coding.atoms.keys v (Solvable s)
         → (r : FinalConflict) → IsRefusedBy (Some v) e r → IsDenied same p root before s
     refused_denied before coding front base s stands r refused = λ set keeping holds_all held.

@@ -1,4 +1,4 @@
--- What a search for a problem's solvables comes to.
+-- The result of a search for a problem's solvables.
 use Rattle.std.specs.Prelude.{◌≡◌, ℕ, suc, ◌+◌, ◌<◌, ⊤, Bool, true, false, take, List, [], length, Option, Some, None, Contains, slice_get}
 use Rattle.std.specs.Global.{Vec}
 use Rattle.resolvo_pool_core.specs.declared.id.VersionSetId.{VersionSetId}
@@ -32,24 +32,24 @@ use Rattle.resolvo.specs.declared.search.SearchResult.{SearchResult}
 use Rattle.resolvo.specs.declared.search.SearchResult.TheVariants.{Chosen, Clash}
 use Rattle.resolvo.specs.declared.prove.Solved.{Solved}
 
--- the root asks nothing, and nothing is wished
+-- the root has no requirements and no constraints, and there are no soft requirements
 abbrev pub AskNothing : {S : Type 0} → List ConditionalRequirement → List VersionSetId → List S → Type 0
 AskNothing requirements constraints wishes = (requirements ≡ []) × (constraints ≡ []) × (wishes ≡ [])
 
--- what is told of turns: what was chosen in them, or why nothing can be
+-- the result of turns: their choices, or the conflict
 abbrev pub IsFoundIn : {S : Type 0} → Turns S → Option FinalConflict → SearchResult S → Type 0
 IsFoundIn t None (Chosen v turns) = (v.items ≡ t.chosen.keys) × (turns ≡ t.turns)
 IsFoundIn t None (Clash q) = ⊥
 IsFoundIn t (Some r) (Chosen v turns) = ⊥
 IsFoundIn t (Some r) (Clash q) = q ≡ r
 
--- These are the solvables that the trail chooses, in its order, and none stands twice. Their needs and the root's are encoded.
+-- The choices of the trail, in its order, each once. Their rules and the root's are encoded.
 pub record AreOnTrail {N S : Type 0} (e : Encoder N S) (solvables : List S) : Type 0 where
   pub in_order : solvables ≡ on_trail e
   pub once : AreOnce solvables
   pub encoded : AreAmongEncoded e solvables
 
--- what was chosen is what the trail chooses; of a clash nothing is said
+-- the chosen solvables are those of the trail; nothing is claimed of a clash
 abbrev pub IsListedIn : {N S : Type 0} → Encoder N S → SearchResult S → Type 0
 IsListedIn e (Chosen v turns) = AreOnTrail e v.items
 IsListedIn e (Clash r) = ⊤
@@ -59,12 +59,13 @@ abbrev pub AreChosenOnce : {S : Type 0} → SearchResult S → Type 0
 AreChosenOnce (Chosen v turns) = AreOnce v.items
 AreChosenOnce (Clash r) = ⊤
 
--- what clashes was derived from the clauses, and denies the root alone
+-- the clash was derived from the clauses, and denies the root alone
 abbrev pub IsDenial : {N S : Type 0} → SolverState N S → SearchResult S → Type 0
 IsDenial c (Chosen v turns) = ⊤
 IsDenial c (Clash r) = IsRefusal c.search r.literals.items r.causes.items × DenyRoot r.literals.items
 
--- What was encoded is built, whatever the packages are, and a clash is one of its clauses: its proof can be written.
+-- The encoding is built, whatever the packages are, and a clash follows from its clauses: its proof
+-- can be written.
 pub record IsProvable {N S : Type 0} (e : Encoder N S) (f : SearchResult S) : Type 0 where
   pub built : IsBuilt e
   pub denial : IsDenial e.coding f
@@ -76,47 +77,49 @@ pub record DeniesOnly {N S : Type 0} (steps : List (ProofStep N S)) (among : S �
   pub derived : slice_get steps k ≡ Some (Derived literals causes)
   pub denies : (l : ProofLiteral N S) → Contains literals.items l → (l.positive ≡ false) × ((s : S) × (l.atom ≡ Solvable s) × among s)
 
--- The turn's step, which a refused wish has, is derived and denies nothing but the wish and what was chosen before its turn.
+-- The turn's step, which a refused soft requirement has, is derived. It denies only the soft
+-- requirement and the choices before its turn.
 pub record HasProof {N S : Type 0} (steps : List (ProofStep N S)) (chosen : List S) (t : Turn S) : Type 0 where
   pub accepted : t.accepted ≡ true → t.step ≡ None
   pub refused : t.accepted ≡ false → (k : ℕ) × (t.step ≡ Some k) × DeniesOnly steps (IsDeniable chosen t) k
 
--- each turn has
+-- each turn has its proof
 abbrev pub HaveProofs : {N S : Type 0} → List (ProofStep N S) → SearchResult S → Type 0
 HaveProofs {N} {S} steps (Chosen v turns) = (t : Turn S) → Contains turns.items t → HasProof steps v.items t
 HaveProofs {N} {S} steps (Clash r) = ⊤
 
--- what was chosen, and the turns: each has a learnt clause for its step
+-- each turn has a learnt clause for its step
 abbrev pub HaveClauses : {N S : Type 0} → SolverState N S → SearchResult S → Type 0
 HaveClauses {N} {S} c (Chosen v turns) = (t : Turn S) → Contains turns.items t → HasReason c v.items t
 HaveClauses {N} {S} c (Clash r) = ⊤
 
 module _ {N S : Type 0} (same : S → S → Bool) (p : Packages N S) (root : Rules) (wishes : List S) where
-  -- What was found: what the turns of the wishes come to, each with its reason; or a clause that denies the root alone, and no
-  -- solvables keep all rules.
+  -- The result: the turns of the soft requirements, each with its reason. Or a clause that denies
+  -- the root alone, and no solvables keep all rules.
   abbrev pub IsFound : Encoder N S → SearchResult S → Type 0
   IsFound e (Chosen v turns) = AreWished same p root v.items (first_of v.items turns.items) wishes turns.items × HaveClauses e.coding (Chosen v turns)
   IsFound e (Clash r) = IsUnsolvable same p root × IsRefusal e.coding.search r.literals.items r.causes.items
 
-  -- what was found holds: what the turns come to, or that no solvables keep all rules
+  -- the result holds: the choices of the turns, or that no solvables keep all rules
   abbrev pub Holds : SearchResult S → Type 0
   Holds (Chosen v turns) = AreWished same p root v.items (first_of v.items turns.items) wishes turns.items
   Holds (Clash r) = IsUnsolvable same p root
 
 module _ {N S : Type 0} (same : S → S → Bool) (p : Packages N S) (root : Rules) where
-  -- each of these steps may stand at its place
+  -- each of these steps is valid at its place
   abbrev pub AreProved : List (ProofStep N S) → Type 0
   AreProved steps = (same_atom : Atom N S → Atom N S → Bool) → IsExact same_atom → IsProof same_atom same p root steps
 
-  -- Each of these steps may stand at its place, each literal of a derived one stands in an earlier one, an atom has one sign in
-  -- it, and each solvable has one place.
+  -- Each of these steps is valid at its place, and each literal of a derived one is in an earlier
+  -- one. An atom has one sign in it, and each solvable has one place.
   pub record AreRightSteps (steps : List (ProofStep N S)) : Type 0 where
     pub proof : AreProved steps
     pub drawn : AreDrawn same p steps
     pub signs : HaveOneSigns steps
     pub one_place : HaveOnePlace steps
 
-  -- An encoding of the problem has so many clauses, of which these are the steps, and so many cases that wait.
+  -- An encoding of the problem has so many clauses, of which these are the steps, and so many
+  -- deferred cases.
   pub record IsCounted (e : Encoder N S) (clauses deferred : ℕ) (steps : List (ProofStep N S)) : Type 0 where
     pub encoding : IsEncoding same p root e
     pub count : clauses ≡ length e.coding.search.clauses
@@ -129,16 +132,16 @@ module _ {N S : Type 0} (same : S → S → Bool) (p : Packages N S) (orders : R
   IsPreferred (Chosen v turns) = ArePreferred same p orders root (take (first_of v.items turns.items) v.items)
   IsPreferred (Clash r) = Unit {0}
 
-  -- The encoding is the problem's, and so is what was found, by an order in which each requirement's candidates may be
-  -- tried.
+  -- The encoding and the result are those of the problem, by an order in which each requirement's
+  -- candidates may be tried.
   pub record IsSearch (wishes : List S) (e : Encoder N S) (f : SearchResult S) : Type 0 where
     pub encoding : IsEncoding same p root e
     pub found : IsFound same p root wishes e f
     pub preferred : IsPreferred f
 
-  -- What was found holds, each step of the proof may stand, each literal of a derived one stands in an earlier one, an atom has
-  -- one sign in it, each solvable has one place, candidates were chosen in the order in which they are tried, and each refused
-  -- wish has a step. The counts are those of an encoding, whose trail chooses what was chosen.
+  -- The result holds, and the steps of the proof are right. Candidates were chosen in the order in
+  -- which they are tried, and each refused soft requirement has a step. The counts are those of an
+  -- encoding, whose trail chooses these solvables.
   pub record IsSolved (wishes : List S) (s : Solved N S) : Type 0 where
     pub found : Holds same p root wishes s.found
     pub proof : AreProved same p root s.proof.items
@@ -159,7 +162,7 @@ abbrev pub Counts : {S : Type 0} → SearchResult S → ℕ → ℕ → Type 0
 Counts (Chosen v turns) clauses steps = clauses ≡ steps + 1
 Counts (Clash r) clauses steps = clauses ≡ steps
 
--- a search leaves a step for each clause behind the root's, and a clash one more for itself
+-- a search gives a step for each clause after the root's, and a clash one more for itself
 abbrev pub HasSteps : {N S : Type 0} → SolverState N S → SearchResult S → List (ProofStep N S) → Type 0
 HasSteps c (Chosen v turns) steps = AreSteps c steps
 HasSteps c (Clash r) steps = AreStepsThen c r.literals.items r.causes.items steps

@@ -1,4 +1,4 @@
--- What a solver keeps, and what a search leaves in it.
+-- The state of a solver, and the results of a search in it.
 use Rattle.std.specs.Prelude.{◌≡◌, ℕ, ◌+◌, ⊤, Bool, List, [], length, take, Contains, Option, Some, None, Result, Ok, Err}
 use Rattle.std.specs.Global.{Vec}
 use Rattle.resolvo_pool_core.specs.declared.id.ClauseId.{ClauseId}
@@ -29,8 +29,8 @@ use Rattle.resolvo.specs.declared.problem.Problem.{Problem}
 use Rattle.resolvo.specs.declared.solver.UnsolvableOrCancelled.{UnsolvableOrCancelled}
 use Rattle.resolvo.specs.declared.solver.UnsolvableOrCancelled.TheVariants.{Unsolvable, Cancelled, Memory, Ids}
 
--- The provider, and of the last search the number of clauses, of cases that still wait, the turns of its wishes, and the steps of
--- the proof; and of the conflict that it came to, if it came to one, what tells of it.
+-- The provider; the last search's counts of clauses and deferred cases, its turns and proof, and
+-- its conflict, if any.
 pub record Kept (P N S : Type 0) : Type 0 where
   pub provider : P
   pub clause_count : ℕ
@@ -43,12 +43,12 @@ pub record Kept (P N S : Type 0) : Type 0 where
 abbrev pub HoldsConflict : {P N S : Type 0} → Kept P N S → List ClauseId → Type 0
 HoldsConflict {P} {N} {S} k clauses = (l : Left S) × (k.conflict ≡ Some l) × (l.clauses ≡ clauses)
 
--- The graph is that of the conflict that is kept, with what was offered.
+-- The graph of the conflict that is kept, with the offers.
 abbrev pub IsGraphOf : {P N S : Type 0} → (N → N → Bool) → (S → S → Bool) → (S → N) → Kept P N S → Graph S → Type 0
 IsGraphOf {P} {N} {S} same_name same name_of k g = (l : Left S) → k.conflict ≡ Some l → g ≡ conflict_drawing same_name same name_of (offered_by l.offers) (conflict_rules k.proof)
 
--- Each edge of the graph is true: over packages whose names these are, and a root, of which the steps that are kept are a proof,
--- where what was offered is right.
+-- Each edge of the graph is true of packages with these names, and of a root, where the kept steps
+-- are a proof. The offers must be right.
 abbrev pub IsTrueOf : {P N S : Type 0} → (S → S → Bool) → (S → N) → Kept P N S → Graph S → Type 0
 IsTrueOf {P} {N} {S} same name_of k g = (l : Left S) → k.conflict ≡ Some l → TellsTruth same name_of (offered_by l.offers) k.proof g
 
@@ -68,7 +68,7 @@ pub record HasNothing {P N S : Type 0} (k : Kept P N S) : Type 0 where
 abbrev pub root_of : {Id I : Type 0} → Problem Id I → Rules
 root_of q = record { requirements = q.requirements.items; constraints = q.constraints.items }
 
--- so it is where a search came to its end
+-- the property, if the search ended
 abbrev pub IfEnded : {S C : Type 0} → Result (Vec S) (UnsolvableOrCancelled C) → Type 0 → Type 0
 IfEnded (Ok v) P = P
 IfEnded (Err (Unsolvable conflict)) P = P
@@ -76,7 +76,7 @@ IfEnded (Err (Cancelled value)) P = ⊤
 IfEnded (Err Memory) P = ⊤
 IfEnded (Err Ids) P = ⊤
 
--- a value with which it was stopped may be given
+-- the value of a cancellation may be given
 abbrev pub IsStopped : {S C : Type 0} → (C → Type 0) → Result (Vec S) (UnsolvableOrCancelled C) → Type 0
 IsStopped may (Ok v) = ⊤
 IsStopped may (Err (Unsolvable conflict)) = ⊤
@@ -85,10 +85,11 @@ IsStopped may (Err Memory) = ⊤
 IsStopped may (Err Ids) = ⊤
 
 module _ {N S : Type 0} (same : S → S → Bool) (p : Packages N S) (root : Rules) (orders : Requirement → List S → Type 0) (wishes : List S) where
-  -- What is said for these wishes: these solvables were chosen in their turns, those of the root's turn by an order in which each
-  -- requirement's candidates may be tried, and each refused wish has a step that tells why; or there is no solution. The steps of
-  -- the proof are right. The counts are those of an encoding of the problem, of whose clauses these are the steps, and whose trail
-  -- chooses what was chosen. Of the conflict that is kept the offers are right.
+  -- The answer for these soft requirements: the turns chose these solvables, in the root's turn by
+  -- an order in which candidates may be tried. Each refused soft requirement has a step as its
+  -- reason. Or there is no solution, and the offers of the conflict are right. The steps of the
+  -- proof are right. The counts are those of an encoding of the problem with these steps, whose
+  -- trail chooses these solvables.
   abbrev pub IsAnswer : {C P : Type 0} → Result (Vec S) (UnsolvableOrCancelled C) → Kept P N S → Type 0
   IsAnswer (Ok v) k = AreWished same p root v.items (first_of v.items k.turns) wishes k.turns × ArePreferred same p orders root (take (first_of v.items k.turns) v.items)
       × ((t : Turn S) → Contains k.turns t → HasProof k.proof v.items t) × AreRightSteps same p root k.proof
@@ -99,8 +100,9 @@ module _ {N S : Type 0} (same : S → S → Bool) (p : Packages N S) (root : Rul
   IsAnswer (Err Memory) k = ⊤
   IsAnswer (Err Ids) k = ⊤
 
--- What is left: a step for each clause but the root's; where there is no solution one more, which has no literals, no turn, and the
--- conflict, whose clauses are those on which this step rests; and nothing where the search stopped.
+-- The results: a step for each clause but the root's. Without a solution there is one more, which
+-- has no literals, no turn, and the conflict, whose clauses are its causes. After a stop there is
+-- nothing.
 abbrev pub Leaves : {N S C P : Type 0} → Result (Vec S) (UnsolvableOrCancelled C) → Kept P N S → Type 0
 Leaves (Ok v) k = (k.clause_count ≡ length k.proof + 1) × (k.conflict ≡ None)
 Leaves (Err (Unsolvable conflict)) k = (k.clause_count ≡ length k.proof) × EndsEmpty k.proof × (k.turns ≡ []) × HoldsConflict k conflict.clauses.items × (conflict.clauses.items ≡ conflict_clauses k.proof)
@@ -108,7 +110,7 @@ Leaves (Err (Cancelled value)) k = HasNothing k
 Leaves (Err Memory) k = HasNothing k
 Leaves (Err Ids) k = HasNothing k
 
--- what a search found and left is kept, and said
+-- the results of a search are kept, and returned
 abbrev pub Keeps : {P N S C : Type 0} → Solved N S → Vec ClauseId → Option (Left S) → Kept P N S → Result (Vec S) (UnsolvableOrCancelled C) → Kept P N S → Type 0
 Keeps {P} {N} {S} {C} s told left old (Ok v) new = (turns : Vec (Turn S)) × (s.found ≡ Chosen v turns) × (new ≡ record old { clause_count = s.clause_count; deferred_count = s.deferred_count; turns = turns.items; proof = s.proof.items; conflict = left })
 Keeps {P} {N} {S} {C} s told left old (Err (Unsolvable conflict)) new = (r : FinalConflict) × (s.found ≡ Clash r) × (conflict.clauses ≡ told) × (new ≡ record old { clause_count = s.clause_count; deferred_count = s.deferred_count; proof = s.proof.items; conflict = left })

@@ -1,4 +1,4 @@
--- The turns of wishes, and what was chosen in each.
+-- The turns of soft requirements, and the solvables that were chosen in each.
 use Rattle.std.specs.Prelude.{◌≡◌, ℕ, suc, ◌-◌, ◌≤◌, ◌⊎◌, cond, Bool, true, false, take, reverse, List, [], ◌∷◌, ◌++◌, length, Option, Some, None, Contains}
 use Rattle.indexmap.specs.IndexSet.{insert_all}
 use Rattle.resolvo_pool_core.specs.RuleKeeping.{Packages, Rules, is_in, IsRuleKeeping}
@@ -19,7 +19,7 @@ use Rattle.resolvo.specs.declared.turn_input.TurnInput.{TurnInput}
 use Rattle.resolvo.specs.declared.turns.Turn.{Turn}
 use Rattle.resolvo.specs.declared.turns.Turns.{Turns}
 
--- the accepted wishes after a turn
+-- the accepted soft requirements after a turn
 abbrev pub accepted_by : {S : Type 0} → List S → Turn S → List S
 accepted_by accepted t = cond t.accepted (accepted ++ t.solvable ∷ []) accepted
 
@@ -33,19 +33,22 @@ abbrev pub first_of : {S : Type 0} → List S → List (Turn S) → ℕ
 first_of chosen [] = length chosen
 first_of chosen (t ∷ later) = t.begin
 
--- the wish, or what was chosen before its turn
+-- the soft requirement, or the choices before its turn
 abbrev pub IsDeniable : {S : Type 0} → List S → Turn S → S → Type 0
 IsDeniable chosen t s = (s ≡ t.solvable) ⊎ Contains (take t.begin chosen) s
 
--- how many solvables were chosen after turns, the newest first, and the root's, after which so many were
+-- the number of solvables that were chosen after these turns, the newest first, and before them so
+-- many
 abbrev pub end_of : {S : Type 0} → ℕ → List (Turn S) → ℕ
 end_of first [] = first
 end_of first (t ∷ earlier) = t.end
 
 module _ {N S : Type 0} (same : S → S → Bool) (p : Packages N S) (root : Rules) (chosen : List S) where
-  -- The turn is the wish's. The solvables chosen by its end keep all rules, but that accepted wishes may be barred whose packages
-  -- nobody names, and are what the root and the accepted wishes reach. The wish is accepted where it is among them; it is refused
-  -- only if no rule-keeping set holds it with those chosen before the turn, and then nothing is chosen in it.
+  -- The turn is that of the soft requirement. The solvables chosen by its end keep all rules, but
+  -- accepted soft requirements may be forbidden whose packages nobody names. They are what the root
+  -- and the accepted ones reach. The soft requirement is accepted if it is among them. It is
+  -- refused only if no rule-keeping set includes it with those chosen before the turn, and then
+  -- nothing is chosen in it.
   pub record IsTurnOf (accepted : List S) (wish : S) (t : Turn S) : Type 0 where
     pub solvable : t.solvable ≡ wish
     pub grows : t.begin ≤ t.end
@@ -55,22 +58,24 @@ module _ {N S : Type 0} (same : S → S → Bool) (p : Packages N S) (root : Rul
     pub still : t.accepted ≡ false → t.end ≡ t.begin
     pub refused : t.accepted ≡ false → (set : List S) → IsRuleKeeping same p root set → ((s : S) → is_in same p (take t.begin chosen) s ≡ true → is_in same p set s ≡ true) → is_in same p set wish ≡ true → ⊥
 
-  -- the turns are those of the wishes, both newest first, and each begins where the one before it ended
+  -- the turns of the soft requirements, both newest first; each begins where the one before it
+  -- ended
   abbrev pub AreTurns : ℕ → List S → List (Turn S) → Type 0
   AreTurns first [] [] = Unit {0}
   AreTurns first [] (t ∷ earlier) = ⊥
   AreTurns first (w ∷ before) [] = ⊥
   AreTurns first (w ∷ before) (t ∷ earlier) = (t.begin ≡ end_of first earlier) × IsTurnOf (accepted_of earlier) w t × AreTurns first before earlier
 
-  -- the turns are those of the wishes, each begins where the one before it ended, and the first one where so many were chosen, after
-  -- these accepted wishes
+  -- the turns of the soft requirements; each begins where the one before it ended, the first one
+  -- after so many choices and these accepted ones
   abbrev pub AreInTurn : ℕ → List S → List S → List (Turn S) → Type 0
   AreInTurn begin accepted [] [] = Unit {0}
   AreInTurn begin accepted [] (t ∷ later) = ⊥
   AreInTurn begin accepted (w ∷ ws) [] = ⊥
   AreInTurn begin accepted (w ∷ ws) (t ∷ later) = (t.begin ≡ begin) × IsTurnOf accepted w t × AreInTurn t.end (accepted_by accepted t) ws later
 
-  -- The first ones chosen are a solution, in the root's turn; the others were chosen in the turns of the wishes.
+  -- The first choices are a solution, in the root's turn; the others were chosen in the turns of
+  -- the soft requirements.
   pub record AreWished (first : ℕ) (wishes : List S) (told : List (Turn S)) : Type 0 where
     pub solution : IsSolution same p root (take first chosen)
     pub within : first ≤ length chosen
@@ -81,43 +86,43 @@ module _ {N S : Type 0} (same : S → S → Bool) (p : Packages N S) (root : Rul
 abbrev pub on_trail : {N S : Type 0} → Encoder N S → List S
 on_trail e = choices e.coding.atoms.keys e.coding.search.tracker.trail
 
--- These are what the trail chooses, in its order; their needs and the root's are encoded, and the noted wishes are the accepted
--- ones.
+-- The choices of the trail, in its order; their rules and the root's are encoded, and the recorded
+-- soft requirements are the accepted ones.
 pub record AreAt {N S : Type 0} (e : Encoder N S) (t : Turns S) : Type 0 where
   pub chosen : t.chosen.keys ≡ on_trail e
   pub encoded : AreAmongEncoded e t.chosen.keys
   pub wishes : e.noted.wishes.items ≡ accepted_of (reverse t.turns.items)
 
--- what was chosen is right, turn by turn
+-- the choices are right, turn by turn
 pub record AreRight {N S : Type 0} (same : S → S → Bool) (p : Packages N S) (root : Rules) (first : ℕ) (wishes : List S) (t : Turns S) : Type 0 where
   pub wished : AreWished same p root t.chosen.keys first wishes t.turns.items
   pub accepted : IsAccepted same p root (accepted_of (reverse t.turns.items)) t.chosen.keys
 
--- An accepted wish has no step. The step of a refused one is that of a learnt clause, which denies nothing but the wish and what
--- was chosen before its turn.
+-- An accepted soft requirement has no step. The step of a refused one is that of a learnt clause,
+-- which denies only the soft requirement and the choices before its turn.
 pub record HasReason {N S : Type 0} (c : SolverState N S) (chosen : List S) (t : Turn S) : Type 0 where
   pub accepted : t.accepted ≡ true → t.step ≡ None
   pub refused : t.accepted ≡ false → (k : ℕ) × (t.step ≡ Some k) × IsReasonOf c (IsDeniable chosen t) (suc k)
 
--- each turn has
+-- each turn has its reason
 abbrev pub HaveReasons : {N S : Type 0} → SolverState N S → Turns S → Type 0
 HaveReasons {N} {S} c t = (turn : Turn S) → Contains t.turns.items turn → HasReason c t.chosen.keys turn
 
--- whether the wish's turn accepted it
+-- whether the turn accepted its soft requirement
 abbrev pub was_accepted : SoftOutcome → Bool
 was_accepted Stood = true
 was_accepted Chosen = true
 was_accepted (Refused clause) = false
 was_accepted (Clash r) = false
 
--- the proof's step of the clause that tells why it was not
+-- the proof's step of the clause that is the reason of a refusal
 abbrev pub step_of : SoftOutcome → Option ℕ
 step_of Stood = None
 step_of Chosen = None
 step_of (Refused clause) = Some (clause.0 - 1)
 step_of (Clash r) = None
 
--- the turn tells what it came to
+-- the fields of the turn, by its outcome
 pub record Tells {S : Type 0} (wish : S) (begin end_ : ℕ) (wished : SoftOutcome) (t : Turn S) : Type 0 where
   pub solvable : t.solvable ≡ wish
   pub begin_is : t.begin ≡ begin
@@ -125,19 +130,20 @@ pub record Tells {S : Type 0} (wish : S) (begin end_ : ℕ) (wished : SoftOutcom
   pub accepted : t.accepted ≡ was_accepted wished
   pub step : t.step ≡ step_of wished
 
--- it came behind the others
+-- the turn is added after the others
 pub record Records {S : Type 0} (wish : S) (begin : ℕ) (wished : SoftOutcome) (old new : Turns S) : Type 0 where
   pub turn : Turn S
   pub tells : Tells wish begin (length old.chosen.keys) wished turn
   pub chosen : new.chosen ≡ old.chosen
   pub turns : new.turns.items ≡ old.turns.items ++ turn ∷ []
 
--- what was chosen is right after these wishes, and each turn has its reason; or the rules can't all be kept
+-- the choices are right after these soft requirements, and each turn has its reason; or the rules
+-- can't all be kept
 abbrev pub IsNextRight : {N S : Type 0} → (S → S → Bool) → Packages N S → Rules → ℕ → List S → Encoder N S → Turns S → Option FinalConflict → Type 0
 IsNextRight same p root first wishes e t None = AreRight same p root first wishes t × HaveReasons e.coding t
 IsNextRight same p root first wishes e t (Some r) = IsUnsolvable same p root
 
--- what is told of the turns stands; or this clause can't be true
+-- the turns list the choices of the trail; or the problem is refuted
 abbrev pub StandSo : {N S : Type 0} → Encoder N S → Turns S → Option FinalConflict → Type 0
 StandSo e t None = AreAt e t
 StandSo e t (Some r) = IsRefusal e.coding.search r.literals.items r.causes.items × (r.literals.items ≡ [])
@@ -146,8 +152,8 @@ StandSo e t (Some r) = IsRefusal e.coding.search r.literals.items r.causes.items
 abbrev pub IsRootOf : TurnInput → Rules → Type 0
 IsRootOf input root = IsRoot input.requirements.now input.constraints.now root
 
--- Its turn came behind the others, after what the trail chooses was listed where it was chosen in it; or nothing changed, and
--- this is why no solvables keep all rules.
+-- The turn is added after the others, and the choices of the trail are listed if it was chosen in
+-- it. Or nothing changed, and this is the conflict of the problem.
 abbrev pub NotesOutcome : {N S : Type 0} → (S → S → Bool) → S → Encoder N S → Turns S → Turns S → SoftOutcome → Option FinalConflict → Type 0
 NotesOutcome same s e old new Stood None = Records s (length old.chosen.keys) Stood old new
 NotesOutcome same s e old new Stood (Some q) = ⊥

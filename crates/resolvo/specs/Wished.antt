@@ -1,4 +1,4 @@
--- What the turn of a wish comes to.
+-- The turn of a soft requirement.
 use Rattle.std.specs.Prelude.{◌≡◌, ◌≤◌, ◌⊎◌, ◌<◌, ℕ, Bool, true, ⊤, List, [], ◌∷◌, ◌++◌, Option, Some, None, Contains, slice_get}
 use Rattle.resolvo_pool_core.specs.declared.id.ClauseId.{ClauseId}
 use Rattle.resolvo_pool_core.specs.declared.id.VariableId.{VariableId}
@@ -29,11 +29,11 @@ use Rattle.resolvo_turn.specs.Turn.{IsRefusedBy, IsRooted, IsTurn}
 abbrev pub IsCandidate : {N S : Type 0} → (S → S → Bool) → Packages N S → S → Type 0
 IsCandidate same p s = is_in same p (listed (p.candidates_of (p.package_of s))) s ≡ true
 
--- each of them is
+-- each of them is one
 abbrev pub AreCandidates : {N S : Type 0} → (S → S → Bool) → Packages N S → List S → Type 0
 AreCandidates {N} {S} same p list = (s : S) → Contains list s → IsCandidate same p s
 
--- the trail chooses the solvable
+-- the solvable is true on the trail
 abbrev pub IsTrue : {N S : Type 0} → Encoder N S → S → Type 0
 IsTrue e s = (u : VariableId) × StandsFor e.coding.atoms.keys u (Solvable s) × (has (made_true (history e.coding.search)) (yes u) ≡ true)
 
@@ -49,8 +49,8 @@ pub record IsReasonOf {N S : Type 0} (c : SolverState N S) (among : S → Type 0
   pub learnt : stated_at c.stated.items number ≡ Some Learnt
   pub denies : (l : Signed) → has held.literals.items l ≡ true → DeniesOne c among l
 
--- What the trail made true stands, the newest entries apart. Clauses and parents came behind the others, none less is encoded, and
--- the root still is the first parent.
+-- The trail is kept, its newest entries aside. Clauses and parents were added at the end, no fewer
+-- are encoded, and the root is still the first parent.
 pub record KeepsTrail {N S : Type 0} (old new : Encoder N S) : Type 0 where
   pub atoms : IsFrontOf old.coding.atoms.keys new.coding.atoms.keys
   pub clauses : IsFrontOf old.coding.search.clauses new.coding.search.clauses
@@ -60,19 +60,19 @@ pub record KeepsTrail {N S : Type 0} (old new : Encoder N S) : Type 0 where
   pub encoded : old.encoded ≤ new.encoded
   pub rooted : IsRooted old → IsRooted new
 
--- Where the wish was chosen, it is noted behind the accepted ones, and its turn has ended. Where it was refused, the trail and the
--- accepted ones are what they were.
+-- A true or chosen soft requirement is recorded after the accepted ones. The trail and the accepted
+-- ones are unchanged after a refusal.
 abbrev pub IsOutcome : {N S : Type 0} → (S → S → Bool) → S → Encoder N S → Encoder N S → SoftOutcome → Type 0
 IsOutcome same s old new Stood = (new.noted.wishes.items ≡ old.noted.wishes.items ++ s ∷ []) × (history new.coding.search ≡ history old.coding.search) × IsTrue new s
 IsOutcome same s old new Chosen = (new.noted.wishes.items ≡ old.noted.wishes.items ++ s ∷ []) × ((v : VariableId) × StandsFor new.coding.atoms.keys v (Solvable s) × IsTurn same (Some v) new None)
 IsOutcome same s old new (Refused clause) = (new.noted.wishes.items ≡ old.noted.wishes.items) × (history new.coding.search ≡ history old.coding.search) × (IsTrue new s → ⊥)
 IsOutcome same s old new (Clash r) = IsRefusal new.coding.search r.literals.items r.causes.items × (r.literals.items ≡ [])
 
--- the variable is that of the last wish
+-- the variable is that of the last soft requirement
 abbrev pub IsLast : {N S : Type 0} → Encoder N S → VariableId → Type 0
 IsLast {N} {S} e v = (front : List S) × (s : S) × (e.noted.wishes.items ≡ front ++ s ∷ []) × StandsFor e.coding.atoms.keys v (Solvable s)
 
--- the turn is that of the last wish, and is refused
+-- the turn is that of the last soft requirement, and is refused
 abbrev pub IsRefusable : {N S : Type 0} → Encoder N S → FinalConflict → Type 0
 IsRefusable e r = (v : VariableId) × IsOpen e v × IsLast e v × IsRefusedBy (Some v) e r
 
@@ -84,20 +84,22 @@ pub record IsLearntAs {N S : Type 0} (c : SolverState N S) (literals : List Sign
   pub learnt : stated_at c.stated.items clause.0 ≡ Some Learnt
   pub is : held.literals.items ≡ literals
 
--- Where the refusal has literals, they are those of a clause more, the trail is what it was before the turn, and the wish is noted
--- no more. Else nothing changed.
+-- A conflict with literals is learnt, the trail is that before the turn, and the soft requirement
+-- is no longer recorded. Otherwise nothing changed.
 abbrev pub IsTurnedDown : {N S : Type 0} → FinalConflict → Encoder N S → Encoder N S → SoftOutcome → Type 0
 IsTurnedDown refusal old new Stood = ⊥
 IsTurnedDown refusal old new Chosen = ⊥
 IsTurnedDown {N} {S} refusal old new (Refused clause) = (history new.coding.search ≡ base_of old) × ((front : List S) (s : S) → old.noted.wishes.items ≡ front ++ s ∷ [] → new.noted.wishes.items ≡ front) × IsLearntAs new.coding refusal.literals.items clause
 IsTurnedDown refusal old new (Clash r) = (r ≡ refusal) × (r.literals.items ≡ []) × (new ≡ old)
 
--- a turn that ended without a refusal chose the wish, and nothing changed since; another one is turned down
+-- a turn without a conflict chose the soft requirement, and nothing changed since; another one is
+-- rejected
 abbrev pub IsClosed : {N S : Type 0} → Option FinalConflict → Encoder N S → Encoder N S → SoftOutcome → Type 0
 IsClosed None old new outcome = (outcome ≡ Chosen) × (new ≡ old)
 IsClosed (Some refusal) old new outcome = IsTurnedDown refusal old new outcome
 
--- clauses may have come, and what variables stand for, candidates, parents and how many of these are encoded are what they were
+-- clauses may be added; the origins of variables, candidates, parents and the number of encoded
+-- ones are kept
 pub record KeepsRest {N S : Type 0} (old new : Encoder N S) : Type 0 where
   pub grows : Grows old.coding new.coding
   pub lists : new.lists ≡ old.lists
@@ -105,12 +107,12 @@ pub record KeepsRest {N S : Type 0} (old new : Encoder N S) : Type 0 where
   pub encoded : new.encoded ≡ old.encoded
 
 module _ {N S : Type 0} (same : S → S → Bool) (p : Packages N S) (root : Rules) where
-  -- no rule-keeping set holds the solvable with all that the trail chooses
+  -- no rule-keeping set includes the solvable with all that is true on the trail
   abbrev pub IsDenied : Encoder N S → S → Type 0
   IsDenied e s = (set : List S) → IsRuleKeeping same p root set → ((t : S) → IsTrue e t → is_in same p set t ≡ true) → is_in same p set s ≡ true → ⊥
 
-  -- What is told of the wish is true: it is refused only where no rule-keeping set holds it with what was chosen before its turn,
-  -- and by a clause that denies nothing else.
+  -- A refusal is justified: no rule-keeping set includes the soft requirement with what was chosen
+  -- before its turn. Its clause denies nothing else.
   abbrev pub IsTold : Encoder N S → Encoder N S → S → SoftOutcome → Type 0
   IsTold old new s Stood = ⊤
   IsTold old new s Chosen = ⊤

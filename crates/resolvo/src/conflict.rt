@@ -1,4 +1,4 @@
-//! The conflict of a search that found no solution: its clauses, and the graph that tells people of them.
+//! The conflict of a search without a solution: its clauses, and its graph and message for people.
 ghost use Rattle.std.specs.Prelude.{◌≡◌, length, map, IfOk, IfErr};
 ghost use Rattle.resolvo_pool_core.specs.RuleKeeping.{Rules};
 ghost use Rattle.resolvo_packages.specs.PackageSource.{offered_solvables};
@@ -30,16 +30,17 @@ use std::alloc::Global;
 use std::fmt::Debug;
 use std::hash::Hash;
 
-/// The clauses that can't be true together: those from which the last step of the proof follows, the root's aside. The broken one
-/// comes first, then the others as it leads back to them; a learnt clause is replaced by its causes, and each stands once.
+/// The unsatisfiable clauses: those from which the proof's last step follows, without the root's.
+/// The falsified one is first, then its antecedents. A learnt clause is replaced by its causes, and
+/// each is listed once.
 #[derive(Debug, Drop)]
 pub struct Conflict {
     pub clauses: Vec<ClauseId>,
 }
 
 impl Conflict {
-    /// The graph of the conflict that the solver keeps: its rules, drawn one by one, from the one that is broken backwards along
-    /// the reasons that lead to it. Each edge is true of the provider that was solved for.
+    /// The graph of the conflict that the solver keeps: its rules in order, from the falsified one
+    /// back along the reasons. Each edge is true of the solver's provider.
     pub fn graph<D: DependencyProvider>(
         &self,
         alloc: Global,
@@ -91,14 +92,15 @@ fn told_over<'a, D: DependencyProvider>(
     DisplayUnsat::new(alloc, graph, solver.provider())
 }
 
-/// What a solver keeps of a conflict: its clauses, and the candidates that were offered for the requirements of its rules.
+/// A solver's record of a conflict: its clauses, and the offered candidates for the requirements of
+/// its rules.
 #[derive(Drop)]
 pub(crate) struct KeptConflict<S> {
     pub clauses: Vec<ClauseId>,
     pub offers: Offers<S>,
 }
 
-/// The solvables that are offered.
+/// The offered solvables.
 fn solvables_of<N, S: Copy>(alloc: Global, offered: &[Offered<N, S>]) -> R<Vec<S>>
     ensures { IfOk result (λ v. v.items ≡ offered_solvables offered.now) }
 {
@@ -153,7 +155,7 @@ fn conflict_clauses<N: Copy + Exact + Hash + Debug, S: Copy + Exact + Hash + Deb
     clauses_at(alloc, places.as_slice())
 }
 
-/// What a search leaves for a conflict's graph: of a clash its clauses, to be told and to be kept, and what was offered.
+/// A clash's clauses, to return and to keep, and the offers, for the conflict's graph.
 fn conflict_left<A: PackageSource>(
     alloc: Global,
     answers: &mut A,
@@ -177,7 +179,7 @@ fn conflict_left<A: PackageSource>(
     }
 }
 
-/// Searches as `solve` does. Of a clash it gives its clauses and what a solver keeps of the conflict, too.
+/// Searches as `solve` does. Of a clash it gives its clauses and the record of the conflict, too.
 pub(crate) fn solve_to_conflict<A: PackageSource, C: ScoreMap<A::NameId> + Drop>(
     alloc: Global,
     answers: &mut A,

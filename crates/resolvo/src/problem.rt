@@ -1,4 +1,4 @@
-//! What is to be solved.
+//! A problem for the solver.
 ghost use Rattle.std.specs.Prelude.{◌≡◌, [], None};
 ghost use Rattle.std.specs.Iterator.{at_most};
 
@@ -29,7 +29,8 @@ impl<Id> Iterator for EmptySolvables<Id> {
     }
 }
 
-/// What is to be solved: what the root needs and limits, and the wishes, which are met in order where they can be.
+/// A problem: the requirements and constraints of the root, and the soft requirements, which are
+/// met in order where possible.
 #[derive(Drop)]
 pub struct Problem<Id = SolvableId, S = EmptySolvables<Id>> {
     pub requirements: Vec<ConditionalRequirement>,
@@ -39,7 +40,7 @@ pub struct Problem<Id = SolvableId, S = EmptySolvables<Id>> {
 }
 
 impl<Id> Problem<Id, EmptySolvables<Id>> {
-    /// A problem that asks nothing.
+    /// A problem without requirements.
     pub fn new(alloc: Global) -> Problem<Id, EmptySolvables<Id>>
         ensures requirements { result.requirements.items ≡ [] }
         ensures constraints { result.constraints.items ≡ [] }

@@ -1,4 +1,5 @@
-//! A search with its proof. `Solver` keeps what `solve` gives; a program that needs no solver may call it itself.
+//! A search with its proof. `Solver` keeps the result of `solve`; a program that needs no solver
+//! may call it itself.
 ghost use Rattle.std.specs.Prelude.{◌≡◌, Bool, length, IfOk, IfErr};
 ghost use Rattle.resolvo_pool.specs.Cached.{IsCancelledBy};
 ghost use Rattle.resolvo_pool_core.specs.RuleKeeping.{Packages, Rules};
@@ -32,12 +33,12 @@ use std::alloc::Global;
 use std::fmt::Debug;
 use std::hash::Hash;
 
-/// What was found, of how many clauses, with how many cases left waiting, and the steps that prove it.
+/// The result of a search, its counts of clauses and deferred cases, and its proof.
 #[derive(Drop)]
 pub struct Solved<N, S> {
     pub found: SearchResult<S>,
     pub clause_count: usize,
-    /// How many cases of conditions still wait.
+    /// The number of cases that are still deferred.
     pub deferred_count: usize,
     pub proof: Vec<ProofStep<N, S>>,
 }
@@ -74,7 +75,7 @@ fn steps_of<N: Copy + Exact + Hash + Debug, S: Copy + Exact + Hash + Debug>(
     }
 }
 
-/// Writes the proof of what was found.
+/// Writes the proof of a search's result.
 fn prove<N: Copy + Exact + Hash + Debug + Drop, S: Copy + Exact + Hash + Debug>(
     alloc: Global,
     encoding: &Encoder<N, S>,
@@ -111,7 +112,7 @@ fn prove<N: Copy + Exact + Hash + Debug + Drop, S: Copy + Exact + Hash + Debug>(
     })
 }
 
-/// Searches over an encoding that has just begun, and writes the proof.
+/// Searches over a new encoding, and writes the proof.
 fn solve_in<A: PackageSource, C: ScoreMap<A::NameId> + Drop>(
     alloc: Global,
     answers: &mut A,
@@ -158,8 +159,9 @@ fn solve_in<A: PackageSource, C: ScoreMap<A::NameId> + Drop>(
     }
 }
 
-/// Searches for solvables that keep the rules of a root with these requirements and constraints, and of each other, then for the
-/// wishes, in their order, and writes the proof. It stops with `Memory`, `Ids`, or a value with which the answers are cancelled.
+/// Searches for solvables that keep the rules of a root with these requirements and constraints,
+/// and of each other. Then searches for the soft requirements, in their order, and writes the
+/// proof. It stops with `Memory`, `Ids`, or the value of a cancellation.
 pub fn solve<A: PackageSource, C: ScoreMap<A::NameId> + Drop>(
     alloc: Global,
     answers: &mut A,

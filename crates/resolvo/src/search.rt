@@ -1,4 +1,4 @@
-//! A whole search for what a problem's root needs and for its wishes.
+//! A whole search for a problem's root and its soft requirements.
 ghost use Rattle.std.specs.Prelude.{◌≡◌, [], length, None, IfOk, IfErr, OnOk};
 ghost use Rattle.std.specs.Bool.{Decides};
 ghost use Rattle.resolvo_pool.specs.Cached.{IsCancelledBy};
@@ -29,20 +29,20 @@ use std::alloc::Global;
 use std::fmt::Debug;
 use std::hash::Hash;
 
-/// What was found.
+/// The result of a search.
 #[derive(Debug, Drop)]
 pub enum SearchResult<S> {
-    /// What was chosen, each once and in the order of the trail, which is that in which it was: first in the root's turn, then in
-    /// those of the wishes.
+    /// The chosen solvables, each once and in the order of the trail: first those of the root's
+    /// turn, then those of the soft requirements.
     Chosen {
         solvables: Vec<S>,
         turns: Vec<Turn<S>>,
     },
-    /// The clauses can't be true together: no solvables keep all rules.
+    /// The clauses are unsatisfiable: no solvables keep all rules.
     Clash(FinalConflict),
 }
 
-/// What was chosen in the turns; or why nothing can be.
+/// The choices of the turns, or the conflict.
 fn found_in<S: Copy + Exact + Hash + Debug>(
     alloc: Global,
     turns: Turns<S>,
@@ -62,7 +62,7 @@ fn found_in<S: Copy + Exact + Hash + Debug>(
     }
 }
 
-/// The turns of the wishes, after the root's, and what was found in all of them.
+/// The turns of the soft requirements, after the root's, and the result of all of them.
 fn run_others<A: PackageSource, C: ScoreMap<A::NameId>>(
     alloc: Global,
     answers: &mut A,
@@ -102,7 +102,7 @@ fn run_others<A: PackageSource, C: ScoreMap<A::NameId>>(
     Ok(found)
 }
 
-/// All turns, and what was found in them.
+/// All turns, and their result.
 fn run_turns<A: PackageSource, C: ScoreMap<A::NameId>>(
     alloc: Global,
     answers: &mut A,
@@ -149,7 +149,7 @@ fn run_turns<A: PackageSource, C: ScoreMap<A::NameId>>(
     Ok(found)
 }
 
-/// Whether a problem asks nothing.
+/// Whether a problem has no requirements.
 fn asks_nothing<S>(
     requirements: &[ConditionalRequirement],
     constraints: &[VersionSetId],
@@ -160,8 +160,8 @@ fn asks_nothing<S>(
     requirements.is_empty() && constraints.is_empty() && wishes.is_empty()
 }
 
-/// What is found of a problem that asks nothing, over an encoding that has just begun. It stops with a value with which the answers
-/// are cancelled.
+/// The result of a problem without requirements, over a new encoding. It stops with the value of a
+/// cancellation.
 fn find_nothing<A: PackageSource>(
     alloc: Global,
     answers: &A,
@@ -191,10 +191,10 @@ fn find_nothing<A: PackageSource>(
     })
 }
 
-/// Searches for solvables that keep the rules of a root with these requirements and constraints, and of each other, and
-/// takes candidates in the order in which they are tried; then for the wishes, in their order. The solvables come in the order in
-/// which the trail made them true. What it encodes stands in the encoding, which has just begun. It stops with `Memory`, `Ids`,
-/// or a value with which the answers are cancelled.
+/// Searches for solvables that keep the rules of a root with these requirements and constraints,
+/// and of each other. Candidates are tried in their order. Then searches for the soft requirements,
+/// in their order. The solvables are in the order of the trail. The encoding is new, and holds all
+/// clauses afterwards. It stops with `Memory`, `Ids`, or the value of a cancellation.
 pub fn search<A: PackageSource, C: ScoreMap<A::NameId> + Drop>(
     alloc: Global,
     answers: &mut A,

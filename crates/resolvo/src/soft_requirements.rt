@@ -1,5 +1,6 @@
-//! The turns of wishes. Each wish is registered and noted; unless it is chosen already, it is chosen at the first level of its
-//! turn. Where it can't stand beside what was chosen before, a clause tells why, and what was chosen before stands as it did.
+//! The turns of soft requirements. Each is recorded and, unless it is true already, assumed at the
+//! first level of its turn. If it conflicts with the earlier choices, a learnt clause is the
+//! reason, and these choices are kept.
 ghost use Rattle.std.specs.Prelude.{◌≡◌, ◌<◌, ℕ, [], false, length, Some, IfOk, IfErr, IfSome, OnOk};
 ghost use Rattle.resolvo_pool.specs.Cached.{IsCancelledBy};
 ghost use Rattle.resolvo_pool_core.specs.RuleKeeping.{Packages, Rules, IsLawful};
@@ -34,20 +35,20 @@ use std::alloc::Global;
 use std::fmt::Debug;
 use std::hash::Hash;
 
-/// What the turn of a wish came to.
+/// The outcome of the turn of a soft requirement.
 #[derive(Debug, Drop)]
 pub enum SoftOutcome {
-    /// It was chosen already.
+    /// It was true already.
     Stood,
-    /// It was chosen, with what it needs.
+    /// It was chosen, with its dependencies.
     Chosen,
-    /// It can't be chosen beside what was chosen before: this clause tells why.
+    /// It conflicts with the earlier choices: this learnt clause is the reason.
     Refused(ClauseId),
     /// No solvables keep all rules.
     Clash(FinalConflict),
 }
 
-/// The turn of a noted wish that isn't chosen. What stood before it stands.
+/// The turn of a recorded soft requirement that isn't true. Keeps the earlier trail.
 fn run_open<A: PackageSource, C: ScoreMap<A::NameId>>(
     alloc: Global,
     answers: &mut A,
@@ -95,7 +96,7 @@ fn run_open<A: PackageSource, C: ScoreMap<A::NameId>>(
     Ok(refusal)
 }
 
-/// Takes the refused turn of the last wish back, and adds the clause that tells why.
+/// Undoes the refused turn of the last soft requirement, and adds the clause that is the reason.
 fn refuse<N: Copy + Exact + Hash + Debug, S: Copy + Exact + Hash + Debug>(
     encoding: &mut Encoder<N, S>,
     refusal: FinalConflict,
@@ -119,8 +120,8 @@ fn refuse<N: Copy + Exact + Hash + Debug, S: Copy + Exact + Hash + Debug>(
     Ok(clause)
 }
 
-/// What the turn of the last wish came to, by the refusal that it ended with, if there was one. A refusal without literals is one of
-/// the whole problem.
+/// The outcome of the last soft requirement's turn, by its conflict, if there was one. A conflict
+/// without literals refutes the whole problem.
 fn close_turn<N: Copy + Exact + Hash + Debug, S: Copy + Exact + Hash + Debug>(
     encoding: &mut Encoder<N, S>,
     turn: Option<FinalConflict>,
@@ -149,7 +150,7 @@ fn close_turn<N: Copy + Exact + Hash + Debug, S: Copy + Exact + Hash + Debug>(
     }
 }
 
-/// The turn of a wish.
+/// The turn of a soft requirement.
 pub fn run_soft_requirement<A: PackageSource, C: ScoreMap<A::NameId>>(
     alloc: Global,
     answers: &mut A,
@@ -198,7 +199,8 @@ pub fn run_soft_requirement<A: PackageSource, C: ScoreMap<A::NameId>>(
     Ok(wished)
 }
 
-/// Notes what the turn of a wish came to, behind what was chosen in it; or gives why no solvables keep all rules.
+/// Records the outcome of a soft requirement's turn, after its choices. The conflict, if
+/// no solvables keep all rules.
 fn note_outcome<N: Copy + Exact + Hash + Debug, S: Copy + Exact + Hash + Debug>(
     alloc: Global,
     encoding: &Encoder<N, S>,
@@ -227,7 +229,8 @@ fn note_outcome<N: Copy + Exact + Hash + Debug, S: Copy + Exact + Hash + Debug>(
     }
 }
 
-/// The turns of these wishes, one after another; or why no solvables keep all rules.
+/// The turns of these soft requirements, one after another. The conflict, if no solvables keep all
+/// rules.
 pub fn run_soft_requirements<A: PackageSource, C: ScoreMap<A::NameId>>(
     alloc: Global,
     answers: &mut A,

@@ -1,4 +1,4 @@
-//! The solver: a provider with its answers, and what the last search left.
+//! The solver: a provider with its cache, and the results of the last search.
 ghost use Rattle.std.specs.Prelude.{◌≡◌, ◌≤◌, List, [], None, Some, IsSome, IfOk};
 ghost use Rattle.std.specs.Bool.{Decides};
 ghost use Rattle.std.specs.Option.{option_map};
@@ -29,7 +29,7 @@ use std::marker::Model;
 use std::mem;
 use thiserror::Error;
 
-/// Why nothing was chosen.
+/// The reason that a search chose nothing.
 #[derive(Debug, Drop, Error)]
 pub enum UnsolvableOrCancelled<C> {
     /// No solvables keep all rules.
@@ -38,10 +38,10 @@ pub enum UnsolvableOrCancelled<C> {
     /// The provider cancelled, with this value.
     #[error("cancelled")]
     Cancelled(C),
-    /// A growth was refused.
+    /// An allocation failed.
     #[error("no memory")]
     Memory,
-    /// Every number was given already.
+    /// The ids are used up.
     #[error("no ids")]
     Ids,
 }
@@ -58,7 +58,7 @@ impl<C> From<CacheFault<C>> for UnsolvableOrCancelled<C> {
     }
 }
 
-/// A solver over a provider, which is asked each question once.
+/// A solver over a provider, which gets each query once.
 #[derive(Drop)]
 pub struct Solver<D: DependencyProvider> {
     alloc: Global,
@@ -80,7 +80,7 @@ impl<D: DependencyProvider> Model for Solver<D> {
 }
 
 impl<D: DependencyProvider> Solver<D> {
-    /// Forgets the last search.
+    /// Drops the results of the last search.
     fn forget(&mut self)
         ensures { self.new
             ≡ record self.old
@@ -93,7 +93,7 @@ impl<D: DependencyProvider> Solver<D> {
         self.conflict = None;
     }
 
-    /// Keeps what a search left, and tells what it found, or these clauses of a conflict.
+    /// Keeps the results of a search. The chosen solvables, or the conflict with these clauses.
     fn keep(
         &mut self,
         solved: Solved<D::NameId, D::SolvableId>,
@@ -123,7 +123,7 @@ impl<D: DependencyProvider> Solver<D> {
         }
     }
 
-    /// A solver that was asked nothing yet.
+    /// A solver before its first search.
     pub fn new(alloc: Global, provider: D) -> Solver<D>
         ensures { result
             ≡ record
@@ -148,23 +148,24 @@ impl<D: DependencyProvider> Solver<D> {
         self.answers.provider()
     }
 
-    /// The number of clauses of the last search, the root's among them; 0 before the first, and after one that stopped. A problem that
-    /// asks nothing has the root's alone.
+    /// The number of clauses of the last search, with the root's; 0 before the first, and after one
+    /// that stopped. A problem without requirements has the root's alone.
     pub fn clause_count(&self) -> usize
         ensures { result ≡ self.now.clause_count }
     {
         self.clause_count
     }
 
-    /// How many cases of conditions the last search deferred, and didn't encode since. 0 before the first, and after one that stopped.
+    /// The number of cases that the last search deferred and never encoded; 0 before the first, and
+    /// after one that stopped.
     pub fn deferred_requirements_count(&self) -> usize
         ensures { result ≡ self.now.deferred_count }
     {
         self.deferred_count
     }
 
-    /// The turns of the wishes of the last search, one for each, in their order; none before the first, and after one that chose
-    /// nothing.
+    /// The turns of the soft requirements of the last search, one for each, in their order; none if
+    /// it chose nothing.
     pub fn turns(&self) -> &[Turn<D::SolvableId>]
         ensures { result.now ≡ self.now.turns }
     {
@@ -178,8 +179,8 @@ impl<D: DependencyProvider> Solver<D> {
         self.proof.as_slice()
     }
 
-    /// Takes the steps of the last search's proof out of the solver. It keeps none afterwards, and so no conflict, whose graph is drawn
-    /// of them. Ask for a conflict's message first.
+    /// Takes the steps of the last search's proof out of the solver, and drops the conflict, whose
+    /// graph needs them. Ask for a conflict's message first.
     pub fn take_proof(&mut self) -> Vec<ProofStep<D::NameId, D::SolvableId>>
         ensures steps { result.items ≡ self.old.proof }
         ensures left { self.new ≡ record self.old { proof = []; conflict = None } }
@@ -188,8 +189,8 @@ impl<D: DependencyProvider> Solver<D> {
         mem::replace(&mut self.proof, Vec::new(self.alloc))
     }
 
-    /// Whether the solver keeps this conflict: the one that the last search came to. A new solver keeps none, and so does one whose
-    /// last search came to another end.
+    /// Whether the solver keeps this conflict: that of the last search. A new solver keeps none,
+    /// nor one whose last search had another result.
     pub fn holds(&self, conflict: &Conflict) -> bool
         ensures { Decides result (HoldsConflict self.now conflict.now.clauses.items) }
     {
@@ -199,7 +200,7 @@ impl<D: DependencyProvider> Solver<D> {
         }
     }
 
-    /// What was offered for the requirements of the conflict that the solver keeps.
+    /// The offered candidates for the requirements of the conflict that the solver keeps.
     pub(crate) fn offers(&self) -> &Offers<D::SolvableId>
         requires { IsSome self.now.conflict }
         ensures { (l : Left D.SolvableId) → self.now.conflict ≡ Some l → result.now ≡ l.offers }
@@ -210,8 +211,8 @@ impl<D: DependencyProvider> Solver<D> {
         }
     }
 
-    /// The solver with other scores: so much is added for each literal of a learnt clause, in millionths, and so many
-    /// millionths of each score are left after it.
+    /// The solver with another bump for each literal of a learnt clause, and another decay, both in
+    /// millionths.
     pub fn with_activity_params(self, add: u64, decay: u64) -> Solver<D>
         requires { decay ≤ 1000000 }
         ensures { result ≡ self }
@@ -238,8 +239,9 @@ impl<D: DependencyProvider> Solver<D> {
         }
     }
 
-    /// Searches for solvables that keep the rules of the problem, then for its wishes, in their order, and gives what was chosen,
-    /// each once and in the order in which it was. A search begins anew, with the answers as they are.
+    /// Searches for solvables that keep the rules of the problem, then for its soft requirements,
+    /// in their order. The chosen solvables, each once and in the order of the trail. A search
+    /// starts anew, with the cached answers.
     pub fn solve<I: Iterator<Item = D::SolvableId>>(
         &mut self,
         problem: Problem<D::SolvableId, I>,

@@ -1,9 +1,9 @@
-//! What the turns of a search are given.
+//! The input of the turns of a search.
 use resolvo_pool_core::id::VersionSetId;
 use resolvo_pool_core::requirement::ConditionalRequirement;
 use resolvo_turn::cdcl::Activity;
 
-/// What each turn of a search is given: how scores change, and what the root needs and limits.
+/// The input of each turn of a search: the activity, and the root's rules.
 #[derive(Drop)]
 pub struct TurnInput<'a> {
     pub activity: Activity,

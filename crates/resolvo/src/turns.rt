@@ -1,4 +1,5 @@
-//! The turns of wishes, as a solver tells of them, and the solvables that were chosen in them.
+//! The turns of soft requirements, as a solver lists them, and the solvables that were chosen in
+//! them.
 ghost use Rattle.std.specs.Prelude.{◌≡◌, [], OnOk, IfOk};
 ghost use Rattle.indexmap.specs.IndexSet.{insert_all};
 ghost use Rattle.resolvo_store_core.specs.AtMostOne.{IsFrontOf};
@@ -13,21 +14,22 @@ use std::alloc::Global;
 use std::fmt::Debug;
 use std::hash::Hash;
 
-/// The turn of a wish.
+/// The turn of a soft requirement.
 #[derive(Clone, Copy, Debug)]
 pub struct Turn<S> {
     pub solvable: S,
-    /// How many of the chosen solvables were chosen before the turn.
+    /// The number of solvables that were chosen before the turn.
     pub begin: usize,
-    /// How many were after it.
+    /// The number after it.
     pub end: usize,
-    /// Whether the wish is among them.
+    /// Whether the soft requirement is among them.
     pub accepted: bool,
-    /// The step of the proof that tells why it isn't.
+    /// The step of the proof that is the reason, if it isn't.
     pub step: Option<usize>,
 }
 
-/// The solvables that were chosen so far, in the order of the trail, and the turns of the wishes so far.
+/// The chosen solvables so far, in the order of the trail, and the turns of the soft requirements
+/// so far.
 #[derive(Drop)]
 pub struct Turns<S: Eq + Hash> {
     pub chosen: IndexSet<S>,
@@ -46,7 +48,7 @@ impl<S: Copy + Exact + Hash + Debug> Turns<S> {
         }
     }
 
-    /// Lists what the trail chooses, in its order, behind what was listed.
+    /// Lists what the trail chooses, in its order, after the listed ones.
     pub fn list<N: Copy + Exact + Hash + Debug>(
         &mut self,
         alloc: Global,
@@ -62,7 +64,7 @@ impl<S: Copy + Exact + Hash + Debug> Turns<S> {
         Ok(())
     }
 
-    /// Notes the turn of a wish that began when so many solvables were chosen.
+    /// Records the turn of a soft requirement that began with so many chosen solvables.
     pub fn record(&mut self, wish: S, begin: usize, wished: SoftOutcome) -> R<()>
         ensures { OnOk result (Records wish begin wished self.old self.new) }
     {
@@ -72,7 +74,7 @@ impl<S: Copy + Exact + Hash + Debug> Turns<S> {
     }
 }
 
-/// What a wish's turn came to.
+/// The turn of a soft requirement, by its outcome.
 fn turn_of<S>(wish: S, begin: usize, end: usize, wished: SoftOutcome) -> Turn<S>
     ensures { Tells wish begin end wished result }
 {
@@ -91,7 +93,7 @@ fn turn_of<S>(wish: S, begin: usize, end: usize, wished: SoftOutcome) -> Turn<S>
     }
 }
 
-/// Lists these behind the others, in their order and each once.
+/// Lists these after the others, in their order and each once.
 fn list_each<S: Copy + Exact + Hash + Debug>(listed: &mut IndexSet<S>, chosen: &[S]) -> R<()>
     ensures adds { OnOk result (IsFrontOf listed.old.keys listed.new.keys) }
     ensures in_order { OnOk result (listed.new.keys ≡ insert_all S.eq listed.old.keys chosen.now) }

@@ -1,4 +1,4 @@
--- Nodes keep their places where others come, and the edges of links with them.
+-- Nodes keep their indices where others are added, and so do the edges of links.
 use Rattle.std.proofs.Common.{◌≡◌, ℕ, ◌+◌, ◌<◌, ◌≤◌, Bool, true, false, cond, eqb, List, [], ◌∷◌, ◌++◌, map, length, Option, Some, None, refl, sym, ap, subst, ◌∙◌, arith, length-append, inl, inr}
 use Rattle.std.specs.Prelude.{◌||◌, Contains}
 use Rattle.std.specs.List.{list_any, flat_map, position_or_len}
@@ -19,7 +19,7 @@ use Rattle.resolvo_conflict.specs.Tests.{same_node}
 use Rattle.resolvo_conflict.specs.Links.{source_of, target_of, weight_of, ends_of}
 use Rattle.resolvo_conflict.specs.Draw.{nodes_of, index_among, edge_from, edges_in}
 
--- a key that is found lies before the end
+-- a key that is found is before the end
 pub position_within : {X : Type 0} (p : X → Bool) (xs : List X) → list_any p xs ≡ true → position_or_len p xs < length xs
 position_within p [] h = cc
 position_within {X} p (x ∷ xs) h = by (p x) refl (position_within p xs)
@@ -63,7 +63,7 @@ module _ {K : Type 0} (eq : K → K → Bool) (own : (k : K) → eq k k ≡ true
           let within : position_or_len (eq k) ks < length ks = position_within (eq k) ks h in
           position_or_len_push (eq k) ks m ∙ ap (λ b. cond b (length ks + cond (eq k m) 0 1) (position_or_len (eq k) ks)) (ne_eqb (position_or_len (eq k) ks) (length ks) (λ e. omega (arith, within, e)))
 
-  -- the place that a key has once it is there is that of the first equal one, or the end
+  -- the place of an inserted key is that of the first equal one, or the end
   pub position_inserted : (ks : List K) (k : K) → position_or_len (eq k) (insert_key eq ks k) ≡ position_or_len (eq k) ks
   position_inserted ks k = by (list_any (eq k) ks)
     where
@@ -120,7 +120,7 @@ module _ {S : Type 0} (same : S → S → Bool) (own : (s : S) → same s s ≡ 
   pub own_test : (n : ConflictNode S) → same_node same n n ≡ true
   own_test = own_node same own
 
-  -- the edge of a link stays where more nodes come
+  -- the edge of a link is kept where more nodes are added
   edges_stay_at : (nodes more : List (ConflictNode S)) (l : Link S) → HasAll (same_node same) own_test nodes (ends_of l) → edges_in same nodes l ≡ edges_in same (insert_all (same_node same) nodes more) l
   edges_stay_at nodes more l h = by (source_of l) h
     where

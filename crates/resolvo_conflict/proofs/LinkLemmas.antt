@@ -18,7 +18,7 @@ pub turned_test : {X : Type 0} (b : Bool) (x y : X) → cond b x y ≡ cond (not
 turned_test true x y = refl
 turned_test false x y = refl
 
--- what one more rule adds to those of a kind
+-- the entry of a kind that one more rule adds
 pub kind_more : {N S X : Type 0} (kind : ProofRule N S → Option X) (steps : List (ProofStep N S)) (places : List ℕ) (k : ℕ) (r : ProofRule N S) (old new : List X) → k < length places → rule_of steps (get_or places k 0) ≡ Some r
     → old ≡ filter_map kind (rules_at steps (take k places)) → new ≡ old ++ option_to_list (kind r) → new ≡ filter_map kind (rules_at steps (take (k + 1) places))
 kind_more {N} {S} {X} kind steps places k r old new l at was put =
@@ -80,7 +80,7 @@ module _ {S : Type 0} (same : S → S → Bool) where
       once_more joined links i x l at ∙ ap (λ b. cond b (x ∷ once_after same (joined ++ option_to_list (limited_in x)) (drop (i + 1) links)) (once_after same joined (drop (i + 1) links))) new in
       (λ j. put j ++ once_after same (now j) (drop (i + 1) links)) ∙ append_assoc kept (x ∷ []) _ ∙ ap (λ xs. kept ++ xs) (sym left)
 
-  -- another is passed over
+  -- another is skipped
   pub once_again : (joined next : List (Option S × VersionSetId × S)) (links kept : List (Link S)) (i : ℕ) (x : Link S) → i < length links → x ≡ get_or links i x → is_new same joined (limited_in x) ≡ false
       → next ≡ cond (is_new same joined (limited_in x)) (joined ++ option_to_list (limited_in x)) joined
       → kept ++ once_after same next (drop (i + 1) links) ≡ kept ++ once_after same joined (drop i links)

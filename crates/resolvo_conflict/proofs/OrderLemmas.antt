@@ -1,4 +1,4 @@
--- The walk with a stack lists what the last step rests on, each rule once.
+-- The traversal with a stack lists the rules of the last step, each once.
 use Rattle.std.proofs.Common.{◌≡◌, ℕ, zero, suc, ◌+◌, ◌<◌, Bool, true, false, cond, get_or, set, List, [], ◌∷◌, ◌++◌, reverse, length, All, Option, Some, None, inl, inr, refl, sym, ap, subst, ◌∙◌, arith, append_assoc, slice_get}
 use Rattle.std.specs.Prelude.{◌⊎◌, filter, nat_eq}
 use Rattle.std.specs.List.{list_any, flat_map}
@@ -20,16 +20,16 @@ use Rattle.resolvo_conflict.specs.Order.{is_earlier, rests_on, rules_within, rul
 abbrev pub has : List ℕ → ℕ → Type 0
 has places place = list_any (nat_eq place) places ≡ true
 
--- the step at this place was met
+-- the step at this place was visited
 abbrev pub IsSeen : List Bool → ℕ → Type 0
 IsSeen seen place = get_or seen place false ≡ true
 
--- how many places a step stacks
+-- the number of places that a step stacks
 abbrev pub width : {N S : Type 0} → ProofStep N S → ℕ
 width (Rule r) = 1
 width (Derived literals causes) = length causes.items + 1
 
--- how much the steps that were not met may stack
+-- how much the unvisited steps may stack
 abbrev pub left : {N S : Type 0} → List (ProofStep N S) → List Bool → ℕ
 left [] seen = 0
 left (s ∷ ss) [] = 0
@@ -56,7 +56,7 @@ earlier_causes place causes =
     (All-weaker (λ cause. is_earlier place cause ≡ true) (λ cause. cause < place) (λ cause h. ltb-true cause place h) (filter (is_earlier place) causes) (filter_passes (is_earlier place) causes))
 
 module _ {N S : Type 0} (steps : List (ProofStep N S)) where
-  -- more depth than a place's own tells no more
+  -- more depth than a place's own adds nothing
   enough : (n m place : ℕ) → place < n → place < m → rules_within steps n place ≡ rules_within steps m place
   enough zero m place h k = absurd (omega (arith, h))
   enough (suc n) zero place h k = absurd (omega (arith, k))
@@ -78,11 +78,11 @@ module _ {N S : Type 0} (steps : List (ProofStep N S)) where
       ∙ flat_map_agree (rules_within steps place) (rules_under steps) (reverse (filter (is_earlier place) causes.items))
       (All-weaker (λ cause. cause < place) (λ cause. rules_within steps place cause ≡ rules_under steps cause) (λ cause e. enough place (suc cause) cause e (omega arith)) (reverse (filter (is_earlier place) causes.items)) (earlier_causes place causes.items))
 
-  -- what the stacked steps rest on, the top first, makes the order whole
+  -- the rules of the stacked steps, the top first, complete the order
   abbrev pub Gives : List ℕ → List ℕ → Type 0
   Gives stack order = insert_all nat_eq order (flat_map (rules_under steps) stack) ≡ conflict_order steps
 
-  -- What the step rests on is listed, or comes with what was stacked above it, which are earlier steps.
+  -- The rules of the step are listed, or follow from the earlier steps that were stacked above it.
   pub record IsSettled (stack order : List ℕ) (place : ℕ) : Type 0 where
     pub pending : List ℕ
     pub base : List ℕ
@@ -99,7 +99,7 @@ module _ {N S : Type 0} (steps : List (ProofStep N S)) where
   pub has_cases : (xs ys : List ℕ) (x : ℕ) → has (xs ++ ys) x → has xs x ⊎ has ys x
   has_cases xs ys x h = or_cases _ _ (sym (list_any-append (nat_eq x) xs ys) ∙ h)
 
-  -- a settled step that is met again adds nothing
+  -- a processed step that is visited again adds nothing
   pub settled_top : (place : ℕ) (rest order : List ℕ) → IsSettled (place ∷ rest) order place → (x : ℕ) → has (rules_under steps place) x → has order x
   settled_top place rest order s x h = by s.pending s.splits s.below (s.covered x h)
     where
@@ -109,7 +109,7 @@ module _ {N S : Type 0} (steps : List (ProofStep N S)) where
           let top : place ≡ y = cc in
           absurd (omega (arith, top, All-head (λ cause. cause < place) y ys b))
 
-  -- A step stays settled where the top of the stack gives way to earlier steps that it rests on.
+  -- A step stays processed where the top of the stack is replaced by earlier steps, its causes.
   pub settled_next : (place c : ℕ) (rest more old new : List ℕ) → IsSettled (place ∷ rest) old c → ((x : ℕ) → has old x → has new x)
       → ((x : ℕ) → has (rules_under steps place) x → has (new ++ flat_map (rules_under steps) more) x) → All (λ cause. cause < place) more → IsSettled (more ++ rest) new c
   settled_next place c rest more old new s keeps passes under = by s.pending s.splits s.below s.covered
@@ -149,7 +149,7 @@ module _ {N S : Type 0} (steps : List (ProofStep N S)) where
               step (inr (inl a)) = has_left (new ++ flat_map (rules_under steps) more) (flat_map (rules_under steps) ys) x (passes x a)
               step (inr (inr a)) = has_right (new ++ flat_map (rules_under steps) more) (flat_map (rules_under steps) ys) x a
 
-  -- a new step is settled once what it rests on is listed or stacked
+  -- a new step is processed once its rules are listed or stacked
   pub settled_new : (place : ℕ) (rest more order : List ℕ) → ((x : ℕ) → has (rules_under steps place) x → has (order ++ flat_map (rules_under steps) more) x) → All (λ cause. cause < place) more → IsSettled (more ++ rest) order place
   settled_new place rest more order passes under = record { pending = more; base = rest; splits = refl; below = under; covered = passes }
 
@@ -162,19 +162,19 @@ module _ {N S : Type 0} (steps : List (ProofStep N S)) where
       own : (n : ℕ) → nat_eq n n ≡ true
       own n = grind arith
 
-  -- a step that was met adds nothing
+  -- a visited step adds nothing
   pub gives_again : (place : ℕ) (rest order : List ℕ) → Gives (place ∷ rest) order → ((x : ℕ) → has (rules_under steps place) x → has order x) → Gives rest order
   gives_again place rest order g h =
       ap (λ xs. insert_all nat_eq xs (flat_map (rules_under steps) rest)) (sym (insert_known order (rules_under steps place) h))
       ∙ sym (fold-append (insert_key nat_eq) order (rules_under steps place) (flat_map (rules_under steps) rest)) ∙ g
 
-  -- a new rule goes last
+  -- a new rule is added at the end
   pub gives_rule : (place : ℕ) (rest order : List ℕ) → Gives (place ∷ rest) order → rules_under steps place ≡ place ∷ [] → list_any (nat_eq place) order ≡ false → Gives rest (order ++ place ∷ [])
   gives_rule place rest order g own new =
       ap (λ b. insert_all nat_eq (cond b order (order ++ place ∷ [])) (flat_map (rules_under steps) rest)) (sym new)
       ∙ ap (λ xs. insert_all nat_eq order (xs ++ flat_map (rules_under steps) rest)) (sym own) ∙ g
 
-  -- a derived step gives way to its causes
+  -- a derived step is replaced by its causes
   pub gives_derived : (place : ℕ) (rest more order : List ℕ) → Gives (place ∷ rest) order → rules_under steps place ≡ flat_map (rules_under steps) more → Gives (more ++ rest) order
   gives_derived place rest more order g own =
       ap (insert_all nat_eq order) (flat_map-append (rules_under steps) more rest ∙ ap (λ xs. xs ++ flat_map (rules_under steps) rest) (sym own)) ∙ g

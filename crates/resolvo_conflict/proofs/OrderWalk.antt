@@ -1,4 +1,5 @@
--- What the walk over a refusal's steps keeps: at its start, at each step, and at its end.
+-- The invariant of the traversal over a refutation's steps: at its start, at each step, and at its
+-- end.
 use Rattle.std.proofs.Common.{◌≡◌, ℕ, ◌+◌, ◌-◌, ◌<◌, ◌≤◌, Bool, true, false, get_or, set, replicate, take, List, [], ◌∷◌, ◌++◌, reverse, length, All, Some, inl, inr, refl, sym, ap, subst, ◌∙◌, arith, length-append, slice_get}
 use Rattle.std.specs.Prelude.{◌⊎◌, ◌||◌, filter, nat_eq}
 use Rattle.std.specs.List.{list_any, flat_map}
@@ -17,7 +18,8 @@ use Rattle.resolvo_proof.specs.declared.step.ProofStep.TheVariants.{Rule, Derive
 use Rattle.resolvo_conflict.specs.Order.{is_earlier, rules_under, conflict_order}
 use Rattle.resolvo_conflict.proofs.OrderLemmas.{has, IsSeen, left, left-seen, width, Gives, IsSettled, has_left, has_right, has_cases, settled_top, settled_next, settled_new, gives_again, gives_rule, gives_derived, under-rule, under-derived, earlier_causes}
 
--- What is to come makes the order whole. What a step that was met rests on is listed, or comes with what was stacked above it.
+-- The remaining steps complete the order. The rules of a visited step are listed, or follow from
+-- the steps that were stacked above it.
 pub record IsWalk {N S : Type 0} (steps : List (ProofStep N S)) (stack : List ℕ) (seen : List Bool) (order : List ℕ) : Type 0 where
   pub long : length seen ≡ length steps
   pub within : All (λ place. place < length steps) stack
@@ -50,7 +52,7 @@ none_seen n c h = by (cases_lt c n)
     by (inr l) = both_ways (get_or (replicate n false) c false) (get_or_past (replicate n false) c false (rw (length-replicate n false) l)) h
 
 module _ {N S : Type 0} (steps : List (ProofStep N S)) where
-  -- the walk begins with the last step
+  -- the traversal begins with the last step
   pub walk_starts : (seen : List Bool) (order : List ℕ) (last : ℕ) → seen ≡ replicate (length steps) false → order ≡ [] → 1 ≤ length steps → length steps - 1 ≡ last → IsWalk steps (last ∷ []) seen order
   unfolding conflict_order
   walk_starts seen order last new none some at = record {
@@ -61,7 +63,7 @@ module _ {N S : Type 0} (steps : List (ProofStep N S)) where
     settled = λ place h. absurd (none_seen (length steps) place (subst (λ xs. IsSeen xs place) new h));
   }
 
-  -- there is nothing to walk over
+  -- there is nothing to traverse
   pub walk_of_none : (seen : List Bool) (stack order : List ℕ) → seen ≡ replicate (length steps) false → order ≡ [] → stack ≡ [] → length steps < 1 → IsWalk steps stack seen order
   unfolding conflict_order
   walk_of_none seen stack order new none empty few = record {
@@ -88,7 +90,7 @@ module _ {N S : Type 0} (steps : List (ProofStep N S)) where
     pub top_within : place < length steps
     top_within = inside.1
 
-    -- a step that was met
+    -- a step that was visited
     pub walk_again : IsSeen seen place → IsWalk steps below seen order
     walk_again met =
         let known : (x : ℕ) → has (rules_under steps place) x → has order x = settled_top steps place (reverse below) order (was_settled place met) in
@@ -100,7 +102,7 @@ module _ {N S : Type 0} (steps : List (ProofStep N S)) where
           settled = λ c h. settled_next steps place c (reverse below) [] order order (was_settled c h) (λ x k. k) (λ x k. has_left steps order [] x (known x k)) (All-nil (λ cause. cause < place));
         }
 
-    -- a step that was not met, in place of which others are stacked
+    -- an unvisited step, which is replaced by others on the stack
     settled_by : (more new : List ℕ) → ((x : ℕ) → has order x → has new x) → ((x : ℕ) → has (rules_under steps place) x → has (new ++ flat_map (rules_under steps) more) x) → All (λ cause. cause < place) more
         → (c : ℕ) → IsSeen (set seen place true) c → IsSettled steps (more ++ reverse below) new c
     settled_by more new keeps passes under c h = by (seen_now seen place c h)
@@ -109,7 +111,7 @@ module _ {N S : Type 0} (steps : List (ProofStep N S)) where
         by (inl e) = subst (IsSettled steps (more ++ reverse below) new) (sym e) (settled_new steps place (reverse below) more new passes under)
         by (inr met) = settled_next steps place c (reverse below) more order new (was_settled c met) keeps passes under
 
-    -- a rule that was not met
+    -- an unvisited rule
     pub walk_rule : (r : ProofRule N S) (new : List ℕ) → slice_get steps place ≡ Some (Rule r) → (IsSeen seen place → ⊥) → new ≡ order ++ place ∷ [] → IsWalk steps below (set seen place true) new
     walk_rule r new at unmet put =
         let own : rules_under steps place ≡ place ∷ [] = under-rule steps place r at in
@@ -133,7 +135,7 @@ module _ {N S : Type 0} (steps : List (ProofStep N S)) where
             only true e = refl
             only false e = e
 
-    -- a derived step that was not met
+    -- an unvisited derived step
     pub walk_derived : (literals : Vec (ProofLiteral N S) Global) (causes : Vec ℕ Global) (now : List ℕ) → slice_get steps place ≡ Some (Derived literals causes) → (IsSeen seen place → ⊥) → now ≡ below ++ filter (is_earlier place) causes.items → IsWalk steps now (set seen place true) order
     walk_derived literals causes now at unmet put =
         let more = reverse (filter (is_earlier place) causes.items) in
@@ -150,7 +152,7 @@ module _ {N S : Type 0} (steps : List (ProofStep N S)) where
           settled = λ c h. subst (λ xs. IsSettled steps xs order c) (sym next) (settled_by more order (λ x k. k) passes (earlier_causes place causes.items) c h);
         }
 
-  -- the measure falls where a step that was not met is taken off, in place of which as many as its width are stacked at most
+  -- the measure falls where an unvisited step is popped, and at most its width is pushed
   pub smaller : (stack below now : List ℕ) (seen : List Bool) (place : ℕ) (step : ProofStep N S) → length seen ≡ length steps → slice_get steps place ≡ Some step → get_or seen place false ≡ false → stack ≡ below ++ place ∷ [] → length now ≤ length below + width step
       → left steps (set seen place true) + length now < left steps seen + length stack
   smaller stack below now seen place step long at unmet top few =
@@ -164,14 +166,14 @@ module _ {N S : Type 0} (steps : List (ProofStep N S)) where
       let few : length (filter (is_earlier place) causes) ≤ length causes = rw (length-filter (is_earlier place) causes) (count_by-le-length (is_earlier place) causes) in
       omega (arith, long, few)
 
-  -- the walk ends with the order
+  -- the traversal ends with the order
   pub walk_ends : (stack : List ℕ) (seen : List Bool) (order : List ℕ) → IsWalk steps stack seen order → stack ≡ [] → order ≡ conflict_order steps
   walk_ends stack seen order walk none = sym (ap (λ xs. insert_all nat_eq order (flat_map (rules_under steps) (reverse xs))) none) ∙ walk.gives
 
--- no place of as many is seen
+-- none of these places is seen
 pub none_yet : (n k : ℕ) (old new : List Bool) → new ≡ take n old ++ replicate (n - k) false → old ≡ [] → k ≡ 0 → new ≡ replicate n false
 none_yet n k old new put none count = put ∙ ap (λ xs. take n xs ++ replicate (n - k) false) none ∙ ap (λ xs. xs ++ replicate (n - k) false) (take_all n [] (omega arith)) ∙ ap (λ m. replicate m false) (omega (arith, count))
 
--- the step that stands at a place within the list
+-- the step at a place within the list
 pub step_at : {X : Type 0} (xs : List X) (place : ℕ) (x : X) → place < length xs → x ≡ get_or xs place x → slice_get xs place ≡ Some x
 step_at xs place x l at = slice_get-get_or xs place x l ∙ ap Some (sym at)

@@ -23,7 +23,8 @@ requirement_test = λ i q r. at q r i
 pub one_test : {A : Type 0} (f g : A → A → Bool) → ((x y : A) → f x y ≡ g x y) → f ≡ g
 one_test f g h = λ i x y. h x y i
 
--- a test of nodes is the one that definitions name, by what it says of each kind and of different ones
+-- a test of nodes is the one that definitions name, by its values for each kind and for different
+-- ones
 pub node_test : {S : Type 0} (eq : ConflictNode S → ConflictNode S → Bool) (same : S → S → Bool)
     → (eq Root Root ≡ true) → ((t : S) → eq Root (Solvable t) ≡ false) → (eq Root UnresolvedDependency ≡ false) → ((w : StringId) → eq Root (Excluded w) ≡ false)
     → ((s : S) → eq (Solvable s) Root ≡ false) → ((s t : S) → eq (Solvable s) (Solvable t) ≡ same s t) → ((s : S) → eq (Solvable s) UnresolvedDependency ≡ false) → ((s : S) (w : StringId) → eq (Solvable s) (Excluded w) ≡ false)

@@ -1,4 +1,4 @@
--- The edges that true links draw are true, and stay so where the unused node is taken away.
+-- The edges of true links are true, and stay so where the unused node is removed.
 use Rattle.std.proofs.Common.{◌≡◌, ℕ, ◌+◌, ◌-◌, ◌<◌, Bool, true, false, cond, List, [], ◌∷◌, map, length, set, get_or, All, Contains, Option, Some, None, refl, sym, ap, subst, ◌∙◌, arith, inl, inr, slice_get}
 use Rattle.std.specs.Prelude.{◌==◌, swap_remove}
 use Rattle.std.specs.List.{list_any, flat_map, filter_map, cons_option, position_or_len}
@@ -132,7 +132,7 @@ module _ {N S : Type 0} (same : S → S → Bool) (p : Packages N S) (root : Rul
       All-cons (IsTrueEdge same p root (swap_remove nodes u.0 UnresolvedDependency)) (with_ends_moved (length nodes - 1) u.0 e) (map (with_ends_moved (length nodes - 1) u.0) es)
       (moved_edge nodes u e l parts.0 (All-head (IsTrueEdge same p root nodes) e es h)) (moved_edges nodes u es l parts.1 (All-tail (IsTrueEdge same p root nodes) e es h))
 
-  -- each edge stays true where the node that no edge needs is taken away
+  -- each edge stays true where the unused node is removed
   pub removal_true : (g : Graph S) → IsTrueGraph same p root g → IsTrueGraph same p root (without_unused_unresolved g)
   removal_true g h = by (unresolved_of g) refl
     where
@@ -144,7 +144,7 @@ module _ {N S : Type 0} (same : S → S → Bool) (p : Packages N S) (root : Rul
       by None e = h
       by (Some u) e = used u (has_edge_at g u) refl (unresolved_at g.nodes u e).0
 
--- where the rules and what was offered are right, each edge of what is drawn is true
+-- where the rules and the offers are right, each edge of the graph is true
 drawing_true : {N S : Type 0} (same_name : N → N → Bool) → IsExact same_name → (same : S → S → Bool) → IsExact same → (name_of : S → N) (offered : Requirement → List S) (rules : List (ProofRule N S)) (p : Packages N S) (root : Rules)
     → ((s : S) → p.package_of s ≡ name_of s) → AreRules same p root rules → AreNamed same p offered rules → IsTrueGraph same p root (conflict_drawing same_name same name_of offered rules)
 unfolding conflict_drawing
@@ -188,7 +188,7 @@ named_there rules r q c e =
     let (t, there, same) = any_contained (same_requirement q) (requirements_in rules) (has_all-at same_requirement same_requirement-self (requirements_in rules) (filter_map named_by rules) q (has_all_inserted same_requirement same_requirement-self [] (filter_map named_by rules)) (contains_filter_map named_by rules r q c e)) in
     subst (Contains (requirements_in rules)) (sym (same_requirement_true q t same)) there
 
--- what is drawn of the steps' conflict tells the truth
+-- the graph of the steps' conflict is true
 pub conflict_true : {N S : Type 0} (same_name : N → N → Bool) → IsExact same_name → (same : S → S → Bool) → IsExact same → (name_of : S → N) (offered : Requirement → List S) (steps : List (ProofStep N S))
     → TellsTruth same name_of offered steps (conflict_drawing same_name same name_of offered (conflict_rules steps))
 conflict_true same_name names same exact name_of offered steps p root of same_atom proof given =

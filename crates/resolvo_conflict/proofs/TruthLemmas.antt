@@ -44,7 +44,7 @@ all_filter_map {A} {X} P f (x ∷ xs) h = by (f x) refl (all_filter_map P f xs (
     by None e rest = rest
     by (Some y) e rest = All-cons P y (filter_map f xs) (h x (Contains-get_or (x ∷ xs) 0 x (omega arith)) y e) rest
 
--- what holds of those that pass a test, and of their parts
+-- a property of the items that pass a test, and of their parts
 all_picked : {A X : Type 0} (P : A → Type 0) (Q : X → Type 0) (test : A → Bool) (part : A → X) (xs : List A) → All P xs → ((x : A) → P x → test x ≡ true → Q (part x)) → All Q (map part (filter test xs))
 all_picked P Q test part xs h so =
     let both : All (λ x. P x × (test x ≡ true)) (filter test xs) = λ k d l. (All-filter test P xs h k d l, filter_passes test xs k d l) in
@@ -65,7 +65,7 @@ asked_need list q h =
     (any.1, (any.0, any.2, any.3), sym (one_requirement q any.1.requirement (and_parts (not (has_condition any.1.condition)) (same_requirement q any.1.requirement) any.4).1))
 
 module _ {N S : Type 0} (same_name : N → N → Bool) (names : IsExact same_name) (same : S → S → Bool) (exact : IsExact same) (name_of : S → N) (p : Packages N S) (root : Rules) (of : (s : S) → p.package_of s ≡ name_of s) where
-  -- what a link says
+  -- the claim of a link
   abbrev pub IsTrueLink : Link S → Type 0
   IsTrueLink (Links.Excluded s why) = KeepsOut same p (Encoder.Bar.word why) s
   IsTrueLink (Links.Requires parent q None) = Asks same p root parent q × ((s : S) → meets same p q s ≡ false)
@@ -191,7 +191,7 @@ module _ {N S : Type 0} (same_name : N → N → Bool) (names : IsExact same_nam
     unfolding all_links
     all_true = after_true [] rules (λ r c. c)
 
--- what holds of each link holds of those that are kept
+-- a property of each link is one of the kept links
 pub kept_true : {S : Type 0} (same : S → S → Bool) (P : Link S → Type 0) (links : List (Link S)) → All P links → All P (each_limit_once same links)
 unfolding each_limit_once
 kept_true {S} same P links h = go [] links h

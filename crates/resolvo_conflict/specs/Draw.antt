@@ -17,7 +17,8 @@ use Rattle.resolvo_conflict.specs.Links.{source_of, target_of, weight_of, ends_o
 use Rattle.resolvo_conflict.specs.LinkRules.{all_links, each_limit_once}
 
 module _ {S : Type 0} (same : S → S → Bool) where
-  -- the root, the node where requirements without candidates lead, and the others as they are first needed, each once
+  -- the root, the node of requirements without candidates, and the others in the order of the
+  -- links, each once
   abbrev pub nodes_of : List (Link S) → List (ConflictNode S)
   nodes_of links = insert_all (same_node same) (Root ∷ UnresolvedDependency ∷ []) (flat_map ends_of links)
 
@@ -36,6 +37,7 @@ module _ {S : Type 0} (same : S → S → Bool) where
   abbrev pub drawn : List (Link S) → Graph S
   drawn links = record { nodes = nodes_of links; edges = flat_map (edges_in (nodes_of links)) links }
 
--- the graph of a conflict's rules: that of their links, without the node where requirements without candidates lead, unless an edge is at it
+-- the graph of a conflict's rules: that of their links, without the node of requirements without
+-- candidates, unless an edge is at it
 unfoldable pub conflict_drawing : {N S : Type 0} → (N → N → Bool) → (S → S → Bool) → (S → N) → (Requirement → List S) → List (ProofRule N S) → Graph S
 conflict_drawing same_name same package_of offered rules = without_unused_unresolved (drawn same (each_limit_once same (all_links same_name package_of offered rules)))

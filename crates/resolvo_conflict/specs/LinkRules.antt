@@ -12,7 +12,7 @@ use Rattle.resolvo_graph.specs.Tree.{same_set}
 use Rattle.resolvo_soundness.specs.Encoding.{same_requirement}
 use Rattle.resolvo_conflict.specs.Tests.{same_limited}
 
--- who opens the gate of which requirement
+-- the parent that opens the gate of a requirement
 abbrev pub gate_in : {N S : Type 0} → ProofRule N S → Option (Requirement × S)
 gate_in (Needs parent q case) = None
 gate_in (GateOf s q) = Some (q, s)
@@ -24,7 +24,7 @@ gate_in (Excluded s why) = None
 gate_in (Digit s place bit) = None
 gate_in (AtLeastOne n s) = None
 
--- whose version set keeps out whatever is outside it
+-- the parent and its version set, which keeps out the versions outside it
 abbrev pub limit_in : {N S : Type 0} → ProofRule N S → Option (VersionSetId × Option S)
 limit_in (Needs parent q case) = None
 limit_in (GateOf s q) = None
@@ -37,7 +37,7 @@ limit_in (Excluded s why) = None
 limit_in (Digit s place bit) = None
 limit_in (AtLeastOne n s) = None
 
--- what is outside which version set
+-- the solvable outside a version set
 abbrev pub outside_in : {N S : Type 0} → ProofRule N S → Option (VersionSetId × S)
 outside_in (Needs parent q case) = None
 outside_in (GateOf s q) = None
@@ -49,7 +49,7 @@ outside_in (Excluded s why) = None
 outside_in (Digit s place bit) = None
 outside_in (AtLeastOne n s) = None
 
--- a version whose digit is told
+-- the version of a digit
 abbrev pub instance_in : {N S : Type 0} → ProofRule N S → Option S
 instance_in (Needs parent q case) = None
 instance_in (GateOf s q) = None
@@ -61,11 +61,11 @@ instance_in (Excluded s why) = None
 instance_in (Digit s place bit) = Some s
 instance_in (AtLeastOne n s) = None
 
--- those that open the gate of the requirement
+-- the parents that open the gate of the requirement
 abbrev pub requirers : {S : Type 0} → List (Requirement × S) → Requirement → List S
 requirers gates q = map (λ g. g.1) (filter (λ g. same_requirement g.0 q) gates)
 
--- those that are noted under the version set
+-- the entries of the version set
 abbrev pub under_set : {X : Type 0} → List (VersionSetId × X) → VersionSetId → List X
 under_set noted v = map (λ l. l.1) (filter (λ l. same_set l.0 v) noted)
 
@@ -74,8 +74,8 @@ abbrev pub needed : {S : Type 0} → Option S → Requirement → List S → Lis
 needed parent q [] = Links.Requires parent q None ∷ []
 needed parent q (c ∷ cs) = map (λ s. Links.Requires parent q (Some s)) (c ∷ cs)
 
--- The links of a rule with those that it is drawn together with: who opens gates, whose version sets keep others out, and what is
--- outside of them. A digit is linked to the version before it.
+-- The links of a rule with those that it is drawn together with: parents of gates, version sets of
+-- constraints, and versions outside. A digit is linked to the version before it.
 module _ {S : Type 0} (offered : Requirement → List S) (gates : List (Requirement × S)) (limits : List (VersionSetId × Option S)) (outsides : List (VersionSetId × S)) where
   abbrev pub links_at : {N : Type 0} → Option S → ProofRule N S → List (Link S)
   links_at before (Needs parent q case) = needed parent q (offered q)
@@ -94,17 +94,17 @@ module _ {N S : Type 0} (same_name : N → N → Bool) (package_of : S → N) wh
   named n None = None
   named n (Some s) = cond (same_name (package_of s) n) (Some s) None
 
-  -- the last version of the package of which a digit is told
+  -- the last version of the package that has a digit
   abbrev pub last_instance : List (ProofRule N S) → N → Option S
   last_instance [] n = None
   last_instance (r ∷ rs) n = option_or (last_instance rs n) (named n (instance_in r))
 
-  -- the version of its package that came before the one of which a rule tells a digit
+  -- the version of its package before the one whose digit a rule encodes
   abbrev pub before_in : (N → Option S) → ProofRule N S → Option S
   before_in last r = option_and_then (λ s. last (package_of s)) (instance_in r)
 
   module _ (offered : Requirement → List S) (rules : List (ProofRule N S)) where
-    -- the links of the rules that are left, after these
+    -- the links of the remaining rules, after these
     abbrev pub links_after : List (ProofRule N S) → List (ProofRule N S) → List (Link S)
     links_after earlier [] = []
     links_after earlier (r ∷ rs) = links_at offered (filter_map gate_in rules) (filter_map limit_in rules) (filter_map outside_in rules) (before_in (last_instance earlier) r) r ++ links_after (earlier ++ r ∷ []) rs
@@ -113,7 +113,7 @@ module _ {N S : Type 0} (same_name : N → N → Bool) (package_of : S → N) wh
     unfoldable pub all_links : List (Link S)
     all_links = links_after [] rules
 
--- what a limit's link joins: the parent, its version set and what that keeps out
+-- the key of a constraint's link: the parent, its version set and the solvable that this keeps out
 abbrev pub limited_in : {S : Type 0} → Link S → Option (Option S × VersionSetId × S)
 limited_in (Links.Excluded s why) = None
 limited_in (Links.Requires parent q candidate) = None
@@ -122,16 +122,16 @@ limited_in (Links.Instance before s) = None
 limited_in (Links.Constrains parent v s) = Some (parent, v, s)
 
 module _ {S : Type 0} (same : S → S → Bool) where
-  -- the link is no limit's, or joins what none of these limits joins
+  -- the link is no constraint's, or its key is not among these
   abbrev pub is_new : List (Option S × VersionSetId × S) → Option (Option S × VersionSetId × S) → Bool
   is_new joined None = true
   is_new joined (Some l) = not (list_any (same_limited same l) joined)
 
-  -- the links that are left, where these limits were drawn: each but those of limits that join the same as an earlier one
+  -- the remaining links, after these keys: of a constraint's links with the same key only the first
   abbrev pub once_after : List (Option S × VersionSetId × S) → List (Link S) → List (Link S)
   once_after joined [] = []
   once_after joined (l ∷ ls) = cond (is_new joined (limited_in l)) (l ∷ once_after (joined ++ option_to_list (limited_in l)) ls) (once_after joined ls)
 
-  -- the links, of those of limits that join the same only the first
+  -- the links, of a constraint's with the same key only the first
   unfoldable pub each_limit_once : List (Link S) → List (Link S)
   each_limit_once links = once_after [] links

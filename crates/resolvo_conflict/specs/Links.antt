@@ -1,4 +1,4 @@
--- What stands at the ends of a link, and what its edge says.
+-- The ends of a link, and the weight of its edge.
 use Rattle.std.specs.Prelude.{List, [], ◌∷◌, ◌++◌, Option, Some, None}
 use Rattle.std.specs.Option.{option_to_list}
 use Rattle.resolvo_graph.specs.declared.graph.ConflictNode.{ConflictNode}
@@ -14,7 +14,7 @@ abbrev pub parent_node : {S : Type 0} → Option S → ConflictNode S
 parent_node None = Nodes.Root
 parent_node (Some s) = Nodes.Solvable s
 
--- the node of a candidate, or the one where requirements without candidates lead
+-- the node of a candidate, or that of requirements without candidates
 abbrev pub candidate_node : {S : Type 0} → Option S → ConflictNode S
 candidate_node None = Nodes.UnresolvedDependency
 candidate_node (Some s) = Nodes.Solvable s
@@ -23,7 +23,7 @@ abbrev pub version_node : {S : Type 0} → Option S → Option (ConflictNode S)
 version_node None = None
 version_node (Some s) = Some (Nodes.Solvable s)
 
--- where the edge begins; the first version of a package has none
+-- the source of the edge; the first version of a package has none
 abbrev pub source_of : {S : Type 0} → Link S → Option (ConflictNode S)
 source_of (Excluded s why) = Some (Nodes.Solvable s)
 source_of (Requires parent q candidate) = Some (parent_node parent)
@@ -31,7 +31,7 @@ source_of (Locked locked barred) = Some Nodes.Root
 source_of (Instance before s) = version_node before
 source_of (Constrains parent v s) = Some (parent_node parent)
 
--- where the edge ends
+-- the target of the edge
 abbrev pub target_of : {S : Type 0} → Link S → ConflictNode S
 target_of (Excluded s why) = Nodes.Excluded why
 target_of (Requires parent q candidate) = candidate_node candidate
@@ -39,7 +39,7 @@ target_of (Locked locked barred) = Nodes.Solvable barred
 target_of (Instance before s) = Nodes.Solvable s
 target_of (Constrains parent v s) = Nodes.Solvable s
 
--- what the edge says
+-- the weight of the edge
 abbrev pub weight_of : {S : Type 0} → Link S → ConflictEdge S
 weight_of (Excluded s why) = Edges.Conflict Causes.Excluded
 weight_of (Requires parent q candidate) = Edges.Requires q
@@ -47,6 +47,6 @@ weight_of (Locked locked barred) = Edges.Conflict (Causes.Locked locked)
 weight_of (Instance before s) = Edges.Conflict Causes.ForbidMultipleInstances
 weight_of (Constrains parent v s) = Edges.Conflict (Causes.Constrains v)
 
--- the nodes that the edge needs, the one where it begins first
+-- the nodes of the edge, its source first
 abbrev pub ends_of : {S : Type 0} → Link S → List (ConflictNode S)
 ends_of l = option_to_list (source_of l) ++ target_of l ∷ []

@@ -1,4 +1,4 @@
--- The order of a conflict's rules: what each step of a refusal rests on, and each rule once.
+-- The order of a conflict's rules: those from which each step of a refutation follows, each once.
 use Rattle.std.specs.Prelude.{ℕ, zero, suc, ◌-◌, nat_eq, nat_lt, Bool, List, [], ◌∷◌, length, reverse, filter, slice_get, Option, Some, None}
 use Rattle.std.specs.List.{flat_map, filter_map}
 use Rattle.indexmap.specs.IndexSet.{insert_all}
@@ -12,23 +12,25 @@ use Rattle.resolvo_soundness.specs.Encoding.{same_requirement}
 abbrev pub is_earlier : ℕ → ℕ → Bool
 is_earlier place cause = nat_lt cause place
 
--- A rule rests on itself, a derived step on what its causes rest on, the last one first. A cause that is no earlier step is passed over.
+-- A rule follows from itself, a derived step from the rules of its causes, the last one first. A
+-- cause that is no earlier step is skipped.
 abbrev pub rests_on : {N S : Type 0} → (ℕ → List ℕ) → ℕ → Option (ProofStep N S) → List ℕ
 rests_on below place None = []
 rests_on below place (Some (Rule r)) = place ∷ []
 rests_on below place (Some (Derived literals causes)) = flat_map below (reverse (filter (is_earlier place) causes.items))
 
 module _ {N S : Type 0} (steps : List (ProofStep N S)) where
-  -- the rules that the step at this place rests on, as far as n steps down tell; causes are earlier, so its own place and one are enough
+  -- the rules of the step at this place, to depth n; causes are earlier, so its own place and one
+  -- are enough
   abbrev pub rules_within : ℕ → ℕ → List ℕ
   rules_within zero place = []
   rules_within (suc n) place = rests_on (rules_within n) place (slice_get steps place)
 
-  -- the places of the rules that the step at this place rests on, a rule as often as it is met
+  -- the places of the rules of the step at this place, a rule as often as it is visited
   abbrev pub rules_under : ℕ → List ℕ
   rules_under place = rules_within (suc place) place
 
-  -- the places of the conflict's rules: what the last step rests on, each rule once, at its first place
+  -- the places of the conflict's rules: those of the last step, each once, at its first place
   unfoldable pub conflict_order : List ℕ
   conflict_order = insert_all nat_eq [] (rules_under (length steps - 1))
 

@@ -1,4 +1,4 @@
--- Which limits and nodes are one.
+-- Equality of limits and of nodes.
 use Rattle.std.specs.Prelude.{◌==◌, ◌&&◌, Bool, true, false, Option, Some, None}
 use Rattle.resolvo_pool_core.specs.declared.id.VersionSetId.{VersionSetId}
 use Rattle.resolvo_graph.specs.declared.graph.ConflictNode.{ConflictNode}

@@ -30,8 +30,9 @@ module _ {N S : Type 0} (same : S → S → Bool) (p : Packages N S) (root : Rul
     pub asks : Asks parent q
     pub to : ((s : S) × (target ≡ Nodes.Solvable s) × (meets same p q s ≡ true)) ⊎ ((target ≡ Nodes.UnresolvedDependency) × ((s : S) → meets same p q s ≡ false))
 
-  -- What an edge says is true of its ends: a parent with a constraint bars a solvable outside it; the listing of a solvable locks
-  -- another one; two solvables are of one package; a solvable is excluded, or what it needs is unknown, for this reason.
+  -- The claim of an edge about its ends. A parent with a constraint forbids a solvable outside it;
+  -- the listing of a solvable locks another one; two solvables are of one package. Or a solvable is
+  -- excluded, or has unknown dependencies, for this reason.
   abbrev pub IsTrue : ConflictEdge S → ConflictNode S → ConflictNode S → Type 0
   IsTrue (Edges.Requires q) source target = IsTrueNeed q source target
   IsTrue (Edges.Conflict (Causes.Constrains v)) source target = (parent : Option S) × (s : S) × (source ≡ parent_node parent) × (target ≡ Nodes.Solvable s) × Contains (rules_for same p root parent).constraints v × (is_outside same p v s ≡ true)
@@ -39,7 +40,7 @@ module _ {N S : Type 0} (same : S → S → Bool) (p : Packages N S) (root : Rul
   IsTrue (Edges.Conflict Causes.ForbidMultipleInstances) source target = (s t : S) × (source ≡ Nodes.Solvable s) × (target ≡ Nodes.Solvable t) × (p.package_of s ≡ p.package_of t)
   IsTrue (Edges.Conflict Causes.Excluded) source target = (s : S) × (why : StringId) × (source ≡ Nodes.Solvable s) × (target ≡ Nodes.Excluded why) × KeepsOut same p (Encoder.Bar.word why) s
 
-  -- the ends of the edge are nodes, and what it says of them is true
+  -- the ends of the edge are nodes, and its claim is true
   pub record IsTrueEdge (nodes : List (ConflictNode S)) (e : Edge S) : Type 0 where
     pub source : ConflictNode S
     pub target : ConflictNode S
@@ -55,7 +56,7 @@ module _ {N S : Type 0} (same : S → S → Bool) (p : Packages N S) (root : Rul
   abbrev pub AreOffered : (Requirement → List S) → List (ProofStep N S) → Type 0
   AreOffered offered steps = (q : Requirement) → Contains (requirements_in (conflict_rules steps)) q → (s : S) → is_in same p (offered q) s ≡ meets same p q s
 
--- What a graph says that is drawn of the steps' conflict: over packages whose names these are, and a root, where the steps are a
--- proof and exactly what meets a requirement was offered for it, each edge is true.
+-- The claim of a graph of the steps' conflict, for packages with these names and a root. Each edge
+-- is true if the steps are a proof and the offers are exactly what meets each requirement.
 abbrev pub TellsTruth : {N S : Type 0} → (S → S → Bool) → (S → N) → (Requirement → List S) → List (ProofStep N S) → Graph S → Type 0
 TellsTruth {N} {S} same name_of offered steps g = (p : Packages N S) (root : Rules) → ((s : S) → p.package_of s ≡ name_of s) → (same_atom : Atom N S → Atom N S → Bool) → IsProof same_atom same p root steps → AreOffered same p root offered steps → IsTrueGraph same p root g

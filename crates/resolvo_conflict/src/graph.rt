@@ -1,5 +1,5 @@
-//! The graph of a conflict: the root, the node where requirements without candidates lead, and what the
-//! links of the conflict's rules join, in their order.
+//! The graph of a conflict: the root, the node of requirements without candidates, and the ends of
+//! the links of the rules, in their order.
 ghost use Rattle.std.specs.Prelude.{◌≡◌, ◌<◌, ◌++◌, length, IfOk, OnOk, IsOkUnless};
 ghost use Rattle.indexmap.specs.IndexSet.{insert_key, insert_all};
 ghost use Rattle.resolvo_graph.specs.declared.graph.ConflictNode.{ConflictNode};
@@ -24,8 +24,8 @@ use std::alloc::Global;
 use std::fmt::Debug;
 use std::hash::Hash;
 
-/// The graph of the conflict that a refusal's steps end in, with the candidates that were offered. Its edges are true where
-/// the steps are a proof, and exactly what meets a requirement was offered for it.
+/// The graph of the conflict in which a refutation's steps end, with the offered candidates. Its
+/// edges are true if the steps are a proof and the offers are exactly what meets each requirement.
 pub fn conflict_graph<I: Interner>(
     alloc: Global,
     interner: &I,
@@ -50,7 +50,7 @@ pub fn conflict_graph<I: Interner>(
     Ok(graph)
 }
 
-/// The root, the node where requirements without candidates lead, and what the links join.
+/// The root, the node of requirements without candidates, and the ends of the links.
 fn drawn<S: Copy + Exact + Hash + Debug>(alloc: Global, links: &[Link<S>]) -> R<ConflictGraph<S>>
     ensures graph { IfOk result (λ g. g ≡ drawn S.eq links.now) }
     ensures refusal { IsOkUnless result Memory }
@@ -63,7 +63,7 @@ fn drawn<S: Copy + Exact + Hash + Debug>(alloc: Global, links: &[Link<S>]) -> R<
     Ok(graph)
 }
 
-/// Adds a link's nodes, as far as they aren't there, and its edge.
+/// Adds the missing nodes of a link, and its edge.
 fn draw<S: Copy + Exact + Hash + Debug>(graph: &mut ConflictGraph<S>, link: Link<S>) -> R<()>
     ensures nodes { OnOk result (graph.new.nodes ≡ insert_all (same_node S.eq) graph.old.nodes
         (ends_of link)) }
@@ -84,7 +84,7 @@ fn draw<S: Copy + Exact + Hash + Debug>(graph: &mut ConflictGraph<S>, link: Link
     Ok(())
 }
 
-/// Adds a node behind the others, unless it is there, and answers its index.
+/// Adds a node after the others, unless it is there. Its index.
 fn put_node<S: Copy + Exact + Hash + Debug>(
     graph: &mut ConflictGraph<S>,
     node: ConflictNode<S>,

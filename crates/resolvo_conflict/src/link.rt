@@ -1,5 +1,5 @@
-//! What a conflict's rules say between versions, the root and reasons: the edges of its graph, before its
-//! nodes have places.
+//! The links of a conflict's rules between versions, the root and reasons: the edges of its graph,
+//! before its nodes have indices.
 ghost use Rattle.std.specs.Prelude.{◌≡◌};
 ghost use Rattle.resolvo_conflict.specs.Links.{parent_node, source_of, target_of, weight_of};
 
@@ -63,7 +63,7 @@ pub(crate) fn parent_node<S: Copy>(parent: Option<S>) -> ConflictNode<S>
 }
 
 impl<S: Copy> Link<S> {
-    /// Where the edge begins. The first version of a package has none.
+    /// The source of the edge. The first version of a package has none.
     pub fn source(self) -> Option<ConflictNode<S>>
         ensures { result ≡ source_of self }
     {
@@ -77,7 +77,7 @@ impl<S: Copy> Link<S> {
         }
     }
 
-    /// Where the edge ends.
+    /// The target of the edge.
     pub fn target(self) -> ConflictNode<S>
         ensures { result ≡ target_of self }
     {
@@ -98,7 +98,7 @@ impl<S: Copy> Link<S> {
         }
     }
 
-    /// What the edge says.
+    /// The weight of the edge.
     pub fn weight(self) -> ConflictEdge<S>
         ensures { result ≡ weight_of self }
     {

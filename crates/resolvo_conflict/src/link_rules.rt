@@ -1,4 +1,5 @@
-//! The links of a conflict's rules, rule by rule in the conflict's order, one function a kind.
+//! The links of a conflict's rules, rule by rule in the conflict's order, one function for each
+//! kind.
 ghost use Rattle.std.specs.Prelude.{◌≡◌, ◌++◌, Option, map, cond, Some, IfOk, OnOk, IsOkUnless};
 ghost use Rattle.std.specs.List.{flat_map, filter_map};
 ghost use Rattle.std.specs.Option.{option_to_list, option_or};
@@ -26,11 +27,11 @@ use std::hash::Hash;
 /// The rules that are drawn together with others, wherever these are in the conflict.
 #[derive(Drop)]
 pub(crate) struct Shares<S> {
-    /// Who opens the gate of which requirement.
+    /// The parents that open the gate of a requirement.
     gates: Vec<(Requirement, S)>,
-    /// Whose version set keeps out whatever is outside it.
+    /// The parents with a version set, which keeps out the versions outside it.
     limits: Vec<(VersionSetId, Option<S>)>,
-    /// What is outside which version set.
+    /// The solvables outside a version set.
     outsides: Vec<(VersionSetId, S)>,
 }
 
@@ -61,7 +62,7 @@ pub(crate) fn shares_of<N: Copy + Exact + Hash + Debug, S: Copy + Exact + Hash +
     Ok(shares)
 }
 
-/// Notes a rule that is drawn together with others.
+/// Records a rule that is drawn together with others.
 fn share<N: Copy + Exact + Hash + Debug, S: Copy + Exact + Hash + Debug>(
     shares: &mut Shares<S>,
     rule: &ProofRule<N, S>,
@@ -125,7 +126,7 @@ pub(crate) fn links_of<I: Interner>(
     Ok(links)
 }
 
-/// Notes the version whose digit a rule states as the last of its package, and answers the one before it.
+/// Records the version whose digit a rule encodes as the last of its package. The one before it.
 fn note_instance<I: Interner>(
     interner: &I,
     rule: &ProofRule<I::NameId, I::SolvableId>,
@@ -322,10 +323,11 @@ fn link_outside<S: Copy + Exact + Hash + Debug>(
     Ok(())
 }
 
-/// What a limit's link joins: the parent, its version set and what that keeps out.
+/// The key of a constraint's link: the parent, its version set and the solvable that this keeps
+/// out.
 type Limited<S> = (Option<S>, VersionSetId, S);
 
-/// The links, of those of limits that join the same only the first.
+/// The links, but of a constraint's links with the same key only the first.
 pub(crate) fn each_limit_once<S: Copy + Exact + Hash + Debug>(
     alloc: Global,
     links: &[Link<S>],
@@ -343,7 +345,7 @@ pub(crate) fn each_limit_once<S: Copy + Exact + Hash + Debug>(
     Ok(kept)
 }
 
-/// Whether a link is no limit's, or that of a limit that is not among these, which it then joins.
+/// Whether a link is no constraint's, or its key is not among these, to which it is added.
 fn is_new<S: Copy + Exact + Hash + Debug>(
     limits: &mut IndexSet<Limited<S>>,
     link: Link<S>,

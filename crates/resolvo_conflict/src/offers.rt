@@ -1,5 +1,5 @@
 //! The candidates that were offered for requirements, each list in the order in which it is tried.
-//! Whoever draws a conflict fills it first, from what the solver asked its provider.
+//! The caller of `conflict_graph` fills it first, from the provider's cache.
 ghost use Rattle.std.specs.Prelude.{◌≡◌, [], IfOk, OnOk, OnErr, IsErrOf, IsOkUnless, true, false};
 ghost use Rattle.resolvo_pool_core.specs.declared.requirement.Requirement.{Requirement};
 ghost use Rattle.resolvo_pool_core.specs.declared.want.Want.TheVariants.{Ids, Memory};
@@ -27,7 +27,7 @@ impl<S: Copy + Drop> Offers<S> {
         })
     }
 
-    /// Notes the candidates of a requirement. Those that were noted first stay.
+    /// Records the candidates of a requirement. Those that were recorded first are kept.
     pub fn offer(&mut self, requirement: Requirement, candidates: Vec<S>) -> R<()>
         ensures offered { OnOk result (IsOffered self.old requirement candidates.items self.new) }
         ensures err { OnErr result (self.new ≡ self.old) }
@@ -39,14 +39,14 @@ impl<S: Copy + Drop> Offers<S> {
         Ok(())
     }
 
-    /// Whether candidates were noted for a requirement, if only that there are none.
+    /// Whether candidates were recorded for a requirement, even if there are none.
     pub fn has(&self, requirement: Requirement) -> bool
         ensures { result ≡ was_offered self.now requirement }
     {
         self.lists.get(requirement).is_some()
     }
 
-    /// The candidates of a requirement; none before they were noted.
+    /// The candidates of a requirement; none before they are recorded.
     pub fn candidates(&self, requirement: Requirement) -> &[S]
         ensures { result.now ≡ offered_by self.now requirement }
     {

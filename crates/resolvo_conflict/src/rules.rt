@@ -1,6 +1,6 @@
-//! The rules of a refusal, in the conflict's order. A refusal's proof ends with a derived step; what it
-//! rests on is read from its last cause to its first, each derived cause replaced at its place by its own
-//! causes in that same order, and each rule taken once, at its first place.
+//! The rules of a refutation, in the conflict's order. The proof ends with a derived step, whose
+//! causes are read from the last to the first. A derived cause is replaced at its place by its own
+//! causes, in that same order. Each rule is listed once, at its first place.
 ghost use Rattle.std.specs.Prelude.{◌≡◌, ◌++◌, IfOk, OnOk, IsOkUnless, filter, slice_get, option_and_then};
 ghost use Rattle.std.specs.Option.{option_copied};
 ghost use Rattle.resolvo_pool_core.specs.declared.want.Want.TheVariants.{Memory};
@@ -15,7 +15,7 @@ use std::alloc::Global;
 use std::fmt::Debug;
 use std::hash::Hash;
 
-/// The places of the conflict's rules among the steps of a refusal, in the conflict's order.
+/// The places of the conflict's rules among the steps of a refutation, in the conflict's order.
 pub fn conflict_rules<N: Copy + Exact + Hash + Debug, S: Copy + Exact + Hash + Debug>(
     alloc: Global,
     steps: &[ProofStep<N, S>],
@@ -46,7 +46,7 @@ pub fn conflict_rules<N: Copy + Exact + Hash + Debug, S: Copy + Exact + Hash + D
     Ok(order)
 }
 
-/// Puts the causes before this place on top, the last one uppermost.
+/// Pushes the causes before this place on the stack, the last one on top.
 fn stack_causes(causes: &[usize], place: usize, stack: &mut Vec<usize>) -> R<()>
     ensures put { OnOk result (stack.new.items ≡ stack.old.items ++ filter (is_earlier place)
         causes.now) }

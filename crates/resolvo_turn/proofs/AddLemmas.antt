@@ -1,4 +1,4 @@
--- Clauses and parents come, step by step.
+-- Clauses and parents are added, step by step.
 use Rattle.std.proofs.Common.{◌≡◌, ℕ, inl, inr, Bool, false, suc, ◌+◌, ◌≤◌, length, List, [], ◌∷◌, ◌++◌, Option, None, Some, Vec, Global, take, drop, take-append-drop, refl, sym, ◌∙◌, ap, subst, arith}
 use Rattle.resolvo_encoder.specs.declared.encoder.EncodedOnce.{EncodedOnce}
 use Rattle.std.specs.Prelude.{slice_get, Contains}
@@ -47,41 +47,41 @@ parents_then {N} {S} a b c f g = record {
   rest = subst (λ (x : Encoder N S). c ≡ record x { parents = c.parents }) f.rest g.rest;
 }
 
--- the coding is what it was
+-- the coding is the same
 pub parents_coding : {N S : Type 0} (a b : Encoder N S) → AddsParent a b → b.coding ≡ a.coding
 parents_coding a b f = ap (λ (x : Encoder _ _). x.coding) f.rest
 
 pub parents_encoded : {N S : Type 0} (a b : Encoder N S) → AddsParent a b → b.encoded ≡ a.encoded
 parents_encoded a b f = ap (λ (x : Encoder _ _). x.encoded) f.rest
 
--- ---- an encoding in order
+-- ---- an encoding of the packages
 
 module _ {N S : Type 0} (same : S → S → Bool) (p : Packages N S) (orders : Requirement → List S → Type 0) (root : Rules) (a b : Encoder N S) where
-  -- parents more leave it so
+  -- more parents keep it one
   pub parents_in_order : IsInOrder same p orders root a → AddsParent a b → IsInOrder same p orders root b
   parents_in_order e f = record {
     encoding = parent_keeps same p root a b e.encoding f;
     ordered = subst (λ (x : Encoder N S). AreOrdered orders x) (sym f.rest) e.ordered;
   }
 
-  -- so does the search, where it leaves it one of the packages
+  -- the search keeps it one
   pub goes_in_order : GoesOn a b → (IsEncoding same p root a → IsEncoding same p root b) → IsInOrder same p orders root a → IsInOrder same p orders root b
   goes_in_order f stays e = record { encoding = stays e.encoding; ordered = ordered_stays orders a b f.grows f.rest.lists e.ordered }
 
-  -- so does a case that waits, or became a clause
+  -- a deferred or fired case keeps it one
   pub defers_in_order : Defers a b → (IsEncoding same p root a → IsEncoding same p root b) → IsInOrder same p orders root a → IsInOrder same p orders root b
   defers_in_order f stays e = record { encoding = stays e.encoding; ordered = subst (λ (x : Encoder N S). AreOrdered orders x) (sym f.rest) e.ordered }
 
   pub fires_in_order : (index : ℕ) → Fires index a b → (IsEncoding same p root a → IsEncoding same p root b) → IsInOrder same p orders root a → IsInOrder same p orders root b
   fires_in_order index f stays e = record { encoding = stays e.encoding; ordered = subst (λ (x : Encoder N S). AreOrdered orders x) (sym f.rest) e.ordered }
 
-  -- so does the end of a parent
+  -- the end of a parent keeps it one
   pub next_in_order : b ≡ record a { encoded = a.encoded + 1 } → (IsEncoding same p root a → IsEncoding same p root b) → IsInOrder same p orders root a → IsInOrder same p orders root b
   next_in_order is stays e = record { encoding = stays e.encoding; ordered = subst (λ (x : Encoder N S). AreOrdered orders x) (sym is) e.ordered }
 
--- ---- needs
+-- ---- requirements
 
--- where the trail is the same, so is the turn
+-- where the trail is the same, the turn is
 coding_turns : {N S : Type 0} (a b : Encoder N S) → b.coding ≡ a.coding → b.noted.wishes.items ≡ a.noted.wishes.items → KeepsTurns a b
 coding_turns {N} {S} a b same wishes = same_turns a b (subst (λ (x : SolverState N S). Grows a.coding x) (sym same) (grows_same a.coding)) (record { tracker = ap (λ (x : SolverState N S). x.search.tracker) same }) wishes
 
@@ -121,7 +121,7 @@ parents_needs {N} {S} a b f = record {
   fired = front_equal a.fired.keys b.fired.keys (ap (λ (x : Encoder N S). x.fired.keys) f.rest);
 }
 
--- a case that waits comes behind the others
+-- a deferred case is added after the others
 pub defers_needs : {N S : Type 0} (a b : Encoder N S) → Defers a b → AddsNeeds a b
 defers_needs {N} {S} a b f = record {
   grows = subst (λ (x : SolverState N S). Grows a.coding x) (sym (ap (λ (x : Encoder N S). x.coding) f.rest)) (grows_same a.coding);
@@ -145,7 +145,7 @@ fires_needs {N} {S} index a b f = record {
   fired = f.front;
 }
 
--- the search going on adds nothing else
+-- the search adds nothing else
 pub goes_needs : {N S : Type 0} (a b : Encoder N S) → GoesOn a b → KeepsTurns a b → AddsNeeds a b
 goes_needs {N} {S} a b f turn = record {
   grows = f.grows;
@@ -157,19 +157,19 @@ goes_needs {N} {S} a b f turn = record {
   fired = front_equal a.fired.keys b.fired.keys (ap (λ ks. ks.keys) f.rest.fired);
 }
 
--- where the case wasn't one before, one more is
+-- a case that wasn't fired before is one more
 pub fired_more : {N S : Type 0} (index : ℕ) (a b c : Encoder N S) → b.fired ≡ a.fired → (Contains a.fired.keys index → ⊥) → Fires index b c → FiresMore a c
 fired_more {N} {S} index a b c same waits f =
     let fresh : length c.fired.keys ≡ suc (length b.fired.keys) = f.fresh (λ h. waits (subst (λ ks. Contains ks.keys index) same h)) in
     let count : length b.fired.keys ≡ length a.fired.keys = ap (λ ks. length ks.keys) same in
     record { more = omega arith; bounded = f.small }
 
--- what is encoded stays so
+-- what is encoded stays encoded
 pub need_stays : {N S : Type 0} (same : S → S → Bool) (exact : IsExact same) (p : Packages N S) (root : Rules) (a b : Encoder N S) (parent : Option S) (need : ConditionalRequirement) (case : List VersionSetId) → AddsNeeds a b
     → IsNeedEncoded same p (rules_of a) parent need case → IsNeedEncoded same p (rules_of b) parent need case
 need_stays same exact p root a b parent need case f h = need_grows same exact p root a b parent need case f.grows h
 
--- a case that waits still does, or did
+-- a deferred case stays deferred, or was fired
 pub deferred_stays : {N S : Type 0} (a b : Encoder N S) (parent : Option S) (need : ConditionalRequirement) (case : List VersionSetId) → AddsNeeds a b → IsDeferred a parent need case → IsDeferred b parent need case
 deferred_stays a b parent need case f (i, d, at, one, two, three) = (i, d, front_get a.deferred.items b.deferred.items i d f.deferred at, one, two, three)
 
@@ -177,7 +177,7 @@ pub case_stays : {N S : Type 0} (same : S → S → Bool) (exact : IsExact same)
 case_stays same exact p root a b parent need case f (inl h) = inl (need_grows same exact p root a b parent need case f.grows h)
 case_stays same exact p root a b parent need case f (inr h) = inr (deferred_stays a b parent need case f h)
 
--- and one need more is
+-- and one more requirement is encoded
 pub more_encoded : {N S : Type 0} (same : S → S → Bool) (exact : IsExact same) (p : Packages N S) (root : Rules) (a b : Encoder N S) (parent : Option S) (done : List ConditionalRequirement) (last : ConditionalRequirement) → AddsNeeds a b
     → ((need : ConditionalRequirement) → Contains done need → IsConditionalEncoded same p a parent need) → IsConditionalEncoded same p b parent last
     → (need : ConditionalRequirement) → Contains (done ++ last ∷ []) need → IsConditionalEncoded same p b parent need
@@ -186,7 +186,7 @@ more_encoded same exact p root a b parent done last adds before now need h = eli
   | inr c ↦ subst (λ (x : ConditionalRequirement). IsConditionalEncoded same p b parent x) (sym (contains_one need last c)) now
 ]
 
--- one case more waits
+-- one more case is deferred
 pub more_deferred : {N S : Type 0} (a b : Encoder N S) (parent : Option S) (need : ConditionalRequirement) (done : List (List VersionSetId)) (last : List VersionSetId) → AddsNeeds a b → AreDeferred a parent need done → IsDeferred b parent need last
     → AreDeferred b parent need (done ++ last ∷ [])
 more_deferred a b parent need done last adds before now case h = elim (contains_parts case done (last ∷ []) h) [
@@ -194,7 +194,7 @@ more_deferred a b parent need done last adds before now case h = elim (contains_
   | inr c ↦ subst (λ (x : List VersionSetId). IsDeferred b parent need x) (sym (contains_one case last c)) now
 ]
 
--- what is taken stands in the list
+-- a taken item is in the list
 taken_contained : {X : Type 0} (n : ℕ) (xs : List X) (x : X) → Contains (take n xs) x → Contains xs x
 taken_contained n xs x h = subst (λ (ys : List _). Contains ys x) (take-append-drop n xs) (contains_left x (take n xs) (drop n xs) h)
 
@@ -207,7 +207,7 @@ cases_more (y ∷ xs) x = ap (λ zs. y.items ∷ zs) (cases_more xs x)
 pub taken_stands : (xs : List (Vec VersionSetId Global)) (i : ℕ) (x : Vec VersionSetId Global) → take (i + 1) xs ≡ take i xs ++ x ∷ [] → Contains (cases_of xs) x.items
 taken_stands xs i x more = contains_map (λ (v : Vec VersionSetId Global). v.items) x xs (taken_contained (i + 1) xs x (subst (λ (ys : List (Vec VersionSetId Global)). Contains ys x) (sym more) (contains_right x (take i xs) (x ∷ []) (contains_only x))))
 
--- so it is with limits, and what bars the candidates that they name
+-- constraints, and the locks and exclusions of the candidates that they name
 pub more_limited : {N S : Type 0} (same : S → S → Bool) (exact : IsExact same) (p : Packages N S) (root : Rules) (a b : Encoder N S) (parent : Option S) (done : List VersionSetId) (last : VersionSetId) → AddsNeeds a b
     → ((v : VersionSetId) → Contains done v → IsLimitEncoded same p (rules_of a) parent v × IsGuarded same p (rules_of a) (Single v)) → IsLimitEncoded same p (rules_of b) parent last × IsGuarded same p (rules_of b) (Single last)
     → (v : VersionSetId) → Contains (done ++ last ∷ []) v → IsLimitEncoded same p (rules_of b) parent v × IsGuarded same p (rules_of b) (Single v)
@@ -229,11 +229,11 @@ next_all {N} {S} same p root a b parent adds here done other at =
 none_some : {X : Type 0} (x : X) → None ≡ Some x → ⊥
 none_some x h = cc
 
--- the root's are given
+-- the root's rules are given
 pub root_rules : {N S : Type 0} (same : S → S → Bool) (p : Packages N S) (root : Rules) (requirements : List ConditionalRequirement) (constraints : List VersionSetId) → IsRoot requirements constraints root → AreRulesOf same p root None requirements constraints
 root_rules same p root requirements constraints (needs, limits) = record { requirements = needs; constraints = limits; known = λ s h. absurd (none_some s h) }
 
--- a solvable's, where they are known
+-- those of a solvable, if they are known
 pub known_rules : {N S : Type 0} (same : S → S → Bool) (p : Packages N S) (root : Rules) (s : S) (known : KnownDependencies) (requirements : List ConditionalRequirement) (constraints : List VersionSetId) → p.dependencies_of s ≡ needs_of (Known known)
     → requirements ≡ known.requirements.items → constraints ≡ known.constrains.items → AreRulesOf same p root (Some s) requirements constraints
 known_rules same p root s known requirements constraints asked needs limits = record {
@@ -242,7 +242,7 @@ known_rules same p root s known requirements constraints asked needs limits = re
   known = λ t is. subst (λ x. is_unknown (p.dependencies_of x) ≡ false) (some_one s t is) (ap is_unknown asked);
 }
 
--- a solvable whose dependencies are unknown is kept out
+-- a solvable with unknown dependencies is excluded
 pub bars_rule : {N S : Type 0} (same : S → S → Bool) (p : Packages N S) (root : Rules) (s : S) (why : StringId) → p.dependencies_of s ≡ needs_of (Unknown why) → (r : Rule N S) → Contains (Rule.bars (Bar.word why) s ∷ []) r → IsRule same p root r
 bars_rule same p root s why asked r h = subst (IsRule same p root) (sym (contains_one r (Rule.bars (Bar.word why) s) h)) (inr asked)
 
@@ -271,18 +271,18 @@ all_then a b c f g = record {
   fired = front_then a.fired.keys b.fired.keys c.fired.keys f.fired g.fired;
 }
 
--- the needs of one parent more
+-- the rules of one more parent
 pub one_more : {N S : Type 0} (a b : Encoder N S) → AddsNeeds a b → AddsParents a (record b { encoded = b.encoded + 1 })
 one_more a b f = record { grows = f.grows; wishes = f.wishes; parents = f.parents; encoded = (let x : b.encoded ≡ a.encoded = f.encoded in omega arith); deferred = f.deferred; fired = f.fired }
 
 pub needs_parents : {N S : Type 0} (a b : Encoder N S) → AddsNeeds a b → AddsParents a b
 needs_parents a b f = record { grows = f.grows; wishes = f.wishes; parents = f.parents; encoded = (let x : b.encoded ≡ a.encoded = f.encoded in omega arith); deferred = f.deferred; fired = f.fired }
 
--- the end of a parent leaves the turn
+-- the end of a parent keeps the turn
 pub next_turns : {N S : Type 0} (a b : Encoder N S) → b ≡ record a { encoded = a.encoded + 1 } → KeepsTurns a b
 next_turns {N} {S} a b is = coding_turns a b (ap (λ (x : Encoder N S). x.coding) is) (ap (λ (x : Encoder N S). x.noted.wishes.items) is)
 
--- the search going on adds no parent
+-- the search adds no parent
 pub goes_parents : {N S : Type 0} (a b : Encoder N S) → GoesOn a b → AddsParents a b
 goes_parents {N} {S} a b f = record {
   grows = f.grows;

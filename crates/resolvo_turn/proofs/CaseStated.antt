@@ -1,4 +1,4 @@
--- A case that waited becomes a clause.
+-- A deferred case becomes a clause.
 use Rattle.std.proofs.Common.{◌≡◌, ℕ, Bool, List, Some, sym, ◌∙◌, subst}
 use Rattle.std.specs.Prelude.{Contains, slice_get}
 use Rattle.resolvo_pool_core.specs.declared.id.VersionSetId.{VersionSetId}
@@ -19,7 +19,7 @@ use Rattle.resolvo_turn.specs.Encoder.{IsInOrder}
 use Rattle.resolvo_turn.proofs.AddLemmas.{fires_in_order}
 
 module _ {N S : Type 0} (same : S → S → Bool) (p : Packages N S) (orders : Requirement → List S → Type 0) (root : Rules) (index : ℕ) (old middle new : Encoder N S) (w : DeferredRequirement S) where
-  -- the encoding is one of the packages after the case was stated and noted, where the case was one of what waits
+  -- the encoding is one of the packages after a deferred case was encoded and recorded
   pub stated_in_order : IsWaiting old index w → IsInOrder same p orders root old → IsFrontOf old.deferred.items middle.deferred.items
       → (Contains (rules_for same p root w.parent).requirements w.need → Contains (cases_for same p w.need) w.case.items → IsInOrder same p orders root middle × IsNeedEncoded same p (rules_of middle) w.parent w.need w.case.items)
       → Fires index middle new → (IsEncoding same p root middle → ((d : Deferred S) → slice_get middle.deferred.items index ≡ Some d → IsNeedEncoded same p (rules_of middle) d.parent d.need (case_of d.conjuncts.items)) → IsEncoding same p root new)

@@ -1,4 +1,4 @@
--- The end of a turn, and what it tells.
+-- The end of a turn.
 use Rattle.std.proofs.Common.{◌≡◌, ℕ, ◌+◌, ◌<◌, ◌≤◌, inl, inr, Bool, true, false, nat_lt, cond, lt-ltb, le-ltb, List, [], ◌∷◌, ◌++◌, length, Option, Some, None, refl, sym, ◌∙◌, ap, subst, arith}
 use Rattle.std.specs.Prelude.{slice_get, Contains, is_some}
 use Rattle.std.proofs.lemmas.Bool.{false≢true}
@@ -29,18 +29,18 @@ use Rattle.resolvo_turn.specs.Encoder.{AddsNeeds, AddsParents, AddsAll}
 use Rattle.resolvo_turn.specs.Turn.{AddsChosen, FindsMore, FindsNone, FiresMore, GoesFurther, HasWish, IsBegunBy, IsDecisionOf, IsRooted, IsTurn, IsWhole, rounds_left}
 use Rattle.resolvo_turn.proofs.AddLemmas.{all_then, goes_parents, needs_parents, parents_needs, parents_coding, parents_then}
 
--- nothing stands from the end on
+-- there is nothing from the end on
 pub past_end : {X : Type 0} (xs : List X) (n : ℕ) → slice_get xs n ≡ None → length xs ≤ n
 past_end xs n none = elim (below_or_not n (length xs)) [
   | inl below ↦ let (x, at) = get_below xs n below in let no : None ≡ Some x = sym none ∙ at in absurd cc
   | inr past ↦ past
 ]
 
--- parents more leave it settled
+-- more parents keep the end of the search
 pub settled_parents : {N S : Type 0} (a b : Encoder N S) → AddsParent a b → IsSettled a → IsSettled b
 settled_parents {N} {S} a b f s = subst (λ (x : Encoder N S). IsSettled x) (sym f.rest) (record { quiet = s.quiet; values = s.values; score = s.score; agree = s.agree; decided = s.decided })
 
--- where the chosen solvables are parents, and no parent is left, their needs are clauses
+-- where the chosen solvables are parents, and all parents are encoded, their rules are clauses
 pub turn_whole : {N S : Type 0} (a b : Encoder N S) → AddsChosen a b → slice_get b.parents.keys 0 ≡ Some Place.Root → slice_get b.parents.keys b.encoded ≡ None → IsWhole b
 turn_whole {N} {S} a b f rooted none = λ members chosen. record {
   root = (0, (let x : 0 < length b.parents.keys = slice_get_within b.parents.keys 0 Place.Root rooted in let y : length b.parents.keys ≤ b.encoded = past_end b.parents.keys b.encoded none in omega arith), rooted);
@@ -51,11 +51,11 @@ turn_whole {N} {S} a b f rooted none = λ members chosen. record {
       (k, omega arith, at));
 }
 
--- what stands in a list stands in one that it begins
+-- an item of a list is in each list with that prefix
 pub contains_longer : {X : Type 0} (xs ys : List X) (x : X) → IsFrontOf xs ys → Contains xs x → Contains ys x
 contains_longer xs ys x (more, is) h = subst (λ (zs : List _). Contains zs x) (sym is) (contains_left x xs more h)
 
--- one parent more is there
+-- one more parent is there
 pub among_more : {N S : Type 0} (a b : Encoder N S) (done : List S) (last : S) → AddsParent a b → ((s : S) → Contains done s → Contains a.parents.keys (Place.Solvable s)) → Contains b.parents.keys (Place.Solvable last)
     → (s : S) → Contains (done ++ last ∷ []) s → Contains b.parents.keys (Place.Solvable s)
 among_more a b done last added before now s h = elim (contains_parts s done (last ∷ []) h) [
@@ -63,7 +63,7 @@ among_more a b done last added before now s h = elim (contains_parts s done (las
   | inr c ↦ subst (λ x. Contains b.parents.keys (Place.Solvable x)) (sym (contains_one s last c)) now
 ]
 
--- the chosen solvables are among the parents where those of one list that holds them are
+-- the chosen solvables are among the parents, if those of a list that includes them are
 pub chosen_added : {N S : Type 0} (a b : Encoder N S) (list : List S) → AddsParent a b → AreChosen a.coding.atoms.keys (made_true (history a.coding.search)) list → ((s : S) → Contains list s → Contains b.parents.keys (Place.Solvable s)) → AddsChosen a b
 chosen_added {N} {S} a b list added are among = record {
   added = added;
@@ -72,7 +72,7 @@ chosen_added {N} {S} a b list added are among = record {
       among s (are.all l s known means));
 }
 
--- where the search went on after all parents were encoded, they still are
+-- all parents stay encoded in the search
 pub all_goes : {N S : Type 0} (a b c : Encoder N S) → AddsAll a b → GoesOn b c → AddsAll a c
 all_goes a b c f g = record {
   adds = all_then a b c f.adds (goes_parents b c g);
@@ -87,11 +87,11 @@ some_is : {X : Type 0} (o : Option X) → is_some o ≡ true → (x : X) × (o �
 some_is None h = absurd (false≢true h)
 some_is (Some x) h = (x, refl)
 
--- the root still is the first parent
+-- the root is still the first parent
 pub still_rooted : {N S : Type 0} (a b : Encoder N S) → IsRooted a → AddsParents a b → IsRooted b
 still_rooted a b rooted adds = front_get a.parents.keys b.parents.keys 0 Place.Root adds.parents rooted
 
--- where the trail is the same, a chosen wish is chosen
+-- where the trail is the same, a soft requirement stays true
 pub wish_stays : {N S : Type 0} (wish : Option VariableId) (a b : Encoder N S) → b.coding ≡ a.coding → HasWish wish a → HasWish wish b
 wish_stays None a b same h = tt
 wish_stays {N} {S} (Some v) a b same h = subst (λ (x : SolverState N S). has (made_true (history x.search)) (yes v) ≡ true) (sym same) h
@@ -104,18 +104,18 @@ module _ {N S : Type 0} (same : S → S → Bool) (a b c : Encoder N S) (first :
   pub round_rooted : IsRooted c
   round_rooted = still_rooted a c first round_adds
 
-  -- where nothing waits and no case holds, the turn has ended
+  -- where no parent is to be encoded and no case holds, the turn has ended
   pub round_whole : (wish : Option VariableId) → IsSettled b × HasWish wish b → slice_get c.parents.keys c.encoded ≡ None → AreSpent same c → IsTurn same wish c None
   round_whole wish (settled, has) none spent = (settled_parents b c chosen.added settled, turn_whole b c chosen round_rooted none, spent, wish_stays wish b c (parents_coding b c chosen.added) has)
 
--- the turn goes further where cases became clauses
+-- there is progress where cases became clauses
 pub fires_goes : {N S : Type 0} (a b c : Encoder N S) → AddsParents a b → FiresMore b c → GoesFurther a c
 fires_goes a b c adds fires =
     let long : length a.fired.keys ≤ length b.fired.keys = front_long a.fired.keys b.fired.keys adds.fired in
     let more : length b.fired.keys < length c.fired.keys = fires.more in
     inr (inl (record { more = omega arith; bounded = fires.bounded }))
 
--- so it does where a parent waits, since none did
+-- and where there is a parent to encode, since there was none
 pub finds_goes : {N S : Type 0} (a b c : Encoder N S) → AddsAll a b → AddsNeeds b c → FindsMore b c → GoesFurther a c
 finds_goes a b c all adds (inl (waits, small)) =
     let long : length a.parents.keys ≤ length b.parents.keys = front_long a.parents.keys b.parents.keys all.adds.parents in
@@ -127,7 +127,7 @@ finds_goes a b c all adds (inl (waits, small)) =
     ]
 finds_goes a b c all adds (inr fires) = fires_goes a b c all.adds fires
 
--- what is found after a first look is found
+-- progress after the first scan is progress
 pub finds_then : {N S : Type 0} (a b c : Encoder N S) → AddsNeeds a b → FindsMore b c → FindsMore a c
 finds_then a b c adds (inl waits) = inl waits
 finds_then a b c adds (inr fires) =
@@ -135,17 +135,17 @@ finds_then a b c adds (inr fires) =
     let more : length b.fired.keys < length c.fired.keys = fires.more in
     inr (record { more = omega arith; bounded = fires.bounded })
 
--- a parent that stands at the place of the next one waits
+-- the next parent is to be encoded
 pub next_waits : {N S : Type 0} (a b : Encoder N S) → is_some (slice_get b.parents.keys b.encoded) ≡ true → b.encoded < 18446744073709551616 → FindsMore a b
 next_waits a b some small =
     let (x, at) = some_is (slice_get b.parents.keys b.encoded) some in
     inl (slice_get_within b.parents.keys b.encoded x at, small)
 
--- where parents more came before, the chosen are among them
+-- where parents were added before, the chosen are among them
 pub chosen_then : {N S : Type 0} (a b c : Encoder N S) → AddsParent a b → AddsChosen b c → AddsChosen a c
 chosen_then a b c added chosen = record { added = parents_then a b c added chosen.added; chosen = chosen.chosen }
 
--- and where nothing changed, nothing is left still
+-- and where nothing changed, still nothing is to be encoded
 pub none_same : {N S : Type 0} (same : S → S → Bool) (a b c : Encoder N S) → AddsChosen a b → is_some (slice_get b.parents.keys b.encoded) ≡ false → c ≡ b → AreSpent same c → FindsNone same a c
 none_same {N} {S} same a b c chosen none is spent = record {
   chosen = subst (λ (x : Encoder N S). AddsChosen a x) (sym is) chosen;
@@ -165,7 +165,7 @@ one_left : (b : Bool) → b ≡ false → 1 ≤ cond b 0 1
 one_left true h = absurd (false≢true (sym h))
 one_left false h = omega arith
 
--- where the turn goes further, fewer rounds are left
+-- progress leaves fewer rounds
 pub fewer_left : {N S : Type 0} (a b : Encoder N S) → AddsParents a b → GoesFurther a b → rounds_left b < rounds_left a
 fewer_left a b adds goes =
     let long : length a.fired.keys ≤ length b.fired.keys = front_long a.fired.keys b.fired.keys adds.fired in
@@ -180,9 +180,9 @@ fewer_left a b adds goes =
           omega arith)
     ]
 
--- ---- the turn's wish
+-- ---- the turn's soft requirement
 
--- a chosen wish stays so where what stood up to its level stands
+-- a true soft requirement stays true while the trail up to its level is kept
 chosen_stays : (p : List Entry) (e : Entry) (base : List Entry) (v : VariableId) → literal_of e ≡ yes v → has (made_true (p ++ e ∷ base)) (yes v) ≡ true
 chosen_stays [] e base v is = has_here (literal_of e) (made_true base) (yes v) is
 chosen_stays (d ∷ p) e base v is = has_later (literal_of d) (made_true (p ++ e ∷ base)) (yes v) (chosen_stays p e base v is)
@@ -195,22 +195,22 @@ wish_kept (Some v) a b turn h first =
     let (p, is) = first (choice_entry v c (base_of a) ∷ base_of a) (omega arith) ends in
     subst (λ (x : List Entry). has (made_true x) (yes v) ≡ true) (sym is) (chosen_stays p (choice_entry v c (base_of a)) (base_of a) v refl)
 
--- and its turn goes on
+-- and its turn is kept
 pub decided_turn : {N S : Type 0} (wish : Option VariableId) (a b : Encoder N S) → GoesOn a b → KeepsFirst a b → HasWish wish a → KeepsTurn wish a b
 decided_turn None a b goes first h = λ one. goes.grows.base_level ∙ one
 decided_turn (Some v) a b goes first h = turn_decided a b v goes first h
 
--- what was decided of the turn's wish
+-- the result of the decisions for the turn's soft requirement
 pub decided_of : {N S : Type 0} (wish : Option VariableId) (e : Encoder N S) (o : Option FinalConflict) → IsDecision e o → HasWish wish e → IsDecisionOf wish e o
 decided_of wish e None settled has = (settled, has)
 decided_of None e (Some r) refusal has = refusal
 decided_of (Some v) e (Some r) refusal has = inl (refusal, has)
 
--- so it is with a wish that is false before its turn
+-- a soft requirement that is false before its turn
 pub begun_of : {N S : Type 0} (wish : Option VariableId) (e : Encoder N S) (r : FinalConflict) → IsBegunBy wish e (Some r) → IsDecisionOf wish e (Some r)
 begun_of None e r h = absurd h
 begun_of (Some v) e r h = inr h
 
--- a refusal is of the encoding that was decided
+-- a conflict is one of the encoding that was decided
 pub refused_of : {N S : Type 0} (same : S → S → Bool) (wish : Option VariableId) (e : Encoder N S) (r : FinalConflict) (o : Option FinalConflict) → o ≡ Some r → IsDecisionOf wish e o → IsTurn same wish e (Some r)
 refused_of same wish e r o is h = subst (λ (x : Option FinalConflict). IsDecisionOf wish e x) is h

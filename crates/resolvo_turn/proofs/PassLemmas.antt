@@ -1,4 +1,4 @@
--- A pass over the cases that wait.
+-- A pass over the deferred cases.
 use Rattle.std.proofs.Common.{◌≡◌, ℕ, ◌+◌, ◌<◌, ◌≤◌, inl, inr, ◌⊎◌, Bool, true, false, length, sym, ◌∙◌, subst, arith}
 use Rattle.std.proofs.lemmas.Bool.{both_ways}
 use Rattle.resolvo_state.proofs.Growth.{below_or_not}
@@ -8,12 +8,12 @@ use Rattle.resolvo_encoder.specs.Conditions.{IsSpent}
 use Rattle.resolvo_turn.specs.Encoder.{AddsNeeds}
 use Rattle.resolvo_turn.specs.Turn.{FiresMore}
 
--- whether one did, by what the last one came to
+-- whether some case became a clause, by the result of the last one
 abbrev pub IsFired : Bool → Bool → Bool → Type 0
 IsFired before now after = ((now ≡ true) × (after ≡ true)) ⊎ ((now ≡ false) × (after ≡ before))
 
 module _ {N S : Type 0} (start e next : Encoder N S) (fired now after : Bool) where
-  -- whether cases became clauses, after one case more
+  -- whether some case became a clause, after one more case
   pub fires_on : AddsNeeds start e → (fired ≡ true → FiresMore start e) → (now ≡ true → FiresMore e next) → (now ≡ false → next ≡ e) → IsFired fired now after → after ≡ true → FiresMore start next
   fires_on adds before fires stays (inl (is, all)) h =
       let long : length start.fired.keys ≤ length e.fired.keys = front_long start.fired.keys e.fired.keys adds.fired in
@@ -26,7 +26,7 @@ module _ {N S : Type 0} (start e next : Encoder N S) (fired now after : Bool) wh
   stays_on before stays (inr (is, as_before)) h = stays is ∙ before (sym as_before ∙ h)
 
 module _ {N S : Type 0} (same : S → S → Bool) where
-  -- Cases became clauses, or none of the first ones holds and nothing changed.
+  -- Some case became a clause, or none of the first ones holds and nothing changed.
   pub record Passed (start e : Encoder N S) (fired : Bool) (count : ℕ) : Type 0 where
     pub fires : fired ≡ true → FiresMore start e
     pub unchanged : fired ≡ false → e ≡ start

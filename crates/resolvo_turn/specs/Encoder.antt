@@ -1,4 +1,4 @@
--- How the encoding of parents goes on.
+-- The encoding of parents.
 use Rattle.std.specs.Prelude.{◌≡◌, ◌≤◌, Bool, false, List, length, Option, Some, Contains}
 use Rattle.resolvo_pool_core.specs.declared.id.VersionSetId.{VersionSetId}
 use Rattle.resolvo_pool_core.specs.declared.requirement.ConditionalRequirement.{ConditionalRequirement}
@@ -22,21 +22,22 @@ pub record AreRulesOf {N S : Type 0} (same : S → S → Bool) (p : Packages N S
   pub constraints : (rules_for same p root parent).constraints ≡ limits
   pub known : (s : S) → parent ≡ Some s → is_unknown (p.dependencies_of s) ≡ false
 
--- the encoding is one of the packages, and the candidates that requirements have got are in an order of theirs
+-- the encoding is one of the packages, and the candidates of each requirement are in an order in
+-- which they may be tried
 pub record IsInOrder {N S : Type 0} (same : S → S → Bool) (p : Packages N S) (orders : Requirement → List S → Type 0) (root : Rules) (e : Encoder N S) : Type 0 where
   pub encoding : IsEncoding same p root e
   pub ordered : AreOrdered orders e
 
--- each of these cases of the parent's need waits, or did
+-- each of these cases of the parent's requirement is deferred, or was
 abbrev pub AreDeferred : {N S : Type 0} → Encoder N S → Option S → ConditionalRequirement → List (List VersionSetId) → Type 0
 AreDeferred {N} {S} e parent need cases = (case : List VersionSetId) → Contains cases case → IsDeferred e parent need case
 
--- each case of the parent's need is a clause, or waits
+-- each case of the parent's requirement is a clause, or deferred
 abbrev pub IsConditionalEncoded : {N S : Type 0} → (S → S → Bool) → Packages N S → Encoder N S → Option S → ConditionalRequirement → Type 0
 IsConditionalEncoded {N} {S} same p e parent need = (case : List VersionSetId) → Contains (cases_for same p need) case → IsCaseEncoded same p e parent need case
 
--- clauses, what they state, parents, and cases that wait or fired came behind the others; no parent more is encoded, no wish
--- came, and the turn keeps what stood before it
+-- Clauses, their kinds, parents, and deferred or fired cases may be added at the end. No more
+-- parents are encoded, no soft requirement is added, and the turn keeps the trail before it.
 pub record AddsNeeds {N S : Type 0} (old new : Encoder N S) : Type 0 where
   pub grows : Grows old.coding new.coding
   pub turn : KeepsTurns old new
@@ -46,7 +47,7 @@ pub record AddsNeeds {N S : Type 0} (old new : Encoder N S) : Type 0 where
   pub deferred : IsFrontOf old.deferred.items new.deferred.items
   pub fired : IsFrontOf old.fired.keys new.fired.keys
 
--- the same, and parents more may be encoded
+-- the same, and more parents may be encoded
 pub record AddsParents {N S : Type 0} (old new : Encoder N S) : Type 0 where
   pub grows : Grows old.coding new.coding
   pub wishes : new.noted.wishes.items ≡ old.noted.wishes.items

@@ -1,4 +1,4 @@
--- What a turn comes to.
+-- The result of a turn.
 use Rattle.std.specs.Prelude.{◌≡◌, ℕ, ◌<◌, ◌≤◌, ◌+◌, ◌-◌, ◌*◌, nat_lt, cond, ◌⊎◌, Bool, true, List, length, Option, Some, None, Contains, slice_get}
 use Rattle.resolvo_pool_core.specs.declared.id.VariableId.{VariableId}
 use Rattle.resolvo_store_core.specs.Clauses.{yes}
@@ -18,32 +18,35 @@ use Rattle.resolvo_encoder.specs.Progress.{IsSettled}
 use Rattle.resolvo_encoder.specs.Steps.{AddsParent}
 use Rattle.resolvo_encoder.specs.declared.encoder.Encoder.{Encoder}
 
--- the needs of the root and of each chosen solvable are clauses
+-- the rules of the root and of each chosen solvable are clauses
 abbrev pub IsWhole : {N S : Type 0} → Encoder N S → Type 0
 IsWhole {N} {S} e = (members : List S) → AreChosen e.coding.atoms.keys (made_true (history e.coding.search)) members → AreAmongEncoded e members
 
--- the turn's wish, if it has one, is chosen
+-- the turn's soft requirement, if there is one, is true
 abbrev pub HasWish : {N S : Type 0} → Option VariableId → Encoder N S → Type 0
 HasWish None e = Unit {0}
 HasWish (Some v) e = has (made_true (history e.coding.search)) (yes v) ≡ true
 
--- choices can't stand together, the wish's among them; or the wish is false by what stood before its turn
+-- the clauses and the turn's assumption are unsatisfiable, or the soft requirement is false by the
+-- trail before its turn
 abbrev pub IsRefusedBy : {N S : Type 0} → Option VariableId → Encoder N S → FinalConflict → Type 0
 IsRefusedBy None e r = IsRefusal e.coding.search r.literals.items r.causes.items
 IsRefusedBy (Some v) e r = (IsRefusal e.coding.search r.literals.items r.causes.items × HasWish (Some v) e) ⊎ IsTried e v (Some r)
 
--- the search for the turn's choices has nothing left to set or to choose, or can't go on
+-- nothing is left to propagate or to decide in the turn, or it is refused
 abbrev pub IsDecisionOf : {N S : Type 0} → Option VariableId → Encoder N S → Option FinalConflict → Type 0
 IsDecisionOf wish e None = IsSettled e × HasWish wish e
 IsDecisionOf wish e (Some r) = IsRefusedBy wish e r
 
--- a first try of the turn's wish: it is chosen, or this is why it is false
+-- the first try of the turn's soft requirement: it is true, or this conflict is the reason that it
+-- is false
 abbrev pub IsBegunBy : {N S : Type 0} → Option VariableId → Encoder N S → Option FinalConflict → Type 0
 IsBegunBy wish e None = HasWish wish e
 IsBegunBy None e (Some r) = ⊥
 IsBegunBy (Some v) e (Some r) = IsTried e v (Some r)
 
--- nothing is left to set, to choose or to encode, and no case that waits holds; or the turn is refused
+-- nothing is left to propagate, decide or encode, and no deferred case holds; or the turn is
+-- refused
 abbrev pub IsTurn : {N S : Type 0} → (S → S → Bool) → Option VariableId → Encoder N S → Option FinalConflict → Type 0
 IsTurn same wish e None = IsSettled e × IsWhole e × AreSpent same e × HasWish wish e
 IsTurn same wish e (Some r) = IsRefusedBy wish e r
@@ -57,35 +60,36 @@ pub record AddsChosen {N S : Type 0} (old new : Encoder N S) : Type 0 where
 abbrev pub IsRooted : {N S : Type 0} → Encoder N S → Type 0
 IsRooted e = slice_get e.parents.keys 0 ≡ Some Root
 
--- cases more became clauses
+-- more cases became clauses
 pub record FiresMore {N S : Type 0} (old new : Encoder N S) : Type 0 where
   pub more : length old.fired.keys < length new.fired.keys
   pub bounded : length new.fired.keys < 18446744073709551616
 
--- a parent waits to be encoded
+-- a parent is still to be encoded
 abbrev pub IsWaiting : {N S : Type 0} → Encoder N S → Type 0
 IsWaiting e = e.encoded < length e.parents.keys
 
--- Parents more are encoded, cases more became clauses, or a parent waits where none did.
+-- More parents are encoded, more cases became clauses, or there is a parent to encode where there
+-- was none.
 abbrev pub GoesFurther : {N S : Type 0} → Encoder N S → Encoder N S → Type 0
 GoesFurther old new = ((old.encoded < new.encoded) × (new.encoded < 18446744073709551616)) ⊎ (FiresMore old new ⊎ ((length old.parents.keys ≤ old.encoded) × IsWaiting new))
 
--- how often a turn may go further: by each parent that may be encoded, by each case that may become a clause, and once where no
--- parent waits
+-- A bound of the rounds: one for each parent and for each case that may still be encoded. One more
+-- where no parent is to be encoded.
 abbrev pub rounds_left : {N S : Type 0} → Encoder N S → ℕ
 rounds_left e = 2 * (18446744073709551616 - e.encoded) + 2 * (18446744073709551616 - length e.fired.keys) + cond (nat_lt e.encoded (length e.parents.keys)) 0 1
 
--- what a round came to: it went further, or the turn has ended
+-- the result of a round: progress, or the end of the turn
 abbrev pub IsRound : {N S : Type 0} → (S → S → Bool) → Option VariableId → Encoder N S → Encoder N S → Round → Type 0
 IsRound same wish old new Goes = GoesFurther old new
 IsRound same wish old new Whole = IsTurn same wish new None
 IsRound same wish old new (Refused r) = IsTurn same wish new (Some r)
 
--- a parent waits, or cases more became clauses
+-- there is a parent to encode, or more cases became clauses
 abbrev pub FindsMore : {N S : Type 0} → Encoder N S → Encoder N S → Type 0
 FindsMore old new = (IsWaiting new × (new.encoded < 18446744073709551616)) ⊎ FiresMore old new
 
--- the chosen solvables are among the parents, none of these waits, and no case that waits holds
+-- the chosen solvables are among the parents, all of which are encoded, and no deferred case holds
 pub record FindsNone {N S : Type 0} (same : S → S → Bool) (old new : Encoder N S) : Type 0 where
   pub chosen : AddsChosen old new
   pub none : slice_get new.parents.keys new.encoded ≡ None

@@ -1,5 +1,5 @@
-//! The search between two encodings: it sets what follows, learns and chooses, until nothing is left to choose or
-//! choices can't stand together.
+//! The CDCL loop between two encodings: propagate, learn and decide, until nothing is left to
+//! decide or the turn is refused.
 ghost use Rattle.std.specs.Prelude.{◌≡◌, ◌<◌, ◌≤◌, length, IfOk, IfErr, OnOk};
 ghost use Rattle.resolvo_pool.specs.Cached.{IsCancelledBy};
 ghost use Rattle.resolvo_pool_core.specs.RuleKeeping.{Rules};
@@ -21,10 +21,10 @@ use resolvo_sat::analyze::FinalConflict;
 use resolvo_state::solver_state::SolverState;
 use std::alloc::Global;
 
-/// How packages that clauses name come to be chosen for sooner.
+/// The activity of packages: bump and decay.
 #[derive(Clone, Copy, Debug)]
 pub struct Activity {
-    /// How much the score of a package rises by a literal of a learnt clause, in millionths.
+    /// How much a literal of a learnt clause raises the score of its package, in millionths.
     added: u64,
     /// How many millionths of each score are left after a learnt clause.
     decay: u64,
@@ -32,7 +32,7 @@ pub struct Activity {
 }
 
 impl Activity {
-    /// So much is added, and so many millionths are left.
+    /// The activity with this bump and this decay.
     pub fn new(added: u64, decay: u64) -> Activity
         requires { decay ≤ 1000000 }
         ensures { (result.added ≡ added) × (result.decay ≡ decay) }
@@ -40,7 +40,7 @@ impl Activity {
         Activity { added, decay }
     }
 
-    /// What a solver does unless the caller says otherwise.
+    /// The default of a solver.
     pub fn standard() -> Activity
         ensures { (result.added ≡ 1000000) × (result.decay ≡ 950000) }
     {
@@ -51,7 +51,7 @@ impl Activity {
     }
 }
 
-/// Raises the scores of the packages whose solvables the literals of a clause are of; then all fade.
+/// Bumps the scores of the packages of a clause's literals, then decays all scores.
 fn bump_activity<A: PackageSource, C: ScoreMap<A::NameId>>(
     answers: &A,
     coding: &SolverState<A::NameId, A::SolvableId>,
@@ -70,8 +70,7 @@ fn bump_activity<A: PackageSource, C: ScoreMap<A::NameId>>(
     Ok(())
 }
 
-/// Sets what follows, learns and chooses, until nothing is left to choose or choices can't stand
-/// together.
+/// Propagates, learns and decides, until nothing is left to decide or the turn is refused.
 pub fn decide<A: PackageSource, C: ScoreMap<A::NameId>>(
     alloc: Global,
     answers: &A,

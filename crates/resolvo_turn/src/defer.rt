@@ -1,4 +1,4 @@
-//! Cases of conditions that wait: each until every version set of its own has a chosen match.
+//! Deferred cases of conditions: each waits until every version set of its own has a chosen match.
 ghost use Rattle.std.specs.Prelude.{◌≡◌, List, Some, IfOk, IfErr, OnOk, Contains};
 ghost use Rattle.resolvo_pool.specs.Cached.{IsCancelledBy};
 ghost use Rattle.resolvo_pool_core.specs.RuleKeeping.{Rules, rules_for, is_in, is_match};
@@ -20,7 +20,7 @@ use resolvo_pool_core::want::R;
 use resolvo_store_core::conditions::DeferredConjunct;
 use std::alloc::Global;
 
-/// The solvables that are offered.
+/// The offered solvables.
 fn solvables_of<N, S: Copy>(alloc: Global, offered: &[Offered<N, S>]) -> R<Vec<S>>
     ensures { IfOk result (λ v. v.items ≡ offered_solvables offered.now) }
 {
@@ -70,7 +70,7 @@ fn conjuncts_of<A: PackageSource>(
     Ok(conjuncts)
 }
 
-/// Lets a case of a parent's need wait.
+/// Defers a case of a parent's requirement.
 fn defer_case<A: PackageSource>(
     alloc: Global,
     answers: &mut A,
@@ -103,7 +103,7 @@ fn defer_case<A: PackageSource>(
     Ok(())
 }
 
-/// Lets each case of the condition of a parent's need wait.
+/// Defers each case of the condition of a parent's requirement.
 pub fn defer_need<A: PackageSource>(
     alloc: Global,
     answers: &mut A,
@@ -137,7 +137,7 @@ pub fn defer_need<A: PackageSource>(
     Ok(())
 }
 
-/// Lets these cases of a parent's need wait.
+/// Defers these cases of a parent's requirement.
 fn defer_cases<A: PackageSource>(
     alloc: Global,
     answers: &mut A,

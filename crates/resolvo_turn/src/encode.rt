@@ -1,5 +1,5 @@
-//! What parents need and limit becomes clauses, in the order in which the parents came. Each question to the packages is asked
-//! as its turn comes.
+//! Requirements and constraints of parents become clauses, in the order of the parents. The
+//! packages are asked for each only when it is encoded.
 ghost use Rattle.std.specs.Prelude.{◌≡◌, ◌≤◌, [], length, IfErr, OnOk, Contains};
 ghost use Rattle.resolvo_pool.specs.Cached.{IsCancelledBy};
 ghost use Rattle.resolvo_pool_core.specs.RuleKeeping.{Rules, rules_for};
@@ -24,7 +24,7 @@ use resolvo_pool_core::solver_id::SolvableIdOrRoot;
 use resolvo_pool_core::want::R;
 use std::alloc::Global;
 
-/// Lets those candidates be encoded in their turn whose dependencies are at hand.
+/// Adds the candidates whose dependencies are available as parents.
 pub fn add_available<A: PackageSource>(
     answers: &A,
     encoding: &mut Encoder<A::NameId, A::SolvableId>,
@@ -40,7 +40,7 @@ pub fn add_available<A: PackageSource>(
     Ok(())
 }
 
-/// States what locks and exclusions keep out of a package, once.
+/// Encodes the locks and exclusions of a package, once.
 fn bar_package<A: PackageSource>(
     alloc: Global,
     answers: &mut A,
@@ -74,7 +74,7 @@ fn bar_package<A: PackageSource>(
     Ok(())
 }
 
-/// States what locks and exclusions keep out of these packages.
+/// Encodes the locks and exclusions of these packages.
 fn bar_packages<A: PackageSource>(
     alloc: Global,
     answers: &mut A,
@@ -107,7 +107,7 @@ fn bar_packages<A: PackageSource>(
     Ok(())
 }
 
-/// States what locks and exclusions keep out of the packages of a requirement.
+/// Encodes the locks and exclusions of the packages of a requirement.
 pub fn guard<A: PackageSource>(
     alloc: Global,
     answers: &mut A,
@@ -137,7 +137,7 @@ pub fn guard<A: PackageSource>(
     Ok(())
 }
 
-/// States that a parent needs one of the candidates of a requirement, whose packages are guarded.
+/// Encodes that a parent needs a candidate of a requirement, whose packages are guarded.
 fn require<A: PackageSource>(
     alloc: Global,
     answers: &mut A,
@@ -171,7 +171,8 @@ fn require<A: PackageSource>(
     Ok(())
 }
 
-/// States that a parent needs one of the candidates of a requirement without a condition, and what bars them.
+/// Encodes that a parent needs a candidate of a requirement without a condition, and the locks and
+/// exclusions of the candidates.
 fn encode_plain_need<A: PackageSource>(
     alloc: Global,
     answers: &mut A,
@@ -202,7 +203,7 @@ fn encode_plain_need<A: PackageSource>(
     Ok(())
 }
 
-/// States what a parent needs of a requirement, or lets it wait where it has a condition.
+/// Encodes a requirement of a parent, or defers its cases if it has a condition.
 fn encode_need<A: PackageSource>(
     alloc: Global,
     answers: &mut A,
@@ -241,7 +242,7 @@ fn encode_need<A: PackageSource>(
     }
 }
 
-/// States what a parent needs.
+/// Encodes the requirements of a parent.
 fn encode_needs<A: PackageSource>(
     alloc: Global,
     answers: &mut A,
@@ -279,7 +280,7 @@ fn encode_needs<A: PackageSource>(
     Ok(())
 }
 
-/// States that a parent's version set keeps out the candidates outside it.
+/// Encodes that a parent's constraint keeps out the candidates outside it.
 fn limit<A: PackageSource>(
     alloc: Global,
     answers: &mut A,
@@ -311,7 +312,8 @@ fn limit<A: PackageSource>(
     Ok(())
 }
 
-/// States that a parent's version set keeps out the candidates outside it, and what bars the others.
+/// Encodes that a parent's constraint keeps out the candidates outside it, and the locks and
+/// exclusions of the others.
 fn encode_limit<A: PackageSource>(
     alloc: Global,
     answers: &mut A,
@@ -345,7 +347,7 @@ fn encode_limit<A: PackageSource>(
     Ok(())
 }
 
-/// States what a parent limits.
+/// Encodes the constraints of a parent.
 fn encode_limits<A: PackageSource>(
     alloc: Global,
     answers: &mut A,
@@ -385,7 +387,7 @@ fn encode_limits<A: PackageSource>(
     Ok(())
 }
 
-/// States what a parent, whose dependencies are known, needs and limits.
+/// Encodes the requirements and constraints of a parent with known dependencies.
 fn encode_rules<A: PackageSource>(
     alloc: Global,
     answers: &mut A,
@@ -417,7 +419,7 @@ fn encode_rules<A: PackageSource>(
     Ok(())
 }
 
-/// States what a solvable, or the root, whose rules are given, needs and limits.
+/// Encodes the rules of a solvable, or of the root, which are given.
 fn encode_parent<A: PackageSource>(
     alloc: Global,
     answers: &mut A,
@@ -469,7 +471,7 @@ fn encode_parent<A: PackageSource>(
     }
 }
 
-/// States what each parent needs and limits that wasn't encoded yet.
+/// Encodes the rules of each parent that isn't encoded yet.
 pub fn encode_parents<A: PackageSource>(
     alloc: Global,
     answers: &mut A,

@@ -1,4 +1,5 @@
-//! Cases of conditions that hold become clauses. Each was deferred until each of its version sets had a chosen match.
+//! Cases of conditions that hold become clauses. Each was deferred until all its version sets had a
+//! chosen match.
 ghost use Rattle.std.specs.Prelude.{◌≡◌, ◌<◌, ℕ, true, false, length, IfOk, IfErr, OnOk, Contains};
 ghost use Rattle.resolvo_pool.specs.Cached.{IsCancelledBy};
 ghost use Rattle.resolvo_pool_core.specs.RuleKeeping.{Rules, rules_for};
@@ -20,7 +21,7 @@ use resolvo_pool_core::id::VersionSetId;
 use resolvo_pool_core::requirement::ConditionalRequirement;
 use std::alloc::Global;
 
-/// A version set of a case, with its package and the candidates of that which don't match it.
+/// A version set of a case, with its package and the candidates that don't match it.
 fn set_of<A: PackageSource>(
     answers: &mut A,
     version_set: VersionSetId,
@@ -38,7 +39,7 @@ fn set_of<A: PackageSource>(
     })
 }
 
-/// The version sets of a case, each with its package and the candidates of that which don't match it.
+/// The version sets of a case, each with its package and the candidates that don't match it.
 fn sets_of<A: PackageSource>(
     alloc: Global,
     answers: &mut A,
@@ -57,7 +58,7 @@ fn sets_of<A: PackageSource>(
     Ok(sets)
 }
 
-/// States a case of a parent's need, whose packages are guarded.
+/// Encodes a case of a parent's requirement, whose packages are guarded.
 fn state_case<A: PackageSource>(
     alloc: Global,
     answers: &mut A,
@@ -96,7 +97,7 @@ fn state_case<A: PackageSource>(
     Ok(())
 }
 
-/// States a case of a parent's need, and what bars its candidates.
+/// Encodes a case of a parent's requirement, and the locks and exclusions of its candidates.
 fn encode_case<A: PackageSource>(
     alloc: Global,
     answers: &mut A,
@@ -132,7 +133,7 @@ fn encode_case<A: PackageSource>(
     Ok(())
 }
 
-/// States the case that waits at this place.
+/// Encodes the deferred case at this place.
 fn fire<A: PackageSource>(
     alloc: Global,
     answers: &mut A,
@@ -163,7 +164,7 @@ fn fire<A: PackageSource>(
     Ok(())
 }
 
-/// States the case that waits at this place, if it holds. Whether it was stated.
+/// Encodes the deferred case at this place, if it holds. Answers whether it did.
 fn fire_if_due<A: PackageSource>(
     alloc: Global,
     answers: &mut A,
@@ -196,8 +197,8 @@ fn fire_if_due<A: PackageSource>(
     Ok(true)
 }
 
-/// States each case that waits and holds, in the order in which they came. Whether there was one; if there was none, nothing
-/// changed.
+/// Encodes each deferred case that holds, in their order. Answers whether there was one; if not,
+/// nothing changed.
 pub fn fire_cases<A: PackageSource>(
     alloc: Global,
     answers: &mut A,
@@ -230,8 +231,8 @@ pub fn fire_cases<A: PackageSource>(
     Ok(has_fired)
 }
 
-/// States those of the cases at these places that wait and hold, in this order. Whether there was one; if there was none, nothing
-/// changed.
+/// Encodes the deferred cases at these places that hold, in this order. Answers whether there was
+/// one; if not, nothing changed.
 pub fn fire_each<A: PackageSource>(
     alloc: Global,
     answers: &mut A,

@@ -1,4 +1,5 @@
-//! How far a turn has looked: a round looks at what came since. Nothing rests on it, since before a turn ends all is looked at.
+//! How far a turn has scanned the trail: a round scans what is new. No contract depends on it,
+//! since before a turn ends all is scanned.
 use indexmap::IndexSet;
 use resolvo_encoder::encoder::Encoder;
 use resolvo_packages::package_source::PackageSource;
@@ -8,19 +9,19 @@ use std::alloc::Global;
 use std::fmt::Debug;
 use std::hash::Hash;
 
-/// How far the trail was looked at, and which cases that wait may hold by what was chosen since.
+/// How far the trail is scanned, and which deferred cases may hold by the choices since.
 pub struct Looked<N: Copy + Eq + Hash> {
-    /// So many first entries of the trail were looked at.
+    /// The number of scanned entries of the trail.
     entries: usize,
     /// The packages that the listed cases name.
     names: IndexSet<N>,
     /// The places of the listed cases that name each of them.
     places: Vec<Vec<usize>>,
-    /// So many of the cases that wait are listed.
+    /// The number of listed cases, of those that are deferred.
     listed: usize,
-    /// The places of listed cases that may hold by what was chosen since they were looked at.
+    /// The places of listed cases that may hold by the choices since their last scan.
     touched: Vec<usize>,
-    /// Whether each case was looked at once.
+    /// Whether each case was scanned once.
     is_begun: bool,
 }
 
@@ -39,7 +40,7 @@ impl<N: Copy + Eq + Hash> Drop for Looked<N> {
 }
 
 impl<N: Copy + Exact + Hash + Debug> Looked<N> {
-    /// Where so many entries stand before the turn, and no case was looked at in it.
+    /// The scan of a new turn: the trail has this many entries, and no case is scanned.
     pub(crate) fn begin(alloc: Global, entries: usize) -> Looked<N> {
         Looked {
             entries,
@@ -51,28 +52,28 @@ impl<N: Copy + Exact + Hash + Debug> Looked<N> {
         }
     }
 
-    /// Whether each case was looked at once.
+    /// Whether each case was scanned once.
     pub(crate) fn is_begun(&self) -> bool {
         self.is_begun
     }
 
-    /// The places of the cases that may hold, in their order and each once, where they were found.
+    /// The places of the cases that may hold, sorted and each once after `find_touched`.
     pub(crate) fn touched(&self) -> &[usize] {
         self.touched.as_slice()
     }
 
-    /// The cases that may hold were looked at.
+    /// Forgets the cases that may hold: they are scanned.
     pub(crate) fn end_touched(&mut self) {
         self.touched.clear();
     }
 
-    /// Entries were taken from the trail, and one came since at most.
+    /// Follows a backjump, after which the trail got one entry at most.
     pub(crate) fn go_back<S: Copy + Exact + Hash + Debug>(&mut self, encoding: &Encoder<N, S>) {
         let end = encoding.coding.search.tracker.stack().len();
         self.entries = self.entries.min(end.saturating_sub(1));
     }
 
-    /// The solvables that were chosen since the trail was looked at, in its order. It has been looked at then.
+    /// The solvables that were chosen since the last scan of the trail, in its order. Scans it.
     pub(crate) fn new_chosen<S: Copy + Exact + Hash + Debug>(
         &mut self,
         alloc: Global,
@@ -92,7 +93,7 @@ impl<N: Copy + Exact + Hash + Debug> Looked<N> {
         Ok(chosen)
     }
 
-    /// The cases that name this package may hold.
+    /// Marks the cases that name this package: they may hold.
     pub(crate) fn touch(&mut self, name: N) -> R<()> {
         if let Some(index) = self.names.get_index_of(&name) {
             if let Some(places) = self.places.get(index) {
@@ -102,7 +103,7 @@ impl<N: Copy + Exact + Hash + Debug> Looked<N> {
         Ok(())
     }
 
-    /// The case at this place names a package.
+    /// Records that the case at this place names a package.
     fn name(&mut self, alloc: Global, name: N, place: usize) -> R<()> {
         let (index, is_new) = self.names.insert_full(name)?;
         if is_new {
@@ -115,7 +116,7 @@ impl<N: Copy + Exact + Hash + Debug> Looked<N> {
     }
 }
 
-/// All entries and all cases were looked at.
+/// Marks all entries and all cases as scanned.
 pub(crate) fn note_all<A: PackageSource>(
     alloc: Global,
     answers: &A,
@@ -129,7 +130,7 @@ pub(crate) fn note_all<A: PackageSource>(
     Ok(())
 }
 
-/// Finds the cases that may hold by what was chosen since they were looked at, and those that came since.
+/// Finds the cases that may hold by the choices since their last scan, and the new ones.
 pub(crate) fn find_touched<A: PackageSource>(
     alloc: Global,
     answers: &A,
@@ -142,7 +143,7 @@ pub(crate) fn find_touched<A: PackageSource>(
     Ok(())
 }
 
-/// Lists the cases that came since, which may hold.
+/// Lists the new cases, which may hold.
 fn list<A: PackageSource>(
     alloc: Global,
     answers: &A,

@@ -1,5 +1,6 @@
-//! A turn, the root's or that of a wish: what was asked for is encoded, the wish is chosen, then decisions are made; what was
-//! chosen and isn't encoded yet is, in the order of the trail, then cases of conditions that hold, until nothing is left to encode.
+//! A turn, the root's or that of a soft requirement: encode, assume the soft requirement, decide.
+//! Then encode the chosen solvables in the order of the trail, then the cases that hold, until
+//! nothing is new.
 ghost use Rattle.std.specs.Prelude.{◌≡◌, true, false, IfOk, IfErr, OnOk};
 ghost use Rattle.resolvo_pool.specs.Cached.{IsCancelledBy};
 ghost use Rattle.resolvo_pool_core.specs.RuleKeeping.{Packages, Rules, IsLawful};
@@ -29,7 +30,7 @@ use std::alloc::Global;
 use std::fmt::Debug;
 use std::hash::Hash;
 
-/// What a turn is for: what the root asks for, and the wish whose turn it is, if it isn't the root's.
+/// The goal of a turn: the root's rules, and the soft requirement, unless the turn is the root's.
 #[derive(Debug, Drop)]
 struct Aim<'a> {
     requirements: &'a [ConditionalRequirement],
@@ -37,7 +38,7 @@ struct Aim<'a> {
     wish: Option<VariableId>,
 }
 
-/// Lets the needs of each chosen solvable be encoded in its turn, in the order of the trail.
+/// Adds each chosen solvable as a parent, in the order of the trail.
 fn add_chosen<N: Copy + Exact + Hash + Debug, S: Copy + Exact + Hash + Debug>(
     alloc: Global,
     encoding: &mut Encoder<N, S>,
@@ -52,7 +53,7 @@ fn add_chosen<N: Copy + Exact + Hash + Debug, S: Copy + Exact + Hash + Debug>(
     Ok(())
 }
 
-/// Whether some clause from this number on has no literal that is true or open.
+/// Whether some clause from this number on is falsified.
 fn is_any_broken(search: &SatState, from: usize) -> bool {
     let values = search.tracker.map();
     let clauses = search.clauses.iter().rest;
@@ -64,7 +65,7 @@ fn is_any_broken(search: &SatState, from: usize) -> bool {
     })
 }
 
-/// Takes the turn's choices away where one of the clauses from this number on is broken.
+/// Undoes the turn's decisions if one of the clauses from this number on is falsified.
 fn undo_broken<N: Copy + Exact + Hash + Debug, S: Copy + Exact + Hash + Debug>(
     encoding: &mut Encoder<N, S>,
     from: usize,
@@ -85,7 +86,7 @@ fn undo_broken<N: Copy + Exact + Hash + Debug, S: Copy + Exact + Hash + Debug>(
     }
 }
 
-/// Encodes what is asked for. Where a clause that came is broken by choices, these are taken away.
+/// Encodes all parents. Undoes the turn's decisions if a new clause is falsified.
 fn encode<A: PackageSource>(
     alloc: Global,
     answers: &mut A,
@@ -117,8 +118,8 @@ fn encode<A: PackageSource>(
     Ok(())
 }
 
-/// States the cases that hold, when nothing is left to decide. Whether there was one; if there was none, nothing changed.
-/// Where a clause that came is broken by choices, these are taken away.
+/// Encodes the cases that hold, when nothing is left to decide. Answers whether there was one; if
+/// not, nothing changed. Undoes the turn's decisions if a new clause is falsified.
 fn fire<A: PackageSource>(
     alloc: Global,
     answers: &mut A,
@@ -152,7 +153,8 @@ fn fire<A: PackageSource>(
     Ok(true)
 }
 
-/// Chooses the turn's wish, if it has one and it isn't chosen. Where it is false before its turn, this tells why.
+/// Assumes the turn's soft requirement, if there is one and it isn't true. The conflict, if it is
+/// false.
 fn choose_first<N: Copy + Exact + Hash + Debug, S: Copy + Exact + Hash + Debug>(
     alloc: Global,
     encoding: &mut Encoder<N, S>,
@@ -177,7 +179,7 @@ fn choose_first<N: Copy + Exact + Hash + Debug, S: Copy + Exact + Hash + Debug>(
     }
 }
 
-/// Chooses the turn's wish, and decides what it leaves open.
+/// Assumes the turn's soft requirement, and decides the rest.
 fn choose_and_decide<A: PackageSource, C: ScoreMap<A::NameId>>(
     alloc: Global,
     answers: &A,
@@ -211,7 +213,7 @@ fn choose_and_decide<A: PackageSource, C: ScoreMap<A::NameId>>(
     Ok(refusal)
 }
 
-/// Encodes what is asked for, and decides.
+/// Encodes all parents, and decides.
 fn encode_and_decide<A: PackageSource, C: ScoreMap<A::NameId>>(
     alloc: Global,
     answers: &mut A,
@@ -252,8 +254,8 @@ fn encode_and_decide<A: PackageSource, C: ScoreMap<A::NameId>>(
     Ok(refusal)
 }
 
-/// Lets the needs of each solvable that was chosen since the trail was looked at be encoded in its turn; cases that name its
-/// package may hold.
+/// Adds each solvable that was chosen since the last scan as a parent. Marks the cases that name
+/// its package.
 fn add_new_chosen<A: PackageSource>(
     alloc: Global,
     answers: &A,
@@ -270,8 +272,9 @@ fn add_new_chosen<A: PackageSource>(
     Ok(())
 }
 
-/// States the cases that hold by what was chosen since they were looked at, once each was. Whether there was one; if there was
-/// none, nothing changed. Where a clause that came is broken by choices, these are taken away.
+/// Encodes the cases that hold by the choices since their last scan, once each was scanned.
+/// Answers whether there was one; if not, nothing changed. Undoes the turn's decisions if a new
+/// clause is falsified.
 fn fire_touched<A: PackageSource>(
     alloc: Global,
     answers: &mut A,
@@ -309,7 +312,8 @@ fn fire_touched<A: PackageSource>(
     Ok(true)
 }
 
-/// Looks at what was chosen since the trail was looked at. Whether a parent waits then, or a case became a clause.
+/// Scans the choices since the last scan. Whether there is a parent to encode then, or a case
+/// became a clause.
 fn look_at_new<A: PackageSource>(
     alloc: Global,
     answers: &mut A,
@@ -341,7 +345,8 @@ fn look_at_new<A: PackageSource>(
     Ok(has_fired)
 }
 
-/// Looks at all that is chosen, and at all cases that wait. Whether a parent waits then, or a case became a clause.
+/// Scans all that is chosen, and all deferred cases. Whether there is a parent to encode then, or a
+/// case became a clause.
 fn look_at_all<A: PackageSource>(
     alloc: Global,
     answers: &mut A,
@@ -374,19 +379,19 @@ fn look_at_all<A: PackageSource>(
     Ok(has_fired)
 }
 
-/// What a round came to.
+/// The result of a round.
 #[derive(Debug, Drop)]
 enum Round {
-    /// A chosen solvable is to be encoded, or a case became a clause.
+    /// There is a parent to encode, or a case became a clause.
     Goes,
-    /// Nothing is left to set, to choose or to encode.
+    /// Nothing is left to propagate, decide or encode.
     Whole,
-    /// Choices can't stand together.
+    /// The turn is refused.
     Refused(FinalConflict),
 }
 
-/// Encodes what is asked for, chooses the turn's wish, decides, and lets what was chosen be encoded in the next round. Where nothing was, the cases
-/// that hold become clauses.
+/// Encodes, assumes the turn's soft requirement, decides, and adds what was chosen as parents of
+/// the next round. If there is none, the cases that hold become clauses.
 fn run_round<A: PackageSource, C: ScoreMap<A::NameId>>(
     alloc: Global,
     answers: &mut A,
@@ -432,7 +437,7 @@ fn run_round<A: PackageSource, C: ScoreMap<A::NameId>>(
     }
 }
 
-/// Goes round after round, until nothing is left to encode or to choose, or choices can't stand together.
+/// Runs rounds until nothing is left to encode or decide, or the turn is refused.
 pub fn run_turn<A: PackageSource, C: ScoreMap<A::NameId>>(
     alloc: Global,
     answers: &mut A,

@@ -5,7 +5,7 @@ use Rattle.resolvo_conflict.specs.Offered.{was_offered, offered_by}
 use Rattle.resolvo.specs.Conflicts.{IsRightOffer}
 use Rattle.resolvo.proofs.conflict.offers_for.Given as goal
 
--- the requirements so far were asked for, and what was offered is right
+-- the requirements so far have offers, which are right
 abbrev pub invariant-loop-requirement : goal.invariant-loop-requirement
 invariant-loop-requirement g l = record {
   same : l.answers ≡ l.initial.answers;

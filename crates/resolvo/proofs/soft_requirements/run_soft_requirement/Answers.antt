@@ -11,7 +11,7 @@ use Rattle.resolvo.specs.Wished.{IsCandidate}
 use Rattle.resolvo.proofs.Outcomes.{noted_in_order, noted_keeps, noted_stood, noted_wish, closed_in_order, closed_keeps, closed_outcome, closed_told, turn_closable}
 use Rattle.resolvo.proofs.soft_requirements.run_soft_requirement.Goals as goal
 
--- what is offered is a candidate of its package
+-- the offered solvable is a candidate of its package
 candidate_listed : {N S : Type 0} (same : S → S → Bool) (p : Packages N S) (s : S) (name : N) → name ≡ p.package_of s → IsCandidate same p s → IsListed same p (record { solvable = s; name = name })
 candidate_listed {N} same p s name is candidate = (is, subst (λ (n : N). is_in same p (listed (p.candidates_of n)) s ≡ true) (sym is) candidate)
 

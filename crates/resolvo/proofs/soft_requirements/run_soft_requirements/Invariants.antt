@@ -8,7 +8,7 @@ use Rattle.resolvo.specs.Turns.{AreAt, AreRight, HaveReasons, IsRootOf}
 use Rattle.resolvo.specs.Wished.{AreCandidates}
 use Rattle.resolvo.proofs.soft_requirements.run_soft_requirements.Given as goal
 
--- the turns of the first wishes are told, and what is told of them is right
+-- the turns of the first soft requirements are recorded, and right
 abbrev pub invariant-loop-wish : goal.invariant-loop-wish
 invariant-loop-wish g l = record {
   same : l.answers ≡ l.initial.answers;

@@ -3,7 +3,7 @@ use Rattle.indexmap.specs.IndexSet.{insert_all}
 use Rattle.resolvo_store_core.specs.AtMostOne.{IsFrontOf}
 use Rattle.resolvo.proofs.turns.list_each.Given as goal
 
--- the others stand in front, and the first ones came behind them
+-- the earlier ones are a prefix, and the first ones are added after them
 abbrev pub invariant-loop-solvable : goal.invariant-loop-solvable
 invariant-loop-solvable g l = record {
   adds : IsFrontOf l.initial.listed.keys l.listed.keys;

@@ -5,7 +5,8 @@ use Rattle.resolvo_conflict.specs.Order.{rules_at}
 use Rattle.resolvo_conflict.specs.LinkRules.{last_instance, links_after, all_links}
 use Rattle.resolvo_conflict.proofs.link_rules.links_of.Given as goal
 
--- the links so far, and those of the rules that are left, are the links of all; the last version of each package is noted
+-- the links so far and those of the remaining rules are all links; the last version of each package
+-- is recorded
 abbrev pub invariant-loop-place : goal.invariant-loop-place
 invariant-loop-place g l = record {
   links : l.links.items ++ links_after g.I.NameId.PartialEq.eq (g.I.Interner.name_of_solvable l.interner) (offered_by l.offers) (rules_at l.steps l.order) (rules_at l.steps (take l.place-index l.order)) (rules_at l.steps (drop l.place-index l.order))

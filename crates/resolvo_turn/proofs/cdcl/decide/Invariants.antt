@@ -6,7 +6,7 @@ use Rattle.resolvo_encoder.specs.Progress.{GoesOn}
 use Rattle.resolvo_turn.specs.Encoder.{IsInOrder}
 use Rattle.resolvo_turn.proofs.cdcl.decide.Given as goal
 
--- the encoding is one of the packages, and the search went on
+-- the encoding is one of the packages, and extends the first one
 abbrev pub invariant-loop-encoding : goal.invariant-loop-encoding
 invariant-loop-encoding g l = record {
   stays : (root : Rules) → IsInOrder g.A.SolvableId.PartialEq.eq (g.A.PackageSource.packages l.fn.answers) (g.A.PackageSource.orders l.fn.answers) root l.initial.encoding

@@ -8,7 +8,7 @@ use Rattle.resolvo_encoder.specs.Steps.{IsBuilt}
 use Rattle.resolvo_turn.specs.Encoder.{IsInOrder, AddsNeeds, AreDeferred}
 use Rattle.resolvo_turn.proofs.defer.defer_cases.Given as goal
 
--- the cases so far wait
+-- the cases so far are deferred
 abbrev pub invariant-loop-case : goal.invariant-loop-case
 invariant-loop-case g l = record {
   same : l.answers ≡ l.initial.answers;

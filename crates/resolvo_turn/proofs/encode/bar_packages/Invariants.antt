@@ -7,7 +7,7 @@ use Rattle.resolvo_encoder.specs.Steps.{IsBuilt}
 use Rattle.resolvo_turn.specs.Encoder.{IsInOrder, AddsNeeds}
 use Rattle.resolvo_turn.proofs.encode.bar_packages.Given as goal
 
--- what bars solvables of the packages so far is stated
+-- the locks and exclusions of the packages so far are encoded
 abbrev pub invariant-loop-name : goal.invariant-loop-name
 invariant-loop-name g l = record {
   same : l.answers ≡ l.initial.answers;

@@ -8,7 +8,7 @@ use Rattle.resolvo_encoder.specs.Steps.{IsBuilt}
 use Rattle.resolvo_turn.specs.Encoder.{IsInOrder, AddsNeeds}
 use Rattle.resolvo_turn.proofs.encode.encode_limits.Given as goal
 
--- the limits so far are clauses
+-- the constraints so far are clauses
 abbrev pub invariant-loop-version_set : goal.invariant-loop-version_set
 invariant-loop-version_set g l = record {
   same : l.answers ≡ l.initial.answers;

@@ -6,7 +6,7 @@ use Rattle.resolvo_encoder.specs.Steps.{IsBuilt}
 use Rattle.resolvo_turn.specs.Encoder.{IsInOrder, AddsNeeds, IsConditionalEncoded}
 use Rattle.resolvo_turn.proofs.encode.encode_needs.Given as goal
 
--- the needs so far are clauses, or wait
+-- the requirements so far are clauses, or deferred
 abbrev pub invariant-loop-need : goal.invariant-loop-need
 invariant-loop-need g l = record {
   same : l.answers ≡ l.initial.answers;

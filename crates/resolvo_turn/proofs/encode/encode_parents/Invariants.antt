@@ -5,7 +5,7 @@ use Rattle.resolvo_encoder.specs.Steps.{IsBuilt}
 use Rattle.resolvo_turn.specs.Encoder.{IsInOrder, IsRoot, AddsParents}
 use Rattle.resolvo_turn.proofs.encode.encode_parents.Given as goal
 
--- the encoding is one of the packages, with parents more
+-- the encoding is one of the packages, with more parents
 abbrev pub invariant-loop-parent : goal.invariant-loop-parent
 invariant-loop-parent g l = record {
   same : l.answers ≡ l.initial.answers;

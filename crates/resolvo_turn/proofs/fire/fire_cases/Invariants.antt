@@ -5,7 +5,7 @@ use Rattle.resolvo_turn.specs.Encoder.{IsInOrder, AddsNeeds}
 use Rattle.resolvo_turn.proofs.PassLemmas.{Passed}
 use Rattle.resolvo_turn.proofs.fire.fire_cases.Given as goal
 
--- cases so far became clauses, or none of them held and nothing changed
+-- some case so far became a clause, or none of them holds and nothing changed
 abbrev pub invariant-loop-index : goal.invariant-loop-index
 invariant-loop-index g l = record {
   same : l.answers ≡ l.initial.answers;
