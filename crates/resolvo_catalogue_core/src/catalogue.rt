@@ -127,7 +127,7 @@ impl Catalogue {
         self.table.lines_of(version)
     }
 
-    /// The line that forbids the version: one that locks another version of its package, or else its
+    /// The line that forbids the version: one that locks another version of its package, else its
     /// `exclude` line.
     pub fn barred(&self, version: VersionNo) -> Option<u32>
         ensures { IsOnly result

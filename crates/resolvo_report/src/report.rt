@@ -1,6 +1,6 @@
 //! Reports and their lines.
 //!
-//! Their models are in specs/Value.antt. The reader makes them, the writer takes them, and the judge
+//! Their models are in specs/Value.antt. The reader makes them and the writer takes them. The judge
 //! reads a report line by line.
 
 use crate::step::{Place, Step};

@@ -1,7 +1,7 @@
 //! Steps of a proof.
 //!
-//! The model is the step of specs/Value.antt. The lines of a report hold steps, and the judge checks
-//! them.
+//! The model is the step of specs/Value.antt. The lines of a report hold steps, which the judge
+//! checks.
 
 use resolvo_text::{Spec, Version};
 
