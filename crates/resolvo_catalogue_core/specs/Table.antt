@@ -50,7 +50,7 @@ saids_in t = said_list t.said.rules.items t.said.held.items
 abbrev pub lines_in : Table → List Line
 lines_in t = map (told (versions_in t)) (saids_in t)
 
--- ---- invariants of their kinds
+-- ---- invariants of the lines
 
 -- The numbers that the rule names are listed, and the owner's is that of the version above.
 abbrev pub IsRuleOf : List Version → Option Version → Rule → Type 0

@@ -1,4 +1,4 @@
--- Whole lines: a spelling is parsed back, and has no newline.
+-- Whole lines: a spelling is read back, and has no newline.
 use Rattle.std.proofs.Common.{◌≡◌, ℕ, ◌+◌, ◌<◌, Bool, true, false, not, cond, List, [], ◌∷◌, ◌++◌, map, Some, None, refl, sym, ap, ◌∙◌, append_assoc, arith}
 use Rattle.std.specs.Prelude.{codes, IsTrue}
 use Rattle.std.specs.Fmt.{decimal}

@@ -81,7 +81,7 @@ pub record IsOutsideAt (text : List ℕ) (n : ℕ) : Type 0 where
   pub place : n ≡ length above + 1
   pub none : GoesOn part below → ⊥
 
--- These bytes of the text were received; the lines that end among them are allowed lines of a report.
+-- These bytes of the text were read; the lines that end among them are allowed lines of a report.
 pub record IsGoodSoFar (came : List ℕ) : Type 0 where
   pub above : List ReportLine
   pub begun : List ℕ
@@ -90,7 +90,7 @@ pub record IsGoodSoFar (came : List ℕ) : Type 0 where
   pub good : AreLines above part
   pub unfinished : newlines begun ≡ 0
 
--- Some bytes of the text were received, the rest remains, and the received ones are good so far.
+-- Some bytes of the text were read, the rest remains, and those are good so far.
 pub record CameGood (text : List ℕ) (after : Option (List ℕ)) : Type 0 where
   pub came : List ℕ
   pub rest : List ℕ
@@ -103,7 +103,7 @@ abbrev pub most_bytes : ℕ
 most_bytes = 1073741824
 
 -- When reading a report may fail so: the device's bytes before and after, and that the device failed. Whole
--- lines that were received are checked before the next read of the device.
+-- lines that were read are checked before the next read of the device.
 abbrev pub IsReportFault : ReportFault → Option (List ℕ) → Option (List ℕ) → Type 0 → Type 0
 IsReportFault (NotAReport n) before after failed = IfKnown before (λ text. IsOutsideAt text n)
 IsReportFault Reader before after failed = failed × IfKnown before (λ text. CameGood text after)

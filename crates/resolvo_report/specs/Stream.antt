@@ -11,11 +11,11 @@ use Rattle.resolvo_report.specs.Value.{ReportLine}
 use Rattle.resolvo_report.specs.Text.{line_text, HasText}
 use Rattle.resolvo_report.specs.Grammar.{next_part, GoesOn}
 
--- the remaining text, where the device knows it
+-- the rest of the text, where the device knows it
 abbrev pub left : ReportReader → Option (List ℕ) → Option (List ℕ)
 left r told = lines.left r.lines told
 
--- A line with its newline was taken of the remaining text, and its bytes of the room. The part allowed it, and
+-- A line with its newline was taken of the rest of the text, and its bytes of the room. The part allowed it, and
 -- the next part is that of the second reader.
 pub record GivesLine (before : Option (List ℕ)) (r : ReportReader) (line : ReportLine) (after : Option (List ℕ)) (s : ReportReader) : Type 0 where
   pub bytes : Consumes before after (line_text line ++ codes "\n")
@@ -24,7 +24,7 @@ pub record GivesLine (before : Option (List ℕ)) (r : ReportReader) (line : Rep
   pub number : s.number ≡ r.number + 1
   pub room : s.lines.room + length (line_text line ++ codes "\n") ≡ r.lines.room
 
--- When the next line is not given so: the remaining text before and after, the part and the number of lines
+-- When the next line is not given so: the rest of the text before and after, the part and the number of lines
 -- above, the room before, and that the device failed.
 abbrev pub IsLineFault : ReportFault → ReportReader → Option (List ℕ) → Option (List ℕ) → Type 0 → Type 0
 IsLineFault (NotAReport n) r before after failed = (n ≡ r.number + 1) × IfKnown before (λ bytes. GoesOn r.part bytes → ⊥)

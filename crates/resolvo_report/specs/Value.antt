@@ -21,7 +21,7 @@ pub record Literal : Type 0 where
   pub atom : Atom
   pub positive : Bool
 
--- Need has a place, a line and a case, LimitForbids a place, a line and a version, Digit a version, its place
+-- Need has a place, a line and a case, LimitBars a place, a line and a version, Digit a version, its place
 -- and a bit, Derive a clause and the numbers of earlier steps.
 pub data Step : Type 0 where
   Need : Place → ℕ → ℕ → Step
