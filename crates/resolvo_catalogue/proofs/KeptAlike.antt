@@ -347,7 +347,7 @@ kept_alike p catalogue request over asks root needs_are limits_are same apart ch
   (λ keeps. provider_kept p catalogue over same apart request asks root needs_are limits_are chosen set stands keeps),
 )
 
--- where each wish is allowed, no exemption is used
+-- where no wish is excluded, no exemption is used
 pub kept_alike_exempt : (p : Provider) (catalogue request : List Line) → IsOver catalogue p → (root : Rules) (wishes : List SolvableId) → KeepsAlike catalogue request p root → KeepsAlikeExempt catalogue request p root wishes
 kept_alike_exempt p catalogue request over root wishes alike same apart free chosen set stands =
     let both = alike same apart chosen set stands in (
