@@ -1,4 +1,4 @@
--- What the provider says of solvables, and what the lines say of the same versions.
+-- The provider's answers for solvables agree with the lines of the same versions.
 use Rattle.std.proofs.Common.{◌≡◌, ◌==◌, inl, inr, ℕ, zero, suc, ◌+◌, Bool, true, false, List, [], ◌∷◌, map, Option, Some, None, refl, sym, ap, subst, ◌∙◌, arith}
 use Rattle.std.specs.Prelude.{◌&&◌, ◌||◌, not, Contains, slice_get, bytes_eq}
 use Rattle.std.specs.List.{list_any}

@@ -1,4 +1,4 @@
--- A provider covers its catalogue: what is told of each version, and what the ids stand for.
+-- A provider covers its catalogue: the dependencies of each version, and the values of ids.
 use Rattle.std.proofs.Common.{◌≡◌, inl, inr, ℕ, List, [], ◌∷◌, ◌++◌, map, length, Some, refl, sym, ap, subst, ◌∙◌}
 use Rattle.std.specs.Prelude.{slice_get}
 use Rattle.std.proofs.lemmas.Option.{get_or_from_slice_get}
@@ -13,7 +13,7 @@ use Rattle.resolvo_catalogue.specs.Told.{VersionDependencies}
 use Rattle.resolvo_catalogue.specs.Over.{TellsOf}
 use Rattle.resolvo_catalogue.proofs.TellLemmas.{tells_stays}
 
--- ---- what an id stands for is what it is known as
+-- ---- the value of an id is the one that the provider gives
 
 pub spec_stands : (ids : Ids) (v : VersionSetId) (s : Spec) → IsSpec ids v s → spec_at ids v ≡ s
 spec_stands ids v s h =
@@ -31,7 +31,7 @@ alternatives_stand ids (Single v) ss h = specs_stand ids (v ∷ []) ss h
 alternatives_stand ids (Union u) ss h =
     ap (map (spec_at ids)) (get_or_from_slice_get ids.unions u.0 h.0 [] h.1) ∙ specs_stand ids h.0 ss h.2
 
--- ---- what is told of each version
+-- ---- the dependencies of each version
 
 tells_of_stays : (a b : Ids) → Grows a b → (lines : List Line) (k : ℕ) (t : VersionDependencies) → TellsOf a lines k t → TellsOf b lines k t
 tells_of_stays a b grows lines k t h = (h.0, h.1, tells_stays a b grows _ t h.2)

@@ -42,7 +42,7 @@ each_from_left R xs ys h x c = let at = at_from_contains xs x c in let e = each_
 pub each_from_right : {X Y : Type 0} (R : X → Y → Type 0) (xs : List X) (ys : List Y) → AreEach R xs ys → (y : Y) → Contains ys y → (x : X) × Contains xs x × R x y
 each_from_right R xs ys h y c = let at = at_from_contains ys y c in let e = each_right R xs ys h at.0 y at.1 in (e.0, contains_from_at xs e.0 at.0 e.1, e.2)
 
--- ---- what a line says
+-- ---- the need or limit of a line
 
 pub need_from : (l : Line) (said : List Spec × Option Cond) → Contains (need_in l) said → l ≡ Needs said.0 said.1
 need_from (Needs ss c) said h = elim (element_cases (ss, c) [] said h) [ inl same ↦ ap (λ (x : List Spec × Option Cond). Needs x.0 x.1) same | inr more ↦ absurd (no_element said more) ]

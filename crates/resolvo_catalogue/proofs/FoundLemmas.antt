@@ -79,12 +79,12 @@ extends_own vs k x e = e
 pub extends_more : {V : Type 0} (vs : List V) (v : V) → Extends vs (vs ++ v ∷ [])
 extends_more vs v k x e = get_kept vs v x k e
 
--- what is found stands there
+-- a found value is at its place
 pub found_if : {V : Type 0} (f : V → Option ℕ) (vs : List V) → AreFound f vs → (v : V) (r : Option ℕ) → r ≡ f v → IfSome r (λ i. slice_get vs i ≡ Some v)
 found_if f vs h v None is = tt
 found_if f vs h v (Some i) is = h.found v i (sym is)
 
--- what stands nowhere isn't found
+-- a value that isn't in the list isn't found
 pub none_found : {V : Type 0} (f : V → Option ℕ) (vs : List V) → AreFound f vs → (v : V) → ((i : ℕ) → slice_get vs i ≡ Some v → ⊥) → f v ≡ None
 none_found f vs h v nowhere = go (f v) refl
   where
@@ -101,7 +101,7 @@ module _ {V : Type 0} (vs news : List V) (v : V) (more : news ≡ vs ++ v ∷ []
 
 -- ---- texts
 
--- the texts after one more, which stood nowhere
+-- the texts after a new one
 pub texts_more : (old new : BTreeMap (String Global) ℕ) (texts : List (String Global)) (kept key : String Global) (text : List ℕ) → AreFound (λ t. get_by_text old t) (map string_bytes texts) → ((i : ℕ) → slice_get (map string_bytes texts) i ≡ Some text → ⊥)
     → string_bytes kept ≡ text → string_bytes key ≡ text → Updates string_cmp old new key (Some (length texts)) → AreFound (λ t. get_by_text new t) (map string_bytes (texts ++ kept ∷ []))
 texts_more old new texts kept key text h nowhere is_kept is_key set =
@@ -138,7 +138,7 @@ apart bs cs k n y =
     let same : bytes_eq bs k.items ≡ true = sym (is_eq-slice_cmp bs k.items) ∙ y in
     is_eq-slice_cmp cs k.items ∙ (nat_list_eq_equiv.symm cs k.items ∙ sym (nat_list_eq_equiv.congr bs k.items cs same) ∙ n)
 
--- what a number at a key leaves at any key
+-- the number of any key, after a number is put at a key
 pub number_put : (m n : BTreeMap (Vec ℕ) ℕ) (key : List ℕ) (w : Option ℕ) → UpdatesBy key_cmp (λ k. slice_cmp nat_cmp key k.items) m n w
     → (other : List ℕ) → number_in n.entries other ≡ cond (bytes_eq key other) w (number_in m.entries other)
 number_put m n key w h other = elim (cases_Bool (bytes_eq key other)) [
@@ -234,7 +234,7 @@ module _ (ss : List (NameId × Numbers)) (si : List (Vec ℕ × ℕ)) (us : List
     several = h.several;
   }
 
--- ---- what an id means
+-- ---- the condition of an id
 
 sound_own : (c : ConditionId) (q : Condition) → OperandsBelow q c → q ≡ sound c q
 sound_own c (Requirement v) h = refl

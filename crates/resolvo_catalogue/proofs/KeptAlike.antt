@@ -83,7 +83,7 @@ module _ (p : Provider) (catalogue : List Line) (over : IsOver catalogue p) (sam
   own_listing : (s : SolvableId) (v : Version) → slice_get (listed catalogue) s.raw ≡ Some v → listing_for same (packages_of p) s ≡ listing_of p (solvables_of p.ids (name_of p.ids s).raw)
   own_listing s v e = listing_is p (solvables_of p.ids (name_of p.ids s).raw) s (in_package (name_of p.ids s) s v e refl)
 
-  -- ---- what bars a version
+  -- ---- the lines that forbid a version
 
   barred_from : (s : SolvableId) (v : Version) → slice_get (listed catalogue) s.raw ≡ Some v → is_barred same (packages_of p) s ≡ true
       → ((w : Version) × Contains catalogue (Lock w) × (v.name ≡ w.name) × (v ≡ w → ⊥)) ⊎ ((word : List ℕ) × Contains catalogue (Exclude v word))
@@ -347,7 +347,7 @@ kept_alike p catalogue request over asks root needs_are limits_are same apart ch
   (λ keeps. provider_kept p catalogue over same apart request asks root needs_are limits_are chosen set stands keeps),
 )
 
--- where no wish is barred, no exemption is used
+-- where no wish is excluded, no exemption is used
 pub kept_alike_exempt : (p : Provider) (catalogue request : List Line) → IsOver catalogue p → (root : Rules) (wishes : List SolvableId) → KeepsAlike catalogue request p root → KeepsAlikeExempt catalogue request p root wishes
 kept_alike_exempt p catalogue request over root wishes alike same apart free chosen set stands =
     let both = alike same apart chosen set stands in (

@@ -137,7 +137,7 @@ marked_favour ids lines favours versions marks distinct h k m v at there =
       ];
     }
 
--- what favours a version of the list stands among all lines
+-- a line that favours a version of the list is among all lines
 from_favours : (lines : List Line) (versions : List Version) (fs : List (ℕ × VersionNo)) → ((i : ℕ) (f : ℕ × VersionNo) → slice_get fs i ≡ Some f → FavoursAt versions lines f) → (l : Line) → Contains (favour_lines versions fs) l → Contains lines l
 from_favours lines versions [] are l h = absurd (no_element l h)
 from_favours lines versions (f ∷ fs) are l h =
@@ -148,7 +148,7 @@ from_favours lines versions (f ∷ fs) are l h =
       | inr more ↦ from_favours lines versions fs (λ i g e. are (suc i) g e) l more
     ]
 
--- a line that favours stands in the list
+-- a line that favours is in the list
 in_favours : (lines : List Line) (versions : List Version) (fs : List (ℕ × VersionNo)) (n : ℕ) (v : Version) → ((i : ℕ) (f : ℕ × VersionNo) → slice_get fs i ≡ Some f → FavoursAt versions lines f) → Contains (map (λ (f : ℕ × VersionNo). f.0) fs) n → line_at lines n ≡ Some (Favour v)
     → Contains (favour_lines versions fs) (Favour v)
 in_favours lines versions [] n v are has at = absurd (no_element n has)
@@ -195,7 +195,7 @@ names_none_limit line s e = rw e (λ v f. cc, λ v word f. cc)
 pub names_none_unknown : (line : Line) (reason : List ℕ) → line ≡ Unknown reason → ((v : Version) → line ≡ Lock v → ⊥) × ((v : Version) (word : List ℕ) → line ≡ Exclude v word → ⊥)
 names_none_unknown line reason e = rw e (λ v f. cc, λ v word f. cc)
 
--- a line that states no rule names none
+-- a line without a rule marks no version
 names_none : (line : Line) → is_rule line ≡ false → ((v : Version) → line ≡ Lock v → ⊥) × ((v : Version) (word : List ℕ) → line ≡ Exclude v word → ⊥)
 names_none line e = (λ v is. absurd (false≢true (sym e ∙ ap is_rule is)), λ v word is. absurd (false≢true (sym e ∙ ap is_rule is)))
 

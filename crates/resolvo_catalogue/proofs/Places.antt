@@ -1,4 +1,4 @@
--- Lists by place: one place changed, and what stands side by side in two lists.
+-- Lists by place: one place changed, and elements at the same place of two lists.
 use Rattle.std.proofs.Common.{◌≡◌, ◌⊎◌, inl, inr, ◌==◌, if◌then◌else◌, ℕ, zero, suc, ◌+◌, ◌<◌, Bool, List, [], ◌∷◌, ◌++◌, length, get_or, Some, refl, sym, ap, subst, ◌∙◌, arith}
 use Rattle.std.specs.Prelude.{Contains, slice_get}
 use Rattle.resolvo_catalogue_core.proofs.PlaceLemmas.{at_from_contains, contains_from_at}

@@ -25,7 +25,7 @@ use Rattle.std.proofs.lemmas.Bool.{cases_lt}
 use Rattle.resolvo_catalogue.proofs.Places.{no_element, first_element, later_element, element_cases}
 use Rattle.resolvo_catalogue.proofs.PassLemmas.{any_from, any_to}
 
--- ---- what the lines say, as implications
+-- ---- obeyed lines, as implications
 
 pub bound : (a b c : Bool) → (not a || not b || c) ≡ true → a ≡ true → b ≡ true → c ≡ true
 bound true true c h e f = h
@@ -165,7 +165,7 @@ module _ (catalogue : List Line) (grammatical : AreCatalogueLines catalogue) whe
   lock_listed zero v e = absurd cc
   lock_listed (suc n) v e = listed_has catalogue v (in_front n catalogue (Listed v) (grammatical n (Lock v) e).1.place.0)
 
--- ---- what a version's lines say is what is handed out
+-- ---- the provider gives the dependencies of a version's lines
 
 pub req_from : (t : VersionDependencies) (o : Option StringId) (need : ConditionalRequirement) → Contains (rules_of (needs_of t o)).requirements need → Contains t.requirements need
 req_from t None need h = h

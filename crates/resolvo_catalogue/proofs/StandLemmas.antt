@@ -1,4 +1,4 @@
--- What an id stands for stays, whatever else is interned.
+-- The value of an id is kept, whatever else is interned.
 use Rattle.std.proofs.Common.{◌<◌, List, [], ◌∷◌, ◌++◌, Some, None, Option, refl, ◌∙◌, length}
 use Rattle.std.proofs.lemmas.Option.{slice_get_within}
 use Rattle.resolvo_text.specs.Line.{Spec, Cond, Is, And, Or}
@@ -68,7 +68,7 @@ module _ (a b : Ids) (grows : Grows a b) where
   pub needs_stay : (needs : List ConditionalRequirement) (said : List (List Spec × Option Cond)) → AreEach (IsNeed a) needs said → AreEach (IsNeed b) needs said
   needs_stay needs said h = each_as (IsNeed a) (IsNeed b) need_stays needs said h
 
--- a condition stands among the conditions
+-- a condition is among the conditions
 pub condition_within : (ids : Ids) (c : ConditionId) (cond : Cond) → IsCondition ids c cond → c.0 < length ids.conditions
 condition_within ids c (Is s) h = slice_get_within ids.conditions c.0 _ h.1
 condition_within ids c (And l r) h = slice_get_within ids.conditions c.0 _ h.2

@@ -1,4 +1,4 @@
--- What lines tell, line by line.
+-- The dependencies of lines, line by line.
 use Rattle.std.proofs.Common.{◌≡◌, ℕ, zero, suc, ◌<◌, ◌+◌, false, List, [], ◌∷◌, ◌++◌, take, length, get_or, Option, Some, None, refl, ap, subst, ◌∙◌, arith}
 use Rattle.std.specs.Prelude.{option_to_list, slice_get}
 use Rattle.std.specs.List.{flat_map}
@@ -60,7 +60,7 @@ module _ (ids : Ids) (ls : List Line) (told : VersionDependencies) (h : Tells id
     unknown = rw (last_piece reason_in ls line, r, append-nil (flat_map reason_in ls)) h.unknown;
   }
 
-  -- a line that states no rule tells nothing
+  -- a line without a rule adds no dependency
   pub tells_no_rule : (line : Line) → is_rule line ≡ false → Tells ids (ls ++ line ∷ []) told
   tells_no_rule Skipped e = tells_other Skipped refl refl refl
   tells_no_rule (Listed v) e = tells_other (Listed v) refl refl refl
@@ -94,7 +94,7 @@ text_next lines i = subst (λ (n : ℕ). take n lines ≡ take i lines ++ option
 pub text_step : (lines : List Line) (i : ℕ) (l : Line) → line_at lines (i + 1) ≡ Some l → take (i + 1) lines ≡ take i lines ++ l ∷ []
 text_step lines i l at = text_next lines i ∙ ap (λ o. take i lines ++ option_to_list o) at
 
--- a number without a rule tells nothing
+-- a number without a rule adds no dependency
 pub tells_none : (ids : Ids) (told : VersionDependencies) (lines before : List Line) (n : ℕ) → Tells ids before told → ((l : Line) → line_at lines n ≡ Some l → is_rule l ≡ false) → Tells ids (before ++ option_to_list (line_at lines n)) told
 tells_none ids told lines before n h none = go (line_at lines n) none
   where

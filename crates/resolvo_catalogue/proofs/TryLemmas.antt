@@ -90,7 +90,7 @@ rises_split : {X : Type 0} (age : X → ℕ) (before after : List X) (s f : X) �
 rises_split age [] after s f h c = h.0 f c
 rises_split age (b ∷ before) after s f h c = rises_split age before after s f h.1 c
 
--- what stands behind the first place where one of two is
+-- the elements after the first place where one of two is
 behind : {X : Type 0} (before after : List X) (s f : X) → (s ≡ f → ⊥) → (Contains before f → ⊥) → Contains (before ++ s ∷ after) f → Contains after f
 behind before after s f differs unless c = elim (Contains-append_cases before (s ∷ after) f c) [
   | inl m ↦ absurd (unless m)
@@ -100,7 +100,7 @@ behind before after s f differs unless c = elim (Contains-append_cases before (s
 same_tail : {X : Type 0} (x y : X) (xs ys : List X) → x ∷ xs ≡ y ∷ ys → (x ≡ y) × (xs ≡ ys)
 same_tail x y xs ys e = (cc, cc)
 
--- With a favoured one in front, what stands before another is that one, or no more than it.
+-- With a favoured one first, each one before another is that one, or no greater than it.
 sooner : {X : Type 0} (same : X → X → Bool) (age : X → ℕ) (favoured : Option X) (ys list before after : List X) (s f : X) → Rises age ys → list ≡ favoured_first same favoured ys
     → list ≡ before ++ s ∷ after → (s ≡ f → ⊥) → (Contains before f → ⊥) → Contains list f → (favoured ≡ Some s) ⊎ (age s ≤ age f)
 sooner {X} same age favoured ys list before after s f up is splits differs unless c = go favoured refl is
@@ -123,7 +123,7 @@ sooner {X} same age favoured ys list before after s f up is splits differs unles
         with_one g one true e = front g one before (sym e ∙ splits)
         with_one g one false e = plain e
 
--- no element stands in it twice
+-- no element is in it twice
 abbrev Once : {X : Type 0} → List X → Type 0
 Once [] = ⊤
 Once (x ∷ xs) = (Contains xs x → ⊥) × Once xs
@@ -289,7 +289,7 @@ module _ (same : SolvableId → SolvableId → Bool) (apart : TellsApart same) w
         let one : x ≡ y = λ i. record { name = name i; number = number i } in
         ap solvable_id (over.distinct y s.raw t.raw (subst (λ v. slice_get (listed lines) s.raw ≡ Some v) one e) f)
 
-    -- what is tried is a match
+    -- each tried candidate is a match
     order_match : (list : List SolvableId) (s : SolvableId) → IsOrder p same w list → Contains list s → Contains (matching p w) s
     order_match list s (ys, sorted, is) c =
         Contains-permutation ys (matching p w) s (IsPermutation-sym (matching p w) ys sorted.permutation) (front_from (tried_first (λ v. (set_at p.ids v).0) (candidates_of p) w) ys s (subst (λ xs. Contains xs s) is c))
@@ -313,7 +313,7 @@ module _ (same : SolvableId → SolvableId → Bool) (apart : TellsApart same) w
         let (v, at, match) = match_listed s (order_match list s order c) in
         (v, at, sym (admits p (listed lines) over.versions over.once same apart w spec s v is at) ∙ match)
 
-    -- What is tried before another match is the favoured one, or newer.
+    -- A candidate that is tried before another match is the favoured one, or newer.
     pub tried_sooner : (list before after : List SolvableId) (s f : SolvableId) (x y : Version) → IsOrder p same w list → list ≡ before ++ s ∷ after → (s ≡ f → ⊥) → (Contains before f → ⊥) → Contains list f
         → slice_get (listed lines) s.raw ≡ Some x → slice_get (listed lines) f.raw ≡ Some y → (tried_first (λ v. (set_at p.ids v).0) (candidates_of p) w ≡ Some s) ⊎ (y.number < x.number)
     tried_sooner list before after s f x y order splits differs unless c e g = elim (sooner same (age_of p) (tried_first (λ v. (set_at p.ids v).0) (candidates_of p) w) order.0 list before after s f (rises (age_of p) order.0 order.1.newest_first) order.2 splits differs unless c) [

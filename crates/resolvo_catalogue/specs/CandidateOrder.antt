@@ -10,11 +10,11 @@ use Rattle.resolvo_catalogue.specs.Provider.{Provider, candidates_of, matches, a
 abbrev pub matching : Provider → VersionSetId → List SolvableId
 matching p w = matching_in (λ v. (set_at p.ids v).0) (candidates_of p) (matches p) false w
 
--- they are tried in this order: sorted by the provider, and then the favoured one in front
+-- they are tried in this order: sorted by the provider, and then the favoured one first
 abbrev pub IsOrder : Provider → (SolvableId → SolvableId → Bool) → VersionSetId → List SolvableId → Type 0
 IsOrder p same w list = IsTried (IsSorted p) same (tried_first (λ v. (set_at p.ids v).0) (candidates_of p) w) (matching p w) list
 
--- an element among others that are sorted by a number, in front of those that have no smaller one
+-- an element among others that are sorted by a number, before those that have no smaller one
 abbrev pub placed : {X : Type 0} → (X → ℕ) → X → List X → List X
 placed age x [] = x ∷ []
 placed age x (y ∷ ys) = cond (nat_lt (age y) (age x)) (y ∷ placed age x ys) (x ∷ y ∷ ys)

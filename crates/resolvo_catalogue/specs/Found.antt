@@ -14,7 +14,7 @@ use Rattle.resolvo_pool_core.specs.Intern.{AreBelow}
 use Rattle.resolvo_catalogue.specs.declared.id_table.Numbers.{Numbers}
 use Rattle.resolvo_catalogue.specs.Ids.{NameId, AreSeveral}
 
--- Each value is found where it stands, and nothing else is found.
+-- Each value is found at its place, and no other value is found.
 pub record AreFound {V : Type 0} (find : V → Option ℕ) (values : List V) : Type 0 where
   pub found : (v : V) (i : ℕ) → find v ≡ Some i → slice_get values i ≡ Some v
   pub all : (v : V) (i : ℕ) → slice_get values i ≡ Some v → find v ≡ Some i

@@ -1,4 +1,4 @@
--- The ids of packages, SPECs, lists of alternatives, conditions and words, and which text an id stands for.
+-- The ids of packages, SPECs, lists of alternatives, conditions and words, and the text of each id.
 use Rattle.std.specs.Prelude.{◌≡◌, ◌⊎◌, ◌<◌, ◌≤◌, ◌+◌, ℕ, suc, ◌==◌, if◌then◌else◌, ⊤, length, slice_index_or, Bool, List, [], ◌∷◌, map, Option, Some, None, slice_get}
 use Rattle.resolvo_text.specs.Line.{Version, Spec, Cond, Is, And, Or}
 use Rattle.resolvo_pool_core.specs.declared.id.DenseId.{DenseId}
@@ -27,7 +27,7 @@ SolvableId = DenseId SolvableTag ℕ
 abbrev pub solvable_id : ℕ → SolvableId
 solvable_id n = record { raw = n; tag = record {} }
 
--- What was interned: a value's place is the number of its id.
+-- The interned values: a value's place is the number of its id.
 pub record Ids : Type 0 where
   pub names : List (List ℕ)
   pub words : List (List ℕ)
@@ -36,14 +36,14 @@ pub record Ids : Type 0 where
   pub unions : List (List VersionSetId)
   pub conditions : List Condition
 
--- Two lists have the same length, and each element of the first stands for that of the second at its place.
+-- Two lists have the same length, and each element of the first is related to that of the second at its place.
 abbrev pub AreEach : {X Y : Type 0} → (X → Y → Type 0) → List X → List Y → Type 0
 AreEach R [] [] = ⊤
 AreEach R [] (y ∷ ys) = ⊥
 AreEach R (x ∷ xs) [] = ⊥
 AreEach R (x ∷ xs) (y ∷ ys) = R x y × AreEach R xs ys
 
--- ---- which text an id stands for
+-- ---- the text of an id
 
 module _ (ids : Ids) where
   abbrev pub IsPackage : NameId → List ℕ → Type 0
@@ -78,7 +78,7 @@ module _ (ids : Ids) where
 
 -- ---- more is interned
 
--- What stands in the first list stands in the second at its place.
+-- Each element of the first list is in the second at its place.
 abbrev pub Extends : {X : Type 0} → List X → List X → Type 0
 Extends {X} xs ys = (k : ℕ) (x : X) → slice_get xs k ≡ Some x → slice_get ys k ≡ Some x
 

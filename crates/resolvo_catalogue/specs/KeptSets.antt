@@ -15,7 +15,7 @@ pub record StandsFor (versions : List Version) (chosen : List SolvableId) (set :
   pub each : (s : SolvableId) → Contains chosen s → (v : Version) × (slice_get versions s.raw ≡ Some v) × Contains set v
   pub all : (v : Version) → Contains set v → (s : SolvableId) × Contains chosen s × (slice_get versions s.raw ≡ Some v)
 
--- The test tells solvables apart.
+-- The test distinguishes solvables.
 abbrev pub TellsApart : (SolvableId → SolvableId → Bool) → Type 0
 TellsApart same = (s t : SolvableId) → Decides (same s t) (s ≡ t)
 
@@ -28,7 +28,7 @@ abbrev pub KeepsAlike : List Line → List Line → Provider → Rules → Type 
 KeepsAlike catalogue request p root = (same : SolvableId → SolvableId → Bool) → TellsApart same → (chosen : List SolvableId) (set : Set) → StandsFor (listed catalogue) chosen set
     → IsRuleKeeping same (packages_of p) root chosen ↔ texts.IsRuleKeeping catalogue request set
 
--- Where no wish is barred, a set keeps the rules with exemptions for wishes exactly if it keeps those of the two texts.
+-- Where no wish is forbidden, a set keeps the rules with exemptions for wishes exactly if it keeps those of the two texts.
 abbrev pub KeepsAlikeExempt : List Line → List Line → Provider → Rules → List SolvableId → Type 0
 KeepsAlikeExempt catalogue request p root wishes = (same : SolvableId → SolvableId → Bool) → TellsApart same → ((s : SolvableId) → Contains wishes s → is_barred same (packages_of p) s ≡ false)
     → (chosen : List SolvableId) (set : Set) → StandsFor (listed catalogue) chosen set

@@ -1,5 +1,5 @@
--- What an id means: packages, versions, spans, conditions, and their texts.
--- An id that was never handed out stands for nothing; the answer is then the first of its kind, or empty.
+-- The values of ids: packages, versions, spans, conditions, and their texts.
+-- An id that was never handed out has no value; the answer is then the first of its kind, or empty.
 use Rattle.std.specs.Prelude.{◌&&◌, nat_lt, ℕ, List, [], ◌∷◌, ◌++◌, map, slice_get, slice_index_or, codes, if◌then◌else◌}
 use Rattle.std.specs.List.{flat_map}
 use Rattle.std.specs.Option.{option_map_or}

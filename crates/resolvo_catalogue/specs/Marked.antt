@@ -1,4 +1,4 @@
--- What lines say of a version, but for its needs and limits: whether it is locked, favoured, excluded.
+-- The marks of a version in lines: locked, favoured, excluded.
 use Rattle.std.specs.Prelude.{◌≡◌, ℕ, List, Option, Some, None, Contains, slice_get, length}
 use Rattle.std.specs.Bool.{Decides}
 use Rattle.resolvo_text.specs.Line.{Version, Line, Lock, Favour, Exclude}

@@ -1,4 +1,4 @@
--- What a provider over a catalogue tells of the lines, and what is told of a request.
+-- A provider over the lines of a catalogue, and a request as its ids.
 use Rattle.std.specs.Prelude.{◌≡◌, ℕ, List, Some, length, map, slice_get}
 use Rattle.std.specs.List.{flat_map}
 use Rattle.resolvo_text.specs.Line.{Line}
@@ -11,7 +11,7 @@ use Rattle.resolvo_catalogue.specs.Marked.{AreMarked}
 use Rattle.resolvo_catalogue.specs.Provider.{Provider}
 use Rattle.resolvo_catalogue.specs.declared.provider.RequestIds.{RequestIds}
 
--- What is told of version k is what the lines say that belong to it.
+-- These are the dependencies of version k, by the lines that belong to it.
 abbrev pub TellsOf : Ids → List Line → ℕ → VersionDependencies → Type 0
 TellsOf ids lines k told = (numbers : List ℕ) × AreAll numbers (SaysOf (listed lines) lines k BelongsTo) × Tells ids (lines_at lines numbers) told
 

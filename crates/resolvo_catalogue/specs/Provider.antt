@@ -1,4 +1,4 @@
--- What a provider over a catalogue answers.
+-- The answers of a provider over a catalogue.
 use Rattle.std.specs.Prelude.{◌-◌, ◌==◌, ◌&&◌, ℕ, Bool, false, List, [], ◌∷◌, Option, Some, None, slice_index_or, option_map, option_to_list}
 use Rattle.std.specs.List.{find, flat_map}
 use Rattle.std.specs.List.Sorted.{IsPermutation, IsNonDecreasingBy}
@@ -14,7 +14,7 @@ use Rattle.resolvo_catalogue.specs.declared.candidate_flags.CandidateFlags.{Cand
 use Rattle.resolvo_catalogue.specs.declared.provider.Hint as hints
 use Rattle.resolvo_catalogue.specs.declared.provider.Hint.TheVariants as hint
 
--- What a provider keeps: what was interned, of each version what its lines need and which marks it has, and whether it may cancel.
+-- The model of a provider: the interned values, the dependencies and marks of each version, and whether it may cancel.
 pub record Provider : Type 0 where
   pub ids : Ids
   pub told : List VersionDependencies
@@ -83,7 +83,7 @@ dependencies_of p s = needs_of (told_at p s) (told_at p s).unknown
 abbrev pub age_of : Provider → SolvableId → ℕ
 age_of p s = 4294967295 - (solvable_at p.ids s).version
 
--- The second list is the first with the newest in front.
+-- The second list is the first, newest first.
 pub record IsSorted (p : Provider) (xs ys : List SolvableId) : Type 0 where
   pub permutation : IsPermutation xs ys
   pub newest_first : IsNonDecreasingBy (age_of p) ys

@@ -1,4 +1,4 @@
--- What lines need and limit, and by which ids it is told.
+-- The dependencies of lines, as ids.
 use Rattle.std.specs.Prelude.{◌≡◌, ℕ, List, [], ◌∷◌, Option, Some, None, Contains, option_to_list}
 use Rattle.std.specs.List.{flat_map}
 use Rattle.resolvo_text.specs.Line.{Spec, Cond, Line, Skipped, Listed, Needs, Limits, Unknown, Lock, Favour, Exclude, Wish}
@@ -9,7 +9,7 @@ use Rattle.resolvo_pool_core.specs.declared.requirement.ConditionalRequirement.{
 use Rattle.resolvo_catalogue.specs.Ids.{Ids, AreEach, IsNeed, IsSpec, IsWord}
 use Rattle.resolvo_catalogue.specs.declared.dependencies.VersionDependencies as code
 
--- What lines need and limit, as ids, and the reason why it is unknown.
+-- The requirements and constraints of lines, as ids, and the reason where they are unknown.
 pub record VersionDependencies : Type 0 where
   pub requirements : List ConditionalRequirement
   pub constrains : List VersionSetId
@@ -18,7 +18,7 @@ pub record VersionDependencies : Type 0 where
 abbrev pub told_of : code.VersionDependencies → VersionDependencies
 told_of t = record { requirements = t.requirements.items; constrains = t.constrains.items; unknown = t.unknown }
 
--- ---- what a line says
+-- ---- the need, limit or reason of a line
 
 abbrev pub need_in : Line → List (List Spec × Option Cond)
 need_in (Needs alternatives condition) = (alternatives, condition) ∷ []
@@ -57,7 +57,7 @@ reason_in (Wish v) = []
 abbrev pub lines_at : List Line → List ℕ → List Line
 lines_at lines numbers = flat_map (λ n. option_to_list (line_at lines n)) numbers
 
--- ---- what is told of lines
+-- ---- the dependencies of lines
 
 -- The word is one of the reasons, or there is none.
 abbrev pub IsReason : Ids → Option StringId → List (List ℕ) → Type 0

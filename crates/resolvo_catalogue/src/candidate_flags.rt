@@ -1,5 +1,4 @@
-//! What the lines of a catalogue say of each version, but for its needs and limits: whether it is locked,
-//! favoured, or excluded.
+//! The marks of each version in the lines of a catalogue: locked, favoured, excluded.
 
 ghost use Rattle.std.specs.Prelude.{◌≡◌, ◌<◌, ◌++◌, ◌∷◌, [], IfOk, IsErrOf, IsOkUnless, OnOk, List, Option, Some, length, slice_get};
 ghost use Rattle.resolvo_pool_core.specs.declared.want.Want.TheVariants.{Ids as NoIds, Memory};
@@ -15,7 +14,7 @@ use resolvo_pool_core::id::StringId;
 use resolvo_pool_core::want::R;
 use std::alloc::Global;
 
-/// What lines say of one version.
+/// The marks of one version.
 #[derive(Clone, Copy, Debug)]
 pub struct CandidateFlags {
     pub locked: bool,
@@ -66,7 +65,7 @@ fn unmarked(alloc: Global, count: usize) -> R<Vec<CandidateFlags>>
     Ok(marks)
 }
 
-/// Adds what a rule says of a version that it names. A need, a limit and an unknown mark name none.
+/// Adds the mark of a rule. A need, a limit and an unknown mark add none.
 fn mark(ids: &mut IdTable, marks: &mut Vec<CandidateFlags>, rule: &Rule) -> R<()>
     ensures marked { OnOk result
         ((versions : List Version) (owner : Option Version) (line : Line)

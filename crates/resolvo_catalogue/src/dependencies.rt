@@ -1,4 +1,4 @@
-//! What lines need and limit, as ids. The lines of a version are told so, and those of a request.
+//! The requirements and constraints of lines, as ids: of the lines of a version, and of a request.
 
 ghost use Rattle.std.specs.Prelude.{◌≡◌, ◌++◌, ◌∷◌, [], IfOk, IsErrOf, OnOk, List, Option};
 ghost use Rattle.resolvo_pool_core.specs.declared.want.Want.TheVariants.{Ids};
@@ -10,7 +10,7 @@ use resolvo_pool_core::requirement::ConditionalRequirement;
 use resolvo_pool_core::want::R;
 use std::alloc::Global;
 
-/// What lines need and limit, in their order.
+/// The requirements and constraints of lines, in their order.
 #[derive(Drop)]
 pub struct VersionDependencies {
     pub requirements: Vec<ConditionalRequirement>,
@@ -35,7 +35,7 @@ impl VersionDependencies {
         }
     }
 
-    /// Adds what a rule says. A lock and an exclusion say nothing here.
+    /// Adds the requirement or constraint of a rule. A lock and an exclusion add nothing.
     fn add(&mut self, ids: &mut IdTable, rule: &Rule) -> R<()>
         ensures tells { OnOk result
             ((versions : List Version) (owner : Option Version) (line : Line) (lines : List Line)
@@ -67,7 +67,7 @@ impl VersionDependencies {
         Ok(())
     }
 
-    /// What these lines of a catalogue say.
+    /// The requirements and constraints of these lines of a catalogue.
     pub fn of_lines(
         alloc: Global,
         ids: &mut IdTable,
@@ -87,7 +87,7 @@ impl VersionDependencies {
         Ok(told)
     }
 
-    /// What a request says.
+    /// The requirements and constraints of a request.
     pub fn of_request(alloc: Global, ids: &mut IdTable, request: &Request) -> R<VersionDependencies>
         ensures tells { IfOk result (λ told. Tells ids.new request.now.lines (told_of told)) }
         ensures interns { Interns ids.old ids.new }

@@ -1,6 +1,7 @@
 //! The ids of packages, versions, SPECs, lists of alternatives, conditions and words.
-//! The model is one list of each, in the order of first interning; `specs/Ids.antt` says which text an id
-//! stands for. What has an id is found through sorted maps, so no choice of names or numbers makes that slow. Filled by `versions`, `told` and `marks`, read by `provider`.
+//! The model is one list of each, in the order of first interning; `specs/Ids.antt` has the text of
+//! each id. Ids are found through sorted maps, so no choice of names or numbers makes that slow.
+//! Filled by `versions`, `dependencies` and `candidate_flags`, read by `provider`.
 
 ghost use Rattle.std.specs.Prelude.{◌≡◌, ◌<◌, ◌≤◌, ◌+◌, ◌++◌, ◌∷◌, [], if◌then◌else◌, ℕ, List, bytes_eq, IfOk, IsErrOf, OnOk, OnErr, length, slice_get, Some};
 ghost use Rattle.std.specs.Option.{option_copied};
@@ -34,20 +35,20 @@ impl VersionSet for Numbers {
     type V = u32;
 }
 
-/// Values in the order in which they came, and the number of each by its key.
+/// Values in the order in which they were added, and the number of each by its key.
 struct Numbered<T: Drop> {
     values: Vec<T>,
     ids: BTreeMap<Vec<u32>, u32>,
 }
 
-// split for the prover: what owns several calls this drop for each
+// split for the prover: an owner of several calls this drop for each
 impl<T: Drop> Drop for Numbered<T> {
     fn drop(self) {
         let Numbered { values: _, ids: _ } = self;
     }
 }
 
-/// What was interned.
+/// The interned values.
 pub struct IdTable {
     names: TextIds,
     words: TextIds,
@@ -59,7 +60,7 @@ pub struct IdTable {
     alloc: Global,
 }
 
-// split for the prover: what owns one calls this drop, and doesn't drop each field at each exit
+// split for the prover: an owner calls this drop, and doesn't drop each field at each exit
 impl Drop for IdTable {
     fn drop(self) {
         let IdTable {
@@ -90,7 +91,7 @@ impl Model for IdTable {
 }
 
 impl IdTable {
-    /// A table that holds nothing.
+    /// An empty table.
     pub fn new(alloc: Global) -> IdTable
         ensures { result
             ≡ record
@@ -186,7 +187,7 @@ impl IdTable {
         Ok(ids)
     }
 
-    /// The id of a list of SPECs, which isn't one alone.
+    /// The id of a list of SPECs, none or at least two.
     fn union(&mut self, members: Vec<VersionSetId>) -> R<VersionSetUnionId>
         requires several { (v : VersionSetId) → members.items ≡ v ∷ [] → ⊥ }
         ensures union { IfOk result (λ u. slice_get self.new.unions u.0 ≡ Some members.items) }
@@ -377,7 +378,7 @@ impl IdTable {
         }
     }
 
-    /// What a condition says.
+    /// The condition of an id.
     pub fn meaning(&self, condition: ConditionId) -> Condition
         ensures { result ≡ condition_at self.now condition }
     {
@@ -387,7 +388,7 @@ impl IdTable {
         }
     }
 
-    /// What holds of every table: no value has two ids. It does nothing.
+    /// A law of every table: no value has two ids. It does nothing.
     pub fn ids_are_once(&self)
         ensures { AreSound self.now }
     {
@@ -415,7 +416,7 @@ impl<T: Drop> Numbered<T> {
         self.ids.get(key).copied()
     }
 
-    /// Puts a value that has no number behind the others, and its number to its key.
+    /// Appends a value that has no number, and maps its key to its number.
     fn add(&mut self, value: T, key: Vec<u32>) -> R<u32>
         ensures id { IfOk result (λ i. i ≡ length self.old.values.items) }
         ensures value { OnOk result (self.new.values.items ≡ self.old.values.items ++ value ∷ []) }

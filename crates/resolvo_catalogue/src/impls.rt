@@ -1,4 +1,4 @@
-//! What the solver asks of the provider, and the laws that it rests on.
+//! The traits of a provider, by which the solver calls it, and their laws.
 
 ghost use Rattle.std.specs.Prelude.{◌≡◌, ◌==◌, IfOk, IsOkUnless, option_copied};
 ghost use Rattle.resolvo_pool_core.specs.declared.want.Want.TheVariants.{Memory};
@@ -22,7 +22,7 @@ use resolvo_pool_core::want::R;
 use std::alloc::Global;
 use std::fmt;
 
-/// What a provider over a catalogue cancels with, where its budget is used up.
+/// The value with which a provider over a catalogue cancels when its budget is used up.
 #[derive(Clone, Copy, Debug, PartialEq, Eq)]
 pub struct GivenUp;
 

@@ -1,4 +1,4 @@
-//! A catalogue as a provider: what the solver asks, answered from the lines.
+//! A catalogue as a provider: it answers the solver from the lines.
 #![tactic(auto)]
 
 pub mod candidate_flags;

@@ -1,5 +1,6 @@
 //! The provider over a catalogue: made once from the lines, then asked by the solver.
-//! Its model is what was interned and what the lines say of each version (`specs/Provider.antt`).
+//! Its model is the interned values, and the dependencies and marks of each version
+//! (`specs/Provider.antt`).
 
 ghost use Rattle.std.specs.Prelude.{◌≡◌, [], Bool, false, true, map, IfOk, IsErrOf, IsOkUnless};
 ghost use Rattle.resolvo_pool_core.specs.declared.want.Want.TheVariants.{Ids, Memory};
@@ -20,7 +21,7 @@ use std::alloc::Global;
 use std::cell::Cell;
 use std::marker::Model;
 
-/// For which candidates of a package the dependencies are said to be at hand.
+/// The candidates of a package whose dependencies are hinted to be available.
 #[derive(Clone, Copy, Debug, PartialEq, Eq)]
 pub enum Hint {
     None,
@@ -35,12 +36,12 @@ pub struct CatalogueProvider {
     pub(crate) told: Vec<VersionDependencies>,
     pub(crate) marks: Vec<CandidateFlags>,
     pub(crate) hint: Hint,
-    /// How many more questions whether to stop are answered no; without it all are.
+    /// How many more calls of `should_cancel_with_value` don't cancel; without it none cancels.
     pub(crate) budget: Option<Cell<u64>>,
     alloc: Global,
 }
 
-// split for the prover: what owns one calls this drop, and doesn't drop each field at each exit
+// split for the prover: an owner calls this drop, and doesn't drop each field at each exit
 impl Drop for CatalogueProvider {
     fn drop(self) {
         let CatalogueProvider {
@@ -70,7 +71,7 @@ impl Model for CatalogueProvider {
     ghost invariant = { λ p. AreByPackage p.ids p.packages.items };
 }
 
-/// What a catalogue says of its versions, as ids.
+/// The lists of a catalogue's versions, as ids.
 #[derive(Drop)]
 struct Tables {
     packages: Vec<Vec<SolvableId>>,
@@ -78,7 +79,7 @@ struct Tables {
     marks: Vec<CandidateFlags>,
 }
 
-/// What a request says, as ids of a provider.
+/// A request, as ids of a provider.
 #[derive(Drop)]
 pub struct RequestIds {
     pub requirements: Vec<ConditionalRequirement>,
@@ -120,7 +121,7 @@ impl CatalogueProvider {
         })
     }
 
-    /// The same provider, which lets so many questions whether to stop pass, and stops at each later one.
+    /// The same provider, which cancels after so many calls of `should_cancel_with_value`.
     pub fn within(self, budget: u64) -> CatalogueProvider
         ensures { result ≡ record self { has_budget = true } }
     {
@@ -144,8 +145,8 @@ impl CatalogueProvider {
         }
     }
 
-    /// What a request over the catalogue says, as ids. Where it is refused, more may be interned.
-    /// A set keeps the rules of the provider and of these ids exactly if it keeps those of the two texts.
+    /// A request over the catalogue, as ids. Where it fails, more may be interned. A set keeps the
+    /// rules of the provider and of these ids exactly if it keeps those of the two texts.
     pub fn intern_request(&mut self, request: &Request) -> R<RequestIds>
         ensures asked { IfOk result (λ asked. AreAsked self.new.ids request.now asked) }
         ensures interns { ChangesIds self.old self.new }
@@ -256,7 +257,7 @@ impl CatalogueProvider {
     }
 }
 
-/// Interns all that a catalogue says, where no name and no version was interned yet.
+/// Interns a whole catalogue, where no name and no version was interned yet.
 fn tables_of(alloc: Global, ids: &mut IdTable, catalogue: &Catalogue) -> R<Tables>
     requires names { ids.old.names ≡ [] }
     requires none { ids.old.solvables ≡ [] }
@@ -280,7 +281,7 @@ fn tables_of(alloc: Global, ids: &mut IdTable, catalogue: &Catalogue) -> R<Table
     })
 }
 
-/// What the lines of each version say, by its number.
+/// The dependencies of each version, by its number.
 fn lines_told(
     alloc: Global,
     ids: &mut IdTable,

@@ -1,4 +1,4 @@
-//! Texts, each numbered once, in the order in which they come. The model is the list of them.
+//! Texts, each numbered once, in the order in which they are added. The model is the list of them.
 //! A text is found through a sorted map, so no choice of texts makes that slow. Used by `id_table`.
 
 ghost use Rattle.std.specs.Prelude.{◌≡◌, ◌≤◌, [], IfOk, IfSome, IsErrOf, ℕ, length, slice_get, Some, None};
@@ -17,7 +17,7 @@ pub struct TextIds {
     ids: BTreeMap<String, u32>,
 }
 
-// split for the prover: what owns several calls this drop for each
+// split for the prover: an owner of several calls this drop for each
 impl Drop for TextIds {
     fn drop(self) {
         let TextIds { texts: _, ids: _ } = self;
@@ -95,7 +95,7 @@ impl TextIds {
         }
     }
 
-    /// What holds of each table: no text has two numbers. It does nothing.
+    /// A law of each table: no text has two numbers. It does nothing.
     pub fn texts_are_once(&self)
         ensures { AreOnce self.now }
     {

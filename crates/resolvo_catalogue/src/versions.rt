@@ -30,7 +30,7 @@ pub fn list_versions(
     Ok(lists)
 }
 
-/// Puts a version behind those of its package, whose list is there or comes next.
+/// Appends a version to those of its package, whose list exists or is the next one.
 fn add(alloc: Global, lists: &mut Vec<Vec<SolvableId>>, name: NameId, id: SolvableId) -> R<()>
     requires { name.raw ≤ length lists.old.items }
     ensures place { OnOk result (IsPlaced lists.old.items lists.new.items name.raw) }

@@ -120,7 +120,7 @@ asked_by (Some (ask.Rule x)) r e = cc
 asked_by (Some ask.Nothing) r e = absurd cc
 asked_by (Some (ask.Wish v)) r e = absurd cc
 
--- where a rule is kept of a line, the line states it
+-- where a rule is stored for a line, it is that line's rule
 pub asked_rule : (a : RequestLines) (lines : List Line) → asked_lines a ≡ lines → ((n : ℕ) (x : RequestLine) → slice_get a.asks.items n ≡ Some x → IsAsk x) → (n : ℕ) (r : Rule) → option_and_then rule_asked (ask_at a.asks.items n) ≡ Some r
     → (l : Line) × (line_at lines n ≡ Some l) × ((versions : List Version) → States versions r None l)
 asked_rule a lines is ok zero r e = absurd cc
@@ -158,7 +158,7 @@ lines_push catalogue lines more text line are new is = rw is (λ n l at.
           subst (λ (ls : List Line). (text : List ℕ) × IsRequestLine catalogue ls text l) (sym above) (text, subst (λ (x : Line). IsRequestLine catalogue lines text x) here.1 new)
     ])
 
--- what is kept of a line, and which version it wishes
+-- the stored form of a line, and the version of its wish
 pub asked_wish : (a : RequestLines) (lines : List Line) → asked_lines a ≡ lines → (n : ℕ) → option_map version_of (option_and_then wish_asked (ask_at a.asks.items n)) ≡ wished_in (line_at lines n)
 asked_wish a lines is zero = refl
 asked_wish a lines is (suc n) =

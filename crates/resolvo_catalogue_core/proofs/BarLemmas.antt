@@ -1,4 +1,4 @@
--- Which line bars a version.
+-- The line by which a version is forbidden.
 use Rattle.std.proofs.Common.{◌≡◌, ◌≢◌, inl, inr, ℕ, zero, suc, Bool, true, false, not, ◌==◌, List, take, Option, Some, None, refl, sym, ap, subst, ◌∙◌}
 use Rattle.std.specs.Prelude.{slice_get, option_and_then}
 use Rattle.std.specs.Option.{option_map_or}
@@ -128,7 +128,7 @@ own_lock t keeps v k name line at same some own =
     never w one at_w (Exclude x r, at_x, h) = h
     never w one at_w (Wish x, at_x, h) = h
 
--- ---- the line that bars
+-- ---- the line by which it is forbidden
 
 pub barred_by_lock : (lines : List Line) (v : Version) (line : ℕ) → IsOnly (Some line) (λ n. LineIs lines n (LocksAnother v)) → IsOnly (Some line) (λ n. Bars lines v n)
 barred_by_lock lines v line only = λ n. (λ e. inl ((only n).0 e), λ bars. elim bars [ inl locks ↦ (only n).1 locks | inr h ↦ absurd (h.0 line ((only line).0 refl)) ])

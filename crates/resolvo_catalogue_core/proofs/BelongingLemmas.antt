@@ -1,4 +1,4 @@
--- Lists that stand one after the other, with one more line in the last.
+-- Lists that are kept one after the other, with one more line in the last.
 use Rattle.std.proofs.Common.{◌≡◌, inl, inr, ◌==◌, if◌then◌else◌, ℕ, zero, suc, ◌+◌, ◌-◌, ◌≤◌, List, [], ◌∷◌, ◌++◌, map, length, take, drop, Some, refl, true, false, sym, ap, subst, ◌∙◌, arith}
 use Rattle.std.specs.Prelude.{slice_get}
 use Rattle.std.proofs.lemmas.Bool.{cases_Bool}
@@ -13,7 +13,7 @@ all_same f g [] same k = refl
 all_same f g (r ∷ rs) same zero = same 0 r refl
 all_same f g (r ∷ rs) same (suc k) = all_same f g rs (λ j x e. same (suc j) x e) k
 
--- what is at each place, once one place is another
+-- the element at each place, after one place is replaced
 at_itself : (g : Place → List ℕ) (places : List Place) (n : ℕ) (p q : Place) → slice_get places n ≡ Some p → kept_of (map g (slice_set places n q)) n ≡ g q
 at_itself g [] n p q at = absurd cc
 at_itself g (r ∷ rs) zero p q at = refl
@@ -27,13 +27,13 @@ at_others f g (r ∷ rs) zero q same (suc k) apart = all_same f g rs (λ j x e. 
 at_others f g (r ∷ rs) (suc n) q same zero apart = same 0 r refl
 at_others f g (r ∷ rs) (suc n) q same (suc k) apart = at_others f g rs n q (λ j x e. same (suc j) x e) k (λ is. apart (ap suc is))
 
--- what is within a list stays where one is put behind it
+-- a range within a list is the same after a push
 within : (xs : List ℕ) (x b e : ℕ) → b ≤ e → e ≤ length xs → slice_range (xs ++ x ∷ []) b e ≡ slice_range xs b e
 within xs x b e first last =
     ap (λ (ys : List ℕ). take (e - b) ys) (drop-append-le b xs (x ∷ []) (omega (arith, first, last)))
     ∙ take-append-le (e - b) (drop b xs) (x ∷ []) (omega (arith, first, last, length-drop b xs))
 
--- what is at the end has one more
+-- the range at the end has one more
 at_end : (xs : List ℕ) (x b : ℕ) → b ≤ length xs → slice_range (xs ++ x ∷ []) b (length xs + 1) ≡ slice_range xs b (length xs) ++ x ∷ []
 at_end xs x b first =
     let dropped : drop b (xs ++ x ∷ []) ≡ drop b xs ++ x ∷ [] = drop-append-le b xs (x ∷ []) first in

@@ -1,4 +1,4 @@
--- What a table tells of the lines that it keeps.
+-- The questions about a table, by the lines that it keeps.
 use Rattle.std.proofs.Common.{◌≡◌, inl, inr, ℕ, zero, suc, true, false, List, [], ◌∷◌, ◌++◌, take, Option, Some, None, refl, sym, ap, subst, ◌∙◌, option_map, arith}
 use Rattle.std.specs.Prelude.{slice_get, option_and_then, IfSome, IfNone, IfOk, Result, Ok, Err}
 use Rattle.std.specs.Option.{option_map_or}
@@ -37,7 +37,7 @@ states_line vs owner (rule.Unknown of w) h = (refl, h)
 states_line vs owner (rule.Lock k) h = (nth vs k, slice_get-get_or vs k.0 nowhere h, refl)
 states_line vs owner (rule.Exclude k w) h = (nth vs k, slice_get-get_or vs k.0 nowhere h, refl)
 
--- where a rule is kept of a line, the line states it
+-- where a rule is stored for a line, it is that line's rule
 rule_stated : (t : Table) → IsTable t → (n : ℕ) (r : Rule) → said_at (saids_in t) n ≡ Some (said.Rule r) → (l : Line) × (line_at (lines_in t) n ≡ Some l) × States (versions_in t) r (owner_of (lines_in t) n) l
 rule_stated t keeps zero r at = absurd cc
 rule_stated t keeps (suc n) r at =
@@ -62,7 +62,7 @@ no_rule_line vs (said.Listed v) e = refl
 no_rule_line vs (said.Favour v) e = refl
 no_rule_line vs (said.Rule r) e = absurd cc
 
--- where no rule is kept of a line, the line states none
+-- where no rule is stored for a line, the line has none
 pub no_rule : (t : Table) (lines : List Line) → lines_in t ≡ lines → (n : ℕ) → option_and_then rule_of (said_at (saids_in t) n) ≡ None → (l : Line) → line_at lines n ≡ Some l → is_rule l ≡ false
 no_rule t lines is zero e l at = absurd cc
 no_rule t lines is (suc n) e l at = from_said (slice_get (saids_in t) n) e (sym (slice_get-map (told (versions_in t)) (saids_in t) n) ∙ ap (λ (ls : List Line). slice_get ls n) is ∙ at)

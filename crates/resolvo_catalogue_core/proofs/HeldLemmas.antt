@@ -61,13 +61,13 @@ held_if false count hs h e here = e
 pub held_place : (count place : ℕ) → place < count → is_held count (StoredLine.Rule place) ≡ true
 held_place count place h = grind (arith, nat_tests)
 
--- one more line, which states a new rule
+-- one more line, with a new rule
 pub pushes_rule : (rs : List Rule) (r : Rule) (hs : List StoredLine) (place : ℕ) → are_held (length rs) hs ≡ true → place ≡ length rs → said_list (rs ++ r ∷ []) (hs ++ StoredLine.Rule place ∷ []) ≡ said_list rs hs ++ said.Rule r ∷ []
 pushes_rule rs r hs place e last =
     let here : said_in (rs ++ r ∷ []) (StoredLine.Rule place) ≡ said.Rule r = ap said_rule (ap (slice_get (rs ++ r ∷ [])) last ∙ get_new rs r) in
     map_push (said_in (rs ++ r ∷ [])) hs (StoredLine.Rule place) ∙ rw (here, same_list rs r hs e) refl
 
--- what a line states, told by what is held of it
+-- the rule of a line, from its stored form
 pub rule_held : (rs : List Rule) (hs : List StoredLine) (line : ℕ) → option_and_then rule_of (said_at (said_list rs hs) line) ≡ option_and_then (λ h. rule_of (said_in rs h)) (held_at hs line)
 rule_held rs hs zero = refl
 rule_held rs hs (suc n) = ap (λ (o : Option LineKind). option_and_then rule_of o) (slice_get-map (said_in rs) hs n) ∙ of_mapped (slice_get hs n)

@@ -1,4 +1,4 @@
--- Sets of versions that are told by their numbers.
+-- Sets of versions, as lists of their numbers.
 use Rattle.std.proofs.Common.{◌≡◌, inl, inr, ℕ, Bool, true, false, ◌||◌, ◌&&◌, ◌==◌, List, [], ◌∷◌, ◌++◌, Option, Some, None, refl, sym, ap, ◌∙◌}
 use Rattle.std.specs.Prelude.{slice_get, option_to_list}
 use Rattle.std.specs.List.{list_any, list_all}
@@ -43,7 +43,7 @@ each_member p vs (n ∷ set) = rw (first_member vs n set, list_all-append p (opt
     of_one p None rest = refl
     of_one p (Some v) rest = rw (and_true (p v)) refl
 
--- a version of which no other has the number is a member exactly if its number is told
+-- a version of which no other has the number is a member exactly if its number is in the list
 pub is_told : (vs : List Version) → AreDistinct vs → (k : ℕ) (v : Version) → slice_get vs k ≡ Some v → (set : List VersionNo) → list_any (λ n. n.0 == k) set ≡ is_member v (members vs set)
 is_told vs distinct k v at set = same_tests set ∙ some_member (same_version v) vs set
   where

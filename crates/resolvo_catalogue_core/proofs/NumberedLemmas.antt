@@ -1,4 +1,4 @@
--- Versions beside their numbers: what is found by a number, and one more version.
+-- Versions beside their numbers: look-ups by a number, and one more version.
 use Rattle.std.proofs.Common.{◌≡◌, ◌≢◌, ◌<◌, ◌≤◌, ◌+◌, ◌==◌, if◌then◌else◌, inl, inr, ℕ, zero, suc, Bool, true, false, List, [], ◌∷◌, ◌++◌, take, length, get_or, Option, Some, None, option_map, Result, Ok, Err, refl, sym, ap, subst, ◌∙◌, arith}
 use Rattle.std.specs.Prelude.{slice_get, nat_lt, nat_eq, MatchResult}
 use Rattle.std.specs.BTreeMap.{BTreeMap, get}
@@ -38,7 +38,7 @@ present (n ∷ ns) (v ∷ vs) k (suc i) paired h is before =
     let apart : (n == k) ≡ false = (let here = before 0 (omega arith) in grind (arith, nat_tests)) in
     rw apart (present ns vs k i (omega (arith, paired)) (omega arith) is (λ j lt. before (suc j) (omega arith)))
 
--- what a search among rising numbers finds
+-- the result of a search among rising numbers
 abbrev pub IsSoughtBeside : List ℕ → List VersionNo → ℕ → Result ℕ ℕ → Type 0
 IsSoughtBeside ns vs k (Ok i) = beside ns vs k ≡ slice_get vs i
 IsSoughtBeside ns vs k (Err i) = beside ns vs k ≡ None

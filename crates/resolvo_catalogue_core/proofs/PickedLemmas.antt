@@ -1,4 +1,4 @@
--- What is picked among the versions beside their numbers.
+-- The versions picked by their numbers.
 use Rattle.std.proofs.Common.{◌≡◌, ◌<◌, ◌≤◌, ◌+◌, ◌==◌, ◌||◌, ◌&&◌, ◌⊎◌, ◌↔◌, inl, inr, ℕ, zero, suc, Bool, true, false, not, cond, List, [], ◌∷◌, length, get_or, Option, Some, None, refl, sym, ap, subst, ◌∙◌, arith}
 use Rattle.std.specs.Prelude.{slice_get, nat_lt, Contains}
 use Rattle.std.specs.Option.{option_map}
@@ -156,7 +156,7 @@ module _ (ns : List ℕ) (rising : AreRising ns) where
       both true e h = cc
       both false e h = cc
 
--- what a search among numbers says at each place
+-- the result of a search among numbers, at each place
 pub by_point : (p : ℕ → Bool) (ns : List ℕ) (r : ℕ) → IsPartitionPoint (λ n. not (p n) ≡ true) (λ n. not (p n) ≡ false) ns r → (i : ℕ) → i < length ns → p (get_or ns i 0) ≡ not (nat_lt i r)
 by_point p ns r point i lt = elim (cases_Bool (nat_lt i r)) [
   | inl y ↦ rw y (no (p (get_or ns i 0)) (point.0 i 0 (omega arith) (let low : i < r = grind (arith, nat_tests) in low)))
@@ -238,7 +238,7 @@ mapped_among ns vs m start end s t ordered finds adds n = (to, from)
     from : (contains nat_cmp s n ≡ true) ⊎ IsAmong ns vs (range_contains nat_cmp start end) n → contains nat_cmp t n ≡ true
     from h = adds n ∙ true_or _ _ (elim h [ inl a ↦ inl a | inr p ↦ inr (listed p) ])
 
--- ---- tests that come to one
+-- ---- tests that are equal
 
 module _ (ns : List ℕ) (vs : List VersionNo) (t : ℕ → Bool) where
   pub by_none : (s : BTreeSet ℕ) → ((k : ℕ) → t k ≡ false) → AddsEach s (IsAmong ns vs t) s
@@ -309,7 +309,7 @@ none_picked versions s outside is = record { rising = is.all.rising; all = λ n.
     nowhere : (n : ℕ) → Contains [] n → ⊥
     nowhere n c = omega (arith, c.1)
 
--- ---- what is outside a span
+-- ---- the numbers outside a span
 
 pub outside_one : (m k : ℕ) → (range_contains nat_cmp Unbounded (Excluded m) k || range_contains nat_cmp (Excluded m) Unbounded k) ≡ is_picked (One m) true k
 outside_one m k = grind (arith, nat_tests)

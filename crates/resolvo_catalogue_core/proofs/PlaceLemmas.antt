@@ -56,7 +56,7 @@ listed_at t keeps v h = listed_from (lines_in t) v h.0.0 (rw keeps.listing h.1)
 
 -- ---- versions
 
--- what a search for a version by its name found
+-- the result of a search for a version by its name
 pub found_at : (t : Table) → IsTable t → (v : Version) (name : List ℕ) (r : Option VersionNo) (n : VersionNo) → name ≡ v.name → option_map number_of r ≡ number_in (get_by_text t.packages name) v.number → r ≡ Some n → slice_get (versions_in t) n.0 ≡ Some v
 found_at t keeps v name r n same is found =
     let in_name : number_in (get_by_text t.packages v.name) v.number ≡ number_in (get_by_text t.packages name) v.number = rw same refl in
@@ -216,7 +216,7 @@ no_number t keeps v unlisted = from_option (number_in (get_by_text t.packages v.
     from_option None h = refl
     from_option (Some k) h = absurd (h k refl)
 
--- what a line excludes is listed
+-- an excluded version is listed
 pub excluded_listed : (t : Table) → IsTable t → (v : Version) (n : ℕ) → LineIs (lines_in t) n (Excludes v) → Contains (lines_in t) (Listed v)
 excluded_listed t keeps v zero (x, at, is) = absurd cc
 excluded_listed t keeps v (suc n) (Exclude w r, at, is) =

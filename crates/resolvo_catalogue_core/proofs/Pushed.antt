@@ -1,4 +1,4 @@
--- One more element at the end of a list: what is found in it, and which numbers have a property then.
+-- One more element at the end of a list: look-ups, and which numbers have a property then.
 use Rattle.std.proofs.Common.{◌≡◌, ◌⊎◌, inl, inr, ℕ, zero, suc, Bool, ◌+◌, ◌<◌, List, [], ◌∷◌, ◌++◌, length, take, get_or, if◌then◌else◌, Option, Some, None, refl, sym, ap, subst, ◌∙◌, add-one, arith}
 use Rattle.std.specs.Prelude.{Contains, slice_get}
 use Rattle.std.specs.List.Sorted.{IsStrictlyIncreasing}
@@ -106,7 +106,7 @@ keyed_more eq decides f g key m P Q C updated were grows below new one = λ k.
           subst (λ (xs : List ℕ). AreAll xs (Q k)) (sym found) (all_other (were k) (grows k) (λ c. false≢true (sym apart ∙ (decides key k).1 (one k c))))
     ]
 
--- where an element stands
+-- the place of an element
 pub get_grows : {X : Type 0} (xs : List X) (x y : X) → Grows (λ n. slice_get xs n ≡ Some y) (λ n. slice_get (xs ++ x ∷ []) n ≡ Some y) (length xs) (x ≡ y)
 get_grows xs x y = record {
   kept = λ n at. get_kept xs x y n at;
@@ -147,7 +147,7 @@ line_new lines l Q q = rw add-one (l, get_new lines l, subst (λ (ls : List Line
 pub line_grows : (lines : List Line) (l : Line) (Q : Option Version → Line → Type 0) → Grows (λ n. LineIs lines n Q) (λ n. LineIs (lines ++ l ∷ []) n Q) (length lines + 1) (Q (owner_below lines) l)
 line_grows lines l Q = record { kept = line_kept lines l Q; cases = line_push lines l Q; added = line_new lines l Q }
 
--- ---- lines that say something of a version
+-- ---- lines of a version
 
 pub says_grows : (versions : List Version) (lines : List Line) (l : Line) (k : ℕ) (Q : Version → Option Version → Line → Type 0)
     → Grows (SaysOf versions lines k Q) (SaysOf versions (lines ++ l ∷ []) k Q) (length lines + 1) ((v : Version) × (slice_get versions k ≡ Some v) × Q v (owner_below lines) l)
@@ -160,7 +160,7 @@ says_grows versions lines l k Q = record {
 pub says_within : (versions : List Version) (lines : List Line) (k : ℕ) (Q : Version → Option Version → Line → Type 0) (n : ℕ) → SaysOf versions lines k Q n → n < length lines + 1
 says_within versions lines k Q n h = line_within lines (Q h.0) n h.2
 
--- a version that was listed now, of which no line says anything
+-- a newly listed version, of which there is no line
 pub says_of_listed : (versions : List Version) (lines : List Line) (w : Version) (l : Line) (k : ℕ) (Q : Version → Option Version → Line → Type 0)
     → ((n : ℕ) → LineIs lines n (Q w) → ⊥) → ((v : Version) → Q v (owner_below lines) l → ⊥)
     → Grows (SaysOf versions lines k Q) (SaysOf (versions ++ w ∷ []) (lines ++ l ∷ []) k Q) 0 ⊥

@@ -1,4 +1,4 @@
--- A table's lines and versions: what they say of one another, and one more line.
+-- A table's lines and versions, and one more line.
 use Rattle.std.proofs.Common.{◌≡◌, inl, inr, ℕ, zero, suc, ◌-◌, ◌≤◌, List, [], ◌∷◌, ◌++◌, map, length, take, drop, Option, Some, None, refl, sym, ap, subst, ◌∙◌, arith, option_map}
 use Rattle.std.specs.Prelude.{Contains, slice_get, string_bytes}
 use Rattle.std.specs.List.{cons_option}
@@ -165,13 +165,13 @@ marks_owner v lines n (Favour w, at, is) = absurd is
 marks_owner v lines n (Exclude w r, at, is) = absurd is
 marks_owner v lines n (Wish w, at, is) = absurd is
 
--- ---- what is said at a line
+-- ---- the kind of a line
 
 some_mapped : {X Y : Type 0} (f : X → Y) (o : Option X) (y : Y) → option_map f o ≡ Some y → (x : X) × (o ≡ Some x) × (f x ≡ y)
 some_mapped f None y e = absurd cc
 some_mapped f (Some x) y e = (x, refl, cc)
 
--- what is kept of a line, and what the line says then
+-- the kind that is kept for a line, and the line
 pub said_at : (vs : List Version) (saids : List LineKind) (n : ℕ) (l : Line) → slice_get (map (told vs) saids) n ≡ Some l → (s : LineKind) × (slice_get saids n ≡ Some s) × (told vs s ≡ l)
 said_at vs saids n l at = some_mapped (told vs) (slice_get saids n) l (sym (slice_get-map (told vs) saids n) ∙ at)
 

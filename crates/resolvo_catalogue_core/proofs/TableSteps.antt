@@ -41,7 +41,7 @@ use Rattle.resolvo_catalogue_core.proofs.TableLemmas.{listed_same, listed_more, 
 pub as_long : (t : Table) → length (saids_in t) ≡ length (lines_in t)
 as_long t = sym (length-map (saids_in t) (told (versions_in t)))
 
--- the table says the new line
+-- the table has the new line
 pub adds_from : (t u : Table) (s : LineKind) (l : Line) → u.versions ≡ t.versions → saids_in u ≡ saids_in t ++ s ∷ [] → told (versions_in t) s ≡ l → Keeps u (versions_in t) (lines_in t ++ l ∷ []) → Adds t l u
 adds_from t u s l same more is keeps =
     let vs : versions_in u ≡ versions_in t = ap (λ x. versions_in (record u { versions = x })) same in
@@ -238,7 +238,7 @@ adds_version before after v k p name same updated adds = record {
   others = λ q apart. updated q ∙ rw (same, apart) refl;
 }
 
--- whether a number is new, told by what the package was
+-- whether a number is new, by the package before
 pub new_number : (o : Option Package) (p : Package) (k : ℕ) → Some p ≡ o → is_some (beside p.numbers.items p.versions.items k) ≡ is_some (number_in o k)
 new_number o p k is = rw (← is) (of_found (beside p.numbers.items p.versions.items k))
   where
@@ -246,7 +246,7 @@ new_number o p k is = rw (← is) (of_found (beside p.numbers.items p.versions.i
     of_found None = refl
     of_found (Some n) = refl
 
--- what was not added was there, and what was added was not
+-- a number that wasn't added was present, and one that was added wasn't
 pub was_there : (added there : Bool) → added ≡ not there → added ≡ false → there ≡ true
 was_there true there is e = absurd cc
 was_there false true is e = refl

@@ -1,4 +1,4 @@
--- What a report claims.
+-- The claims of a report.
 use Rattle.std.specs.Prelude.{◌≡◌, ℕ, IsTrue, ⊤, List, [], ◌∷◌, ◌++◌, Option, Some, Contains, ◌⊎◌}
 use Rattle.std.specs.List.{flat_map}
 use Rattle.std.specs.List.Sorted.{IsStrictlyIncreasing}
@@ -68,7 +68,7 @@ pub record AccountsForWishes (catalogue request : List Line) (answers : List Ans
   pub never_both : (n : ℕ) (v : Version) → IsLeftOut answers v n → Contains (entries_of answers) v → ⊥
   -- in the order of the request
   pub rising : IsStrictlyIncreasing (flat_map wish_line_of answers)
-  -- what is left out is a wish
+  -- each one left out is a wish
   pub wished : (n : ℕ) (v : Version) → IsLeftOut answers v n → line_at request n ≡ Some (Wish v)
   -- and no rule-keeping set holds it together with all entries above its line
   pub barred : (above below : List Answer) (v : Version) (n step : ℕ) → answers ≡ above ++ LeftOut v n step ∷ below

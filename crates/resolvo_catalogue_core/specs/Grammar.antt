@@ -31,14 +31,14 @@ owner_below (line ∷ lines) = later (version_of line) (owner_below lines)
 abbrev pub owner_of : List Line → ℕ → Option Version
 owner_of lines n = owner_below (lines_above lines n)
 
--- ---- what may follow the lines before it
+-- ---- which line may follow the lines before it
 
 -- Line n marks the version's needs as unknown.
 abbrev pub MarksUnknown : List Line → ℕ → Version → Type 0
 MarksUnknown lines n v = (reason : List ℕ) × (line_at lines n ≡ Some (Unknown reason)) × (owner_of lines n ≡ Some v)
 
 -- A `needs`, `limits` or `unknown` line has an owner. A version, its exclusion, its unknown mark, and a
--- package's lock and favour are given once. What is locked, favoured or excluded is listed above.
+-- package's lock and favour are given once. Locked, favoured and excluded versions are listed above.
 abbrev pub MayFollow : List Line → Line → Type 0
 MayFollow before Skipped = ⊤
 MayFollow before (Listed v) = Contains before (Listed v) → ⊥

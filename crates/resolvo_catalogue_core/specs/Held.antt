@@ -1,4 +1,4 @@
--- What is held of a catalogue's lines, the rules apart.
+-- The stored form of a catalogue's lines, the rules apart.
 use Rattle.std.specs.Prelude.{ℕ, zero, suc, nat_lt, Bool, true, List, map, Option, Some, None, slice_get}
 use Rattle.std.specs.List.{list_all}
 use Rattle.resolvo_catalogue_core.specs.declared.rule.Rule.{Rule}
@@ -30,7 +30,7 @@ said_in rules (StoredLine.Rule place) = said_rule (slice_get rules place)
 abbrev pub said_list : List Rule → List StoredLine → List LineKind
 said_list rules held = map (said_in rules) held
 
--- what is held of line n, from 1
+-- the stored form of line n, from 1
 abbrev pub held_at : List StoredLine → ℕ → Option StoredLine
 held_at held zero = None
 held_at held (suc n) = slice_get held n

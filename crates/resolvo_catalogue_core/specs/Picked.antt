@@ -18,7 +18,7 @@ IsAmong ns vs t n = (k : ℕ) × (t k ≡ true) × (option_map number_of (beside
 abbrev pub IsPlaced : List VersionNo → ℕ → ℕ → ℕ → Type 0
 IsPlaced vs first last n = (i : ℕ) × (v : VersionNo) × (first ≤ i) × (i < last) × (slice_get vs i ≡ Some v) × (v.0 ≡ n)
 
--- The second set has what the first one has, and each number of which P is true.
+-- The second set has the elements of the first one, and each number of which P is true.
 abbrev pub AddsEach : BTreeSet ℕ → (ℕ → Type 0) → BTreeSet ℕ → Type 0
 AddsEach before P after = (n : ℕ) → (contains nat_cmp after n ≡ true) ↔ ((contains nat_cmp before n ≡ true) ⊎ P n)
 

@@ -1,4 +1,4 @@
--- What the questions about a catalogue and a request answer.
+-- The answers to the questions about a catalogue and a request.
 use Rattle.std.specs.Prelude.{◌≡◌, ◌≢◌, ◌↔◌, ◌⊎◌, ℕ, Bool, true, false, ⊤, List, [], Option, Some, None, Contains, slice_get}
 use Rattle.std.specs.List.Sorted.{IsStrictlyIncreasing}
 use Rattle.std.specs.String.{string_bytes}
@@ -89,7 +89,7 @@ Wishes v owner _ = ⊥
 abbrev pub WishesAt : List Version → List Line → ℕ × VersionNo → Type 0
 WishesAt versions lines f = (v : Version) × (slice_get versions f.1.0 ≡ Some v) × (line_at lines f.0 ≡ Some (Wish v))
 
--- the line that bars the version: one that locks another version of its package, or else one that excludes it
+-- the line that forbids the version: one that locks another version of its package, or else one that excludes it
 abbrev pub Bars : List Line → Version → ℕ → Type 0
 Bars lines v n = LineIs lines n (LocksAnother v) ⊎ (((m : ℕ) → LineIs lines m (LocksAnother v) → ⊥) × LineIs lines n (Excludes v))
 
@@ -118,7 +118,7 @@ abbrev pub IsOwner : List Version → Option VersionNo → Option Version → Ty
 IsOwner versions None owner = owner ≡ None
 IsOwner versions (Some n) owner = (v : Version) × (slice_get versions n.0 ≡ Some v) × (owner ≡ Some v)
 
--- The rule is what a line with this owner states, versions being named by their numbers.
+-- It is the rule of this line with this owner, versions being named by their numbers.
 abbrev pub States : List Version → Rule → Option Version → Line → Type 0
 States versions (rule.Needs of alternatives condition) owner line = (line ≡ Needs (specs_of alternatives.items) (condition_of condition)) × IsOwner versions of owner
 States versions (rule.Limits of spec) owner line = (line ≡ Limits (spec_of spec)) × IsOwner versions of owner

@@ -1,4 +1,4 @@
--- A request's lines as the code keeps them, and what its map and list of wishes must have.
+-- A request's lines as the code keeps them, and the invariants of its map and list of wishes.
 use Rattle.std.specs.Prelude.{◌≡◌, ℕ, zero, suc, ⊤, List, [], ◌++◌, ◌∷◌, map, Option, Some, None, slice_get}
 use Rattle.std.specs.BTreeMap.{get}
 use Rattle.std.specs.Ordering.{nat_cmp}
@@ -36,7 +36,7 @@ IsAsk ask.Nothing = ⊤
 IsAsk (ask.Wish v) = ⊤
 IsAsk (ask.Rule r) = IsAskedRule r
 
--- what is kept of line n, from 1
+-- the stored form of line n, from 1
 abbrev pub ask_at : List RequestLine → ℕ → Option RequestLine
 ask_at asks zero = None
 ask_at asks (suc n) = slice_get asks n

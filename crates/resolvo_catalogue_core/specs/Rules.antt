@@ -1,4 +1,4 @@
--- What the lines of a catalogue and a request ask of a set of versions.
+-- Which sets of versions obey the lines of a catalogue and a request.
 use Rattle.std.specs.Prelude.{ℕ, Bool, true, not, ◌||◌, ◌==◌, List, Option, Some, None}
 use Rattle.std.specs.List.{list_all}
 use Rattle.std.specs.Option.{option_map_or}

@@ -1,4 +1,4 @@
--- A catalogue's lines as the code keeps them, and what its maps must have.
+-- A catalogue's lines as the code keeps them, and the invariants of its maps.
 use Rattle.std.specs.Prelude.{◌≡◌, ℕ, ◌<◌, ◌==◌, if◌then◌else◌, bytes_eq, Bool, false, not, ⊤, List, [], ◌++◌, ◌∷◌, map, length, take, Option, Some, None, slice_get, slice_index_or, string_bytes, option_map}
 use Rattle.std.specs.BTreeMap.{get, get_by_text}
 use Rattle.std.specs.Ordering.{nat_cmp}
@@ -50,7 +50,7 @@ saids_in t = said_list t.said.rules.items t.said.held.items
 abbrev pub lines_in : Table → List Line
 lines_in t = map (told (versions_in t)) (saids_in t)
 
--- ---- what is kept of them
+-- ---- invariants of the lines
 
 -- The numbers that the rule names are listed, and the owner's is that of the version above.
 abbrev pub IsRuleOf : List Version → Option Version → Rule → Type 0

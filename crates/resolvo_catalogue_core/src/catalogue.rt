@@ -1,4 +1,4 @@
-//! A catalogue: the versions that its lines list, and the rules that they state.
+//! A catalogue: the versions and the rules of its lines.
 //! Its model is the list of its parsed lines. It is read once, then queried by the resolver and the
 //! judge.
 
@@ -20,7 +20,7 @@ pub struct Catalogue {
     table: Table,
 }
 
-// split for the prover: what owns one calls this drop, and doesn't drop each field at each exit
+// split for the prover: an owner calls this drop, and doesn't drop each field at each exit
 impl Drop for Catalogue {
     fn drop(self) {
         let Catalogue { table: _ } = self;
@@ -127,7 +127,7 @@ impl Catalogue {
         self.table.lines_of(version)
     }
 
-    /// The line that bars the version: one that locks another version of its package, or else its
+    /// The line that forbids the version: one that locks another version of its package, else its
     /// `exclude` line.
     pub fn barred(&self, version: VersionNo) -> Option<u32>
         ensures { IsOnly result
@@ -143,7 +143,7 @@ impl Catalogue {
         self.table.said.len() as u32
     }
 
-    /// The rule of the line, if it states one.
+    /// The rule of the line, if it has one.
     pub fn rule(&self, line: u32) -> Option<&Rule>
         ensures stated { IfSome result
             (λ r.
@@ -155,7 +155,7 @@ impl Catalogue {
         self.table.rule(line)
     }
 
-    /// Whether the set of these versions obeys the line. A line that states no rule is obeyed.
+    /// Whether the set of these versions obeys the line. A line without a rule is obeyed.
     pub fn keeps(&self, line: u32, set: &[VersionNo]) -> bool
         ensures { result ≡ keeps self.now line (members (listed self.now) set.now) }
     {

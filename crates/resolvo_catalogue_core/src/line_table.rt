@@ -1,5 +1,5 @@
-//! The parsed lines, with the rules in a list of their own: a line that states none takes little
-//! memory. The model is `said_list`, the list of the parsed lines. Used by `table`.
+//! The parsed lines, with the rules in a list of their own: a line without a rule takes little
+//! memory. The model is `kind_list`, the list of the parsed lines. Used by `table`.
 
 ghost use Rattle.std.specs.Prelude.{◌≡◌, ◌++◌, ◌∷◌, [], length, true, OnOk, option_and_then, option_copied, slice_get};
 ghost use Rattle.resolvo_catalogue_core.specs.Held.{is_held, are_held, held_at, said_in, said_list, said_at, rule_of};
@@ -17,7 +17,7 @@ pub enum LineKind {
     Rule(Rule),
 }
 
-/// What is stored for a line: for a rule, its index among the rules.
+/// The stored form of a line: for a rule, its index among the rules.
 #[derive(Clone, Copy, Debug)]
 pub enum StoredLine {
     Nothing,
@@ -89,7 +89,7 @@ impl LineTable {
         Ok(())
     }
 
-    /// What is stored for the line of this number, from 1.
+    /// The stored form of the line of this number, from 1.
     fn held_at(&self, line: u32) -> Option<&StoredLine>
         ensures { option_copied result ≡ held_at self.now.held.items line }
     {
@@ -105,7 +105,7 @@ impl LineTable {
         self.rules.get(place)
     }
 
-    /// The rule that the line of this number states, if it states one. Lines are numbered from 1.
+    /// The rule of the line of this number, if it has one. Lines are numbered from 1.
     pub fn rule(&self, line: u32) -> Option<&Rule>
         ensures { option_copied result
             ≡ option_and_then rule_of

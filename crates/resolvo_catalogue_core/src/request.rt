@@ -15,7 +15,7 @@ pub struct Request {
     asks: RequestLines,
 }
 
-// split for the prover: what owns one calls this drop, and doesn't drop each field at each exit
+// split for the prover: an owner calls this drop, and doesn't drop each field at each exit
 impl Drop for Request {
     fn drop(self) {
         let Request { asks: _ } = self;
@@ -60,7 +60,7 @@ impl Request {
         self.asks.asks.len() as u32
     }
 
-    /// The rule of the line, if it states one.
+    /// The rule of the line, if it has one.
     pub fn rule(&self, line: u32) -> Option<&Rule>
         ensures stated { IfSome result
             (λ r.
@@ -73,7 +73,7 @@ impl Request {
         self.asks.rule(line)
     }
 
-    /// Whether the set of these versions of the catalogue obeys the line. A line that states no
+    /// Whether the set of these versions of the catalogue obeys the line. A line without a
     /// rule is obeyed.
     pub fn keeps(&self, catalogue: &Catalogue, line: u32, set: &[VersionNo]) -> bool
         ensures { result ≡ keeps_in_request self.now.lines line (members (listed catalogue.now) set.now) }

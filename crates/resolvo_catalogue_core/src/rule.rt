@@ -1,4 +1,4 @@
-//! The rule that a line of a catalogue or a request states, with versions by their numbers.
+//! The rule of a line of a catalogue or a request, with versions by their numbers.
 //! Made by the readers of `table` and `request`; read by all who ask for `rule`.
 
 ghost use Rattle.std.specs.Prelude.{◌≡◌, Option, List, Some, IfOk};
@@ -35,7 +35,7 @@ pub enum Rule {
         version: VersionNo,
         word: String,
     },
-    /// What this version needs is unknown, so it is barred.
+    /// The needs of this version are unknown, so it is excluded.
     Unknown {
         version: VersionNo,
         word: String,

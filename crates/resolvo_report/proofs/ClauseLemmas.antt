@@ -15,7 +15,7 @@ use Rattle.std.proofs.lemmas.List.{drop_more}
 use Rattle.resolvo_text.specs.Spelling.{Words}
 use Rattle.std.proofs.lemmas.Bool.{and_parts}
 
--- what was read before, and what is still read
+-- the elements read so far, and the rest
 abbrev pub with_literals : List Literal → Option (List Literal) → Option (List Literal)
 with_literals front read = read >>= λ ls. Some (front ++ ls)
 

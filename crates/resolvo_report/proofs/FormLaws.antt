@@ -1,4 +1,4 @@
--- Parts of lines: what is read is spelled so, and what is spelled so is read.
+-- Parts of lines: parsing and spelling are inverse.
 use Rattle.std.proofs.Common.{◌≡◌, ℕ, ◌+◌, ◌^◌, ◌<◌, ◌≤◌, inl, inr, Bool, true, false, not, cond, ◌&&◌, List, [], ◌∷◌, ◌++◌, length, get_or, take, drop, Option, Some, None, All, refl, sym, ap, subst, ◌∙◌, append_assoc, append-nil, arith}
 use Rattle.std.specs.Prelude.{codes, IsTrue, ⊤, ◌==◌, nat_lt}
 use Rattle.std.specs.Fmt.{decimal}
@@ -90,7 +90,7 @@ alternatives_are_plain (s ∷ t ∷ ts) each = are_plain_both (spec_words s) (co
 
 -- ---- laws of a part
 
--- A reader takes a part that fits from words that begin with its spelling, where what follows may stand there.
+-- A reader takes a part that fits from words that begin with its spelling, where the rest may follow.
 pub record Law {X : Type 0} (read : Reader X) (spell : X → Words) (Fits : X → Type 0) (Ends : Words → Type 0) : Type 0 where
   pub takes : (ws : Words) (x : X) (rest : Words) → read ws ≡ Some (x, rest) → (ws ≡ spell x ++ rest) × Fits x
   pub again : (x : X) (rest : Words) → Fits x → Ends rest → read (spell x ++ rest) ≡ Some (x, rest)

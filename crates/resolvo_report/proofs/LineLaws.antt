@@ -1,4 +1,4 @@
--- Steps and lines: what is read is spelled so, and what is spelled so is read.
+-- Steps and lines: parsing and spelling are inverse.
 use Rattle.std.proofs.Common.{◌≡◌, ℕ, ◌<◌, inl, inr, true, not, cond, List, [], ◌∷◌, ◌++◌, length, take, drop, Option, Some, None, refl, sym, ap, subst, ◌∙◌, append_assoc, take-append-drop, length-append, arith}
 use Rattle.std.specs.Prelude.{codes}
 use Rattle.std.specs.Fmt.{decimal}
@@ -57,7 +57,7 @@ any_kind = whole_kind (λ v. Any v) version_law tt
 bars_kind : (p : Place) (n : ℕ) → Kind (whole version_at (λ v. LimitBars p n v)) (λ v. LimitBars p n v) (λ v. version_text v ∷ []) IsVersion
 bars_kind p n = whole_kind (λ v. LimitBars p n v) version_law tt
 
--- what the keyword and the words behind it say
+-- the step of the keyword and the words after it
 pub record StepSaid (k : List ℕ) (words : Words) (s : Step) : Type 0 where
   pub text : join_with_byte 32 (k ∷ words) ≡ step_text s
   pub fits : IsStep s
@@ -207,7 +207,7 @@ left_out_kind = whole_kind (λ (x : Version × (ℕ × ℕ)). Answer (LeftOut x.
 pub entry_kind : (v : Version) → Kind (whole (pair_at place_at line_at) (λ x. Answer (Entry v x.0 x.1))) (λ (x : Place × ℕ). Answer (Entry v x.0 x.1)) (λ (x : Place × ℕ). (place_text x.0 ∷ []) ++ (codes "line" ∷ decimal x.1 ∷ [])) (λ (x : Place × ℕ). IsPlace x.0 × IsLineNumber x.1)
 entry_kind v = whole_kind (λ (x : Place × ℕ). Answer (Entry v x.0 x.1)) (pair_law place_law line_law (λ y rest fits ends. tt)) tt
 
--- what the first word and those behind it say
+-- the line of the first word and those after it
 abbrev LineSaid : List ℕ → Words → ReportLine → Type 0
 LineSaid k words l = (join_with_byte 32 (k ∷ words) ≡ line_text l) × HasText l
 

@@ -26,7 +26,7 @@ line_first l ls rest = append_assoc (with_newline l) (lines_text ls) rest ∙ ap
 some_text : (l : ReportLine) (ls : List ReportLine) (rest : List ℕ) → [] ≡ lines_text (l ∷ ls) ++ rest → ⊥
 some_text l ls rest e = omega (arith, ap (λ (xs : List ℕ). length xs) (e ∙ line_first l ls rest), length-append (line_text l) (10 ∷ (lines_text ls ++ rest)))
 
--- the lines above, and what is left
+-- the lines above, and the rest
 pub record Begins (above lines : List ReportLine) (below : List ℕ) : Type 0 where
   pub rest : List ReportLine
   pub parts : lines ≡ above ++ rest
@@ -50,13 +50,13 @@ same_lines xs ys p q e =
     let b = begins ys xs [] q p (e ∙ sym (append-nil (lines_text ys))) in
     b.parts ∙ ap (λ (ls : List ReportLine). ys ++ ls) (no_lines b.rest b.left) ∙ append-nil ys
 
--- ---- what lines a report has
+-- ---- the lines of a report
 
 abbrev with_picked : {X : Type 0} → Option X → List X → List X
 with_picked None xs = xs
 with_picked (Some x) xs = x ∷ xs
 
--- what some lines hold
+-- the parts of a report in some lines
 abbrev picked : {X : Type 0} → (ReportLine → Option X) → List ReportLine → List X
 picked f [] = []
 picked f (l ∷ ls) = with_picked (f l) (picked f ls)
@@ -105,7 +105,7 @@ picked_steps : (n : ℕ) (ss : List Step) → picked step_in (numbered n ss) ≡
 picked_steps n [] = refl
 picked_steps n (s ∷ ss) = ap (λ (xs : List Step). s ∷ xs) (picked_steps (n + 1) ss)
 
--- the report that the lines say
+-- the report of the lines
 abbrev report_from : List ReportLine → Report
 report_from (RefusedHead ∷ ls) = Refused (picked catalogue_in ls) (picked request_in ls) (picked step_in ls) (picked message_in ls)
 report_from (_ ∷ ls) = Install (picked answer_in ls) (picked step_in ls)

@@ -1,4 +1,4 @@
--- Literals, clauses and steps: what is read is spelled so, and what is spelled so is read.
+-- Literals, clauses and steps: parsing and spelling are inverse.
 use Rattle.std.proofs.Common.{◌≡◌, ℕ, zero, suc, ◌+◌, ◌<◌, inl, inr, Bool, true, false, cond, eqb, ◌&&◌, List, [], ◌∷◌, ◌++◌, length, get_or, take, drop, map, Option, Some, None, All, refl, sym, ap, subst, ◌∙◌, append_assoc, append-nil, arith}
 use Rattle.std.specs.Prelude.{codes, IsTrue, ◌==◌}
 use Rattle.std.specs.Fmt.{decimal}
@@ -472,7 +472,7 @@ causes_again : (ns : List ℕ) → AreNumbers ns → causes_in (codes "by" ∷ m
 unfolding causes_in
 causes_again ns all = rw (behind_again (codes "by") (map decimal ns), numbers_again ns all.1) (some_again ns all.0)
 
--- what stands behind a clause
+-- the text after a clause
 abbrev pub by_text : List ℕ → List ℕ
 by_text ns = join_with_byte 32 (codes "by" ∷ map decimal ns)
 

@@ -1,4 +1,4 @@
--- Where a text doesn't go on with a line of a report, and what is known after some lines.
+-- Where a text doesn't go on with a line of a report, and the invariant after some lines.
 use Rattle.std.proofs.Common.{◌≡◌, ℕ, ◌+◌, ◌<◌, Bool, true, false, List, [], ◌∷◌, ◌++◌, length, take, drop, take-append-drop, length-drop, Option, Some, None, refl, sym, ap, subst, ◌∙◌, append_assoc, append-nil, length-append, arith, ⊎_elim}
 use Rattle.std.specs.Prelude.{codes, IsTrue}
 use Rattle.std.specs.Io.KnownBytes.{Consumes, IsAtEnd, prepend_known}
@@ -39,7 +39,7 @@ same_head b c xs ys e = (cc, cc)
 no_head : (b : ℕ) (xs : List ℕ) → ◌≡◌ {A = List ℕ} [] (b ∷ xs) → ⊥
 no_head b xs e = cc
 
--- the text before the first newline, and what follows it
+-- the text before the first newline, and the rest
 pub first_newline : (xs ys r t : List ℕ) → newlines xs ≡ 0 → newlines ys ≡ 0 → xs ++ 10 ∷ r ≡ ys ++ 10 ∷ t → (xs ≡ ys) × (r ≡ t)
 first_newline [] [] r t p q e = (refl, (same_head 10 10 r t e).1)
 first_newline [] (y ∷ ys) r t p q e =
@@ -81,7 +81,7 @@ stops_unread p bytes text rest is none fault goes = ⊎_elim
     some_byte : (text rest : List ℕ) → text ++ 10 ∷ rest ≡ [] → ⊥
     some_byte text rest e = omega (arith, ap (λ (xs : List ℕ). length xs) e, length-append text (10 ∷ rest))
 
--- the next line may not stand there
+-- the next line isn't allowed there
 pub stops_misplaced : (p : Part) (bytes text rest : List ℕ) (l : ReportLine) → bytes ≡ text ++ 10 ∷ rest → newlines text ≡ 0 → line_read text ≡ Some l → next_part p l ≡ None → GoesOn p bytes → ⊥
 stops_misplaced p bytes text rest l is none read misplaced goes = ⊎_elim
     (λ h.
@@ -93,7 +93,7 @@ stops_misplaced p bytes text rest l is none read misplaced goes = ⊎_elim
     some_byte : (text rest : List ℕ) → text ++ 10 ∷ rest ≡ [] → ⊥
     some_byte text rest e = omega (arith, ap (λ (xs : List ℕ). length xs) e, length-append text (10 ∷ rest))
 
--- ---- what `next_line` took
+-- ---- the line that `next_line` took
 
 pub at_end_stops : (p : Part) (before : Option (List ℕ)) → IsAtEnd before → may_end p ≡ false → IfKnown before (λ bytes. GoesOn p bytes → ⊥)
 at_end_stops p before end closed = λ bytes e goes.
@@ -128,7 +128,7 @@ misplaced_stops p before after line l true room room_after is ends read none = �
     let t = taken before after line ends.0 bytes e in
     stops_misplaced p bytes line t.0 l t.1 ends.1 read none goes
 
--- what a line that was read tells
+-- the facts of a line that was read
 pub record IsTaken (before : Option (List ℕ)) (room : ℕ) (l : ReportLine) (after : Option (List ℕ)) (room_after : ℕ) : Type 0 where
   pub bytes : Consumes before after (line_text l ++ codes "\n")
   pub text : HasText l
@@ -142,7 +142,7 @@ line_taken before after line l true room room_after is ends read =
 
 -- ---- some lines, and the next
 
--- Of what was left at first these lines were taken, which lead to the part; this is left, and of the room.
+-- These lines were taken of the text at first, and lead to the part; this text and this room remain.
 pub record ReadTo (known left : Option (List ℕ)) (lines : List ReportLine) (p : Part) (number room : ℕ) : Type 0 where
   pub bytes : Consumes known left (lines_text lines)
   pub good : AreLines lines p

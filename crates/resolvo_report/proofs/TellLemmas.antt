@@ -1,4 +1,4 @@
--- Lines as they are given, and where they may stand.
+-- Lines as they are shown, and where they are allowed.
 use Rattle.std.proofs.Common.{◌≡◌, ℕ, Bool, true, false, List, [], Option, Some, None, Result, Ok, Err, refl, sym, ap, subst, ◌∙◌, inl, inr, ⊎_elim, drop}
 use Rattle.std.specs.Prelude.{if◌then◌else◌, is_some}
 use Rattle.std.specs.Option.{option_map}
@@ -14,7 +14,7 @@ use Rattle.resolvo_report.specs.Grammar.{next_part}
 use Rattle.resolvo_report.specs.Parse.{is_message, line_read}
 use Rattle.resolvo_report.specs.Told.{IsTold, Tells}
 
--- what is read is told as it is
+-- a line that was read is shown as it is
 pub tells_read : (keeps : Bool) (r : Result code.ReportLine LineFault) (read : Option ReportLine) → Gives report_line_of r read → Tells keeps r read
 tells_read true (Ok line) read h = (report_line_of line, h, refl)
 tells_read false (Ok line) read h = (report_line_of line, h, inl refl)
@@ -29,7 +29,7 @@ same_part (part.Request n) bytes other = refl
 same_part (part.RefusedSteps n) bytes other = refl
 same_part part.Message bytes other = refl
 
--- the line that is told stands where the one that was said may
+-- the shown line is allowed where the one in the text is
 pub part_told : (keeps : Bool) (p : Part) (said line : ReportLine) → IsTold keeps said line → next_part p said ≡ next_part p line
 part_told true p said line h = ap (next_part p) h
 part_told false p said line h = ⊎_elim

@@ -1,4 +1,4 @@
--- Whole lines: what is spelled so is read, and holds no newline.
+-- Whole lines: a spelling is read back, and has no newline.
 use Rattle.std.proofs.Common.{◌≡◌, ℕ, ◌+◌, ◌<◌, Bool, true, false, not, cond, List, [], ◌∷◌, ◌++◌, map, Some, None, refl, sym, ap, ◌∙◌, append_assoc, arith}
 use Rattle.std.specs.Prelude.{codes, IsTrue}
 use Rattle.std.specs.Fmt.{decimal}
@@ -182,6 +182,6 @@ line_again (Numbered n s) fits =
     again_by (line_text (Numbered n s)) (codes "step") (decimal n ∷ a.keyword ∷ a.words) (Numbered n s) refl (numbered_split n (step_text s) fits.0 ∙ ap (λ (ws : Words). codes "step" ∷ decimal n ∷ ws) a.split) (numbered_again n s a.keyword a.words fits.0 a.said)
 line_again (Message bytes) fits = message_again bytes
 
--- a text says one line at most
+-- a text spells one line at most
 pub same_line : (a b : ReportLine) → HasText a → HasText b → line_text a ≡ line_text b → a ≡ b
 same_line a b p q e = same_Some a b (sym (line_again a p) ∙ ap line_read e ∙ line_again b q)

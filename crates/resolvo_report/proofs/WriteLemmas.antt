@@ -1,4 +1,4 @@
--- What a device took, line by line.
+-- The bytes that a device took, line by line.
 use Rattle.std.proofs.Common.{◌≡◌, ℕ, zero, suc, ◌+◌, ◌<◌, List, [], ◌∷◌, ◌++◌, length, take, drop, get_or, map, Option, Some, None, Result, Ok, Err, refl, sym, ap, subst, ◌∙◌, append_assoc, append-nil, take-append-drop, add-one, arith}
 use Rattle.std.specs.Prelude.{codes, IfErr, OnOk}
 use Rattle.std.specs.Io.KnownBytes.{Appends}

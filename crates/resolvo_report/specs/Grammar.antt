@@ -24,7 +24,7 @@ abbrev pub request_from : ℕ → ReportLine → Option Part
 request_from last (RequestLine n) = if nat_lt last n then Some (part.Request n) else None
 request_from last l = refused_steps_from 0 l
 
--- In this part of a report the line may stand, and the next one then stands in that part.
+-- The line is allowed in this part of a report, and the next one is in that part.
 abbrev pub next_part : Part → ReportLine → Option Part
 next_part part.Start InstallHead = Some part.Answers
 next_part part.Start RefusedHead = Some (part.Catalogue 0)
@@ -40,7 +40,7 @@ next_part (part.RefusedSteps count) l = refused_steps_from count l
 next_part part.Message (Message bytes) = Some part.Message
 next_part part.Message _ = None
 
--- the part after these lines, if each may stand where it does
+-- the part after these lines, if each is allowed at its place
 abbrev pub part_after : Part → List ReportLine → Option Part
 part_after p [] = Some p
 part_after p (l ∷ ls) = option_and_then (λ q. part_after q ls) (next_part p l)
@@ -53,25 +53,25 @@ may_end (part.RefusedSteps count) = true
 may_end part.Message = true
 may_end _ = false
 
--- Each line has a text and may stand where it does, which leads to that part.
+-- Each line has a text and is allowed at its place, and the next part is that one.
 pub record AreLines (lines : List ReportLine) (p : Part) : Type 0 where
   pub each : AllByRecursion HasText lines
   pub placed : part_after part.Start lines ≡ Some p
 
 -- ---- texts
 
--- The report has a text: its lines have, and may stand where they do, and the report may end there.
+-- The report has a text: each line has one and is allowed at its place, and the report may end there.
 pub record IsReport (r : Report) : Type 0 where
   pub part : Part
   pub lines : AreLines (report_lines r) part
   pub whole : IsTrue (may_end part)
 
--- In this part these bytes begin with a line that may stand there, and its newline; or they are none, and the
--- report may end.
+-- These bytes begin with a line that this part allows, and its newline; or they are none, and the report may
+-- end.
 abbrev pub GoesOn : Part → List ℕ → Type 0
 GoesOn p bytes = ((line : ReportLine) × (rest : List ℕ) × (q : Part) × HasText line × (next_part p line ≡ Some q) × (bytes ≡ line_text line ++ codes "\n" ++ rest)) ⊎ ((bytes ≡ []) × IsTrue (may_end p))
 
--- Above line n the text has lines of a report where they may stand, and doesn't go on with one at line n.
+-- Above line n the text has lines of a report that are allowed at their places, and no such line at n.
 pub record IsOutsideAt (text : List ℕ) (n : ℕ) : Type 0 where
   pub above : List ReportLine
   pub below : List ℕ
@@ -81,7 +81,7 @@ pub record IsOutsideAt (text : List ℕ) (n : ℕ) : Type 0 where
   pub place : n ≡ length above + 1
   pub none : GoesOn part below → ⊥
 
--- Of the text these bytes came; the lines that end among them are lines of a report where they may stand.
+-- These bytes of the text were read; the lines that end among them are allowed lines of a report.
 pub record IsGoodSoFar (came : List ℕ) : Type 0 where
   pub above : List ReportLine
   pub begun : List ℕ
@@ -90,7 +90,7 @@ pub record IsGoodSoFar (came : List ℕ) : Type 0 where
   pub good : AreLines above part
   pub unfinished : newlines begun ≡ 0
 
--- Some bytes of the text came, the rest is left, and those that came are good so far.
+-- Some bytes of the text were read, the rest remains, and those are good so far.
 pub record CameGood (text : List ℕ) (after : Option (List ℕ)) : Type 0 where
   pub came : List ℕ
   pub rest : List ℕ
@@ -102,8 +102,8 @@ pub record CameGood (text : List ℕ) (after : Option (List ℕ)) : Type 0 where
 abbrev pub most_bytes : ℕ
 most_bytes = 1073741824
 
--- When reading a report may fail so: what the device had left before and has left after, and that the device failed.
--- Whole lines that have come are judged before the device is asked again.
+-- When reading a report may fail so: the device's bytes before and after, and that the device failed. Whole
+-- lines that were read are checked before the next read of the device.
 abbrev pub IsReportFault : ReportFault → Option (List ℕ) → Option (List ℕ) → Type 0 → Type 0
 IsReportFault (NotAReport n) before after failed = IfKnown before (λ text. IsOutsideAt text n)
 IsReportFault Reader before after failed = failed × IfKnown before (λ text. CameGood text after)

@@ -24,7 +24,7 @@ behind k words = if (skip k words).0 then Some (skip k words).1 else None
 abbrev pub behind_at : {A : Type 0} → List ℕ → Reader A → Reader A
 behind_at k read words = behind k words >>= λ ws. read ws
 
--- what the words say, if they are this part and no more
+-- the value of the words, if they are this part and no more
 abbrev pub whole : {A B : Type 0} → Reader A → (A → B) → Words → Option B
 whole read f words = read words >>= λ x. end_at x.1 >>= λ _. Some (f x.0)
 
@@ -161,7 +161,7 @@ digit_in words = whole (pair_at version_at (pair_at (behind_at (codes "place") n
 unfoldable pub any_in : Words → Option Step
 any_in words = whole version_at (λ v. Any v) words
 
--- what the words behind the step's keyword say
+-- the step of this keyword and the words after it
 unfoldable pub step_said : List ℕ → Words → Option Step
 step_said k words =
     if bytes_eq k (codes "need") then need_in words

@@ -11,12 +11,12 @@ use Rattle.resolvo_report.specs.Value.{ReportLine}
 use Rattle.resolvo_report.specs.Text.{line_text, HasText}
 use Rattle.resolvo_report.specs.Grammar.{next_part, GoesOn}
 
--- what is left of the text, where the device tells
+-- the rest of the text, where the device knows it
 abbrev pub left : ReportReader → Option (List ℕ) → Option (List ℕ)
 left r told = lines.left r.lines told
 
--- A line with its newline was taken of what was left, and its bytes of the room. It may stand in the part that
--- it was met in, which led to the next one.
+-- A line with its newline was taken of the rest of the text, and its bytes of the room. The part allowed it, and
+-- the next part is that of the second reader.
 pub record GivesLine (before : Option (List ℕ)) (r : ReportReader) (line : ReportLine) (after : Option (List ℕ)) (s : ReportReader) : Type 0 where
   pub bytes : Consumes before after (line_text line ++ codes "\n")
   pub text : HasText line
@@ -24,8 +24,8 @@ pub record GivesLine (before : Option (List ℕ)) (r : ReportReader) (line : Rep
   pub number : s.number ≡ r.number + 1
   pub room : s.lines.room + length (line_text line ++ codes "\n") ≡ r.lines.room
 
--- When the next line is not given so: what was left before and is left after, the part and the number of lines
--- above, the room that there was, and that the device failed.
+-- When the next line is not given so: the rest of the text before and after, the part and the number of lines
+-- above, the room before, and that the device failed.
 abbrev pub IsLineFault : ReportFault → ReportReader → Option (List ℕ) → Option (List ℕ) → Type 0 → Type 0
 IsLineFault (NotAReport n) r before after failed = (n ≡ r.number + 1) × IfKnown before (λ bytes. GoesOn r.part bytes → ⊥)
 IsLineFault Reader r before after failed = failed × lines.NoLineCame before after

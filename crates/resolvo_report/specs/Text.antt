@@ -49,7 +49,7 @@ clause_text (l ∷ ls) = codes "[" ++ literal_text l ++ flat_map (λ m. codes ";
 
 -- ---- lines
 
--- A clause stands among the words of its line as one of them, whatever spaces it holds.
+-- A clause is one of the words of its line, whatever spaces it has.
 abbrev pub step_words : Step → Words
 step_words (Need place line case) = codes "need" ∷ place_text place ∷ codes "line" ∷ decimal line ∷ codes "case" ∷ decimal case ∷ []
 step_words (Gate v line) = codes "gate" ∷ version_text v ∷ codes "line" ∷ decimal line ∷ []
@@ -109,7 +109,7 @@ IsAtom (SharedBy alternatives) = AreAlternatives alternatives
 IsAtom (OutsideOf s) = IsSpec s
 IsAtom (BitOf bit name) = IsBit bit × IsTrue (is_name name)
 
--- The literals stand in byte order of their texts, each atom once.
+-- The literals are in byte order of their texts, each atom once.
 pub record AreLiterals (ls : List Literal) : Type 0 where
   pub each : AllByRecursion (λ l. IsAtom l.atom) ls
   pub rising : IsTrue (are_rising (map literal_text ls))

@@ -1,4 +1,4 @@
--- Lines as they are given: those of a message with their bytes, or without them.
+-- Lines as they are shown: those of a message with their bytes, or without them.
 use Rattle.std.specs.Prelude.{◌≡◌, ◌⊎◌, ℕ, Bool, true, false, List, [], Option, Some, Result, Ok, Err}
 use Rattle.resolvo_text.specs.declared.line.LineFault.{LineFault}
 use Rattle.resolvo_text.specs.Parse.{Fails}
@@ -6,12 +6,12 @@ use Rattle.resolvo_report.specs.declared.report.ReportLine as code
 use Rattle.resolvo_report.specs.Value.{ReportLine, Message}
 use Rattle.resolvo_report.specs.View.{report_line_of}
 
--- the line that was said; or else it is that, or a line of a message without its bytes
+-- the line of the text; or else it is that, or a line of a message without its bytes
 abbrev pub IsTold : Bool → ReportLine → ReportLine → Type 0
 IsTold true said line = said ≡ line
 IsTold false said line = (said ≡ line) ⊎ ((bytes : List ℕ) × (said ≡ Message bytes) × (line ≡ Message []))
 
--- What is given is told by what was read.
+-- The function's line shows the one in the text.
 abbrev pub Tells : Bool → Result code.ReportLine LineFault → Option ReportLine → Type 0
 Tells keeps (Ok line) read = (said : ReportLine) × (read ≡ Some said) × IsTold keeps said (report_line_of line)
 Tells keeps (Err e) read = Fails e read

@@ -1,14 +1,14 @@
--- What a report and its lines say.
+-- The models of a report and its lines.
 use Rattle.std.specs.Prelude.{ℕ, Bool, List}
 use Rattle.resolvo_text.specs.Line.{Version, Spec}
 
--- what a step or an entry stands for
+-- the owner of a step's or an entry's line
 pub data Place : Type 0 where
   OfRequest : Place
   OfVersion : Version → Place
 
--- A version is chosen, some version of a package is, one of these SPECs must be met, what a SPEC doesn't match is
--- barred, or a binary digit of the place of a package's chosen version.
+-- A version is chosen, some version of a package is, one of these SPECs must be met, the versions that a SPEC
+-- doesn't match are forbidden, or a binary digit of the place of a package's chosen version.
 pub data Atom : Type 0 where
   Chosen : Version → Atom
   AnyOf : List ℕ → Atom
@@ -21,7 +21,7 @@ pub record Literal : Type 0 where
   pub atom : Atom
   pub positive : Bool
 
--- Need has a place, a line and a case, LimitBars a place, a line and the barred version, Digit a version, its place
+-- Need has a place, a line and a case, LimitBars a place, a line and a version, Digit a version, its place
 -- and a bit, Derive a clause and the numbers of earlier steps.
 pub data Step : Type 0 where
   Need : Place → ℕ → ℕ → Step

@@ -1,4 +1,4 @@
--- What a report, a line, a step and their parts are, without where they lie in memory.
+-- The models of a report, a line, a step and their parts.
 use Rattle.std.specs.Prelude.{ℕ, List, map}
 use Rattle.std.specs.String.{string_bytes}
 use Rattle.std.specs.Global.{Vec}

@@ -1,4 +1,4 @@
--- What a writer of a report does to its device.
+-- The effect of a writer of a report on its device.
 use Rattle.std.specs.Prelude.{◌≡◌, ℕ, List, Option}
 use Rattle.std.specs.Io.KnownBytes.{Appends}
 use Rattle.resolvo_text.specs.Device.{WriterFailed, TakesFront}
@@ -9,7 +9,7 @@ use Rattle.resolvo_report.specs.declared.write.ReportWriteFault.TheVariants.{Wri
 abbrev pub Wrote : Option (List ℕ) → Option (List ℕ) → ℕ → ℕ → ℕ → ℕ → List ℕ → Type 0
 Wrote before after failures failures_now empty empty_now text = Appends before after text × (failures_now ≡ failures) × (empty_now ≡ empty)
 
--- The device took a front of this text and no more, for want of memory or because it failed.
+-- The device took a prefix of this text, and memory ran out or the device failed.
 abbrev pub StopsWriting : ReportWriteFault → Option (List ℕ) → Option (List ℕ) → ℕ → ℕ → ℕ → ℕ → ℕ → List ℕ → Type 0
 StopsWriting e before after failures failures_now interruptions empty empty_now text = TakesFront before after text
     × (e ≡ Writer → WriterFailed failures failures_now interruptions empty empty_now)

@@ -1,7 +1,7 @@
-//! Reports: what their lines say, and how they are written and read.
+//! Reports: their lines, and how they are written and read.
 //!
-//! A report says which versions to install, or that no set serves the request, with the steps of its proof. A
-//! report is seen as the value of specs/Value.antt; specs/View.antt says which.
+//! A report lists the versions to install, or it is a refusal with the steps of its proof.
+//! Its model is the value of specs/Value.antt, by the view of specs/View.antt.
 #![tactic(auto)]
 
 mod laws;

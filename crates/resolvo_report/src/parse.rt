@@ -1,6 +1,7 @@
 //! One line of a report.
 //!
-//! A line is read from left to right, as specs/Reading.antt does it. The reader of whole reports calls `line_in`.
+//! A line is parsed from left to right, as in specs/Parse.antt. The reader of whole reports calls
+//! `line_shown`.
 
 ghost use Rattle.std.specs.Prelude.{◌≡◌, if◌then◌else◌, Some, None, Err, IfOk, length, map, drop};
 ghost use Rattle.std.specs.Option.{option_map};
@@ -33,7 +34,7 @@ fn pieces_of<'a>(alloc: Global, text: &'a [u8]) -> Result<Vec<&'a [u8]>, AllocEr
     text.split(|b| *b == b';').collect(alloc)
 }
 
-/// The pieces without the sign that each begins with.
+/// The pieces, each without its first sign.
 fn texts_behind<'a>(alloc: Global, pieces: &[&'a [u8]]) -> Result<Vec<&'a [u8]>, AllocError>
     ensures { IfOk result (λ v. texts_of v.items ≡ map text_behind (texts_of pieces.now)) }
 {
@@ -48,7 +49,7 @@ fn texts_behind<'a>(alloc: Global, pieces: &[&'a [u8]]) -> Result<Vec<&'a [u8]>,
     Ok(texts)
 }
 
-/// The literals of the pieces, the first behind a bracket and the others behind a space.
+/// The literals of the pieces, the first after a bracket and the others after a space.
 fn literals_behind(alloc: Global, pieces: &[&[u8]]) -> Result<Vec<Literal>, LineFault>
     ensures { Gives (λ v. literals_of v.items) result (literals_behind 91 (texts_of pieces.now)) }
 {
@@ -86,7 +87,7 @@ fn literals_in(alloc: Global, text: &[u8]) -> Result<Vec<Literal>, LineFault>
     pieces_in(alloc, &pieces)
 }
 
-/// The numbers that the words are.
+/// The words as numbers.
 fn numbers_in(alloc: Global, words: &[u8]) -> Result<Vec<u32>, LineFault>
     ensures { Gives (λ v. v.items) result (numbers_in (words_in words.now)) }
 {
@@ -100,7 +101,7 @@ fn numbers_in(alloc: Global, words: &[u8]) -> Result<Vec<u32>, LineFault>
     Ok(numbers)
 }
 
-/// One number or more behind `by`.
+/// One number or more after `by`.
 #[tactic(auto, unfolding(crate::specs::Parse::causes_in))]
 fn causes_in(alloc: Global, words: &[u8]) -> Result<Vec<u32>, LineFault>
     ensures { Gives (λ v. v.items) result (causes_in (words_in words.now)) }
@@ -112,7 +113,7 @@ fn causes_in(alloc: Global, words: &[u8]) -> Result<Vec<u32>, LineFault>
     Ok(numbers)
 }
 
-/// The same, of a text behind a space.
+/// The same, of a text after a space.
 #[tactic(auto, unfolding(crate::specs::Parse::causes_behind))]
 fn causes_behind(alloc: Global, text: &[u8]) -> Result<Vec<u32>, LineFault>
     ensures { Gives (λ v. v.items) result (causes_behind text.now) }
@@ -132,7 +133,7 @@ fn close_in(text: &[u8]) -> Option<usize>
     text.iter().position(|b| *b == b']')
 }
 
-/// A derived step, of the text behind its keyword and a space.
+/// A derived step, of the text after its keyword and a space.
 #[tactic(auto, unfolding(crate::specs::Parse::derived_in))]
 fn derived_in(alloc: Global, text: &[u8]) -> Result<Step, LineFault>
     ensures { Gives step_of result (derived_in text.now) }
@@ -145,7 +146,7 @@ fn derived_in(alloc: Global, text: &[u8]) -> Result<Step, LineFault>
     Ok(Step::Derive { literals, causes })
 }
 
-/// What the words that are left of a line are, without the space before them.
+/// The remaining words of a line, without the space before them.
 fn text_of(words: &[u8]) -> &[u8]
     ensures { result.now ≡ join_with_byte 32 (words_in words.now) }
 {
@@ -249,7 +250,7 @@ fn any_in(alloc: Global, words: &[u8]) -> Result<Step, LineFault>
     Ok(Step::Any { version })
 }
 
-/// What the words behind the step's keyword say.
+/// The step, from its keyword and the words after it.
 #[tactic(auto, unfolding(crate::specs::Parse::step_said))]
 fn step_said(alloc: Global, keyword: &[u8], words: &[u8]) -> Result<Step, LineFault>
     ensures { Gives (λ s. step_of s) result (step_said keyword.now (words_in words.now)) }
@@ -337,7 +338,7 @@ fn entry_in(alloc: Global, version: Version, words: &[u8]) -> Result<ReportLine,
     Ok(ReportLine::Answer(AnswerLine::Wished { version, line }))
 }
 
-/// What the words behind the line's first one say.
+/// The line, from its first word and the words after it.
 #[tactic(auto, unfolding(crate::specs::Parse::line_said))]
 fn line_said(alloc: Global, keyword: &[u8], words: &[u8]) -> Result<ReportLine, LineFault>
     ensures { Gives (λ l. report_line_of l) result (line_said keyword.now (words_in words.now)) }
@@ -368,7 +369,7 @@ fn line_said(alloc: Global, keyword: &[u8], words: &[u8]) -> Result<ReportLine, 
     entry_in(alloc, version, words)
 }
 
-/// The message behind its sign, if the text begins with that.
+/// The message after its sign, if the text begins with that.
 fn message_in(text: &[u8]) -> Option<&[u8]>
     ensures { option_map (λ m. m.now) result ≡ (if is_message text.now then Some (drop 2 text.now)
         else None) }
@@ -389,7 +390,7 @@ fn line_read(alloc: Global, text: &[u8]) -> Result<ReportLine, LineFault>
     line_said(alloc, keyword, words)
 }
 
-/// What a line says; the bytes of a message are kept or not.
+/// A parsed line; the bytes of a message are kept or not.
 #[tactic(auto, unfolding(crate::specs::Parse::line_read))]
 pub(crate) fn line_told(alloc: Global, text: &[u8], keeps: bool) -> Result<ReportLine, LineFault>
     ensures { Tells keeps result (line_read text.now) }

@@ -1,6 +1,6 @@
 //! The parts of a report's lines: versions, places, numbers, literals.
 //!
-//! A part is read from the words that are left of a line, which are seen as specs/Reading.antt sees them.
+//! A part is parsed from the remaining words of a line, as in specs/Parse.antt.
 
 ghost use Rattle.std.specs.Prelude.{◌≡◌, length, map, IfOk};
 ghost use Rattle.std.specs.List.{position};
@@ -17,7 +17,7 @@ use resolvo_text::{
 };
 use std::alloc::Global;
 
-/// The words behind this one, which must be the next one.
+/// The words after this one, which must be the next one.
 #[tactic(auto, unfolding(crate::specs::Parse::behind))]
 pub(crate) fn behind<'a>(words: &'a [u8], word: &[u8]) -> Result<&'a [u8], LineFault>
     ensures { Gives (λ r. words_in r.now) result (behind word.now (words_in words.now)) }
@@ -130,7 +130,7 @@ pub(crate) fn specs_at(alloc: Global, words: &[u8]) -> Result<(Vec<Spec>, &[u8])
     alternatives_at(alloc, words)
 }
 
-/// What the word and the words after it say.
+/// The atom, from its first word and the words after it.
 #[tactic(auto, unfolding(crate::specs::Parse::atom_said))]
 fn atom_said(alloc: Global, keyword: &[u8], words: &[u8]) -> Result<Atom, LineFault>
     ensures { Gives atom_of result (atom_said keyword.now (words_in words.now)) }
@@ -188,7 +188,7 @@ fn literal_in(alloc: Global, words: &[u8]) -> Result<Literal, LineFault>
     })
 }
 
-/// The literal behind this sign, which the piece begins with.
+/// The literal after this sign, which the piece begins with.
 #[tactic(auto, unfolding(crate::specs::Parse::literal_behind))]
 pub(crate) fn literal_behind(alloc: Global, sign: u8, piece: &[u8]) -> Result<Literal, LineFault>
     ensures { Gives literal_of result (literal_behind sign piece.now) }

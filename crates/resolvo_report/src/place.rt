@@ -1,7 +1,7 @@
 //! Which line of a report may follow which.
 //!
-//! The part of a report after some lines is all that the lines above decide about the next one, as specs/Grammar.antt
-//! has it. The reader of reports asks `next` for each line.
+//! The part of a report decides which line may be next (specs/Grammar.antt). The reader of reports
+//! calls `next` for each line.
 
 ghost use Rattle.std.specs.Prelude.{◌≡◌, ◌==◌, ◌+◌};
 ghost use Rattle.resolvo_report.specs.View.{report_line_of};
@@ -9,7 +9,7 @@ ghost use Rattle.resolvo_report.specs.Grammar.{install_steps_from, refused_steps
 
 use crate::report::ReportLine;
 
-/// The part of a report that its lines so far lead to.
+/// The part of a report after its lines so far.
 #[derive(Clone, Copy, Debug, PartialEq, Eq)]
 pub enum Part {
     Start,

@@ -1,7 +1,7 @@
 //! Reading a report, line by line or whole.
 //!
-//! `ReportReader` holds one line at most, and finds each line's place by the part to which the lines above lead. It gives a line of a
-//! message with its bytes, which are a copy, or without them.
+//! `ReportReader` holds one line at most. The part of the report decides whether the next line is
+//! allowed. A line of a message has a copy of its bytes, or none.
 //! The judge takes one line after the other; `Report::read` keeps them all.
 
 ghost use Rattle.std.specs.Prelude.{◌≡◌, ℕ, ◌+◌, ◌≤◌, ◌++◌, ◌∷◌, [], Option, Some, None, IfOk, IfSome, IfNone, IfErr, OnOk, IsTrue, false};
@@ -24,7 +24,7 @@ use thiserror::Error;
 /// Why a report was not read.
 #[derive(Clone, Copy, Debug, PartialEq, Eq, Error)]
 pub enum ReportFault {
-    /// The line of this number is none of a report, below the lines above it, or the text ends before it.
+    /// The line of this number isn't allowed after those above it, or the text ends before it.
     #[error("no report at line {0}")]
     NotAReport(u32),
     /// The device failed, or was interrupted too often in a row.
@@ -63,14 +63,14 @@ const MOST_BYTES: u32 = 1 << 30;
 /// Takes one line of a report after the other.
 pub struct ReportReader {
     lines: LineReader,
-    /// The part that the lines so far lead to.
+    /// The part of the report after the lines so far.
     part: Part,
     /// How many lines were taken.
     number: u32,
     ghost few: { number + lines.room ≤ 1073741824 },
 }
 
-// split for the prover: what owns one calls this drop, and doesn't drop each field at each exit
+// split for the prover: an owner calls this drop, and doesn't drop each field at each exit
 impl Drop for ReportReader {
     fn drop(self) {
         let ReportReader {
@@ -101,8 +101,8 @@ impl ReportReader {
 
     /// Takes the next line. None at the end of a report.
     ///
-    /// All whole lines that were read are judged before the device is asked again. After a fault the reader is
-    /// of no more use.
+    /// All whole lines are checked before the next read of the device. After a fault the reader
+    /// can't be used again.
     pub fn next<S: Source>(
         &mut self,
         alloc: Global,
@@ -225,7 +225,7 @@ impl Report {
         Ok(report)
     }
 
-    /// The report of its first line alone.
+    /// The report with its first line only.
     fn begun(alloc: Global, first: ReportLine) -> Report
         requires { (q : Part) × (next_part part.Start (report_line_of first) ≡ Some q) }
         ensures lines { report_lines (report_of result) ≡ report_line_of first ∷ [] }
@@ -247,7 +247,7 @@ impl Report {
         }
     }
 
-    /// Puts the line below the others, where it is allowed.
+    /// Appends the line, where it is allowed.
     fn push(&mut self, line: ReportLine) -> Result<(), AllocError>
         requires { (q : Part)
             × (next_part (part_of (report_of self.old)) (report_line_of line) ≡ Some q) }

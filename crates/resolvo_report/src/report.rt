@@ -1,7 +1,7 @@
 //! Reports and their lines.
 //!
-//! A report and a line are seen as those of specs/Value.antt. The reader and the writer of reports make and take
-//! them, and the judge reads a report line by line.
+//! Their models are in specs/Value.antt. The reader makes them and the writer takes them. The judge
+//! reads a report line by line.
 
 use crate::step::{Place, Step};
 use resolvo_text::Version;
@@ -20,7 +20,7 @@ pub enum AnswerLine {
         version: Version,
         line: u32,
     },
-    /// The version isn't installed though this line of the request wishes it: the step bars it.
+    /// The wish of this line of the request is left out: the step forbids the version.
     LeftOut {
         version: Version,
         line: u32,
@@ -31,13 +31,13 @@ pub enum AnswerLine {
 /// A report.
 #[derive(Debug, Drop)]
 pub enum Report {
-    /// A set serves the request. The steps bar the wishes that are left out.
+    /// A set satisfies the request. The steps forbid the wishes that are left out.
     Install {
         lines: Vec<AnswerLine>,
         steps: Vec<Step>,
     },
-    /// No set serves the request. These lines of the two texts contradict each other, as the steps show, and the
-    /// lines of the message explain it to people.
+    /// No set satisfies the request. The steps refute these lines of the two texts, and the lines
+    /// of the message explain it to people.
     Refused {
         catalogue: Vec<u32>,
         request: Vec<u32>,

@@ -1,6 +1,7 @@
 //! Steps of a proof.
 //!
-//! A step is seen as the step of specs/Value.antt. The lines of a report hold steps, and the judge checks them.
+//! The model is the step of specs/Value.antt. The lines of a report hold steps, which the judge
+//! checks.
 
 use resolvo_text::{Spec, Version};
 
@@ -11,7 +12,7 @@ pub enum Place {
     Version(Version),
 }
 
-/// What a literal is about.
+/// The variable of a literal.
 #[derive(Debug, Drop)]
 pub enum Atom {
     /// The version is chosen.
@@ -20,7 +21,7 @@ pub enum Atom {
     Any { name: String },
     /// One of these SPECs must be met.
     Shared { alternatives: Vec<Spec> },
-    /// The versions of the SPEC's package that it doesn't match are barred.
+    /// The versions of the SPEC's package that it doesn't match are forbidden.
     Outside { spec: Spec },
     /// One binary digit of the place of the package's chosen version.
     Bit { bit: u32, name: String },
@@ -33,7 +34,7 @@ pub struct Literal {
     pub positive: bool,
 }
 
-/// A step: the rule that it takes from a line, what one of the atoms means, or what earlier steps give.
+/// A step: a rule of a line, the definition of an atom, or a clause derived from earlier steps.
 #[derive(Debug, Drop)]
 pub enum Step {
     /// A line `needs`, in one of its cases.
@@ -42,32 +43,32 @@ pub enum Step {
         line: u32,
         case: u32,
     },
-    /// A line `needs` without condition, by an atom `Shared`.
+    /// A line `needs` without condition, with an atom `Shared`.
     Gate {
         version: Version,
         line: u32,
     },
-    /// What an atom `Shared` means.
+    /// The definition of an atom `Shared`.
     Shared {
         alternatives: Vec<Spec>,
     },
-    /// A line `limits` bars a version.
+    /// A line `limits` forbids a version.
     LimitBars {
         place: Place,
         line: u32,
         version: Version,
     },
-    /// A line `limits`, by an atom `Outside`.
+    /// A line `limits`, with an atom `Outside`.
     Limit {
         place: Place,
         line: u32,
     },
-    /// What an atom `Outside` means for a version.
+    /// The definition of an atom `Outside`, for one version.
     Outside {
         spec: Spec,
         version: Version,
     },
-    /// A line `lock` bars another version of its package.
+    /// A line `lock` forbids another version of its package.
     Lock {
         line: u32,
         version: Version,
@@ -84,11 +85,11 @@ pub enum Step {
         place: u32,
         bit: u32,
     },
-    /// What an atom `Any` means for a version.
+    /// The definition of an atom `Any`, for one version.
     Any {
         version: Version,
     },
-    /// A clause that follows from the clauses of the steps of these numbers.
+    /// A derived clause, by RUP over the clauses of the steps of these numbers.
     Derive {
         literals: Vec<Literal>,
         causes: Vec<u32>,

@@ -1,6 +1,6 @@
 //! The texts of steps and their parts, as a report writes them.
 //!
-//! Each text is the one that specs/Text.antt gives the value. The writer of reports calls these.
+//! Each text is the one of specs/Text.antt. The writer of reports calls these.
 
 ghost use Rattle.std.specs.Prelude.{◌≡◌, Some, map};
 ghost use Rattle.std.specs.List.{join_with_byte, flat_map};
@@ -50,7 +50,7 @@ impl fmt::Display for Asked<'_> {
     }
 }
 
-/// SPECs, parted by `|`, behind a space.
+/// SPECs, separated by `|`, after a space.
 #[derive(Clone, Copy)]
 struct Alternatives<'a> {
     specs: &'a [Spec],

@@ -1,6 +1,7 @@
 //! Writing a report to a device, line by line.
 //!
-//! The contract says which front of the report's text the device took. The program writes its answer so.
+//! By the contract the device has a prefix of the report's text. The program writes its answer with
+//! it.
 
 ghost use Rattle.std.specs.Prelude.{◌≡◌, ◌++◌, ◌∷◌, [], ⊤, map, OnOk, OnErr, IfErr, codes};
 ghost use Rattle.resolvo_text.specs.Device.{WriterFailed, TakesFront};
@@ -15,7 +16,7 @@ use resolvo_text::{Sink, WriteFault, write_all};
 use std::alloc::{AllocError, AllocFailed, Global};
 use thiserror::Error;
 
-/// Why a report was not written whole.
+/// Why a report was not written to its end.
 #[derive(Clone, Copy, Debug, PartialEq, Eq, Error)]
 pub enum ReportWriteFault {
     /// The device failed, took no byte, or was interrupted too often in a row.

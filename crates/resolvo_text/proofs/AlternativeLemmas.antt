@@ -11,11 +11,11 @@ use Rattle.resolvo_text.specs.declared.line.LineFault.{LineFault}
 use Rattle.resolvo_text.specs.declared.line.LineFault.TheVariants.{Fault, Memory}
 use Rattle.resolvo_text.specs.Parse.{◌>>=◌, Fails, name_in, span_at, span_in, with_span, spec_at, skip, with_first, alternatives_at}
 
--- what was read before, and what is still read
+-- the alternatives read so far, and the rest
 abbrev pub with_front : List Spec → Option (List Spec × Words) → Option (List Spec × Words)
 with_front front read = read >>= λ x. Some (front ++ x.0, x.1)
 
--- the steps of a chain that came to its end
+-- the steps of a chain at its end
 pub bind_some : {A B : Type 0} (o : Option A) (f : A → Option B) (y : B) → (o >>= f) ≡ Some y → (x : A) × (o ≡ Some x) × (f x ≡ Some y)
 bind_some (Some x) f y e = (x, refl, e)
 bind_some None f y e = absurd cc

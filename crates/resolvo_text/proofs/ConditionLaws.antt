@@ -1,4 +1,4 @@
--- Conditions: what is read is spelled so, and what is spelled so is read.
+-- Conditions: parsing and spelling are inverse.
 use Rattle.std.proofs.Common.{◌≡◌, ℕ, zero, suc, ◌+◌, ◌-◌, ◌<◌, ◌≤◌, inl, inr, Bool, true, false, cond, List, [], ◌∷◌, ◌++◌, Option, Some, None, refl, sym, ap, subst, ◌∙◌, append_assoc, arith}
 use Rattle.std.specs.Prelude.{codes, IsTrue, ⊤}
 use Rattle.std.specs.Str.{bytes_eq}
@@ -39,7 +39,7 @@ abbrev front : Joint → Option Written → Words → Words
 front j None words = words
 front j (Some v) words = written_words v ++ word_of j ∷ words
 
--- What is before can be joined so.
+-- The parts before can be joined so.
 abbrev MayStandBefore : Joint → ℕ → Option Written → Type 0
 MayStandBefore j deep None = ⊤
 MayStandBefore j deep (Some v) = IsWritten v × (looseness v ≤ suc (tightness j)) × (depth_of v ≤ deep)
@@ -72,7 +72,7 @@ joined_words Or (Some v) w rest = sym (append_assoc (written_words v) (codes "or
 may_stand : (j : Joint) (deep : ℕ) (w : Written) → Fits (suc (tightness j)) deep w → MayStandBefore j deep (Some w)
 may_stand j deep w f = (f.form, f.binds, f.depth)
 
--- ---- what is read is spelled so
+-- ---- a parsed condition has this spelling
 
 -- Of the words a condition was read that binds so and is so deep; so many SPECs may still follow.
 pub record IsRead (loose deep room : ℕ) (words : Words) (x : Part) : Type 0 where
@@ -94,7 +94,7 @@ lone_takes deep (suc room) words x e =
     subst (λ (p : Part). IsRead 0 deep (suc room) words p) (same_Some _ _ b.2)
     (record { written = Lone b.0.0; fits = record { form = t.1; binds = omega arith; depth = omega arith }; specs = omega arith; means = refl; spelled = t.0 })
 
--- the parts that were read, joined to what is before them
+-- the parsed parts, joined to those before them
 pub record IsJoined (j : Joint) (deep : ℕ) (before : Option Written) (room : ℕ) (words : Words) (x : Part) : Type 0 where
   pub written : Written
   pub fits : Fits (suc (tightness j)) deep written
@@ -130,7 +130,7 @@ parts_with_take j deep part takes room words x e =
     let r = parts_take j deep part takes room None tt room words x e in
     record { written = r.written; fits = r.fits; specs = omega (arith, r.specs); means = r.means; spelled = r.spelled }
 
--- what is in parentheses is one less deep
+-- the inside of parentheses is one less deep
 abbrev GroupTakes : ℕ → PartReader → Type 0
 GroupTakes deep group = (room : ℕ) (words : Words) (x : Part) → group room words ≡ Some x → (below : ℕ) × (deep ≡ suc below) × IsRead 2 below room words x
 
@@ -180,7 +180,7 @@ behind_if_takes words c e =
     end_of [] made c e = (refl, same_Some _ _ e)
     end_of (word ∷ rest) made c e = absurd cc
 
--- ---- what is spelled so is read
+-- ---- a spelling is parsed back
 
 some_specs : (w : Written) → 0 < spec_count w
 some_specs (Lone s) = omega arith
@@ -197,7 +197,7 @@ loosest (Either v w) = omega arith
 abbrev Again : ℕ → ℕ → PartReader → (Words → Type 0) → Type 0
 Again loose deep part Ends = (w : Written) → Fits loose deep w → (room left : ℕ) (rest : Words) → spec_count w + left ≡ room → Ends rest → part room (written_words w ++ rest) ≡ Some (meant w, left, rest)
 
--- what may be behind a part
+-- the words that may follow a part
 abbrev EndsPart : Joint → Words → Type 0
 EndsPart And rest = BeginsNoSpan rest
 EndsPart Or rest = BeginsNoSpan rest × BeginsNot (codes "and") rest
@@ -221,7 +221,7 @@ joint_ends Or rest = (no_span_or, refl)
 close_ends : (rest : Words) → EndsParts Or (codes ")" ∷ rest)
 close_ends rest = ((no_span_close, refl), refl)
 
--- what follows a part that was read: more parts, or the end
+-- the words after a parsed part: more parts, or the end
 abbrev follows_part : Joint → PartReader → ℕ → Cond → ℕ → Words → Option Part
 follows_part j part n c left rest = cond (skip (word_of j) rest).0 (parts_at j part n (Some c) left (skip (word_of j) rest).1) (Some (c, left, (skip (word_of j) rest).1))
 
@@ -249,7 +249,7 @@ joined_parts j deep part again v x f n room left mid rest count ends first means
     let on = more_parts j deep part again (meant v) x f first.0 mid left rest first.1 count ends in
     (on.0, on.1, ap (λ (ws : Words). parts_at j part n None room ws) words ∙ first.2 ∙ on.2 ∙ ap (λ (c : Cond). follows_part j part on.0 c left rest) (sym means))
 
--- From the left, part after part: `and` joins atoms, `or` joins what `and` joined.
+-- From the left, part after part: `and` joins atoms, `or` joins conjunctions.
 parts_follow : (j : Joint) (deep : ℕ) (part : PartReader) → Again (tightness j) deep part (EndsPart j) → (w : Written) → Fits (suc (tightness j)) deep w → (n room left : ℕ) (rest : Words) → room ≤ n → spec_count w + left ≡ room → EndsPart j rest
     → IsFollowed j part n room (written_words w ++ rest) w left rest
 parts_follow And deep part again (Lone s) f n room left rest le count ends = one_part And deep part again (Lone s) (record { form = f.form; binds = omega arith; depth = f.depth }) n room left rest le count ends

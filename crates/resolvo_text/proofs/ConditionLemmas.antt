@@ -46,7 +46,7 @@ module _ (j : Joint) (part : PartReader) where
 
 -- ---- one part
 
--- what a part is where no parenthesis opens, and where one does
+-- a part without an opening parenthesis, and with one
 pub lone : (depth room : ℕ) (words : Words) (opens : Bool) (inside : Words) → (opens, inside) ≡ skip (codes "(") words → opens ≡ false → atom_at depth room words ≡ lone_at room words
 unfolding atom_at atom_with
 lone depth room words opens inside is none = rw (sym is, none) refl

@@ -1,4 +1,4 @@
--- What is known of the bytes that are left, over several steps.
+-- The rest of the bytes, where they are known, over several steps.
 use Rattle.std.proofs.Common.{◌≡◌, ℕ, zero, suc, ◌+◌, ◌-◌, ◌<◌, ◌≤◌, List, [], ◌∷◌, ◌++◌, length, take, drop, get_or, Option, Some, None, append_assoc, refl, sym, ap, ◌∙◌, arith}
 use Rattle.std.specs.Io.KnownBytes.{Consumes, Keeps, prepend_known}
 use Rattle.std.specs.List.{slice_range}
@@ -8,7 +8,7 @@ use Rattle.resolvo_text.specs.Device.{IfKnown}
 use Rattle.resolvo_text.specs.Lines.{newlines}
 use Rattle.resolvo_text.specs.Reader.{NoLineCame}
 
--- what known bytes begin with, and what is left of them
+-- the first of known bytes, and the rest
 pub consumed : (before after : Option (List ℕ)) (piece : List ℕ) → Consumes before after piece → IfKnown before (λ bytes. (rest : List ℕ) × (after ≡ Some rest) × (bytes ≡ piece ++ rest))
 consumed None after piece h = λ bytes e. absurd cc
 consumed (Some xs) None piece h = λ bytes e. absurd h
@@ -31,7 +31,7 @@ one_taken (Some xs) (Some t) items at end b kept lt le is =
     let read : get_or (take end items) at b ≡ b = get_or-take end items at b lt ∙ sym is in
     sym kept ∙ ap (λ (x : List ℕ). x ++ t) (one ∙ ap (λ (y : ℕ). y ∷ drop (at + 1) (take end items)) read)
 
--- nothing came, and nothing was unread
+-- no byte was read, and none was unread
 pub nothing_came : (told after : Option (List ℕ)) (unread : List ℕ) → unread ≡ [] → Keeps told after → NoLineCame (prepend_known unread told) after
 nothing_came None after unread none kept = λ bytes e. absurd cc
 nothing_came (Some t) None unread none kept = λ bytes e. absurd kept
@@ -57,7 +57,7 @@ take_within (suc n) zero xs le = absurd (omega arith)
 take_within (suc n) (suc m) [] le = refl
 take_within (suc n) (suc m) (x ∷ xs) le = ap (λ (ys : List ℕ). x ∷ ys) (take_within n m xs (omega arith))
 
--- a front of what is unread, up to some stop, and what is unread behind it
+-- the first unread bytes, up to some stop, and the unread bytes after it
 pub plain_piece : (items : List ℕ) (at end stop n : ℕ) → at ≤ end → stop ≤ end → n ≤ length (slice_range items at stop) → drop at (take end items) ≡ take n (slice_range items at stop) ++ drop (at + n) (take end items)
 plain_piece items at end stop n begun below few =
     let rest = drop at items in

@@ -1,4 +1,4 @@
--- Lines: what is read is spelled so, and what is spelled so is read.
+-- Lines: parsing and spelling are inverse.
 use Rattle.std.proofs.Common.{◌≡◌, ℕ, ◌<◌, ◌≤◌, Bool, true, false, cond, List, [], ◌∷◌, ◌++◌, length, inl, inr, Option, Some, None, refl, sym, ap, subst, ◌∙◌, arith}
 use Rattle.std.specs.Prelude.{codes, IsTrue}
 use Rattle.std.specs.Str.{bytes_eq}
@@ -14,7 +14,7 @@ use Rattle.resolvo_text.proofs.PartLaws.{version_takes, version_again, reason_ta
 use Rattle.resolvo_text.proofs.SpanLaws.{not_a_span}
 use Rattle.resolvo_text.proofs.ConditionLaws.{behind_if_takes, behind_if_again}
 
--- what is behind the alternatives of a line `needs`
+-- the words after the alternatives of a line `needs`
 abbrev IsBehindNeeds : Words → Option Cond → Type 0
 IsBehindNeeds words None = words ≡ []
 IsBehindNeeds words (Some c) = (others : Words) × (words ≡ codes "if" ∷ others) × AreWordsOfCondition others c
@@ -72,14 +72,14 @@ unfolding condition_in
 condition_in_again words None is = ap condition_in is ∙ rw (no_skip (codes "if") [] tt) refl
 condition_in_again words (Some c) (others, is, spelled) = ap condition_in is ∙ rw (skip_is (codes "if") others, behind_if_again others c spelled) refl
 
--- what is behind alternatives is behind no span and no bar
+-- the words after alternatives begin with no span and no bar
 ends_alternatives : (words : Words) (c : Option Cond) → IsBehindNeeds words c → BeginsNoSpan words × BeginsNot (codes "|") words
 ends_alternatives words None is = subst (λ (ws : Words). BeginsNoSpan ws × BeginsNot (codes "|") ws) (sym is) (tt, tt)
 ends_alternatives words (Some c) (others, is, spelled) = subst (λ (ws : Words). BeginsNoSpan ws × BeginsNot (codes "|") ws) (sym is) (no_span_if, refl)
 
 -- ---- the words of a line
 
--- The words say the line.
+-- The words spell the line, and the line has a form.
 pub record Says (words : Words) (line : Line) : Type 0 where
   pub spelled : AreWordsOf words line
   pub form : HasForm line

@@ -17,7 +17,7 @@ use Rattle.resolvo_text.specs.Parse.{number_in}
 own : IsNumeralModel (AllDigits 10) (digits_value 10)
 own = numerals_by_value _ tells_digits
 
--- what is spelled is read
+-- a spelling is parsed back
 pub number_in-decimal : (n : ℕ) → n < 2 ^ 32 → number_in (decimal n) ≡ Some n
 unfolding number_in
 number_in-decimal n lt =
@@ -28,7 +28,7 @@ number_in-decimal n lt =
 pub number_in_is : (word : List ℕ) (n : ℕ) → n < 2 ^ 32 → word ≡ decimal n → number_in word ≡ Some n
 number_in_is word n lt is = ap number_in is ∙ number_in-decimal n lt
 
--- what is read is spelled so
+-- a parsed number has this spelling
 pub number_in_spells : (word : List ℕ) (n : ℕ) → number_in word ≡ Some n → (word ≡ decimal n) × (n < 2 ^ 32)
 unfolding number_in
 number_in_spells word n e =
@@ -70,7 +70,7 @@ no_number_zero (b ∷ bs) h long = number_in_none (b ∷ bs) (λ n lt e. not_aft
 pub no_number_bytes : (word : List ℕ) → (IsUtf8 word → ⊥) → number_in word ≡ None
 no_number_bytes word not_text = number_in_none word (λ n lt e. not_text (IsUtf8-from_ascii word (subst IsAscii (sym e) (IsAscii-decimal n (omega arith)))))
 
--- what `parse` gives is the number, where the word begins as a number does
+-- `parse` gives the number, where the word begins as a number does
 pub number_from_parse : {E : Type 0} (word : List ℕ) (first : ℕ) (r : Result ℕ E) → slice_get word 0 ≡ Some first → first ≢ 43 → (first ≡ 48 → length word ≤ 1)
     → ParsesUnsigned 32 10 word r → result_ok r ≡ number_in word
 number_from_parse word first (Ok n) at no_plus no_zero parsed =

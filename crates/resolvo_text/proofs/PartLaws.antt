@@ -1,4 +1,4 @@
--- The parts of a line: what is read is spelled so, and what is spelled so is read.
+-- The parts of a line: parsing and spelling are inverse.
 use Rattle.std.proofs.Common.{◌≡◌, ℕ, zero, suc, ◌<◌, ◌≤◌, ◌⊎◌, inl, inr, Bool, true, false, cond, List, [], ◌∷◌, ◌++◌, length, Option, Some, None, refl, sym, ap, subst, ◌∙◌, append_assoc, arith}
 use Rattle.std.specs.Prelude.{codes, IsTrue, ⊤}
 use Rattle.std.specs.Fmt.{decimal}

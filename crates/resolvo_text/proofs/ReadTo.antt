@@ -1,4 +1,4 @@
--- Reading a text line by line, in any grammar: what a loop over `next_line` knows after some lines.
+-- Reading a text line by line, in any grammar: the invariant of a loop over `next_line`.
 use Rattle.std.proofs.Common.{◌≡◌, ℕ, zero, suc, ◌+◌, ◌≤◌, List, [], ◌∷◌, ◌++◌, length, take, Option, Some, refl, sym, ap, subst, ◌∙◌, append_assoc, arith}
 use Rattle.std.specs.Io.KnownBytes.{IsAtEnd, prepend_known}
 use Rattle.std.proofs.lemmas.List.{append-nil, length-append, take-append-le}
@@ -22,7 +22,7 @@ pub record IsReadTo {L : Type 0} (Says : Grammar L) (text rest : List ℕ) (line
   pub ended : newlines front ≤ number
   pub used : length front + room ≡ limit
 
--- the same of what the device had left at first, and what is left of that now
+-- the same of the device's bytes at first, and the rest of them
 abbrev pub ReadTo : {L : Type 0} → Grammar L → Option (List ℕ) → Option (List ℕ) → List L → ℕ → ℕ → ℕ → Type 0
 ReadTo Says known left lines number limit room = IfKnown known (λ text. (rest : List ℕ) × (left ≡ Some rest) × IsReadTo Says text rest lines number limit room)
 
@@ -109,14 +109,14 @@ module _ {L : Type 0} (Says : Grammar L) where
       let whole : lines_of all ≡ r.texts = r.split ∙ ap (λ (bs : List ℕ). r.texts ++ lines_of bs) over ∙ append-nil r.texts in
       subst (λ (ts : List (List ℕ)). Reads Says [] ts lines) (sym whole) r.read
 
-  -- the lines that ended among the bytes that came are among those that were read
+  -- the lines that end among the bytes read are among the lines read
   good_so_far : (text rest came : List ℕ) (lines : List L) (number limit room : ℕ) → IsReadTo Says text rest lines number limit room → newlines came ≤ number → IsGoodSoFar Says text came
   good_so_far text rest came lines number limit room r few =
       let within : newlines came ≤ length r.texts = omega (arith, r.count) in
       let whole : whole_lines text came ≡ take (newlines came) r.texts = ap (λ (ls : List (List ℕ)). take (newlines came) ls) r.split ∙ take-append-le (newlines came) r.texts (lines_of rest) within in
       (take (newlines came) lines, subst (λ (ts : List (List ℕ)). Reads Says [] ts (take (newlines came) lines)) (sym whole) (Reads-take (newlines came) [] r.texts lines r.read))
 
-  -- where the next line can't be read, the whole lines that have come are good
+  -- where the next line can't be read, the whole lines before it are good
   pub read_fails : (e : ReadFault) (known left after : Option (List ℕ)) (lines : List L) (number limit room failures failures_before failures_now interruptions : ℕ)
       → ReadTo Says known left lines number limit room → failures ≡ failures_before → IsReadFault e left after room (DeviceFailed failures failures_now interruptions)
       → IsTextFault Says e known after limit (DeviceFailed failures_before failures_now interruptions)

@@ -1,4 +1,4 @@
--- Spans: what is read is spelled so, and what is spelled so is read.
+-- Spans: parsing and spelling are inverse.
 use Rattle.std.proofs.Common.{◌≡◌, ℕ, ◌+◌, ◌^◌, ◌<◌, ◌≤◌, ◌⊎◌, inl, Bool, true, false, cond, ltb, List, [], ◌∷◌, ◌++◌, length, get_or, take, drop, Option, Some, None, refl, sym, ap, subst, ◌∙◌, arith, ⊎_elim}
 use Rattle.std.specs.Fmt.{decimal}
 use Rattle.std.specs.List.{position, position_or_len}

@@ -1,4 +1,4 @@
--- The text of a line: what is read is spelled so, and what is spelled so is read.
+-- The text of a line: parsing and spelling are inverse.
 use Rattle.std.proofs.Common.{◌≡◌, ℕ, ◌^◌, ◌<◌, inl, inr, Bool, true, false, not, eqb, List, [], ◌∷◌, ◌++◌, get_or, Some, None, All, refl, sym, ap, subst, ◌∙◌, arith, ⊎_elim}
 use Rattle.std.specs.Prelude.{codes, IsTrue}
 use Rattle.std.specs.Fmt.{decimal}
@@ -129,7 +129,7 @@ is_skipped_from : (text : List ℕ) → IsSkipped text → is_skipped text ≡ t
 is_skipped_from [] h = refl
 is_skipped_from (b ∷ bs) h = ⊎_elim (λ none. absurd cc) (λ first. ap (λ (n : ℕ). eqb n 35) (same_Some b 35 first)) h
 
--- what was read is spelled so
+-- the text spells the parsed line
 pub line_takes : (text : List ℕ) (line : Line) → line_in text ≡ Some line → SaysLine text line
 unfolding line_in
 line_takes text line e =
@@ -150,7 +150,7 @@ skipped_again text h = rw (is_skipped_from text h) refl
 joined_of : (text : List ℕ) (words ws : Words) → text ≡ join_with_byte 32 words → words ≡ ws → text ≡ join_with_byte 32 ws
 joined_of text words ws e is = e ∙ ap (join_with_byte 32) is
 
--- what is spelled so is read
+-- a line that the text spells is parsed
 pub line_again : (text : List ℕ) (line : Line) → HasForm line → Spells text line → line_in text ≡ Some line
 line_again text Skipped form spells = skipped_again text spells
 line_again text (Listed v) form (words, joined, is) = text_again text _ _ (version_words v) (Listed v) refl (joined_of text words _ joined is) (by_test (codes "version") refl, version_are_words v form) (said_again (codes "version") _ (Listed v) form refl)

@@ -13,7 +13,7 @@ some_word : (words : Words) → 0 < length words → end_at words ≡ None
 some_word [] lt = absurd (omega arith)
 some_word (word ∷ words) lt = refl
 
--- what is left of a line has a word, unless it is empty
+-- the rest of a line has a word, unless it is empty
 pub not_at_end : (rest : List ℕ) → 0 < length rest → end_at (words_in rest) ≡ None
 not_at_end [] lt = absurd (omega arith)
 not_at_end (b ∷ bs) lt = some_word (slice_split is_space bs) (omega (arith, length-slice_split is_space bs))

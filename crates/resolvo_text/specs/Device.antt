@@ -1,4 +1,4 @@
--- What the contract of a device that gives or takes bytes knows of it.
+-- Contracts of a device that gives or takes bytes.
 use Rattle.std.specs.Prelude.{◌≡◌, ℕ, ◌+◌, ◌<◌, ◌≤◌, ◌⊎◌, min, ◌==◌, if◌then◌else◌, List, ◌++◌, Option, Some, Result, Ok, Err}
 use Rattle.std.specs.Io.KnownBytes.{Appends}
 use Rattle.resolvo_text.specs.declared.device.IoFault.{IoFault}
@@ -42,6 +42,6 @@ DeviceFailed failures_before failures_now interruptions = (failures_before < fai
 abbrev pub WriterFailed : ℕ → ℕ → ℕ → ℕ → ℕ → Type 0
 WriterFailed failures_before failures_now interruptions empty_before empty_now = DeviceFailed failures_before failures_now interruptions ⊎ (empty_before < empty_now) ⊎ (last ≤ empty_before)
 
--- Of these bytes the device took a front, and no others.
+-- The device took the first of these bytes, and no others.
 abbrev pub TakesFront : Option (List ℕ) → Option (List ℕ) → List ℕ → Type 0
 TakesFront before after bytes = (front : List ℕ) × (rest : List ℕ) × (bytes ≡ front ++ rest) × Appends before after front

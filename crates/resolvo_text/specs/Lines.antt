@@ -14,6 +14,6 @@ is_newline b = b == 10
 abbrev pub newlines : List ℕ → ℕ
 newlines bytes = count_by is_newline bytes
 
--- The lines of the text that end among the bytes read, which are the text's first.
+-- The lines of the text that end among the bytes read, a prefix of the text.
 abbrev pub whole_lines : List ℕ → List ℕ → List (List ℕ)
 whole_lines text came = take (newlines came) (lines_of text)

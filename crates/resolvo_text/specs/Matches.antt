@@ -6,7 +6,7 @@ use Rattle.resolvo_text.specs.declared.spec.Span.{Span}
 use Rattle.resolvo_text.specs.declared.spec.Span.TheVariants.{Any, One, Range}
 use Rattle.resolvo_text.specs.Line.{Version, Spec, Cond, Is, And, Or}
 
--- a finite set of versions; order and repetition say nothing
+-- a finite set of versions; order and repetition don't count
 abbrev pub Set : Type 0
 Set = List Version
 

@@ -17,7 +17,7 @@ infixl 10 ◌>>=◌
 abbrev pub ◌>>=◌ : {A B : Type 0} → Option A → (A → Option B) → Option B
 o >>= f = option_and_then f o
 
--- What a function returned, seen by view, is what reading gives, unless memory ran out.
+-- The view of a function's result is the parsed value, unless memory ran out.
 abbrev pub Fails : {Y : Type 0} → LineFault → Option Y → Type 0
 Fails Fault read = read ≡ None
 Fails Memory read = ⊤
@@ -141,7 +141,7 @@ abbrev pub join : Joint → Cond → Cond → Cond
 join joint.And left right = And left right
 join joint.Or left right = Or left right
 
--- joined to what precedes it
+-- joined to the parts before it
 abbrev pub joined : Joint → Option Cond → Cond → Cond
 joined j None right = right
 joined j (Some left) right = join j left right
@@ -154,7 +154,7 @@ lone_at (suc room) words = spec_at words >>= λ x. Some (Is x.0, room, x.1)
 abbrev pub closed : Part → Option Part
 closed x = if (skip (codes ")") x.2).0 then Some (x.0, x.1, (skip (codes ")") x.2).1) else None
 
--- a SPEC, or parentheses round what `group` reads
+-- a SPEC, or parentheses round a part of `group`
 unfoldable pub atom_with : PartReader → PartReader
 atom_with group room words = if (skip (codes "(") words).0 then (group room (skip (codes "(") words).1 >>= λ x. closed x) else lone_at room words
 
@@ -168,7 +168,7 @@ parts_at j part (suc n) before room words = part room words >>= λ x.
 unfoldable pub parts_with : Joint → PartReader → PartReader
 parts_with j part room words = parts_at j part room None room words
 
--- what is in parentheses that are at most so deep
+-- the inside of parentheses that are at most so deep
 unfoldable pub group_at : ℕ → PartReader
 group_at zero room words = None
 group_at (suc depth) room words = parts_with joint.Or (parts_with joint.And (atom_with (group_at depth))) room words
@@ -212,7 +212,7 @@ spec_in words = spec_at words >>= λ x. whole_of x
 unfoldable pub needs_in : Words → Option Line
 needs_in words = alternatives_at (length words) words >>= λ x. condition_in x.1 >>= λ c. Some (Needs x.0 c)
 
--- what the words after the keyword say
+-- the line of this keyword and the words after it
 unfoldable pub said_by : List ℕ → Words → Option Line
 said_by keyword words =
     if bytes_eq keyword (codes "version") then (version_in words >>= λ v. Some (Listed v))

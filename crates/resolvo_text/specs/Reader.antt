@@ -11,11 +11,11 @@ use Rattle.resolvo_text.specs.declared.lines.ReadFault.TheVariants.{Fault, Reade
 abbrev pub unread : LineReader → List ℕ
 unread r = drop r.at (take r.end r.piece.items)
 
--- what is left of the text, where the device knows it
+-- the rest of the text, where the device knows it
 abbrev pub left : LineReader → Option (List ℕ) → Option (List ℕ)
 left r told = prepend_known (unread r) told
 
--- Bytes of the piece went to the line, none of them a newline.
+-- Bytes of the piece were appended to the line, none of them a newline.
 pub record TakesPlain (old new : LineReader) : Type 0 where
   pub bytes : List ℕ
   pub piece : unread old ≡ bytes ++ unread new
@@ -43,8 +43,8 @@ EndsLine false before room line after room_after = Consumes before after line ×
 abbrev pub NoLineCame : Option (List ℕ) → Option (List ℕ) → Type 0
 NoLineCame before after = IfKnown before (λ bytes. (came : List ℕ) × (rest : List ℕ) × (after ≡ Some rest) × (bytes ≡ came ++ rest) × (newlines came ≡ 0))
 
--- When reading a line may fail so: what was left of the text before, what the device has left after, the room
--- that there was, and that the device failed.
+-- When reading a line may fail so: the rest of the text before, the device's bytes after, the room before, and
+-- that the device failed.
 abbrev pub IsReadFault : ReadFault → Option (List ℕ) → Option (List ℕ) → ℕ → Type 0 → Type 0
 IsReadFault (Fault n) before after room failed = ⊥
 IsReadFault Reader before after room failed = failed × NoLineCame before after

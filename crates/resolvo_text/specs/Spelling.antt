@@ -57,7 +57,7 @@ pub data Written : Type 0 where
   Both : Written → Written → Written
   Either : Written → Written → Written
 
--- what it means: parentheses only group
+-- its value: parentheses only group
 abbrev pub meant : Written → Cond
 meant (Lone s) = Is s
 meant (Group w) = meant w
@@ -138,7 +138,7 @@ pub record AreWordsOfCondition (words : Words) (c : Cond) : Type 0 where
 abbrev pub needs_words : List Spec → Words
 needs_words alternatives = codes "needs" ∷ alternatives_words alternatives
 
--- The words say the line.
+-- The words spell the line.
 abbrev pub AreWordsOf : Words → Line → Type 0
 AreWordsOf words Skipped = ⊥
 AreWordsOf words (Listed v) = words ≡ codes "version" ∷ version_words v
@@ -151,7 +151,7 @@ AreWordsOf words (Favour v) = words ≡ codes "favour" ∷ version_words v
 AreWordsOf words (Exclude v reason) = words ≡ codes "exclude" ∷ (version_words v ++ reason ∷ [])
 AreWordsOf words (Wish v) = words ≡ codes "wish" ∷ version_words v
 
--- The text is skipped, or words that say the line, parted by one space each.
+-- The text is skipped, or the words of the line, separated by one space each.
 abbrev pub Spells : List ℕ → Line → Type 0
 Spells text Skipped = IsSkipped text
 Spells text line = (words : Words) × (text ≡ join_with_byte 32 words) × AreWordsOf words line

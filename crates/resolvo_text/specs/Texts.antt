@@ -17,7 +17,7 @@ Reads Says before [] (line ∷ lines) = ⊥
 Reads Says before (text ∷ texts) [] = ⊥
 Reads Says before (text ∷ texts) (line ∷ lines) = Says before text line × Reads Says (before ++ line ∷ []) texts lines
 
--- The lines of the text say these lines.
+-- The lines of the text spell these lines.
 abbrev pub IsGrammatical : {L : Type 0} → Grammar L → List ℕ → List L → Type 0
 IsGrammatical Says text lines = Reads Says [] (lines_of text) lines
 
@@ -44,8 +44,8 @@ pub record CameGood {L : Type 0} (Says : Grammar L) (text : List ℕ) (after : O
   pub parts : text ≡ came ++ rest
   pub good : IsGoodSoFar Says text came
 
--- When reading a text may fail so: what the device had left before and has left after, the most bytes that a
--- text may have, and that the device failed. All whole lines that were read are judged before the next read.
+-- When reading a text may fail so: the device's bytes before and after, the most bytes of a text, and that the
+-- device failed. All whole lines that were read are checked before the next read.
 abbrev pub IsTextFault : {L : Type 0} → Grammar L → ReadFault → Option (List ℕ) → Option (List ℕ) → ℕ → Type 0 → Type 0
 IsTextFault Says (Fault n) before after limit failed = IfKnown before (λ text. IsFaultyAt Says text n)
 IsTextFault Says Reader before after limit failed = failed × IfKnown before (λ text. CameGood Says text after)

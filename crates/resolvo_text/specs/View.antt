@@ -1,4 +1,4 @@
--- What a version, a SPEC, a condition and a line are, without where they lie in memory.
+-- The models of a version, a SPEC, a condition and a line.
 use Rattle.std.specs.Prelude.{List, map, Option}
 use Rattle.std.specs.Option.{option_map}
 use Rattle.std.specs.String.{string_bytes}

@@ -19,7 +19,7 @@ pub enum Line {
         condition: Option<Cond>,
     },
     Limits(Spec),
-    /// What a version needs is unknown, for the reason that the word names.
+    /// The needs of a version are unknown, for the reason that the word names.
     Unknown(String),
     Lock(Version),
     Favour(Version),

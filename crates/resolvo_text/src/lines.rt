@@ -176,7 +176,7 @@ impl LineReader {
 
     /// Takes the next byte, or none at the end.
     fn next_byte<S: Source>(&mut self, source: &mut S) -> Result<Option<u8>, ReadFault>
-        // What the call promises.
+        // After the call.
         ensures taken { IfOk result (λ next. Consumes (left self.old (S.left source.old))
             (left self.new (S.left source.new)) (option_to_list next)) }
         ensures end { IfOk result (λ next. IfNone next (IsAtEnd (left self.old (S.left source.old)))) }
@@ -225,7 +225,7 @@ impl LineReader {
     /// Reads the next piece.
     fn fill<S: Source>(&mut self, source: &mut S) -> Result<(), ReadFault>
         requires { self.old.at ≡ self.old.end }
-        // What the call promises.
+        // After the call.
         ensures given { OnOk result (Consumes (S.left source.old) (S.left source.new) (unread self.new)) }
         ensures end { OnOk result (self.new.at ≡ self.new.end → IsAtEnd (S.left source.new)) }
         ensures line { self.new.line ≡ self.old.line }

@@ -10,7 +10,7 @@ use Rattle.resolvo_text.specs.Parse.{Gives, line_in}
 use Rattle.resolvo_text.proofs.TextLaws.{line_takes, says_none}
 use Rattle.resolvo_text.proofs.parse.line_in.Goals as goal
 
--- what was read is what the text spells
+-- the text spells the line that was read
 ok_says : (text : List ℕ) (r : Result code.Line LineFault) → Gives view r (line_in text) → IfOk r (λ line. SaysLine text (view line))
 ok_says text (Ok line) h = line_takes text (view line) h
 ok_says text (Err e) h = tt

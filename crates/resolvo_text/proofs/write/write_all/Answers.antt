@@ -3,7 +3,7 @@ use Rattle.std.proofs.KnownBytes.{Appends-trans}
 use Rattle.std.proofs.lemmas.List.{take-append-drop, take_rest}
 use Rattle.resolvo_text.proofs.write.write_all.Goals as goal
 
--- some more bytes of the rest join the front
+-- some more bytes of the rest are written
 split_more : (bytes front rest : List ℕ) (count : ℕ) → bytes ≡ front ++ rest → bytes ≡ (front ++ take count rest) ++ take (length rest - count) (drop count rest)
 split_more bytes front rest count e =
     let parts : rest ≡ take count rest ++ take (length rest - count) (drop count rest) = sym (take-append-drop count rest) ∙ ap (λ (xs : List ℕ). take count rest ++ xs) (sym (take_rest rest count)) in

@@ -10,7 +10,7 @@ use Rattle.resolvo_report.specs.Draft.{part_of, Grows}
 use Rattle.resolvo_report.proofs.DraftLemmas.{push_install_step, push_catalogue, push_request, push_refused_step, push_message}
 use Rattle.resolvo_report.proofs.report.Report.push.Goals as goal
 
--- where the line may stand in this report
+-- where the line is allowed in this report
 placed : (r s : code.Report) (l m : code_line.ReportLine) (q : Part) → r ≡ s → l ≡ m → next_part (part_of (report_of r)) (report_line_of l) ≡ Some q → next_part (part_of (report_of s)) (report_line_of m) ≡ Some q
 placed r s l m q is same e = subst (λ (x : code.Report). next_part (part_of (report_of x)) (report_line_of m) ≡ Some q) is (subst (λ (x : code_line.ReportLine). next_part (part_of (report_of r)) (report_line_of x) ≡ Some q) same e)
 
