@@ -131,7 +131,7 @@ module _ {S : Type 0} (f : Findings S) where
   shown_of Installable r = candidates_at f.graph (filter (is_among f.installable) r.targets)
   shown_of Hopeless r = candidates_at f.graph r.targets
 
-  -- the versions shown so far, with those that are merged with s
+  -- the versions that lines cover, with those that are merged with s
   abbrev pub told_with : List S → S → List S
   told_with told s = insert_all f.same told (unwrap_or (f.merged s) [])
 
@@ -163,7 +163,7 @@ module _ {S : Type 0} (f : Findings S) where
   needs_of Requires es = in_rank (runs_of es)
   needs_of Locked es = []
 
-  -- the version is shown as part of a merged one, or is below itself
+  -- a line covers the version already, or it is below itself
   abbrev pub is_passed : List S → NodeIndex → S → List NodeIndex → Bool
   is_passed told n s above = was_told told s || is_among above n
 
@@ -181,12 +181,12 @@ module _ {S : Type 0} (f : Findings S) where
   entries_below told (Requirement r) i above = siblings i above (reverse (options_of r))
   entries_below told (Candidate n s) i above = cond (is_passed told n s above) [] (siblings i (above ++ n ∷ []) (reverse (needs_of (verdict_of n) (edges_of f.graph n))))
 
-  -- the versions shown after an entry's own lines
+  -- the versions that lines cover after an entry's own ones
   abbrev pub told_after : List S → DisplayOp S → List NodeIndex → List S
   told_after told (Requirement r) above = told
   told_after told (Candidate n s) above = cond (is_passed told n s above) told (told_with told s)
 
-  -- after the versions shown so far, these entries have these lines, and then these versions are shown:
+  -- where lines cover some versions, these entries have these lines, and then lines cover these versions:
   -- an entry's own lines, then those below it, then those of the next entries
   pub data Tells : List S → List (Entry S) → List (MessageLine S) → List S → Type 0 where
     done : (told : List S) → Tells told [] [] told

@@ -66,7 +66,7 @@ pub(crate) struct Findings<'a, S: Copy + Exact + Hash + Debug> {
 /// The state while a tree is written.
 #[derive(Drop)]
 struct Telling<S: Copy + Exact + Hash + Debug> {
-    /// The versions that were shown as parts of merged ones.
+    /// The versions that lines cover, as parts of merged ones.
     told: IndexSet<S>,
     /// The entries that are left to write, the next one at the end.
     stack: Vec<Entry<S>>,
@@ -167,7 +167,7 @@ impl<S: Copy + Exact + Hash + Debug> Findings<'_, S> {
         }
     }
 
-    /// Whether a version was shown as part of a merged one, or is below itself.
+    /// Whether a line covers a version already, or it is below itself.
     fn is_passed(
         &self,
         told: &IndexSet<S>,
@@ -443,7 +443,7 @@ impl<S: Copy + Exact + Hash + Debug> Findings<'_, S> {
         Ok(())
     }
 
-    /// Marks the versions that are merged with one as shown.
+    /// Marks the versions that are merged with one as covered.
     fn mark(&self, version: S, told: &mut IndexSet<S>) -> R<()>
         ensures { OnOk result
             (told.new.keys
