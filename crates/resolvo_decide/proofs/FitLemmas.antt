@@ -1,4 +1,5 @@
--- The states stay right after a backjump and as the trail grows; a satisfied or idle clause offers no decision.
+-- The states stay right after a backjump and as the trail grows. A clause offers no decision where
+-- it is satisfied or idle.
 use Rattle.std.proofs.Common.{◌≡◌, ℕ, zero, suc, ◌+◌, ◌-◌, ◌<◌, ◌≤◌, ◌⊎◌, inl, inr, cond, Bool, true, false, List, [], ◌∷◌, ◌++◌, map, length, take, drop, get_or, Option, Some, None, refl, sym, ◌∙◌, ap, subst, arith}
 use Rattle.std.specs.Prelude.{nat_lt, ◌&&◌, ◌||◌, slice_get, slice_set, Contains}
 use Rattle.std.specs.Option.{option_map}

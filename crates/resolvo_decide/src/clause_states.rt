@@ -59,8 +59,8 @@ pub struct ClauseStates {
     marks: Vec<bool>,
     /// Whether a group of blocks may have one.
     groups: Vec<bool>,
-    /// For each block the length of a prefix that bounds those of its clauses. The highest number is
-    /// no bound.
+    /// For each block the length of a prefix that bounds those of its clauses. The highest number
+    /// is no bound.
     bounds: Vec<u32>,
 }
 
@@ -162,7 +162,8 @@ impl ClauseStates {
         start + GROUP.min(self.len() - start)
     }
 
-    /// Clears the mark of a position's group, if all of it is between two positions without an open clause.
+    /// Clears the mark of a position's group, if all of it is between two positions without an open
+    /// clause.
     fn shut_group(&mut self, from: usize, position: usize, next: usize)
         requires within { position < length self.old }
         requires passed { (i : ℕ) → from ≤ i → i < next → is_open_state (state_at self.old i) ≡ false }

@@ -1,4 +1,4 @@
--- The trees: the lines of the stack's entries follow the lines so far, and each step lowers the weight.
+-- The trees: the stack's entries have the lines after those so far; each step lowers the weight.
 use Rattle.std.proofs.Common.{◌≡◌, ℕ, zero, suc, ◌+◌, ◌*◌, ◌<◌, ◌≤◌, Bool, true, false, cond, List, [], ◌∷◌, ◌++◌, map, reverse, drop, length, All, refl, sym, ap, subst, ◌∙◌, arith, append_assoc, map-id}
 use Rattle.std.specs.Prelude.{◌||◌, ◌==◌, not, filter, Option, None, Some, slice_get}
 use Rattle.std.proofs.lemmas.List.{append-nil, reverse-append, length-reverse}

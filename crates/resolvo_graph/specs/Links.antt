@@ -47,7 +47,7 @@ abbrev pub up_to : {S : Type 0} → Option EdgeIndex → List (Edge S) → List 
 up_to None es = []
 up_to (Some i) es = take (i.0 + 1) es
 
--- each node is linked to its newest edges, and each edge to the one before it at its node on its side
+-- a node is linked to its newest edges, an edge to the one before it at its node on its side
 pub record AreLinked {S : Type 0} (newest : List Links) (edges : List (LinkedEdge S)) : Type 0 where
   pub newest_are : (side : Side) (n : ℕ) → link_on side (links_of newest n) ≡ newest_of (is_at side (record { 0 = n })) (edges_in edges) (length (edges_in edges))
   pub older_are : (side : Side) (i : ℕ) (l : LinkedEdge S) → slice_get edges i ≡ Some l → link_on side l.older ≡ newest_of (is_at side (end_on side l.edge)) (edges_in edges) i

@@ -20,7 +20,7 @@ abbrev pub has_targets_in : List NodeIndex → Run → Bool
 has_targets_in ns r = list_all (is_among ns) r.targets
 
 module _ {S : Type 0} (g : Graph S) where
-  -- it is neither unresolved nor a reason, it has no conflict, and each of its runs has a marked target
+  -- it is no unresolved node, no reason and in no conflict; each of its runs has a marked target
   abbrev pub can_be_installed : List NodeIndex → NodeIndex → Bool
   can_be_installed marked n = not (is_unresolved_at g n) && (not (is_excluding g n) && (not (is_in_conflict g n) && list_all (has_target_in marked) (runs_of (edges_of g n))))
 

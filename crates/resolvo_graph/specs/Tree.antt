@@ -1,4 +1,4 @@
--- The trees of the message: runs of a requirement, below them versions, below these their requirements.
+-- The trees of the message: runs of a requirement, below them versions, below these their runs.
 use Rattle.std.specs.Prelude.{◌==◌, ◌||◌, ◌++◌, Bool, true, false, not, List, [], ◌∷◌, Option, None, Some, cond, filter, map, reverse, slice_get, unwrap_or}
 use Rattle.std.specs.List.{list_any, dedup}
 use Rattle.std.specs.Option.{option_or}
@@ -186,7 +186,7 @@ module _ {S : Type 0} (f : Findings S) where
   told_after told (Requirement r) above = told
   told_after told (Candidate n s) above = cond (is_passed told n s above) told (told_with told s)
 
-  -- where lines cover some versions, these entries have these lines, and then lines cover these versions:
+  -- after lines that cover some versions, these entries have these lines, which cover more:
   -- an entry's own lines, then those below it, then those of the next entries
   pub data Tells : List S → List (Entry S) → List (MessageLine S) → List S → Type 0 where
     done : (told : List S) → Tells told [] [] told

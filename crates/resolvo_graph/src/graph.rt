@@ -1,7 +1,7 @@
 //! The conflict graph: the versions, requirements and exclusions on which a conflict rests.
-//! The model is the list of nodes and the list of edges, each in the order of insertion. The
-//! solver builds it from a conflict; the message is written from it. The edges of a node are linked,
-//! so that they are found without a search through all edges.
+//! The model is the list of nodes and the list of edges, each in the order of insertion. The solver
+//! builds it from a conflict; the message is written from it. The edges of a node are linked, so
+//! that they are found without a search through all edges.
 ghost use Rattle.std.specs.Prelude.{◌≡◌, ◌<◌, ◌++◌, ◌∷◌, [], IfOk, OnOk, OnErr, IsOkUnless, length, map, filter, reverse, slice_get, Some, None, nat_lt};
 ghost use Rattle.std.specs.List.{position_or_len};
 ghost use Rattle.indexmap.specs.IndexSet.{insert_key};

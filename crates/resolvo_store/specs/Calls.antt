@@ -1,4 +1,4 @@
--- The answers to calls of a clause store, and the store after them: one call, and any list of calls.
+-- The answers to calls of a clause store, and the store after them: one call, or a list of calls.
 use Rattle.std.specs.Prelude.{◌≡◌, ℕ, ◌&&◌, nat_lt, not, cond, is_some, Bool, true, List, [], ◌∷◌, length, take, slice_get, Option, Some, None, Vec}
 use Rattle.std.specs.List.{list_all}
 use Rattle.std.specs.declared.alloc.Global.{Global}

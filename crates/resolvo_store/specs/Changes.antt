@@ -85,7 +85,7 @@ last_undone es = option_map (λ e. (e.decision, last_level (all_but_last es))) (
 abbrev pub undone : {N : Type 0} → Stored N → Stored N
 undone s = record s { trail = all_but_last s.trail }
 
--- an entry with those left behind it: where none is left and it is above the level, it is removed too
+-- an entry with those left behind it; it is removed where none is left and it is above the level
 abbrev pub unless_above : ℕ → Entry → List Entry → List Entry
 unless_above level e [] = cond (nat_lt level e.level) [] (e ∷ [])
 unless_above level e (d ∷ es) = e ∷ d ∷ es

@@ -18,7 +18,7 @@ use Rattle.resolvo_store_core.specs.declared.watched_literals.WatchedLiterals.{W
 use Rattle.resolvo_store_core.specs.declared.watch_map.WatchMap.{WatchMap}
 use Rattle.resolvo_store_core.specs.Watches.{watchers}
 
--- the lists that clauses name; clauses with watched literals; watch lists; the trail; need clauses; scores
+-- the lists that clauses name; clauses, watched literals, watch lists, trail, need clauses, scores
 pub record Stored (N : Type 0) : Type 0 where
   pub candidates : Requirement → Option (List (Candidate N))
   pub disjunctions : List (List Signed)

@@ -13,8 +13,8 @@ use resolvo_store_core::clause::Clause;
 use resolvo_store_core::literal::Literal;
 use std::fmt;
 
-/// A clause, to be written: its kind, and its arguments in brackets. A condition's case and a learnt
-/// clause are written as numbers.
+/// A clause, to be written: its kind, and its arguments in brackets. A condition's case and a
+/// learnt clause are written as numbers.
 #[derive(Drop)]
 pub struct ClauseDisplay<'a, I: Interner> {
     pub clause: Clause<I::NameId>,
@@ -22,7 +22,7 @@ pub struct ClauseDisplay<'a, I: Interner> {
     pub interner: &'a I,
 }
 
-/// A variable, to be written: its origin and its number. One that the map doesn't have is `unknown`.
+/// A variable, to be written: its origin and its number. One that isn't in the map is `unknown`.
 #[derive(Drop)]
 pub struct VariableDisplay<'a, I: Interner> {
     pub variable: VariableId,

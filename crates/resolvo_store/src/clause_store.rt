@@ -166,8 +166,8 @@ impl<N: SolverId + Drop> ClauseStore<N> {
         self.lists.fix_learnt(literals)
     }
 
-    /// Whether the lists that a clause names exist, and it watches two different literals of its own
-    /// or none.
+    /// Whether the lists that a clause names exist, and it watches two different literals of its
+    /// own or none.
     pub fn can_add(&self, clause: &Clause<N>, watched: Option<WatchedLiterals>) -> bool
         ensures { result ≡ can_add (plain N.Scores.score_of self.now) clause.now watched }
     {
@@ -250,8 +250,8 @@ impl<N: SolverId + Drop> ClauseStore<N> {
         clause.to_index() < self.clauses.len()
     }
 
-    /// Whether a clause can be the reason of an assignment at a level: it exists, and the level isn't
-    /// below that of the last assignment.
+    /// Whether a clause can be the reason of an assignment at a level: it exists, and the level
+    /// isn't below that of the last assignment.
     pub fn can_assign(&self, clause: ClauseId, level: u32) -> bool
         ensures { result ≡ can_assign (plain N.Scores.score_of self.now) clause level }
     {
@@ -331,8 +331,8 @@ impl<N: SolverId + Drop> ClauseStore<N> {
         self.scores.scale(per_million);
     }
 
-    /// Removes the last assignment. Returns it with the level of the one before it, or 0. None where
-    /// the trail is empty.
+    /// Removes the last assignment. Returns it with the level of the one before it, or 0. None
+    /// where the trail is empty.
     pub fn undo_last(&mut self) -> Option<(Decision, u32)>
         ensures answer { result ≡ last_undone (plain N.Scores.score_of self.old).trail }
         ensures store { Like (plain N.Scores.score_of self.new)

@@ -75,7 +75,7 @@ impl<N: Copy + Drop, S: SolverId> VariableMap<N, S> {
         self.origins.len() + 1
     }
 
-    /// What a variable was made for.
+    /// The origin of a variable.
     pub fn origin(&self, variable: VariableId) -> VariableOrigin<N, S>
         requires { variable.0 < length self.now }
         ensures { slice_get self.now variable.0 ≡ Some result }
