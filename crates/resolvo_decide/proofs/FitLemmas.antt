@@ -1,4 +1,5 @@
--- What is known stays so as the trail goes back and on, and what is known to be met or idle has nothing to decide.
+-- The states stay right after a backjump and as the trail grows. A clause offers no decision where
+-- it is satisfied or idle.
 use Rattle.std.proofs.Common.{◌≡◌, ℕ, zero, suc, ◌+◌, ◌-◌, ◌<◌, ◌≤◌, ◌⊎◌, inl, inr, cond, Bool, true, false, List, [], ◌∷◌, ◌++◌, map, length, take, drop, get_or, Option, Some, None, refl, sym, ◌∙◌, ap, subst, arith}
 use Rattle.std.specs.Prelude.{nat_lt, ◌&&◌, ◌||◌, slice_get, slice_set, Contains}
 use Rattle.std.specs.Option.{option_map}
@@ -27,7 +28,7 @@ use Rattle.resolvo_decide.proofs.Positions.{state_end, state_map, state_out, sta
 use Rattle.resolvo_decide.proofs.Seen.{met_take, met_whole, take_less, idle_take, idle_more}
 
 module _ (literals : Requirement → List Signed) (q : NeedClause) where
-  -- where no more than so many first entries stay
+  -- under a prefix of the trail
   so_back : (common : ℕ) (es : List Entry) (s : ClauseState) → IsSo literals es q s → IsSo literals (take common es) q (reopened common s)
   so_back common es Open h = tt
   so_back common es Idle h = idle_take common es q.parent.0 h
@@ -37,7 +38,7 @@ module _ (literals : Requirement → List Signed) (q : NeedClause) where
       go true is = tt
       go false is = subst (λ (xs : List Entry). is_met xs (literals q.requirement) ≡ true) (sym (take_less within common es (ltb-false common within is))) h
 
-  -- where an entry comes, and makes no parent true whose clause is noted as idle
+  -- after an entry that makes no parent of an idle clause true
   so_on : (es : List Entry) (e : Entry) (s : ClauseState) → IsSo literals es q s → (e.decision.value ≡ true → e.decision.variable.0 ≡ q.parent.0 → s ≡ Idle → ⊥) → IsSo literals (es ++ e ∷ []) q s
   so_on es e Open h other = tt
   so_on es e (Met within) h other = met_take within es (e ∷ []) (literals q.requirement) h
@@ -47,7 +48,7 @@ module _ (literals : Requirement → List Signed) (q : NeedClause) where
       go true is same = absurd (other is same refl)
       go false is same = refl
 
-  -- what is open is so
+  -- an open state is right
   so_open : (es : List Entry) (s : ClauseState) → s ≡ Open → IsSo literals es q s
   so_open es s is = subst (IsSo literals es q) (sym is) tt
 
@@ -64,7 +65,7 @@ fits_back common old new seen states places = λ literals queue f. record {
   placed = λ i q at. subst (λ ps. Contains (places_at ps.items q.parent.0) i) (sym places) (f.placed i q at);
 }
 
--- the states are as before, or open, and the clauses of a parent that the entry makes true are open
+-- the states are unchanged or open, and the clauses of a parent that the entry makes true are open
 pub fits_on : (e : Entry) (old new : UndecidedClauses) → new.seen.items ≡ old.seen.items ++ e ∷ [] → new.places ≡ old.places → length new.states ≡ length old.states
     → ((i : ℕ) → (state_at new.states i ≡ state_at old.states i) ⊎ (state_at new.states i ≡ Open))
     → (e.decision.value ≡ true → (i : ℕ) → Contains (places_at old.places.items e.decision.variable.0) i → state_at new.states i ≡ Open) → KeepsFitting old new
@@ -84,7 +85,7 @@ fits_on e old new seen places long others opened = λ literals queue f. record {
           (λ is parent. open_not (state_at new.states i) (opened is i (subst (λ v. Contains (places_at old.places.items v) i) (sym parent) (f.placed i q at))))
     ]
 
--- where a clause comes
+-- after a new clause
 pub fits_add : (literals : Requirement → List Signed) (q : NeedClause) (old new : UndecidedClauses) (queue : List NeedClause) → Fits literals old queue → AddsNeed q.parent old new → Fits literals new (queue ++ q ∷ [])
 fits_add literals q old new queue f a = record {
   count = ap length a.states ∙ length-append old.states (Open ∷ []) ∙ ap (λ n. n + 1) f.count ∙ sym (length-append queue (q ∷ []));
@@ -109,7 +110,7 @@ fits_add literals q old new queue f a = record {
     placed i r (inl before) = a.kept r.parent.0 i (f.placed i r before)
     placed i r (inr (last, is, none)) = subst (λ (s : NeedClause). Contains (places_at new.places.items s.parent.0) i) (sym is) (subst (λ j. Contains (places_at new.places.items q.parent.0) j) (f.count ∙ sym last) a.placed)
 
--- what values tell of a clause
+-- the state of a clause under values
 module _ {N : Type 0} (lists : FixedLists N) (values : ℕ → Option Bool) (es : List Entry) (agree : (v : ℕ) → values v ≡ value_in es v) where
   met_agrees : (cs : List (Candidate N)) → list_any (λ c. is_true (value_under values c.literal)) cs ≡ is_met es (candidate_literals cs)
   met_agrees [] = refl
@@ -133,7 +134,7 @@ module _ {N : Type 0} (lists : FixedLists N) (values : ℕ → Option Bool) (es 
       either true = refl
       either false = refl
 
--- a clause that has nothing to decide changes no decision
+-- a clause that offers no decision changes none
 pub later_none : (best : Option NextDecision) → later best None ≡ best
 later_none None = refl
 later_none (Some d) = refl
@@ -141,7 +142,7 @@ later_none (Some d) = refl
 pub some_one : {X : Type 0} (x y : X) → Some x ≡ Some y → x ≡ y
 some_one x y h = cc
 
--- what is found of one clause is noted
+-- the state of one clause is set
 pub fits_found : (literals : Requirement → List Signed) (needs : UndecidedClauses) (queue : List NeedClause) (position : ℕ) (q : NeedClause) (found : ClauseState) → Fits literals needs queue → slice_get queue position ≡ Some q
     → IsSo literals needs.seen.items q found → Fits literals (record needs { states = slice_set needs.states position found }) queue
 fits_found literals needs queue position q found f here so = record { count = length-set needs.states position found ∙ f.count; each = each; placed = f.placed }
@@ -154,11 +155,11 @@ fits_found literals needs queue position q found f here so = record { count = le
           (subst (λ j. IsSo literals needs.seen.items q (state_at (slice_set needs.states position found) j)) (sym is) (so_put literals needs.seen.items q found (state_at (slice_set needs.states position found) position) so (state_put needs.states position found))))
     ]
 
--- one thing after the other
+-- two steps in turn
 pub keeps_then : (a b c : UndecidedClauses) → KeepsFitting a b → KeepsFitting b c → KeepsFitting a c
 keeps_then a b c f g = λ literals queue h. g literals queue (f literals queue h)
 
--- the pick goes on behind a clause
+-- the pick continues after a clause
 module _ {N : Type 0} (lists : FixedLists N) (values : ℕ → Option Bool) (score : N → ℕ) where
   pub pick_taken : (best : Option NextDecision) (qs : List NeedClause) (i : ℕ) (d : NeedClause) → i < length qs → pick_after lists values score best (drop i qs) ≡ pick_after lists values score (later best (offer lists values score (get_or qs i d))) (drop (i + 1) qs)
   pick_taken best [] i d h = absurd (omega arith)
@@ -170,7 +171,7 @@ module _ {N : Type 0} (lists : FixedLists N) (values : ℕ → Option Bool) (sco
   pick_passed best (x ∷ qs) zero h none = ap (λ b. pick_after lists values score b qs) (ap (later best) (none x refl) ∙ later_none best)
   pick_passed best (x ∷ qs) (suc i) h none = let more : suc i + 1 ≡ suc (i + 1) = omega arith in rw more (pick_passed best qs i (omega arith) none)
 
-  -- and behind clauses that have nothing to decide
+  -- and after clauses that offer no decision
   pub pick_behind : (best : Option NextDecision) (qs : List NeedClause) (n from to : ℕ) → to ≡ from + n → ((i : ℕ) → from ≤ i → i < to → (q : NeedClause) → slice_get qs i ≡ Some q → offer lists values score q ≡ None)
       → pick_after lists values score best (drop from qs) ≡ pick_after lists values score best (drop to qs)
   pick_behind best qs zero from to is none = (let same : to ≡ from = omega arith in ap (λ i. pick_after lists values score best (drop i qs)) (sym same))
@@ -179,7 +180,7 @@ module _ {N : Type 0} (lists : FixedLists N) (values : ℕ → Option Bool) (sco
     | inr high ↦ ap (pick_after lists values score best) (drop_all from qs high ∙ sym (drop_all to qs (omega arith)))
   ]
 
--- no clause takes the place of a decision whose score none is above
+-- no clause beats a decision of the highest score
 module _ {N : Type 0} (lists : FixedLists N) (values : ℕ → Option Bool) (score : N → ℕ) (most : ℕ) (bounded : (name : N) → score name ≤ most) where
   offer_bounded : (q : NeedClause) (d : NextDecision) → offer lists values score q ≡ Some d → d.package_activity ≤ most
   offer_bounded q d h = eligible (is_eligible lists values q) h
@@ -207,12 +208,12 @@ module _ {N : Type 0} (lists : FixedLists N) (values : ℕ → Option Bool) (sco
       stays None is = later_none best
       stays (Some next) is = final next (offer_bounded q next is)
 
--- and behind clauses that are known to be shut
+-- the pick continues after clauses that aren't open
 pub pick_shut : {N : Type 0} (lists : FixedLists N) (values : ℕ → Option Bool) (score : N → ℕ) (needs : UndecidedClauses) (queue : List NeedClause) → Fits (literals_in lists) needs queue → ((v : ℕ) → values v ≡ value_in needs.seen.items v) → (best : Option NextDecision) (from to : ℕ) → from ≤ to
     → ((i : ℕ) → from ≤ i → i < to → is_open_state (state_at needs.states i) ≡ false) → pick_after lists values score best (drop from queue) ≡ pick_after lists values score best (drop to queue)
 pick_shut lists values score needs queue f agree best from to order shut = pick_behind lists values score best queue (to - from) from to (omega arith) (λ i above below q at. so_nothing lists values needs.seen.items agree q (state_at needs.states i) (f.each i q at) (shut i above below) score)
 
--- what is known is told by the states, not by the marks beside them
+-- the fit depends on the states, not on their marks
 pub fits_same : (literals : Requirement → List Signed) (needs : UndecidedClauses) (queue : List NeedClause) (states : List ClauseState) → states ≡ needs.states → Fits literals needs queue → Fits literals (record needs { states = states }) queue
 fits_same literals needs queue states is f = record {
   count = ap length is ∙ f.count;
@@ -220,23 +221,23 @@ fits_same literals needs queue states is f = record {
   placed = f.placed;
 }
 
--- the clause that is read is the one at its position
+-- the clause read is the one at its position
 pub read_at : (qs : List NeedClause) (i : ℕ) (d : NeedClause) → i < length qs → slice_get qs i ≡ Some (get_or qs i d)
 read_at [] i d h = absurd (omega arith)
 read_at (x ∷ qs) zero d h = refl
 read_at (x ∷ qs) (suc i) d h = read_at qs i d (omega arith)
 
--- what is found of the clause that is read has nothing to decide, unless it is open
+-- the clause read offers no decision, unless its state is open
 pub read_nothing : {N : Type 0} (lists : FixedLists N) (values : ℕ → Option Bool) (es : List Entry) → ((v : ℕ) → values v ≡ value_in es v) → (qs : List NeedClause) (i : ℕ) (d : NeedClause) → i < length qs → (s : ClauseState) → IsSo (literals_in lists) es (get_or qs i d) s
     → is_open_state s ≡ false → (score : N → ℕ) (q : NeedClause) → slice_get qs i ≡ Some q → offer lists values score q ≡ None
 read_nothing lists values es agree qs i d h s so shut score q at = so_nothing lists values es agree q s (subst (λ (x : NeedClause). IsSo (literals_in lists) es x s) (some_one (get_or qs i d) q (sym (read_at qs i d h) ∙ at)) so) shut score
 
--- and it is noted
+-- and the state is set
 pub read_fits : (literals : Requirement → List Signed) (old new : UndecidedClauses) (queue : List NeedClause) (i : ℕ) (d : NeedClause) → i < length queue → Fits literals old queue → (found : ClauseState) → IsSo literals old.seen.items (get_or queue i d) found
     → new ≡ record old { states = slice_set old.states i found } → Fits literals new queue
 read_fits literals old new queue i d h f found so is = subst (λ (n : UndecidedClauses). Fits literals n queue) (sym is) (fits_found literals old queue i (get_or queue i d) found f (read_at queue i d h) so)
 
--- one entry more was seen
+-- one entry more is in `seen`
 pub seen_more : (first rest before after : List Entry) (i : ℕ) (d : Entry) → before ≡ first ++ take i rest → i < length rest → after ≡ before ++ get_or rest i d ∷ [] → after ≡ first ++ take (i + 1) rest
 seen_more first rest before after i d is low more = more ∙ ap (λ xs. xs ++ get_or rest i d ∷ []) is ∙ append_assoc first (take i rest) (get_or rest i d ∷ []) ∙ ap (λ xs. first ++ xs) (sym (take_more rest i d low))
 
@@ -246,7 +247,7 @@ seen_all n i es seen low is end =
     let long : length (drop n es) ≡ length es - n = length-drop n es in
     is ∙ ap (λ xs. take n es ++ xs) (take_all i (take (length es - n) (drop n es)) end ∙ take_all (length es - n) (drop n es) (omega arith)) ∙ take-append-drop n es
 
--- where requirements get literals
+-- where requirements get candidates
 pub fits_more : (old new : Requirement → List Signed) (needs : UndecidedClauses) (queue : List NeedClause) → ((r : Requirement) (es : List Entry) → is_met es (old r) ≡ true → is_met es (new r) ≡ true) → Fits old needs queue → Fits new needs queue
 fits_more old new needs queue more f = record { count = f.count; each = λ i q at. so q (state_at needs.states i) (f.each i q at); placed = f.placed }
   where
@@ -255,7 +256,7 @@ fits_more old new needs queue more f = record { count = f.count; each = λ i q a
     so q (Met within) h = more q.requirement (take within needs.seen.items) h
     so q Idle h = h
 
--- where there is no clause
+-- the empty queue
 pub fits_none : (literals : Requirement → List Signed) (needs : UndecidedClauses) → needs.states ≡ [] → Fits literals needs []
 fits_none literals needs none = record { count = ap length none; each = λ i q at. absurd (nothing i q at); placed = λ i q at. absurd (nothing i q at) }
   where

@@ -1,7 +1,7 @@
 -- One walk over the candidates of a clause.
 use Rattle.std.proofs.Common.{Option, Some, None}
 
--- what was found first, or what is found later
+-- the first candidate found, or a later one
 abbrev pub first_of : {X : Type 0} → Option X → Option X → Option X
 first_of None later = later
 first_of (Some x) later = Some x

@@ -1,4 +1,4 @@
--- What is known under a trail, as it grows and shrinks.
+-- The states under a trail that grows and shrinks.
 use Rattle.std.proofs.Common.{◌≡◌, ℕ, zero, suc, ◌≤◌, cond, Bool, true, false, List, [], ◌∷◌, ◌++◌, take, drop, Option, Some, None, refl, sym, ap, subst, arith, eqb-true}
 use Rattle.std.specs.Prelude.{◌==◌, ◌||◌}
 use Rattle.std.specs.Option.{option_map}
@@ -11,7 +11,7 @@ use Rattle.resolvo_store_core.specs.declared.decision.Entry.{Entry}
 use Rattle.resolvo_store_core.specs.declared.decision_map.Assignment.{Assignment}
 use Rattle.resolvo_decide.specs.Needs.{is_met}
 
--- a value stays where the trail goes on
+-- a value stays where the trail grows
 value_front : (xs ys : List Entry) (v : ℕ) (b : Bool) → value_in xs v ≡ Some b → value_in (xs ++ ys) v ≡ Some b
 value_front [] ys v b h = cc
 value_front (x ∷ xs) ys v b h = go (x.decision.variable.0 == v) h (value_front xs ys v b)
@@ -56,14 +56,14 @@ met_take n xs ys ls = met_stays (take n xs) (take n (xs ++ ys)) (λ v b h. value
 pub met_whole : (n : ℕ) (es : List Entry) (ls : List Signed) → is_met (take n es) ls ≡ true → is_met es ls ≡ true
 met_whole n es ls = met_stays (take n es) es (λ v b h. value_take n es v b h) ls
 
--- fewer entries of fewer
+-- a prefix of a prefix
 pub take_less : {X : Type 0} (n m : ℕ) (xs : List X) → n ≤ m → take n (take m xs) ≡ take n xs
 take_less zero m xs h = refl
 take_less (suc n) zero xs h = absurd (omega arith)
 take_less (suc n) (suc m) [] h = refl
 take_less (suc n) (suc m) (x ∷ xs) h = ap (λ ys. x ∷ ys) (take_less n m xs (omega arith))
 
--- a variable that isn't true is not so where fewer entries stay
+-- a variable that isn't true isn't true in a prefix
 pub idle_take : (n : ℕ) (es : List Entry) (v : ℕ) → is_true (value_in es v) ≡ false → is_true (value_in (take n es) v) ≡ false
 idle_take n es v h = go (value_in (take n es) v) refl
   where
@@ -72,7 +72,7 @@ idle_take n es v h = go (value_in (take n es) v) refl
     go (Some false) is = refl
     go (Some true) is = absurd (both_ways (is_true (value_in es v)) h (ap is_true (value_take n es v true is)))
 
--- nor where an entry comes that doesn't make it true
+-- nor after an entry that doesn't make it true
 pub idle_more : (es : List Entry) (e : Entry) (v : ℕ) → is_true (value_in es v) ≡ false → (e.decision.variable.0 ≡ v → e.decision.value ≡ false) → is_true (value_in (es ++ e ∷ []) v) ≡ false
 idle_more [] e v h other = go (e.decision.variable.0 == v) refl
   where

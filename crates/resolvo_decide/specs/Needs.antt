@@ -1,4 +1,4 @@
--- What is known of the need clauses under a trail.
+-- The states of the need clauses under a trail.
 use Rattle.std.specs.Prelude.{◌≡◌, ℕ, ⊤, Bool, true, false, List, [], ◌∷◌, ◌++◌, take, length, slice_get, Option, Some, Vec, Contains}
 use Rattle.std.specs.declared.alloc.Global.{Global}
 use Rattle.std.specs.List.{list_any}
@@ -33,29 +33,29 @@ is_met es literals = list_any (λ l. is_true (value_under (value_in es) l)) lite
 abbrev pub places_at : List (Vec ℕ Global) → ℕ → List ℕ
 places_at ps v = items_or_none (slice_get ps v)
 
--- that a candidate is true among so many entries, or nothing
+-- the state is satisfied within so many entries, or open
 abbrev pub IsMetNow : ℕ → ClauseState → Type 0
 IsMetNow count Open = ⊤
 IsMetNow count (Met within) = within ≡ count
 IsMetNow count Idle = ⊥
 
--- what is known of the clause is so under the trail, where requirements have these literals
+-- the state of the clause is right under the trail, where requirements have these literals
 abbrev pub IsSo : (Requirement → List Signed) → List Entry → NeedClause → ClauseState → Type 0
 IsSo literals trail q Open = ⊤
 IsSo literals trail q (Met within) = is_met (take within trail) (literals q.requirement) ≡ true
 IsSo literals trail q Idle = is_true (value_in trail q.parent.0) ≡ false
 
--- what is known is so of each clause of the queue, and the clauses of each parent are listed
+-- the state of each clause of the queue is right, and the clauses of each parent are listed
 pub record Fits (literals : Requirement → List Signed) (needs : UndecidedClauses) (queue : List NeedClause) : Type 0 where
   pub count : length needs.states ≡ length queue
   pub each : (i : ℕ) (q : NeedClause) → slice_get queue i ≡ Some q → IsSo literals needs.seen.items q (state_at needs.states i)
   pub placed : (i : ℕ) (q : NeedClause) → slice_get queue i ≡ Some q → Contains (places_at needs.places.items q.parent.0) i
 
--- it fits the queues that it fitted
+-- the new states fit each queue that the old ones fit
 abbrev pub KeepsFitting : UndecidedClauses → UndecidedClauses → Type 0
 KeepsFitting old new = (literals : Requirement → List Signed) (queue : List NeedClause) → Fits literals old queue → Fits literals new queue
 
--- a clause of this parent was noted
+-- a clause of this parent was added
 pub record AddsNeed (parent : VariableId) (old new : UndecidedClauses) : Type 0 where
   pub states : new.states ≡ old.states ++ Open ∷ []
   pub seen : new.seen ≡ old.seen

@@ -1,7 +1,7 @@
-//! What is known of each need clause, by its position in the queue, which blocks of positions may have
-//! an open one, and how far back on the trail the clauses of a block are met. The model is the list of what is known.
-//! The pick asks for one open clause after the other, and passes over the blocks in which there is none; where entries
-//! are taken away, the blocks whose clauses are all met by entries that stay are passed over.
+//! The state of each need clause, by its position in the queue. The model is the list of states.
+//! Marks show which blocks of positions may have an open clause; the pick skips the others. Bounds
+//! show how long a prefix of the trail satisfies the clauses of a block. A backjump skips a block
+//! whose bound it keeps.
 ghost use Rattle.std.specs.Prelude.{◌≡◌, ℕ, ◌<◌, ◌≤◌, ◌/◌, ◌++◌, ◌∷◌, ◌⊎◌, [], List, Bool, map, max, length, false, true, slice_set, Contains, OnOk, IsOkUnless};
 ghost use Rattle.resolvo_pool_core.specs.declared.want.Want.TheVariants.{Memory};
 ghost use Rattle.resolvo_decide.specs.declared.clause_states.ClauseState.TheVariants.{Open};
@@ -11,18 +11,18 @@ use resolvo_pool_core::want::R;
 use std::alloc::Global;
 use std::marker::Model;
 
-/// So many clauses beside one another have one mark.
+/// The number of consecutive clauses with one mark.
 const BLOCK: usize = 64;
 
-/// So many clauses beside one another have one mark more, above those of their blocks.
+/// The number of consecutive clauses with one group mark, above the marks of their blocks.
 const GROUP: usize = 4096;
 
-/// What is known of a need clause.
+/// The state of a need clause under the trail.
 #[derive(Clone, Copy, Debug)]
 pub enum ClauseState {
     /// It may have something to decide.
     Open,
-    /// One of its candidates is true among so many first entries of the trail.
+    /// Satisfied: a candidate is true in the trail's prefix of this length.
     Met(u32),
     /// Its parent is not true.
     Idle,
@@ -39,7 +39,7 @@ impl ClauseState {
         }
     }
 
-    /// How many first entries of the trail hold the true candidate that is known; 0 where none is.
+    /// The length of the trail's prefix that satisfies the clause; 0 where none is known.
     fn within(self) -> u32
         ensures { result ≡ met_within self }
     {
@@ -50,7 +50,7 @@ impl ClauseState {
     }
 }
 
-/// What is known of each need clause.
+/// The states of the need clauses.
 #[derive(Drop)]
 pub struct ClauseStates {
     /// The state of each clause.
@@ -59,7 +59,8 @@ pub struct ClauseStates {
     marks: Vec<bool>,
     /// Whether a group of blocks may have one.
     groups: Vec<bool>,
-    /// No clause of a block is met behind so many first entries. The highest number tells nothing.
+    /// For each block the length of a prefix that bounds those of its clauses. The highest number
+    /// is no bound.
     bounds: Vec<u32>,
 }
 
@@ -76,7 +77,7 @@ impl Model for ClauseStates {
 }
 
 impl ClauseStates {
-    /// Of no clause.
+    /// The states of no clause.
     pub fn new(alloc: Global) -> ClauseStates
         ensures { result ≡ [] }
     {
@@ -88,14 +89,14 @@ impl ClauseStates {
         }
     }
 
-    /// Of how many clauses something is known.
+    /// The number of clauses.
     pub fn len(&self) -> usize
         ensures { result ≡ length self.now }
     {
         self.states.len()
     }
 
-    /// What is known of the clause at this position.
+    /// The state of the clause at this position; open past the end.
     pub fn state(&self, position: usize) -> ClauseState
         ensures { result ≡ state_at self.now position }
     {
@@ -106,8 +107,8 @@ impl ClauseStates {
         }
     }
 
-    /// The first position from this one on whose clause may have something to decide, or the number of
-    /// clauses. Blocks in which none has are not looked at again until one of their clauses opens.
+    /// The first position from this one on whose clause is open, or the number of clauses. A block
+    /// without one is skipped until one of its clauses opens.
     pub fn next_open(&mut self, from: usize) -> usize
         ensures behind { from ≤ result }
         ensures passed { (i : ℕ) → from ≤ i → i < result → is_open_state (state_at self.old i) ≡ false }
@@ -123,15 +124,13 @@ impl ClauseStates {
         position
     }
 
-    /// The position of the first open clause behind this one that isn't, or the end of its block.
+    /// The position of the first open clause after a closed one, or the end of its block.
     fn pass(&mut self, position: usize) -> usize
         requires within { position < length self.old }
         requires shut { is_open_state (state_at self.old position) ≡ false }
-        // Whatever the answer.
+        // After each call.
         ensures behind { position < result }
-        // After an answer.
         ensures within { result ≤ length self.old }
-        // Whatever the answer.
         ensures passed { (i : ℕ) → position ≤ i → i < result → is_open_state (state_at self.old i) ≡ false }
         ensures same { self.new ≡ self.old }
     {
@@ -151,7 +150,7 @@ impl ClauseStates {
         found
     }
 
-    /// The position behind the group of this one.
+    /// The end of the group of a position.
     fn group_end(&self, position: usize) -> usize
         requires { position < length self.now }
         ensures behind { position < result }
@@ -163,7 +162,8 @@ impl ClauseStates {
         start + GROUP.min(self.len() - start)
     }
 
-    /// Notes that no clause of the group of a position is open, where the group stands between two positions.
+    /// Clears the mark of a position's group, if all of it is between two positions without an open
+    /// clause.
     fn shut_group(&mut self, from: usize, position: usize, next: usize)
         requires within { position < length self.old }
         requires passed { (i : ℕ) → from ≤ i → i < next → is_open_state (state_at self.old i) ≡ false }
@@ -174,7 +174,7 @@ impl ClauseStates {
         }
     }
 
-    /// Notes a state, unless the position is behind all clauses.
+    /// Sets the state of a position, unless it is past the end.
     pub fn put(&mut self, position: usize, state: ClauseState)
         ensures { self.new ≡ slice_set self.old position state }
     {
@@ -188,7 +188,7 @@ impl ClauseStates {
         }
     }
 
-    /// One clause more, of which nothing is known.
+    /// Appends an open clause.
     pub fn push(&mut self) -> R<()>
         ensures pushed { OnOk result (self.new ≡ self.old ++ Open ∷ []) }
         ensures refusal { IsOkUnless result Memory }
@@ -212,7 +212,7 @@ impl ClauseStates {
         }
     }
 
-    /// Opens the clauses whose true candidates stand behind so many first entries.
+    /// Opens the clauses that the trail's prefix of this length doesn't satisfy any more.
     pub fn reopen(&mut self, common: usize)
         ensures { self.new ≡ map (reopened common) self.old }
     {
@@ -222,10 +222,10 @@ impl ClauseStates {
         }
     }
 
-    /// Opens those among the clauses of a block, from this position on. The answer is the position behind the block.
+    /// Opens those of a block, from this position on. Returns the end of the block.
     fn reopen_block(&mut self, start: usize, common: usize) -> usize
         requires { start < length self.old }
-        // What the call promises.
+        // After each call.
         ensures behind { start < result }
         ensures changed { (i : ℕ)
             → start ≤ i
@@ -251,7 +251,7 @@ impl ClauseStates {
         end
     }
 
-    /// No clause of this block is met behind so many first entries.
+    /// Lowers the bound of a block to the prefix of this length.
     fn lower_bound(&mut self, block: usize, common: usize)
         requires { (i : ℕ)
             → i < length self.old
@@ -270,7 +270,7 @@ fn is_marked(marks: &[bool], block: usize) -> bool
     block >= marks.len() || marks[block]
 }
 
-/// Notes whether a block may have an open clause.
+/// Sets whether a block may have an open clause.
 fn note(marks: &mut [bool], block: usize, mark: bool)
     ensures { marks.new ≡ slice_set marks.old block mark }
 {
@@ -279,7 +279,7 @@ fn note(marks: &mut [bool], block: usize, mark: bool)
     }
 }
 
-/// Notes that a block may have an open clause, also where it is the next one.
+/// Marks that a block may have an open clause, also where it is the next one.
 fn mark(marks: &mut Vec<bool>, block: usize) -> R<()>
     ensures marked { OnOk result (mark_at marks.new.items block ≡ true) }
     ensures kept { (k : ℕ) → mark_at marks.new.items k ≡ false → mark_at marks.old.items k ≡ false }
@@ -292,7 +292,7 @@ fn mark(marks: &mut Vec<bool>, block: usize) -> R<()>
     Ok(())
 }
 
-/// Makes room for the bound of a block, of which nothing is told.
+/// Adds the bound of a block, if it is the next one. It is no bound yet.
 fn make_bound(bounds: &mut Vec<u32>, block: usize) -> R<()>
     ensures kept { (k : ℕ) → bound_at bounds.new.items k ≡ bound_at bounds.old.items k }
     ensures refusal { IsOkUnless result Memory }
@@ -303,7 +303,7 @@ fn make_bound(bounds: &mut Vec<u32>, block: usize) -> R<()>
     Ok(())
 }
 
-/// Whether no clause of a block is met behind so many first entries.
+/// Whether a block has a bound of at most this prefix.
 fn does_stay(bounds: &[u32], block: usize, common: usize) -> bool
     ensures bounded { result ≡ true → bound_at bounds.now block ≤ common }
     ensures known { result ≡ true → bound_at bounds.now block < 4294967295 }
@@ -316,7 +316,7 @@ fn does_stay(bounds: &[u32], block: usize, common: usize) -> bool
     }
 }
 
-/// A clause of the block is met by so many first entries.
+/// Raises the bound of a block to this prefix.
 fn raise(bounds: &mut [u32], block: usize, within: u32)
     ensures { bounds.new ≡ slice_set bounds.old block (max (bound_at bounds.old block) within) }
 {
@@ -325,7 +325,7 @@ fn raise(bounds: &mut [u32], block: usize, within: u32)
     }
 }
 
-/// No clause of the block is met behind so many first entries.
+/// Lowers the bound of a block to this prefix.
 fn lower(bounds: &mut [u32], block: usize, common: usize)
     ensures { (bounds.new ≡ bounds.old) ⊎ (bounds.new ≡ slice_set bounds.old block common) }
 {
@@ -336,7 +336,7 @@ fn lower(bounds: &mut [u32], block: usize, common: usize)
     }
 }
 
-/// The first open state from one position on and before another, or that other one.
+/// The position of the first open state in a range, or its end.
 fn first_open(states: &[ClauseState], from: usize, end: usize) -> usize
     requires order { from ≤ end }
     requires end { end ≤ length states.now }
@@ -352,7 +352,7 @@ fn first_open(states: &[ClauseState], from: usize, end: usize) -> usize
     end
 }
 
-/// What is known of a clause where no more than so many first entries stay.
+/// The state of a clause once the trail has only this prefix in common.
 fn reopened(state: ClauseState, common: usize) -> ClauseState
     ensures { result ≡ reopened common state }
 {

@@ -1,4 +1,4 @@
-//! What a clause has to decide, by one walk over its candidates.
+//! The decision that a clause offers, by one walk over its candidates.
 ghost use Rattle.std.specs.Prelude.{◌≡◌, cond, None};
 ghost use Rattle.std.specs.Option.{option_map};
 ghost use Rattle.std.specs.List.{find, count_by, list_any, list_all};
@@ -12,7 +12,7 @@ use resolvo_store_core::decision_map::DecisionMap;
 use resolvo_store_core::lists::{Candidate, FixedLists};
 use resolvo_store_core::literal::Literal;
 
-/// What a clause has to decide, if it is eligible.
+/// The decision that a clause offers, if it is eligible.
 pub(crate) fn offered<N: Copy + Eq, C: ScoreMap<N>>(
     need: &NeedClause,
     lists: &FixedLists<N>,
@@ -58,7 +58,7 @@ fn are_false(literals: &[Literal], values: &DecisionMap) -> bool
     literals.iter().all(|literal| literal.is_false(values))
 }
 
-/// The first candidate that has no value, and how many have none; nothing where one is true.
+/// The first undecided candidate, and how many are undecided; none where one is true.
 fn undecided<N: Copy>(
     candidates: &[Candidate<N>],
     values: &DecisionMap,

@@ -1,5 +1,5 @@
-//! The scores of packages, with one that no score is above. Until a conflict raises a score it is 0, so the
-//! first undecided clause that offers a decision is the pick.
+//! The scores of packages, with an upper bound. The bound is 0 until a conflict bumps a score, so
+//! the first undecided clause that offers a decision is the pick.
 ghost use Rattle.std.specs.Prelude.{◌≡◌, ◌≤◌};
 
 use resolvo_pool_core::id_map::ScoreMap;
@@ -11,14 +11,14 @@ use std::marker::PhantomData;
 #[derive(Drop)]
 pub struct Scores<N: Copy + Eq, C: ScoreMap<N>> {
     pub(crate) map: C,
-    /// No score is above it.
+    /// The upper bound of the scores.
     most: u64,
     of: PhantomData<N>,
     ghost bounded: { (name : N) → C.score_of map name ≤ most },
 }
 
 impl<N: Copy + Eq, C: ScoreMap<N>> Scores<N, C> {
-    /// Where each score is 0.
+    /// All scores are 0.
     pub fn new(alloc: Global) -> Scores<N, C>
         ensures { result.most ≡ 0 }
     {
@@ -29,7 +29,7 @@ impl<N: Copy + Eq, C: ScoreMap<N>> Scores<N, C> {
         }
     }
 
-    /// A score that no package's is above.
+    /// The upper bound of the scores.
     pub fn most(&self) -> u64
         ensures most { result ≡ self.now.most }
         ensures bounded { (name : N) → C.score_of self.now.map name ≤ result }
@@ -37,7 +37,7 @@ impl<N: Copy + Eq, C: ScoreMap<N>> Scores<N, C> {
         self.most
     }
 
-    /// Raises the score of a package, to the highest number at most.
+    /// Bumps the score of a package, to the highest number at most.
     pub fn bump(&mut self, name: N, added: u64) -> R<()> {
         let score = self.map.get(name).saturating_add(added);
         if self.most < score {
@@ -47,7 +47,7 @@ impl<N: Copy + Eq, C: ScoreMap<N>> Scores<N, C> {
         Ok(())
     }
 
-    /// Leaves so many millionths of each score.
+    /// Decays each score to this number of millionths.
     pub fn decay(&mut self, per_million: u64)
         requires { per_million ≤ 1000000 }
     {

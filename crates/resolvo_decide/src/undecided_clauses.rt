@@ -1,6 +1,6 @@
-//! What is known of each need clause: whether one of its candidates is true, or its parent is not.
-//! It stands beside the queue of the clauses. It keeps the trail for which it holds: each pick sees the
-//! entries that came since, and where entries were taken away it goes back to those that stayed.
+//! The states of the need clauses of a queue: satisfied, idle, or undecided.
+//! They hold for the trail in `seen`. Each pick adds the new entries of the trail; `follow` drops
+//! those that a backjump removed.
 ghost use Rattle.std.specs.Prelude.{◌≡◌, ℕ, ◌<◌, ◌≤◌, ◌++◌, ◌∷◌, ◌⊎◌, [], List, map, take, length, false, true, slice_get, Some, None, Contains, OnOk, IfOk, IsOkUnless};
 ghost use Rattle.resolvo_pool_core.specs.declared.want.Want.TheVariants.{Memory};
 ghost use Rattle.std.specs.List.{find, list_any};
@@ -28,7 +28,7 @@ use resolvo_store_core::decision_tracker::DecisionTracker;
 use resolvo_store_core::lists::{Candidate, FixedLists};
 use std::alloc::Global;
 
-/// What is known of the need clauses of a queue.
+/// The states of the need clauses of a queue.
 #[derive(Drop)]
 pub struct UndecidedClauses {
     /// The state of each clause, by its position in the queue.
@@ -40,7 +40,7 @@ pub struct UndecidedClauses {
 }
 
 impl UndecidedClauses {
-    /// For a queue without clauses.
+    /// The states of an empty queue.
     pub fn new(alloc: Global) -> UndecidedClauses
         ensures states { result.states ≡ [] }
         ensures seen { result.seen.items ≡ [] }
@@ -53,7 +53,7 @@ impl UndecidedClauses {
         }
     }
 
-    /// Takes note of one clause more, which has this parent.
+    /// Adds a clause with this parent.
     pub fn add(&mut self, alloc: Global, parent: VariableId) -> R<()>
         ensures added { OnOk result (AddsNeed parent self.old self.new) }
         ensures refusal { IsOkUnless result Memory }
@@ -65,8 +65,8 @@ impl UndecidedClauses {
         Ok(())
     }
 
-    /// What is to be decided next under the trail: the pick over all clauses of the queue. The trail goes on
-    /// from the one that was seen; where entries were taken away, `follow` comes first.
+    /// The next decision under the trail: the pick over all clauses of the queue. The trail extends
+    /// the seen one; after a backjump, `follow` must be called first.
     pub fn next_decision<N: Copy + Eq, C: ScoreMap<N>>(
         &mut self,
         queue: &DecideQueue,
@@ -95,7 +95,7 @@ impl UndecidedClauses {
         ))
     }
 
-    /// Goes back to where the trail that was seen and this one part.
+    /// Drops the seen entries behind the common prefix of the seen trail and this one.
     pub fn follow(&mut self, trail: &[Entry])
         ensures seen { IsFrontOf self.new.seen.items trail.now }
         ensures fits { KeepsFitting self.old self.new }
@@ -104,7 +104,7 @@ impl UndecidedClauses {
         self.go_back(common);
     }
 
-    /// Sees the entries of this trail that weren't seen yet.
+    /// Adds the new entries of this trail.
     fn go_on(&mut self, trail: &[Entry]) -> R<()>
         requires { IsFrontOf self.old.seen.items trail.now }
         ensures seen { OnOk result (self.new.seen.items ≡ trail.now) }
@@ -118,7 +118,7 @@ impl UndecidedClauses {
         Ok(())
     }
 
-    /// How many first entries the trail has in common with the one that was seen.
+    /// The length of the common prefix of the seen trail and this one.
     fn common(&self, trail: &[Entry]) -> usize
         ensures same { take result self.now.seen.items ≡ take result trail.now }
         ensures seen { result ≤ length self.now.seen.items }
@@ -139,7 +139,7 @@ impl UndecidedClauses {
         common
     }
 
-    /// Forgets what was seen behind so many first entries.
+    /// Drops the seen entries behind a prefix of this length.
     fn go_back(&mut self, common: usize)
         ensures seen { self.new.seen.items ≡ take common self.old.seen.items }
         ensures fits { KeepsFitting self.old self.new }
@@ -150,7 +150,7 @@ impl UndecidedClauses {
         }
     }
 
-    /// Sees one entry more.
+    /// Adds one entry, and opens the clauses of a variable that it makes true.
     fn see(&mut self, entry: Entry) -> R<()>
         ensures seen { OnOk result (self.new.seen.items ≡ self.old.seen.items ++ entry ∷ []) }
         ensures fits { OnOk result (KeepsFitting self.old self.new) }
@@ -180,7 +180,7 @@ impl UndecidedClauses {
         }
     }
 
-    /// The pick, where the trail is the one that was seen, and no score is above `most`.
+    /// The pick under the seen trail, where no score is above `most`.
     fn pick<N: Copy + Eq, C: ScoreMap<N>>(
         &mut self,
         queue: &[NeedClause],
@@ -214,7 +214,7 @@ impl UndecidedClauses {
         best
     }
 
-    /// Finds out whether the clause at this position may have something to decide.
+    /// Whether the clause at this position may offer a decision. Stores its state, if not.
     fn may_decide<N: Copy>(
         &mut self,
         position: usize,
@@ -244,7 +244,7 @@ impl UndecidedClauses {
         false
     }
 
-    /// What these values tell of a clause.
+    /// The state of a clause under these values.
     fn found<N: Copy>(
         &self,
         need: &NeedClause,
@@ -265,7 +265,7 @@ impl UndecidedClauses {
         }
     }
 
-    /// That a candidate is true among the entries that were seen.
+    /// The state of a clause that the seen trail satisfies.
     fn met(&self) -> ClauseState
         ensures { IsMetNow (length self.now.seen.items) result }
     {
@@ -276,8 +276,7 @@ impl UndecidedClauses {
     }
 }
 
-/// Whether the first candidate that isn't false is true. One that is true behind an undecided one isn't
-/// looked for, which would cost a look at each.
+/// Whether the first candidate that isn't false is true. The search stops at an undecided one.
 fn begins_true<N: Copy>(candidates: &[Candidate<N>], values: &DecisionMap) -> bool
     ensures { result ≡ true
         → list_any (λ c. is_true (value_under (value_at values.now) c.literal)) candidates.now
@@ -293,7 +292,7 @@ fn begins_true<N: Copy>(candidates: &[Candidate<N>], values: &DecisionMap) -> bo
     false
 }
 
-/// The decision so far, or what a clause has to decide where that beats it.
+/// The decision so far, or the one that a clause offers where that beats it.
 fn or_offered<N: Copy + Eq, C: ScoreMap<N>>(
     best: Option<NextDecision>,
     need: &NeedClause,
@@ -312,7 +311,7 @@ where
     }
 }
 
-/// Whether no decision takes the place of this one, where no score is above the other number.
+/// Whether no later decision beats this one, where no score is above `most`.
 fn is_final(best: Option<NextDecision>, most: u64) -> bool
     ensures { result ≡ true
         → (next : NextDecision)
@@ -325,8 +324,7 @@ fn is_final(best: Option<NextDecision>, most: u64) -> bool
     }
 }
 
-/// Whether the decision so far stands beside what a clause has to decide, which its first undecided
-/// candidate may tell.
+/// Whether a clause can't beat the decision so far, judged by its first undecided candidate.
 fn is_beaten<N: Copy + Eq, C: ScoreMap<N>>(
     need: &NeedClause,
     best: Option<NextDecision>,
@@ -351,7 +349,7 @@ where
     }
 }
 
-/// The first candidate that has no value.
+/// The first undecided candidate.
 fn first_undecided<'a, N: Copy>(
     candidates: &'a [Candidate<N>],
     values: &DecisionMap,
@@ -364,7 +362,7 @@ fn first_undecided<'a, N: Copy>(
         .find(|candidate| candidate.literal.is_undecided(values))
 }
 
-/// Makes room for the positions of so many parents.
+/// Adds empty lists of positions, up to this number of parents.
 fn make_room(places: &mut Vec<Vec<usize>>, alloc: Global, count: usize) -> R<()>
     ensures long { OnOk result (count ≤ length places.new.items) }
     ensures same { OnOk result ((v : ℕ) → places_at places.new.items v ≡ places_at places.old.items v) }

@@ -16,7 +16,7 @@ module _ {S : Type 0} (n : ConflictNode S) where
       let here = h k d less in
       (omega (arith, here.0, length-append nodes (n ∷ [])), omega (arith, here.1, length-append nodes (n ∷ [])))
 
--- a root in front and edges between nodes stay so
+-- the root stays first, and edges stay between nodes
 pub stays_within : {S : Type 0} (b : Bool) (nodes now : List (ConflictNode S)) (es : List (Edge S)) (n : ConflictNode S) → (slice_get nodes 0 ≡ Some Root) × All (IsWithin nodes) es → now ≡ cond b nodes (nodes ++ n ∷ []) → (slice_get now 0 ≡ Some Root) × All (IsWithin now) es
 stays_within true nodes now es n h put = subst (λ ns. (slice_get ns 0 ≡ Some Root) × All (IsWithin ns) es) (sym put) h
 stays_within false nodes now es n h put = subst (λ ns. (slice_get ns 0 ≡ Some Root) × All (IsWithin ns) es) (sym put) (still_first n nodes h.0, still_within n nodes es h.1)

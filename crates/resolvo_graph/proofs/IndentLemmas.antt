@@ -1,4 +1,4 @@
--- The signs of levels: those above, and then the last one's own.
+-- The signs of levels: those above, then the last one's own.
 use Rattle.std.proofs.Common.{◌≡◌, List, [], ◌∷◌, ◌++◌, refl, sym, ap, ◌∙◌, append_assoc}
 use Rattle.std.proofs.lemmas.List.{append-nil}
 use Rattle.std.specs.List.{flat_map}

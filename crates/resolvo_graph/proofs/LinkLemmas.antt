@@ -1,4 +1,4 @@
--- The links of edges: what a walk along them meets, and that they stay right.
+-- The links of edges: the edges that a walk over them visits, and that the invariant holds.
 use Rattle.std.proofs.Common.{◌≡◌, ℕ, zero, suc, ◌+◌, ◌<◌, ◌≤◌, add-one, Bool, true, false, cond, List, [], ◌∷◌, ◌++◌, Option, None, Some, filter, length, length-append, take, get_or, reverse, append_assoc, refl, sym, ap, subst, ◌∙◌, inl, inr, arith}
 use Rattle.std.specs.Prelude.{◌⊎◌, ◌||◌, ◌&&◌, is_some, slice_get}
 use Rattle.std.specs.List.{list_any}
@@ -55,7 +55,7 @@ module _ {S : Type 0} (p : Edge S → Bool) (es : List (Edge S)) where
   filter-one_more : (n : ℕ) (e : Edge S) → slice_get es n ≡ Some e → filter p (take (n + 1) es) ≡ filter p (take n es) ++ cond (p e) (e ∷ []) []
   filter-one_more n e at = ap (filter p) (take-one_more es n e at) ∙ filter-append p (take n es) (e ∷ [])
 
-  -- those of the first n edges of which p holds go as far as the newest of them
+  -- the edges among the first n of which p holds end with the newest of them
   as_far_as_newest : (n : ℕ) → n ≤ length es → (filter p (take n es) ≡ filter p (up_to (newest_of p es n) es)) × IsOn (newest_of p es n) n
   as_far_as_newest zero h = (refl, tt)
   as_far_as_newest (suc n) h = go (holds_at p es n) refl (as_far_as_newest n (omega arith)) (there es n (omega arith))
@@ -92,7 +92,7 @@ any_both {X} p r (x ∷ xs) = go (p x) (any_both p r xs)
     go true h = ap (λ b. r x || b) h
     go false h = h
 
--- one step of a walk along the edges at a node: from the next one, l, to o
+-- one step of a walk over the edges at a node: from the next one, l, to o
 module _ {S : Type 0} (newest : List Links) (edges : List (LinkedEdge S)) (side : Side) (node : NodeIndex) (linked : AreLinked newest edges) (next : Option EdgeIndex) (i : EdgeIndex) (is : next ≡ Some i) (on : IsOn (is_at side node) (edges_in edges) next (length (edges_in edges))) where
   here : (i.0 < length (edges_in edges)) × (holds_at (is_at side node) (edges_in edges) i.0 ≡ true)
   here = subst (λ k. IsOn (is_at side node) (edges_in edges) k (length (edges_in edges))) is on
@@ -184,14 +184,14 @@ slice_get-append [] ys n h = absurd (omega arith)
 slice_get-append (x ∷ xs) ys zero h = refl
 slice_get-append (x ∷ xs) ys (suc n) h = slice_get-append xs ys n (omega arith)
 
--- an element of a list with one more is the new one, or is there already
+-- an element of a list with one more is the new one, or an old one
 one_of_more : {X : Type 0} (xs : List X) (y : X) (i : ℕ) (x : X) → slice_get (xs ++ y ∷ []) i ≡ Some x → (slice_get xs i ≡ Some x) ⊎ ((i ≡ length xs) × (y ≡ x))
 one_of_more [] y zero x h = inr (refl, cc)
 one_of_more [] y (suc i) x h = cc
 one_of_more (z ∷ xs) y zero x h = inl h
 one_of_more (z ∷ xs) y (suc i) x h = elim (one_of_more xs y i x h) [ inl k ↦ inl k | inr k ↦ inr (let is : i ≡ length xs = k.0 in omega arith, k.1) ]
 
--- the newest of the first edges is the same with more behind them
+-- the newest of the first edges is the same in a longer list
 newest_of-append : {S : Type 0} (p : Edge S → Bool) (es fs : List (Edge S)) (n : ℕ) → n ≤ length es → newest_of p (es ++ fs) n ≡ newest_of p es n
 newest_of-append p es fs zero h = refl
 newest_of-append p es fs (suc n) h =
@@ -202,7 +202,7 @@ slice_get-last : {X : Type 0} (xs : List X) (x : X) → slice_get (xs ++ x ∷ [
 slice_get-last [] x = refl
 slice_get-last (y ∷ xs) x = slice_get-last xs x
 
--- one edge more, which is linked to the newest ones at its ends and is the newest one there
+-- one edge more, linked to the newest ones at its ends, is the newest one there
 module _ {S : Type 0} (newest now : List Links) (edges : List (LinkedEdge S)) (linked : AreLinked newest edges) (e : Edge S) (older : Links) (ends : (side : Side) → link_on side older ≡ link_on side (links_of newest (end_on side e).0)) (put : (side : Side) (n : ℕ) → link_on side (links_of now n) ≡ cond (is_at side (record { 0 = n }) e) (Some (record { 0 = length edges })) (link_on side (links_of newest n))) where
   more_edges : edges_in (edges ++ record { edge = e; older = older } ∷ []) ≡ edges_in edges ++ e ∷ []
   more_edges = map-append (λ (l : LinkedEdge S). l.edge) edges (record { edge = e; older = older } ∷ [])

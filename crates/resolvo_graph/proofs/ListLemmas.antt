@@ -1,9 +1,9 @@
--- Lists that a loop filters and maps one element after the other. An element is that at its place, where `d` is told past the end.
+-- Lists that a loop filters and maps. The element at a place past the end is `d`.
 use Rattle.std.proofs.Common.{◌≡◌, ℕ, suc, ◌+◌, ◌<◌, ◌≤◌, add-one, drop-cons, Bool, true, false, cond, List, [], ◌∷◌, ◌++◌, map, take, drop, filter, get_or, length, sym, ap, ◌∙◌, append_assoc}
 use Rattle.std.proofs.lemmas.List.{take_more, take_all, append-nil, map-append}
 use Rattle.std.proofs.lemmas.List.Elements.{filter-append}
 
--- what was said of the elements so far is said of all
+-- a property of the elements so far, at the end, is one of all
 pub whole : {X Y : Type 0} (f : List X → Y) (xs ys : List X) (i : ℕ) (found : Y) → length xs ≤ i → xs ≡ ys → found ≡ f (take i xs) → found ≡ f ys
 whole f xs ys i found h same so = so ∙ ap f (take_all i xs h ∙ same)
 
@@ -11,7 +11,7 @@ module _ {X : Type 0} (xs : List X) (i : ℕ) (d x : X) (h : i < length xs) (at 
   one_more : take (i + 1) xs ≡ take i xs ++ x ∷ []
   one_more = take_more xs i d h ∙ ap (λ y. take i xs ++ y ∷ []) (sym at)
 
-  -- the first of what is left
+  -- the first remaining element
   pub left : drop i xs ≡ x ∷ drop (i + 1) xs
   left = drop-cons xs i d h ∙ ap (λ y. y ∷ drop (suc i) xs) (sym at) ∙ ap (λ k. x ∷ drop k xs) (sym (add-one i))
 
@@ -37,7 +37,7 @@ module _ {X : Type 0} (xs : List X) (i : ℕ) (d x : X) (h : i < length xs) (at 
   pub filter_same : (p : X → Bool) (found now : List X) → found ≡ filter p (take i xs) → p x ≡ false → now ≡ found → now ≡ filter p (take (i + 1) xs)
   filter_same p found now so fails put = put ∙ so ∙ sym (append-nil (filter p (take i xs))) ∙ ap (λ b. filter p (take i xs) ++ cond b (x ∷ []) []) (sym fails) ∙ sym (filtered p)
 
--- one element more was looked at
+-- one element more
 module _ {X Y : Type 0} (f : X → Y) (p : X → Bool) (xs : List X) (x : X) (found now : List Y) (so : found ≡ map f (filter p xs)) where
   picked : map f (filter p (xs ++ x ∷ [])) ≡ map f (filter p xs) ++ map f (cond (p x) (x ∷ []) [])
   picked = ap (map f) (filter-append p xs (x ∷ [])) ∙ map-append f (filter p xs) (cond (p x) (x ∷ []) [])

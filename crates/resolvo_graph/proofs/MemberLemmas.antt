@@ -1,4 +1,4 @@
--- Members go with profiles one by one, and have one number exactly where they are alike.
+-- Members belong to profiles one by one, and share a number exactly if they are alike.
 use Rattle.std.proofs.Common.{◌≡◌, ℕ, ◌+◌, Bool, true, false, cond, List, [], ◌∷◌, ◌++◌, All, length, map, filter, None, Some, refl, sym, ap, subst, ◌∙◌, arith}
 use Rattle.std.specs.Prelude.{◌&&◌, ◌||◌, ◌==◌, not, nat_lt}
 use Rattle.std.specs.List.{list_any, position_or_len, AllZip}
@@ -63,7 +63,7 @@ module _ {K : Type 0} where
       go true h below = cc
       go false h below = ap (λ n. 1 + n) (below h)
 
-  -- what passes is still there, at its place, with one key more
+  -- a key keeps its place when one key more is inserted
   still_there : (t : K → Bool) (b : Bool) (ks now : List K) (k : K) → now ≡ cond b ks (ks ++ k ∷ []) → list_any t ks ≡ true → (list_any t now ≡ true) × (position_or_len t now ≡ position_or_len t ks)
   still_there t true ks now k put h = (ap (list_any t) put ∙ h, ap (position_or_len t) put)
   still_there t false ks now k put h =
@@ -130,7 +130,7 @@ module _ {N S : Type 0} (eq : N → N → Bool) where
           let below = kept qs (All-tail (IsThere ks) q qs h) in
           (ap (λ n. record { solvable = q.solvable; group = n } ∷ map (member_in ks) qs) (sym here.1) ∙ ap (λ ms. member_in now q ∷ ms) below.0, All-cons (IsThere now) q qs here.0 below.1)
 
-  -- what is told with each version, by the numbers
+  -- the versions that are merged with each one, by the numbers
   pub told_is_group : (same : S → S → Bool) (ids : ℕ → List S) (all : List (Profile N S)) (every : List (Member S)) → ((g : ℕ) → ids g ≡ numbered every g) → (ps : List (Profile N S)) (ms : List (Member S)) → AllZip (λ p m. (m.solvable ≡ p.solvable) × (numbered every m.group ≡ group eq all p)) ps ms → (s : S) → told_together same ids ms s ≡ group_in eq same all ps s
   told_is_group same ids all every is [] [] h s = refl
   told_is_group same ids all every is [] (m ∷ ms) h s = absurd h
@@ -141,7 +141,7 @@ module _ {N S : Type 0} (eq : N → N → Bool) where
       ∙ ap (λ xs. option_or (group_in eq same all ps s) (cond (same p.solvable s && nat_lt 1 (length xs)) (Some xs) None)) (is m.group ∙ h.0.1)
 
   module _ (laws : IsEquivalence eq) where
-    -- both profiles have one likeness
+    -- the likenesses of the profiles are equal
     both_like : Profile N S → Profile N S → Bool
     both_like p q = eq p.name q.name && (pointwise same_neighbour p.before q.before && pointwise same_neighbour p.after q.after)
 

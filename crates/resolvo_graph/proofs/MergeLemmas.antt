@@ -1,4 +1,4 @@
--- Profiles go with versions one by one, and groups grow and are kept one by one.
+-- Profiles belong to versions one by one; groups grow and are inserted one by one.
 use Rattle.std.proofs.Common.{◌≡◌, ℕ, zero, suc, ◌+◌, ◌<◌, ◌≤◌, length-drop, Bool, true, false, cond, List, [], ◌∷◌, ◌++◌, length, map, take, drop, get_or, Option, None, Some, refl, sym, ap, subst, ◌∙◌, arith}
 use Rattle.std.specs.Prelude.{◌&&◌, ◌==◌, slice_get, slice_set}
 use Rattle.std.specs.List.{AllZip}
@@ -52,7 +52,7 @@ or_assoc : {A : Type 0} (a b c : Option A) → option_or (option_or a b) c ≡ o
 or_assoc None b c = refl
 or_assoc (Some x) b c = refl
 
--- the group of one version was kept under it, or it has none
+-- the group of one version was inserted under it, or it has none
 pub kept_one : {G : Type 0} (whole rest kept now : Option G) (b : Bool) (x : G) → whole ≡ option_or (option_or rest (cond b (Some x) None)) kept → now ≡ cond b (Some x) kept → whole ≡ option_or rest now
 kept_one whole rest kept now b x h put = h ∙ or_assoc rest (cond b (Some x) None) kept ∙ ap (option_or rest) (go b ∙ sym put)
   where

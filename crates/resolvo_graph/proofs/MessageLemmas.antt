@@ -14,7 +14,7 @@ use Rattle.resolvo_graph.specs.Runs.{runs_of}
 use Rattle.resolvo_graph.specs.Tree.{Findings, IsTree}
 
 module _ {S : Type 0} (f : Findings S) where
-  -- no edge is left for the second part
+  -- no edge remains for the second part
   pub no_second_part : (others all : List (Edge S)) (lines : List (MessageLine S)) → (length others == 0) ≡ true → lines ≡ [] → IsSecondPart f others all lines
   no_second_part [] all lines h k = k
   no_second_part (e ∷ es) all lines h k =
@@ -25,24 +25,24 @@ module _ {S : Type 0} (f : Findings S) where
   second_part [] all tree lines h t k = absurd (false≢true (sym h))
   second_part (e ∷ es) all tree lines h t k = (tree, t, k)
 
-  -- the two parts, where lists go by several names
+  -- the two parts, up to equal lists
   pub parts : (missing : List NodeIndex) (es to_first first_edges to_tree to_other other_edges to_second all : List (Edge S)) (first second lines : List (MessageLine S)) → to_first ≡ es → to_other ≡ es → all ≡ es → first_edges ≡ filter (misses missing) to_first → other_edges ≡ filter (fits missing) to_other → to_tree ≡ first_edges → to_second ≡ other_edges → IsTree f false (runs_of to_tree) first → IsSecondPart f to_second all second → lines ≡ first ++ second → AreParts f missing es lines
   parts missing es to_first first_edges to_tree to_other other_edges to_second all first second lines a b c d e h i tree rest whole =
       let ours : to_tree ≡ filter (misses missing) es = h ∙ d ∙ ap (filter (misses missing)) a in
       let others : to_second ≡ filter (fits missing) es = i ∙ e ∙ ap (filter (fits missing)) b in
       (first, second, subst (λ xs. IsTree f false (runs_of xs) first) ours tree, subst (λ xs. IsSecondPart f xs es second) others (subst (λ xs. IsSecondPart f to_second xs second) c rest), whole)
 
--- a heading, a tree and conflicts, put one behind the other
+-- the lists of a heading, a tree and conflicts, concatenated
 pub headed : {S : Type 0} (start pushed grown lines tree own conflicts : List (MessageLine S)) (l : MessageLine S) → start ≡ [] → pushed ≡ start ++ l ∷ [] → grown ≡ pushed ++ tree → lines ≡ grown ++ own → l ≡ heading → own ≡ conflicts → lines ≡ heading ∷ tree ++ conflicts
 headed start pushed grown lines tree own conflicts l none put more last is same =
     last ∙ ap (λ xs. xs ++ own) (more ∙ ap (λ xs. xs ++ tree) (put ∙ ap (λ xs. xs ++ l ∷ []) none)) ∙ ap (λ x. (x ∷ tree) ++ own) is ∙ ap (λ xs. (heading ∷ tree) ++ xs) same
 
--- the parts, where nodes go by another name
+-- the parts, up to equal nodes
 pub parts_along : {S : Type 0} (g : Graph S) (same : S → S → Bool) (merged : S → Option (List S)) (can installable miss missing : List NodeIndex) (lines : List (MessageLine S)) → can ≡ installable → miss ≡ missing → AreParts (record { graph = g; same = same; installable = can; merged = merged }) miss (edges_of g (record { 0 = 0 })) lines → AreParts (record { graph = g; same = same; installable = installable; merged = merged }) missing (edges_of g (record { 0 = 0 })) lines
 parts_along g same merged can installable miss missing lines a b told =
     subst (λ ns. AreParts (record { graph = g; same = same; installable = installable; merged = merged }) ns (edges_of g (record { 0 = 0 })) lines) b (subst (λ ns. AreParts (record { graph = g; same = same; installable = ns; merged = merged }) miss (edges_of g (record { 0 = 0 })) lines) a told)
 
--- the message along a walk, which goes by two names
+-- the message along a walk, up to an equal order
 pub message : {N S : Type 0} (same_name : N → N → Bool) (same : S → S → Bool) (name_of : S → N) (g : Graph S) (order along : List NodeIndex) (merged : S → Option (List S)) (lines : List (MessageLine S)) → along ≡ order → IsPostOrder g order → IsMerged same_name same g name_of merged → AreParts (record { graph = g; same = same; installable = installable_in g along; merged = merged }) (missing_in g along) (edges_of g (record { 0 = 0 })) lines → IsMessage same_name same name_of g lines
 message same_name same name_of g order along merged lines is walked as_one told =
     record {

@@ -1,4 +1,4 @@
--- A node is taken away, and the last one has its index.
+-- A node is removed, and the last one gets its index.
 use Rattle.std.proofs.Common.{◌≡◌, ℕ, zero, suc, ◌+◌, ◌<◌, ◌≤◌, Bool, true, false, cond, List, [], ◌∷◌, ◌++◌, map, length, take, drop, get_or, All, refl, sym, ap, subst, ◌∙◌, arith}
 use Rattle.std.specs.Prelude.{◌||◌, ◌==◌, ◌-◌, Option, Some, None, is_some, slice_get, slice_set, swap_remove, IfSome}
 use Rattle.std.specs.List.{list_any}
@@ -29,7 +29,7 @@ only_unresolved (Solvable s) h = cc
 only_unresolved UnresolvedDependency h = refl
 only_unresolved (Excluded why) h = cc
 
--- the unresolved node lies where it was found
+-- the node at the found index is unresolved
 found_at : {S : Type 0} (k : ℕ) (ns : List (ConflictNode S)) (i : NodeIndex) → first_unresolved k ns ≡ Some i → (j : ℕ) × (i.0 ≡ k + j) × (j < length ns) × (slice_get ns j ≡ Some UnresolvedDependency)
 found_at k [] i h = cc
 found_at {S} k (n ∷ ns) i h = go (is_unresolved n) refl h (found_at (k + 1) ns i)
@@ -51,7 +51,7 @@ unresolved_at ns i h =
     let less : at.0 < length ns = at.2 in
     (omega arith, subst (λ j. slice_get ns j ≡ Some UnresolvedDependency) place at.3)
 
--- the first node stays, since another one is taken away
+-- the first node stays, since another one is removed
 pub root_stays : {S : Type 0} (ns : List (ConflictNode S)) (u : ℕ) → slice_get ns 0 ≡ Some Root → u < length ns → slice_get ns u ≡ Some UnresolvedDependency → slice_get (swap_remove ns u UnresolvedDependency) 0 ≡ Some Root
 root_stays [] u h less k = absurd (omega arith)
 root_stays (n ∷ ns) zero h less k = cc
@@ -63,7 +63,7 @@ root_stays (n ∷ m ∷ ns) (suc u) h less k =
 below : (m x : ℕ) → x < m + 1 → (x ≡ m → ⊥) → x < m
 below m x h apart = omega arith
 
--- the ends of an edge that doesn't touch the node lie among the nodes that are left
+-- the ends of an edge that doesn't touch the node are remaining nodes
 moved_within : (m u x : ℕ) → u < m + 1 → x < m + 1 → (x == u) ≡ false → cond (x == m) u x < m
 moved_within m u x h k apart = go (x == m) refl
   where
@@ -132,7 +132,7 @@ module _ {S : Type 0} (g : Graph S) (u : NodeIndex) (keys : List (ConflictNode S
       let edges : now ≡ map (with_ends_moved (length g.nodes - 1) u.0) g.edges = put ∙ ap (λ k. map (with_ends_moved k u.0) g.edges) (last_is left long) in
       ap (λ ns. record { nodes = ns; edges = now }) left ∙ ap (λ es. record { nodes = swap_remove g.nodes u.0 UnresolvedDependency; edges = es }) edges ∙ sym whole
 
-  -- what is true of each graph stays true
+  -- the invariant of graphs holds
   pub keeps : unresolved_of g ≡ Some u → has_edge_at g u ≡ false → keys ≡ swap_remove g.nodes u.0 UnresolvedDependency → last ≡ length keys → now ≡ map (with_ends_moved last u.0) g.edges → (slice_get g.nodes 0 ≡ Some Root) × All (IsWithin g.nodes) g.edges → (slice_get keys 0 ≡ Some Root) × All (IsWithin keys) now
   keeps found unused left long put was =
       let at = unresolved_at g.nodes u found in
@@ -175,7 +175,7 @@ pub edges_in-moved : {S : Type 0} (m u : ℕ) (edges : List (LinkedEdge S)) → 
 edges_in-moved m u [] = refl
 edges_in-moved m u (l ∷ ls) = ap (λ es. with_ends_moved m u l.edge ∷ es) (edges_in-moved m u ls)
 
--- a node that no edge touches gets the links of another one, and that one's edges
+-- a node without edges gets the links and the edges of another one
 module _ {S : Type 0} (newest : List Links) (edges : List (LinkedEdge S)) (linked : AreLinked newest edges) (u m : ℕ) (unused : list_any (touches (record { 0 = u })) (edges_in edges) ≡ false) where
   untouched : (side : Side) (i : ℕ) (e : Edge S) → slice_get (edges_in edges) i ≡ Some e → (end_on side e).0 ≡ u → ⊥
   untouched side i e at = eqb-false (end_on side e).0 u (go side (none_of (touches (record { 0 = u })) (edges_in edges) unused i e at))

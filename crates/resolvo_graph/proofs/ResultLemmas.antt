@@ -1,4 +1,4 @@
--- What is said of a result, if there is one.
+-- A property of a result, if there is one.
 use Rattle.std.specs.Prelude.{Result, Ok, Err, IfOk, OnOk}
 
 pub ok_map : {X E : Type 0} {P Q : X → Type 0} (r : Result X E) → ((x : X) → P x → Q x) → IfOk r P → IfOk r Q

@@ -1,4 +1,4 @@
--- Runs may be built from the front too: an edge at the end joins the last run, or begins one.
+-- Runs may be built from either end: an appended edge joins the last run, or begins one.
 use Rattle.std.proofs.Common.{◌≡◌, Bool, true, false, cond, List, [], ◌∷◌, ◌++◌, Option, None, Some, refl, sym, ap, ◌∙◌, arith}
 use Rattle.std.proofs.lemmas.Bool.{eqb-true}
 use Rattle.resolvo_pool_core.specs.declared.requirement.Requirement.{Requirement}
@@ -8,7 +8,7 @@ use Rattle.resolvo_graph.specs.declared.graph.Edge.{Edge}
 use Rattle.resolvo_graph.specs.Graph.{requirement_of}
 use Rattle.resolvo_graph.specs.Runs.{Run, same_requirement, with_first, with_edge, with_last, runs_of}
 
--- the last run takes one target more, or a new run follows
+-- the last run gets one target more, or a new run follows
 pub with_last-at : (rs : List Run) (r : Run) (q : Requirement) (t : NodeIndex) → with_last (rs ++ r ∷ []) q t ≡ cond (same_requirement r.requirement q) (rs ++ record { requirement = r.requirement; targets = r.targets ++ t ∷ [] } ∷ []) ((rs ++ r ∷ []) ++ record { requirement = q; targets = t ∷ [] } ∷ [])
 with_last-at [] r q t = refl
 with_last-at (s ∷ []) r q t = go (same_requirement r.requirement q)
@@ -34,7 +34,7 @@ flips (Single v) (Union u) = refl
 flips (Union u) (Single v) = refl
 flips (Union u) (Union w) = grind arith
 
--- an edge in front and one at the end may be put in either order
+-- prepending an edge and appending one commute
 first_last : (q : Requirement) (t : NodeIndex) (rs : List Run) (p : Requirement) (u : NodeIndex) → with_first q t (with_last rs p u) ≡ with_last (with_first q t rs) p u
 first_last q t [] p u = go (same_requirement p q) refl
   where
@@ -59,7 +59,7 @@ first_last q t (r ∷ s ∷ rs) p u = go (same_requirement r.requirement q)
     go true = refl
     go false = refl
 
--- the runs with an edge at the end
+-- the runs with an appended edge
 abbrev pub with_last_edge : List Run → Option Requirement → NodeIndex → List Run
 with_last_edge rs None t = rs
 with_last_edge rs (Some q) t = with_last rs q t
@@ -77,7 +77,7 @@ pub runs_of-last : {S : Type 0} (es : List (Edge S)) (e : Edge S) → runs_of (e
 runs_of-last [] e = single (requirement_of e.weight) e.target
 runs_of-last (d ∷ es) e = ap (with_edge (requirement_of d.weight) d.target) (runs_of-last es e) ∙ edge_last (requirement_of d.weight) d.target (runs_of es) (requirement_of e.weight) e.target
 
--- what is left to say of a push: the last run took the target, or a new one follows, or one begins
+-- the cases of a push: the last run gets the target, or a new run follows, or one begins
 pub joins : (old now rest : List Run) (r s : Run) (q : Requirement) (t : NodeIndex) → old ≡ rest ++ r ∷ [] → same_requirement r.requirement q ≡ true → s ≡ record { requirement = r.requirement; targets = r.targets ++ t ∷ [] } → now ≡ rest ++ s ∷ [] → now ≡ with_last old q t
 joins old now rest r s q t was same is put =
     put ∙ ap (λ x. rest ++ x ∷ []) is ∙ sym (ap (λ xs. with_last xs q t) was ∙ with_last-at rest r q t ∙ ap (λ b. cond b (rest ++ record { requirement = r.requirement; targets = r.targets ++ t ∷ [] } ∷ []) ((rest ++ r ∷ []) ++ record { requirement = q; targets = t ∷ [] } ∷ [])) same)

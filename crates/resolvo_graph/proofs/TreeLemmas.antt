@@ -1,4 +1,4 @@
--- The trees: what the stack has yet to tell follows what was told, and each step leaves less to tell.
+-- The trees: the stack's entries have the lines after those so far; each step lowers the weight.
 use Rattle.std.proofs.Common.{◌≡◌, ℕ, zero, suc, ◌+◌, ◌*◌, ◌<◌, ◌≤◌, Bool, true, false, cond, List, [], ◌∷◌, ◌++◌, map, reverse, drop, length, All, refl, sym, ap, subst, ◌∙◌, arith, append_assoc, map-id}
 use Rattle.std.specs.Prelude.{◌||◌, ◌==◌, not, filter, Option, None, Some, slice_get}
 use Rattle.std.proofs.lemmas.List.{append-nil, reverse-append, length-reverse}
@@ -60,7 +60,7 @@ unexcluded (Some why) es h k = cc
 unexcluded None [] h k = cc
 unexcluded None (e ∷ es) h k = refl
 
--- what was put on top is taken first
+-- the entry pushed last is popped first
 reverse_put : {A : Type 0} (below now xs : List A) → now ≡ below ++ reverse xs → reverse now ≡ xs ++ reverse below
 reverse_put below now xs put = ap reverse put ∙ reverse-append below (reverse xs) ∙ ap (λ ys. ys ++ reverse below) (reverse-twice xs)
 
@@ -68,7 +68,7 @@ reverse_put below now xs put = ap reverse put ∙ reverse-append below (reverse 
 pub all_yielded : {A : Type 0} (xs ys : List A) → map (λ x. x) xs ≡ ys → xs ≡ ys
 all_yielded xs ys h = sym (map-id xs) ∙ h
 
--- what a version weighs, where so many may still stand below it and no version has more than e edges
+-- the weight of a version: so many may be below it, and no version has more than e edges
 abbrev pub cost : ℕ → ℕ → ℕ
 cost e zero = 1
 cost e (suc u) = 1 + e * (1 + cost e u)
@@ -87,7 +87,7 @@ cost-le e (suc a) (suc b) h =
     omega arith
 
 module _ {S : Type 0} where
-  -- what an entry weighs: a run as much as its targets, and one
+  -- the weight of an entry: that of a run is the sum over its targets, and one
   abbrev pub weight : ℕ → DisplayOp S → ℕ
   weight c (Requirement r) = 1 + length r.targets * c
   weight c (Candidate n s) = c
@@ -216,7 +216,7 @@ module _ {S : Type 0} where
     few : (n : NodeIndex) → length (edges_of f.graph n) ≤ length f.graph.edges
     few n = rw (length-reverse (filter (leaves n) f.graph.edges), length-filter (leaves n) f.graph.edges) (count_by-le-length (leaves n) f.graph.edges)
 
-    -- a stretch of entries is told, and then the rest
+    -- the lines of some entries, then those of the others
     splits : (xs ys : List (Entry S)) (told : List S) (lines : List (MessageLine S)) (after : List S) → Tells f told (xs ++ ys) lines after → (a b : List (MessageLine S)) × (between : List S) × Tells f told xs a between × Tells f between ys b after × (lines ≡ a ++ b)
     splits [] ys told lines after t = ([], lines, told, done told, t, refl)
     splits (x ∷ xs) ys told lines after (next e {es = es} {inner = inner} {rest = rest} {between = between} below behind) =
@@ -224,7 +224,7 @@ module _ {S : Type 0} where
         let more = splits xs ys between rest after behind in
         (own ++ (inner ++ more.0), more.1, more.2, next x below more.3, more.4, ap (λ ls. own ++ (inner ++ ls)) more.5 ∙ ap (λ ls. own ++ ls) (sym (append_assoc inner more.0 more.1)) ∙ sym (append_assoc own (inner ++ more.0) more.1))
 
-    -- what is left on the stack tells what these entries have yet to tell
+    -- the remaining lines are those of the stack's entries
     abbrev pub Gives : List (Entry S) → List (Entry S) → List S → List (MessageLine S) → Type 0
     Gives start stack told lines = (rest : List (MessageLine S)) (after : List S) → Tells f told (reverse stack) rest after → Tells f [] start (lines ++ rest) after
 
@@ -251,12 +251,12 @@ module _ {S : Type 0} where
 
     -- us are nodes among which each entry's are
     module _ (us : List NodeIndex) where
-      -- an edge leads to the nodes of an entry
+      -- the nodes of an entry are targets of edges
       abbrev pub IsKnown : DisplayOp S → Type 0
       IsKnown (Requirement r) = All (λ n. is_among us n ≡ true) r.targets
       IsKnown (Candidate n s) = is_among us n ≡ true
 
-      -- what stands below an entry weighs less than it
+      -- the entries below an entry weigh less than it
       lighter : (told : List S) (o : DisplayOp S) (i : Indent) (above : List NodeIndex) → IsKnown o → weights f.graph us (entries_below f told o i above) + 1 ≤ weight (cost (length f.graph.edges) (unseen us above)) o
       lighter told (Requirement r) i above known =
           let c = cost (length f.graph.edges) (unseen us above) in
@@ -294,7 +294,7 @@ module _ {S : Type 0} where
           let less : weights f.graph us xs + 1 ≤ weight (cost (length f.graph.edges) (unseen us e.above)) e.op = lighter told e.op e.indent e.above known in
           omega arith
 
-      -- the entries of a known one are known
+      -- the entries below a known one are known
       known_candidates : (ns : List NodeIndex) → All (λ n. is_among us n ≡ true) ns → All (λ c. is_among us c.0 ≡ true) (candidates_at f.graph ns)
       known_candidates [] h = All-nil (λ c. is_among us c.0 ≡ true)
       known_candidates (n ∷ ns) h = go (solvable_at_node (slice_get f.graph.nodes n.0)) (known_candidates ns (All-tail (λ m. is_among us m ≡ true) n ns h))
@@ -367,7 +367,7 @@ module _ {S : Type 0} where
           go true = All-nil (λ e. IsKnown e.op)
           go false = known_siblings i (above ++ n ∷ []) (reverse (needs_of f (verdict_of f n) (edges_of f.graph n))) (known_turned (needs_of f (verdict_of f n) (edges_of f.graph n)) (known_needs (verdict_of f n) (edges_of f.graph n) (met n)))
 
-      -- what is put on the stack is known
+      -- the pushed entries are known
       known_put : (below now xs : List (Entry S)) → All (λ e. IsKnown e.op) below → All (λ e. IsKnown e.op) xs → now ≡ below ++ reverse xs → All (λ e. IsKnown e.op) now
       known_put below now xs h k put = All-same (λ e. IsKnown e.op) now (below ++ reverse xs) put (All-append (λ e. IsKnown e.op) below (reverse xs) h (All-permutation (λ e. IsKnown e.op) xs (reverse xs) (IsPermutation-reverse xs) k))
 
@@ -377,7 +377,7 @@ module _ {S : Type 0} where
       pub known_start : (i : Indent) (stack : List (Entry S)) (es : List (Edge S)) → All (λ e. is_among us e.target ≡ true) es → stack ≡ [] ++ reverse (siblings i [] (reverse (in_rank f (runs_of es)))) → All (λ d. IsKnown d.op) stack
       known_start i stack es h put = known_put [] stack (siblings i [] (reverse (in_rank f (runs_of es)))) (All-nil (λ d. IsKnown d.op)) (known_siblings i [] (reverse (in_rank f (runs_of es))) (known_turned (in_rank f (runs_of es)) (known_in_rank (runs_of es) (known_runs es h)))) put
 
--- where these edges lead, and where any edge of the graph leads
+-- the targets of these edges, and of all edges of the graph
 abbrev pub reached : {S : Type 0} → Graph S → List (Edge S) → List NodeIndex
 reached g es = map (λ e. e.target) es ++ map (λ e. e.target) g.edges
 
@@ -395,12 +395,12 @@ reached_own g es = targets_among es (reached g es) (λ n h. list_any-append (sam
 pub reached_edges : {S : Type 0} (g : Graph S) (es : List (Edge S)) (n : NodeIndex) → All (λ e. is_among (reached g es) e.target ≡ true) (edges_of g n)
 reached_edges g es n = edges_among g (reached g es) (λ m h. list_any-append (same_node m) (map (λ e. e.target) es) (map (λ e. e.target) g.edges) ∙ or_right (is_among (map (λ e. e.target) es) m) (is_among (map (λ e. e.target) g.edges) m) h) n
 
--- the runs of a tree are put on the stack
+-- the runs of a tree are pushed
 pub put_top : {S : Type 0} (stack old : List (Entry S)) (i j : Indent) (a : List NodeIndex) (os qs : List (DisplayOp S)) → stack ≡ old ++ reverse (siblings i a (reverse os)) → i ≡ j → a ≡ [] → os ≡ qs → stack ≡ old ++ reverse (siblings j [] (reverse qs))
 put_top stack old i j a os qs put same top ops =
     put ∙ ap (λ k. old ++ reverse (siblings k a (reverse os))) same ∙ ap (λ ns. old ++ reverse (siblings j ns (reverse os))) top ∙ ap (λ xs. old ++ reverse (siblings j [] (reverse xs))) ops
 
--- a sibling more lies on the stack
+-- one sibling more is pushed
 pub sibling_more : {S : Type 0} (i : Indent) (above : List NodeIndex) (ys : List (DisplayOp S)) (o : DisplayOp S) (old stack now : List (Entry S)) (order : ChildOrder) (e : Entry S) → stack ≡ old ++ reverse (siblings i above (reverse ys)) → order ≡ order_before (reverse ys) → e ≡ record { op = o; indent = level_below i order; above = above } → now ≡ stack ++ e ∷ [] → now ≡ old ++ reverse (siblings i above (reverse (ys ++ o ∷ [])))
 sibling_more {S} i above ys o old stack now order e so last is put =
     let it : Entry S = record { op = o; indent = level_below i (order_before (reverse ys)); above = above } in
@@ -411,7 +411,7 @@ sibling_more {S} i above ys o old stack now order e so last is put =
 pub more_before : {S : Type 0} (ys : List (DisplayOp S)) (o : DisplayOp S) → HasRemainingSiblings ≡ order_before (reverse (ys ++ o ∷ []))
 more_before ys o = sym (ap order_before (reverse-append ys (o ∷ [])))
 
--- one candidate more was looked at
+-- one candidate more
 pub first_more : {S : Type 0} (f : Findings S) (cs : List (NodeIndex × S)) (i : ℕ) (c : NodeIndex × S) (told told_now : List S) (all found now : List (DisplayOp S)) → drop i cs ≡ c ∷ drop (i + 1) cs → all ≡ found ++ firsts_after f told (drop i cs) → told_now ≡ cond (was_told f told c.1) told (told_with f told c.1) → now ≡ found ++ cond (was_told f told c.1) [] (Candidate c.0 c.1 ∷ []) → all ≡ now ++ firsts_after f told_now (drop (i + 1) cs)
 first_more {S} f cs i c told told_now all found now here so with put =
     so ∙ ap (λ xs. found ++ firsts_after f told xs) here ∙ go (was_told f told c.1)

@@ -1,4 +1,4 @@
--- The walk with a stack gives what visiting the root gives, and enters each node once.
+-- The walk with a stack lists the nodes of a visit of the root, and enters each node once.
 use Rattle.std.proofs.Common.{◌≡◌, ℕ, ◌+◌, ◌*◌, ◌<◌, ◌≤◌, Bool, true, false, cond, List, [], ◌∷◌, ◌++◌, map, reverse, length, All, inl, inr, refl, sym, ap, subst, ◌∙◌, arith, append_assoc, length-append}
 use Rattle.std.specs.Prelude.{◌||◌, ◌⊎◌, ⊤, filter}
 use Rattle.std.proofs.lemmas.Bool.{eqb-true}
@@ -16,11 +16,11 @@ use Rattle.resolvo_graph.specs.Graph.{Graph, same_node, leaves, edges_of, neighb
 use Rattle.resolvo_graph.specs.Steps.{steps_into}
 use Rattle.resolvo_graph.specs.Walk.{is_among, Visits, done, again, first, IsPostOrder}
 
--- the root, and where edges lead
+-- the root, and the targets of edges
 abbrev pub entered : {S : Type 0} → Graph S → List NodeIndex
 entered g = record { 0 = 0 } ∷ map (λ e. e.target) g.edges
 
--- how many of these are not among the seen ones
+-- how many of these nodes are unseen
 abbrev pub unseen : List NodeIndex → List NodeIndex → ℕ
 unseen [] seen = 0
 unseen (n ∷ ns) seen = unseen ns seen + cond (is_among seen n) 0 1
@@ -72,29 +72,29 @@ targets_among (e ∷ es) ns h =
     All-cons (λ d. is_among ns d.target ≡ true) e es (h e.target (ap (λ b. b || is_among (map (λ d. d.target) es) e.target) (same_self e.target)))
     (targets_among es ns (λ n k. h n (or_right (same_node n e.target) (is_among (map (λ d. d.target) es) n) k)))
 
--- where a node's edges lead is among these, if these hold where any edge leads
+-- the targets of a node's edges are among these, if those of all edges are
 pub edges_among : {S : Type 0} (g : Graph S) (us : List NodeIndex) → ((n : NodeIndex) → is_among (map (λ e. e.target) g.edges) n ≡ true → is_among us n ≡ true) → (n : NodeIndex) → All (λ e. is_among us e.target ≡ true) (edges_of g n)
 edges_among g us h n =
     All-permutation (λ e. is_among us e.target ≡ true) (filter (leaves n) g.edges) (edges_of g n) (IsPermutation-reverse (filter (leaves n) g.edges))
     (All-filter (leaves n) (λ e. is_among us e.target ≡ true) g.edges (targets_among g.edges us h))
 
--- where a node's edges lead was entered
+-- the targets of a node's edges were entered
 pub edges_entered : {S : Type 0} (g : Graph S) (n : NodeIndex) → All (λ e. is_among (entered g) e.target ≡ true) (edges_of g n)
 edges_entered g n = edges_among g (entered g) (λ m h. or_right (same_node m (record { 0 = 0 })) (is_among (map (λ e. e.target) g.edges) m) h) n
 
--- a node that a step enters is the root, or an edge leads there
+-- a node that a step enters is the root, or the target of an edge
 abbrev pub IsKnown : List NodeIndex → Step → Type 0
 IsKnown ns (Enter n) = is_among ns n ≡ true
 IsKnown ns (Leave n) = ⊤
 
 module _ {S : Type 0} (g : Graph S) where
-  -- visiting one node gives these
+  -- the nodes that a visit of one node lists
   abbrev pub VisitsOne : List NodeIndex → NodeIndex → List NodeIndex → List NodeIndex → Type 0
   VisitsOne seen n given after =
       ((is_among seen n ≡ true) × (given ≡ []) × (after ≡ seen))
       ⊎ ((inner : List NodeIndex) × (is_among seen n ≡ false) × Visits g (seen ++ n ∷ []) (neighbours g n) inner after × (given ≡ inner ++ n ∷ []))
 
-  -- the steps, the top one first, give these
+  -- the nodes that the steps list, the top one first
   abbrev pub Continues : List Step → List NodeIndex → List NodeIndex → List NodeIndex → Type 0
   Continues [] seen given after = (given ≡ []) × (after ≡ seen)
   Continues (Leave n ∷ ss) seen given after = (rest : List NodeIndex) × (given ≡ n ∷ rest) × Continues ss seen rest after
@@ -104,24 +104,24 @@ module _ {S : Type 0} (g : Graph S) where
   one_more seen n own between ns rest after (inl h) v = subst (λ xs. Visits g seen (n ∷ ns) (xs ++ rest) after) (sym h.1) (again h.0 (subst (λ xs. Visits g xs ns rest after) h.2 v))
   one_more seen n own between ns rest after (inr h) v = subst (λ xs. Visits g seen (n ∷ ns) xs after) (sym (ap (λ xs. xs ++ rest) h.3 ∙ append_assoc h.0 (n ∷ []) rest)) (first h.1 h.2 v)
 
-  -- what entering some nodes and going on gives
+  -- the nodes that entering some nodes, then the other steps list
   pub enters_all : (ns : List NodeIndex) (ss : List Step) (seen given after : List NodeIndex) → Continues (map Enter ns ++ ss) seen given after → (own rest between : List NodeIndex) × Visits g seen ns own between × Continues ss between rest after × (given ≡ own ++ rest)
   enters_all [] ss seen given after c = ([], given, seen, done seen, c, refl)
   enters_all (n ∷ ns) ss seen given after c =
       let more = enters_all ns ss c.2 c.1 after c.4 in
       (c.0 ++ more.0, more.1, more.2, one_more seen n c.0 c.2 ns more.0 more.2 c.3 more.3, more.4, c.5 ∙ ap (λ xs. c.0 ++ xs) more.5 ∙ sym (append_assoc c.0 more.0 more.1))
 
-  -- entering a node that was seen
+  -- entering a seen node
   pub enters_seen : (n : NodeIndex) (ss : List Step) (seen given after : List NodeIndex) → is_among seen n ≡ true → Continues ss seen given after → Continues (Enter n ∷ ss) seen given after
   enters_seen n ss seen given after h c = ([], given, seen, inl (h, refl, refl), c, refl)
 
-  -- entering a new node: its neighbours, and then itself
+  -- entering a new node: its neighbours, then itself
   pub enters_new : (n : NodeIndex) (ss : List Step) (seen given after : List NodeIndex) → is_among seen n ≡ false → Continues (map Enter (neighbours g n) ++ Leave n ∷ ss) (seen ++ n ∷ []) given after → Continues (Enter n ∷ ss) seen given after
   enters_new n ss seen given after h c =
       let all = enters_all (neighbours g n) (Leave n ∷ ss) (seen ++ n ∷ []) given after c in
       (all.0 ++ n ∷ [], all.4.0, all.2, inr (all.0, h, all.3, refl), all.4.2, all.5 ∙ ap (λ xs. all.0 ++ xs) all.4.1 ∙ sym (append_assoc all.0 (n ∷ []) all.4.0))
 
-  -- the steps that were there give what the walk has yet to give
+  -- the older steps list the remaining nodes of the walk
   abbrev pub Gives : List Step → List NodeIndex → List NodeIndex → Type 0
   Gives stack seen order = (rest after : List NodeIndex) → Continues (reverse stack) seen rest after → Visits g [] (record { 0 = 0 } ∷ []) (order ++ rest) after
 
@@ -174,13 +174,13 @@ module _ {S : Type 0} (g : Graph S) where
       let times : (length g.edges + 2) * (unseen (entered g) after_it + 1) ≤ (length g.edges + 2) * unseen (entered g) seen = mul-le-mul_left (length g.edges + 2) less in
       omega arith
 
-  -- a node is given
+  -- a node is listed
   pub leaves_next : (stack below : List Step) (seen order now : List NodeIndex) (n : NodeIndex) → Gives stack seen order → stack ≡ below ++ Leave n ∷ [] → now ≡ order ++ n ∷ [] → Gives below seen now
   leaves_next stack below seen order now n gives at put rest after c =
       let from : Continues (reverse stack) seen (n ∷ rest) after = subst (λ xs. Continues xs seen (n ∷ rest) after) (sym (ap reverse at ∙ reverse-push below (Leave n))) (rest, refl, c) in
       subst (λ xs. Visits g [] (record { 0 = 0 } ∷ []) xs after) (sym (append_assoc order (n ∷ []) rest) ∙ ap (λ xs. xs ++ rest) (sym put)) (gives (n ∷ rest) after from)
 
-  -- a node is entered, whether it was seen or not
+  -- a node is entered, seen or not
   pub enters : (stack below now : List Step) (seen after_it order : List NodeIndex) (n : NodeIndex) → Gives stack seen order → stack ≡ below ++ Enter n ∷ [] → after_it ≡ cond (is_among seen n) seen (seen ++ n ∷ []) → now ≡ below ++ steps_into g seen n → Gives now after_it order
   enters stack below now seen after_it order n gives at = go (is_among seen n) refl
     where

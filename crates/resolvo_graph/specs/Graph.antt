@@ -1,4 +1,4 @@
--- The conflict graph, as the list of its nodes and that of its edges, and what is read off it.
+-- The conflict graph as the list of its nodes and the list of its edges, with its queries.
 use Rattle.std.specs.Prelude.{ℕ, ◌+◌, ◌==◌, ◌<◌, ◌&&◌, cond, Bool, true, false, List, [], ◌∷◌, Option, Some, None, filter, length, map, reverse, slice_get}
 use Rattle.std.specs.List.{list_any}
 use Rattle.resolvo_pool_core.specs.declared.id.VersionSetId.{VersionSetId}
@@ -15,11 +15,11 @@ pub record Graph (S : Type 0) : Type 0 where
   pub nodes : List (ConflictNode S)
   pub edges : List (Edge S)
 
--- both ends of the edge are among the nodes
+-- both ends of the edge are nodes
 abbrev pub IsWithin : {S : Type 0} → List (ConflictNode S) → Edge S → Type 0
 IsWithin nodes e = (e.source.0 < length nodes) × (e.target.0 < length nodes)
 
--- both indexes name one node
+-- the indexes are equal
 abbrev pub same_node : NodeIndex → NodeIndex → Bool
 same_node a b = a.0 == b.0
 
@@ -70,7 +70,7 @@ abbrev pub is_some_unresolved : {S : Type 0} → Option (ConflictNode S) → Boo
 is_some_unresolved None = false
 is_some_unresolved (Some n) = is_unresolved n
 
--- the first of the nodes, numbered from k, where requirements without candidates lead
+-- the first unresolved node, where the nodes are numbered from k
 abbrev pub first_unresolved : {S : Type 0} → ℕ → List (ConflictNode S) → Option NodeIndex
 first_unresolved k [] = None
 first_unresolved k (n ∷ ns) = cond (is_unresolved n) (Some (record { 0 = k })) (first_unresolved (k + 1) ns)
@@ -84,7 +84,7 @@ module _ {S : Type 0} (g : Graph S) where
   abbrev pub edges_to : NodeIndex → List (Edge S)
   edges_to n = filter (enters n) g.edges
 
-  -- where the edges of a node lead, the oldest first
+  -- the targets of a node's edges, the oldest first
   abbrev pub neighbours : NodeIndex → List NodeIndex
   neighbours n = map (λ e. e.target) (filter (leaves n) g.edges)
 

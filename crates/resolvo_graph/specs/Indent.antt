@@ -3,7 +3,7 @@ use Rattle.std.specs.Prelude.{ℕ, ◌++◌, Bool, List, [], ◌∷◌, cond, dr
 use Rattle.resolvo_graph.specs.declared.indenter.ChildOrder.{ChildOrder}
 use Rattle.resolvo_graph.specs.declared.indenter.ChildOrder.TheVariants.{HasRemainingSiblings, Last}
 
--- the levels of a line, the uppermost first
+-- the levels of a line, the topmost first
 pub record Indent : Type 0 where
   pub levels : List ChildOrder
   pub top_level_indent : Bool
@@ -22,7 +22,7 @@ sign_above Last = 32 ∷ 32 ∷ 32 ∷ []
 abbrev pub shown_levels : Indent → List ChildOrder
 shown_levels i = cond i.top_level_indent i.levels (drop 1 i.levels)
 
--- the signs of the levels above, and then the line's own
+-- the signs of the levels above, then the line's own
 abbrev pub signs : List ChildOrder → List ℕ
 signs [] = []
 signs (o ∷ []) = own_sign o
@@ -31,6 +31,6 @@ signs (o ∷ p ∷ os) = sign_above o ++ signs (p ∷ os)
 abbrev pub indent_text : Indent → List ℕ
 indent_text i = signs (shown_levels i)
 
--- the level below these
+-- the indent with one level more
 abbrev pub level_below : Indent → ChildOrder → Indent
 level_below i order = record i { levels = i.levels ++ order ∷ [] }

@@ -1,4 +1,4 @@
--- How the edges at a node are found: from its newest edge on, each is linked to the one before it on the same side.
+-- Linked lists of the edges at a node: each edge is linked to the one before it on the same side.
 use Rattle.std.specs.Prelude.{◌≡◌, ℕ, zero, suc, ◌+◌, ◌==◌, Bool, false, cond, List, [], Option, None, Some, length, map, slice_get, slice_index_or, take}
 use Rattle.std.specs.Option.{option_map_or}
 use Rattle.resolvo_graph.specs.declared.graph.NodeIndex.{NodeIndex}
@@ -11,7 +11,7 @@ use Rattle.resolvo_graph.specs.declared.links.LinkedEdge.{LinkedEdge}
 use Rattle.resolvo_graph.specs.Graph.{same_node}
 use Rattle.resolvo_graph.specs.Removal.{with_ends_moved}
 
--- the end of an edge at which the edge is on this side
+-- the end of an edge on this side
 abbrev pub end_on : {S : Type 0} → Side → Edge S → NodeIndex
 end_on Leaving e = e.source
 end_on Entering e = e.target
@@ -42,20 +42,20 @@ abbrev pub newest_of : {S : Type 0} → (Edge S → Bool) → List (Edge S) → 
 newest_of p es zero = None
 newest_of p es (suc n) = cond (holds_at p es n) (Some (record { 0 = n })) (newest_of p es n)
 
--- the edges as far as this one
+-- the edges up to this one
 abbrev pub up_to : {S : Type 0} → Option EdgeIndex → List (Edge S) → List (Edge S)
 up_to None es = []
 up_to (Some i) es = take (i.0 + 1) es
 
--- each node knows its newest edges, and each edge the one before it at the same node on the same side
+-- a node is linked to its newest edges, an edge to the one before it at its node on its side
 pub record AreLinked {S : Type 0} (newest : List Links) (edges : List (LinkedEdge S)) : Type 0 where
   pub newest_are : (side : Side) (n : ℕ) → link_on side (links_of newest n) ≡ newest_of (is_at side (record { 0 = n })) (edges_in edges) (length (edges_in edges))
   pub older_are : (side : Side) (i : ℕ) (l : LinkedEdge S) → slice_get edges i ≡ Some l → link_on side l.older ≡ newest_of (is_at side (end_on side l.edge)) (edges_in edges) i
 
--- the edge's ends at the node of index last have the index place
+-- the edge with its ends moved from the index last to the index place
 abbrev pub linked_with_ends_moved : {S : Type 0} → ℕ → ℕ → LinkedEdge S → LinkedEdge S
 linked_with_ends_moved last place l = record { edge = with_ends_moved last place l.edge; older = l.older }
 
--- the index n, where a and b change places
+-- the index n after a swap of a and b
 abbrev pub exchanged : ℕ → ℕ → ℕ → ℕ
 exchanged a b n = cond (n == a) b (cond (n == b) a n)

@@ -1,4 +1,4 @@
--- Which versions are told as one: those of one package with the same neighbours on both sides.
+-- Merged versions: those of one package with the same neighbours on both sides.
 use Rattle.std.specs.Prelude.{◌≡◌, ◌==◌, ◌&&◌, ℕ, ◌+◌, Bool, List, [], ◌∷◌, Option, None, Some, cond, nat_lt, length, map, filter}
 use Rattle.std.specs.declared.cmp.Ordering.{Ordering}
 use Rattle.std.specs.List.{AllZip}
@@ -25,11 +25,11 @@ before g n = map (λ e. (requirement_of e.weight, e.source)) (edges_to g n)
 abbrev pub after : {S : Type 0} → Graph S → NodeIndex → List Neighbour
 after g n = map (λ e. (requirement_of e.weight, e.target)) (edges_of g n)
 
--- both come over edges with one requirement from, or to, one node
+-- both have one node and one requirement
 abbrev pub same_neighbour : Neighbour → Neighbour → Bool
 same_neighbour x y = option_eq Requirements.ghosts.eq x.0 y.0 && (x.1.0 == y.1.0)
 
--- the order of neighbours: by requirement, conflicts first, and then by node
+-- the order of neighbours: by requirement, conflicts first, then by node
 abbrev pub neighbour_cmp : Neighbour → Neighbour → Ordering
 neighbour_cmp x y = ordering_then (option_cmp Orders.cmp-value.it x.0 y.0) (nat_cmp x.1.0 y.1.0)
 
@@ -44,7 +44,7 @@ abbrev pub with_version : {S : Type 0} → ℕ → Option S → List (NodeIndex 
 with_version k None vs = vs
 with_version k (Some s) vs = (record { 0 = k }, s) ∷ vs
 
--- the versions of a graph with their nodes, which are numbered from k
+-- the versions among the nodes, which are numbered from k
 abbrev pub versions_from : {S : Type 0} → ℕ → List (ConflictNode S) → List (NodeIndex × S)
 versions_from k [] = []
 versions_from k (n ∷ ns) = with_version k (solvable_of n) (versions_from (k + 1) ns)
@@ -59,7 +59,7 @@ pub record Profile (N S : Type 0) : Type 0 where
   pub before : List Neighbour
   pub after : List Neighbour
 
--- these are those, in order
+-- the second list is the first one, sorted
 abbrev pub IsInOrder : List Neighbour → List Neighbour → Type 0
 IsInOrder xs ys = IsPermutation xs ys × IsSorted neighbour_cmp ys
 
@@ -74,7 +74,7 @@ module _ {N S : Type 0} (g : Graph S) (name_of : S → N) where
   abbrev pub AreProfiles : List (Profile N S) → Type 0
   AreProfiles ps = AllZip IsProfile (versions_in g) ps
 
--- the versions with this number
+-- the versions of this number
 abbrev pub numbered : {S : Type 0} → List (Member S) → ℕ → List S
 numbered ms g = map (λ m. m.solvable) (filter (λ m. m.group == g) ms)
 
@@ -83,21 +83,21 @@ module _ {S : Type 0} (same : S → S → Bool) (ids : ℕ → List S) where
   abbrev pub together : Member S → S → Option (List S)
   together m s = cond (same m.solvable s && nat_lt 1 (length (ids m.group))) (Some (ids m.group)) None
 
-  -- the group of s, looked for among some members
+  -- the group of s among some members
   abbrev pub told_together : List (Member S) → S → Option (List S)
   told_together [] s = None
   told_together (m ∷ ms) s = or_else (told_together ms s) (together m s)
 
 module _ {N S : Type 0} (same_name : N → N → Bool) where
-  -- both versions are told as one
+  -- both versions are merged
   abbrev pub alike : Profile N S → Profile N S → Bool
   alike p q = (same_name p.name q.name && pointwise same_neighbour p.before q.before) && pointwise same_neighbour p.after q.after
 
-  -- the versions that are told with this one, itself among them
+  -- the versions that are merged with this one, itself included
   abbrev pub group : List (Profile N S) → Profile N S → List S
   group ps p = map (λ q. q.solvable) (filter (alike p) ps)
 
-  -- each goes with the profile of its version, and those with its number are that profile's group
+  -- each member belongs to its version's profile, and those of its number are that profile's group
   abbrev pub AreMembers : List (Profile N S) → List (Member S) → Type 0
   AreMembers ps ms = AllZip (λ p m. (m.solvable ≡ p.solvable) × (numbered ms m.group ≡ group ps p)) ps ms
 
@@ -106,11 +106,11 @@ module _ {N S : Type 0} (same_name : N → N → Bool) where
     abbrev pub own_group : List (Profile N S) → Profile N S → S → Option (List S)
     own_group ps p s = cond (same p.solvable s && nat_lt 1 (length (group ps p))) (Some (group ps p)) None
 
-    -- the group of s among all, looked for among some
+    -- the group of s among all profiles, where s is one of some
     abbrev pub group_in : List (Profile N S) → List (Profile N S) → S → Option (List S)
     group_in all [] s = None
     group_in all (p ∷ ps) s = or_else (group_in all ps s) (own_group all p s)
 
-    -- what is told with each version: its group, if that has two or more
+    -- the map of each version to its group, if that has two versions or more
     abbrev pub IsMerged : Graph S → (S → N) → (S → Option (List S)) → Type 0
     IsMerged g name_of merged = (ps : List (Profile N S)) × AreProfiles g name_of ps × ((s : S) → merged s ≡ group_in ps ps s)

@@ -1,4 +1,4 @@
--- The whole message, told over a conflict graph alone.
+-- The whole message, as a function of a conflict graph.
 use Rattle.std.specs.Prelude.{◌≡◌, ℕ, ◌++◌, Bool, true, false, not, List, [], ◌∷◌, Option, filter}
 use Rattle.std.specs.List.{flat_map}
 use Rattle.resolvo_graph.specs.declared.graph.NodeIndex.{NodeIndex}
@@ -18,7 +18,7 @@ use Rattle.resolvo_graph.specs.Tree.{Findings, IsTree, order_before}
 use Rattle.resolvo_graph.specs.Walk.{IsPostOrder, is_among}
 use Rattle.resolvo_graph.specs.Words.{Meaning, line_text}
 
--- the line of a conflict of the problem itself: of a constraint, or of a lock
+-- the line of a conflict of the root itself: of a constraint, or of a lock
 abbrev pub conflict_line : {S : Type 0} → ConflictEdge S → Indent → List (MessageLine S)
 conflict_line (Edges.Requires q) i = []
 conflict_line (Edges.Conflict (Causes.Locked s)) i = record { indenter = i; sentence = Says.Versions (s ∷ []) Locked } ∷ []
@@ -26,7 +26,7 @@ conflict_line (Edges.Conflict (Causes.Constrains v)) i = record { indenter = i; 
 conflict_line (Edges.Conflict Causes.ForbidMultipleInstances) i = []
 conflict_line (Edges.Conflict Causes.Excluded) i = []
 
--- the lines of the problem's own conflicts; the last of all its edges has the sign of a last one
+-- the lines of the root's own conflicts; the last edge has the sign of a last sibling
 abbrev pub conflict_lines : {S : Type 0} → List (Edge S) → List (MessageLine S)
 conflict_lines [] = []
 conflict_lines (e ∷ es) = conflict_line e.weight (record { levels = order_before es ∷ []; top_level_indent = true }) ++ conflict_lines es
@@ -42,17 +42,17 @@ abbrev pub fits : {S : Type 0} → List NodeIndex → Edge S → Bool
 fits missing e = not (is_among missing e.target)
 
 module _ {S : Type 0} (f : Findings S) where
-  -- the second part, over the edges that don't miss a candidate and all edges of the problem: a heading,
-  -- the tree, and the problem's own conflicts
+  -- the second part, of the edges that don't miss a candidate and all edges of the root: a heading,
+  -- the tree, and the root's own conflicts
   abbrev pub IsSecondPart : List (Edge S) → List (Edge S) → List (MessageLine S) → Type 0
   IsSecondPart [] all lines = lines ≡ []
   IsSecondPart (e ∷ es) all lines = (tree : List (MessageLine S)) × IsTree f true (runs_of (e ∷ es)) tree × (lines ≡ heading ∷ tree ++ conflict_lines all)
 
-  -- over the edges of the problem: the tree of what misses a candidate, and then the second part
+  -- the parts of the root's edges: the tree of those that miss a candidate, then the second part
   abbrev pub AreParts : List NodeIndex → List (Edge S) → List (MessageLine S) → Type 0
   AreParts missing es lines = (first second : List (MessageLine S)) × IsTree f false (runs_of (filter (misses missing) es)) first × IsSecondPart (filter (fits missing) es) es second × (lines ≡ first ++ second)
 
--- the lines of the message over a graph
+-- the lines of the message of a graph
 pub record IsMessage {N S : Type 0} (same_name : N → N → Bool) (same : S → S → Bool) (name_of : S → N) (g : Graph S) (lines : List (MessageLine S)) : Type 0 where
   pub order : List NodeIndex
   pub merged : S → Option (List S)

@@ -1,4 +1,4 @@
--- The graph without an unresolved node that no edge needs.
+-- The graph without an unused unresolved node.
 use Rattle.std.specs.Prelude.{ℕ, ◌==◌, ◌-◌, ◌||◌, Bool, Option, None, Some, cond, length, map, swap_remove}
 use Rattle.std.specs.List.{list_any}
 use Rattle.resolvo_graph.specs.declared.graph.NodeIndex.{NodeIndex}
@@ -13,14 +13,14 @@ touches n e = leaves n e || enters n e
 abbrev pub has_edge_at : {S : Type 0} → Graph S → NodeIndex → Bool
 has_edge_at g n = list_any (touches n) g.edges
 
--- the index of a node, once the one of index last has the index place
+-- the index of a node after the node at last was moved to place
 abbrev pub moved : ℕ → ℕ → NodeIndex → NodeIndex
 moved last place n = record { 0 = cond (n.0 == last) place n.0 }
 
 abbrev pub with_ends_moved : {S : Type 0} → ℕ → ℕ → Edge S → Edge S
 with_ends_moved last place e = record { source = moved last place e.source; target = moved last place e.target; weight = e.weight }
 
--- the graph without the node of this index, which the last node takes
+-- the graph without the node of this index, which the last node gets
 abbrev pub without_unresolved : {S : Type 0} → Graph S → NodeIndex → Graph S
 without_unresolved g n = record { nodes = swap_remove g.nodes n.0 UnresolvedDependency; edges = map (with_ends_moved (length g.nodes - 1) n.0) g.edges }
 

@@ -6,6 +6,6 @@ use Rattle.resolvo_graph.specs.declared.walk.Step.TheVariants.{Enter, Leave}
 use Rattle.resolvo_graph.specs.Graph.{Graph, edges_of}
 use Rattle.resolvo_graph.specs.Walk.{is_among}
 
--- what entering a node puts on top: that it is left, and then that the nodes its edges lead to are entered
+-- the steps that entering a node pushes: leave it, then enter the targets of its edges
 abbrev pub steps_into : {S : Type 0} → Graph S → List NodeIndex → NodeIndex → List Step
 steps_into g seen n = cond (is_among seen n) [] (Leave n ∷ map (λ e. Enter e.target) (edges_of g n))

@@ -1,4 +1,4 @@
--- The trees of the message: runs of a requirement, below these versions, below these what they need.
+-- The trees of the message: runs of a requirement, below them versions, below these their runs.
 use Rattle.std.specs.Prelude.{◌==◌, ◌||◌, ◌++◌, Bool, true, false, not, List, [], ◌∷◌, Option, None, Some, cond, filter, map, reverse, slice_get, unwrap_or}
 use Rattle.std.specs.List.{list_any, dedup}
 use Rattle.std.specs.Option.{option_or}
@@ -26,25 +26,25 @@ use Rattle.resolvo_graph.specs.Outlook.{has_target_in}
 use Rattle.resolvo_graph.specs.Runs.{Run, runs_of}
 use Rattle.resolvo_graph.specs.Walk.{is_among}
 
--- a place of a tree: what is told there, at which indent, and below which versions it stands
+-- an entry of a tree: its content, its indent, and the versions above it
 pub record Entry (S : Type 0) : Type 0 where
   pub op : DisplayOp S
   pub indent : Indent
   pub above : List NodeIndex
 
--- what is told of: a graph, when two versions are one, which nodes can be installed, what is told as one
+-- the input: the graph, equality of versions, the installable nodes, and the merged versions
 pub record Findings (S : Type 0) : Type 0 where
   pub graph : Graph S
   pub same : S → S → Bool
   pub installable : List NodeIndex
   pub merged : S → Option (List S)
 
--- the last of some siblings has no sibling below it
+-- the sign of an entry with these siblings below it
 abbrev pub order_before : {X : Type 0} → List X → ChildOrder
 order_before [] = Last
 order_before (x ∷ xs) = HasRemainingSiblings
 
--- siblings one level below this indent, in the order in which they are told
+-- siblings one level below this indent, in the order of their lines
 abbrev pub siblings : {S : Type 0} → Indent → List NodeIndex → List (DisplayOp S) → List (Entry S)
 siblings i above [] = []
 siblings i above (o ∷ os) = record { op = o; indent = level_below i (order_before os); above = above } ∷ siblings i above os
@@ -63,7 +63,7 @@ abbrev pub with_candidate : {S : Type 0} → NodeIndex → Option S → List (No
 with_candidate n None cs = cs
 with_candidate n (Some s) cs = (n, s) ∷ cs
 
--- those of these nodes that are versions
+-- the versions among these nodes
 abbrev pub candidates_at : {S : Type 0} → Graph S → List NodeIndex → List (NodeIndex × S)
 candidates_at g [] = []
 candidates_at g (n ∷ ns) = with_candidate n (solvable_at_node (slice_get g.nodes n.0)) (candidates_at g ns)
@@ -75,7 +75,7 @@ reason_of_node (Some (Nodes.Solvable s)) = None
 reason_of_node (Some Nodes.UnresolvedDependency) = None
 reason_of_node (Some (Nodes.Excluded why)) = Some why
 
--- the reason to which the first of these edges that is an exclusion leads
+-- the reason of the first exclusion among these edges
 abbrev pub reason_in : {S : Type 0} → Graph S → List (Edge S) → Option StringId
 reason_in g [] = None
 reason_in g (e ∷ es) = option_or (cond (is_exclusion e.weight) (reason_of_node (slice_get g.nodes e.target.0)) None) (reason_in g es)
@@ -84,7 +84,7 @@ abbrev pub is_some_set : Option VersionSetId → Bool
 is_some_set None = false
 is_some_set (Some v) = true
 
--- the source of the edge admits some versions of another package alone
+-- the source of the edge admits only some versions of another package
 abbrev pub is_admitting : {S : Type 0} → Edge S → Bool
 is_admitting e = is_some_set (admitted_by e.weight)
 
@@ -100,7 +100,7 @@ admitted_in (e ∷ es) = with_set (admitted_by e.weight) (admitted_in es)
 abbrev pub same_set : VersionSetId → VersionSetId → Bool
 same_set v w = v.0 == w.0
 
--- what is told of a version with these edges: its reason, if it is excluded, comes before all else
+-- the verdict on a version with these edges; the reason of an exclusion goes first
 abbrev pub verdict_for : {S : Type 0} → Option StringId → List (Edge S) → Verdict
 verdict_for (Some why) es = Excluded why
 verdict_for None [] = Alone
@@ -111,7 +111,7 @@ abbrev pub admitted_lines : {S : Type 0} → Indent → List VersionSetId → Li
 admitted_lines i [] = []
 admitted_lines i (v ∷ vs) = record { indenter = level_below i (order_before vs); sentence = Says.Admitted v } ∷ admitted_lines i vs
 
--- what a version with this verdict tells on lines of its own: of version sets alike that are neighbours one
+-- the further lines of a version with this verdict: its version sets, without consecutive repeats
 abbrev pub further_lines : {S : Type 0} → Verdict → Indent → List (Edge S) → List (MessageLine S)
 further_lines Alone i es = []
 further_lines (Excluded why) i es = []
@@ -121,40 +121,40 @@ further_lines Requires i es = []
 further_lines Locked i es = []
 
 module _ {S : Type 0} (f : Findings S) where
-  -- what is told of a run
+  -- the sentence on a run
   abbrev pub outlook_of : Run → Outlook
   outlook_of r = cond (is_missing f.graph r.targets) Missing (cond (has_target_in f.installable r) Installable Hopeless)
 
-  -- the versions that a run shows: where one can be installed, those that can be
+  -- the versions that a run shows: the installable ones, if there are any
   abbrev pub shown_of : Outlook → Run → List (NodeIndex × S)
   shown_of Missing r = []
   shown_of Installable r = candidates_at f.graph (filter (is_among f.installable) r.targets)
   shown_of Hopeless r = candidates_at f.graph r.targets
 
-  -- the versions that were told as parts of merged ones, and those that are told with s
+  -- the versions that lines cover, with those that are merged with s
   abbrev pub told_with : List S → S → List S
   told_with told s = insert_all f.same told (unwrap_or (f.merged s) [])
 
   abbrev pub was_told : List S → S → Bool
   was_told told s = list_any (f.same s) told
 
-  -- of versions that are merged only the first
+  -- the versions, of merged ones only the first
   abbrev pub firsts_after : List S → List (NodeIndex × S) → List (DisplayOp S)
   firsts_after told [] = []
   firsts_after told (c ∷ cs) = cond (was_told told c.1) (firsts_after told cs) (Candidate c.0 c.1 ∷ firsts_after (told_with told c.1) cs)
 
-  -- the versions that stand below a run
+  -- the versions below a run
   abbrev pub options_of : Run → List (DisplayOp S)
   options_of r = firsts_after [] (shown_of (outlook_of r) r)
 
-  -- runs with a target that can be installed stand behind the others
+  -- the runs, those with an installable target last
   abbrev pub in_rank : List Run → List (DisplayOp S)
   in_rank rs = map Requirement (filter (λ r. not (has_target_in f.installable r)) rs) ++ map Requirement (filter (has_target_in f.installable) rs)
 
   abbrev pub verdict_of : NodeIndex → Verdict
   verdict_of n = verdict_for (reason_in f.graph (edges_of f.graph n)) (edges_of f.graph n)
 
-  -- the runs that stand below a version with this verdict and these edges
+  -- the runs below a version with this verdict and these edges
   abbrev pub needs_of : Verdict → List (Edge S) → List (DisplayOp S)
   needs_of Alone es = []
   needs_of (Excluded why) es = []
@@ -163,11 +163,11 @@ module _ {S : Type 0} (f : Findings S) where
   needs_of Requires es = in_rank (runs_of es)
   needs_of Locked es = []
 
-  -- it was told as part of a merged one, or it stands below itself
+  -- a line covers the version already, or it is below itself
   abbrev pub is_passed : List S → NodeIndex → S → List NodeIndex → Bool
   is_passed told n s above = was_told told s || is_among above n
 
-  -- the lines of a version, without what stands below it
+  -- the lines of a version, without those below it
   abbrev pub version_lines : NodeIndex → S → Indent → List (MessageLine S)
   version_lines n s i = record { indenter = i; sentence = Says.Versions (unwrap_or (f.merged s) (s ∷ [])) (verdict_of n) } ∷ further_lines (verdict_of n) i (edges_of f.graph n)
 
@@ -176,18 +176,18 @@ module _ {S : Type 0} (f : Findings S) where
   lines_at told (Requirement r) i above = record { indenter = i; sentence = Says.Requirement r.requirement (outlook_of r) } ∷ []
   lines_at told (Candidate n s) i above = cond (is_passed told n s above) [] (version_lines n s i)
 
-  -- the entries one level below; the first of a list is told last
+  -- the entries one level below; the first of a list is the last one in the text
   abbrev pub entries_below : List S → DisplayOp S → Indent → List NodeIndex → List (Entry S)
   entries_below told (Requirement r) i above = siblings i above (reverse (options_of r))
   entries_below told (Candidate n s) i above = cond (is_passed told n s above) [] (siblings i (above ++ n ∷ []) (reverse (needs_of (verdict_of n) (edges_of f.graph n))))
 
-  -- what was told as part of a merged one, once an entry's own lines are told
+  -- the versions that lines cover after an entry's own ones
   abbrev pub told_after : List S → DisplayOp S → List NodeIndex → List S
   told_after told (Requirement r) above = told
   told_after told (Candidate n s) above = cond (is_passed told n s above) told (told_with told s)
 
-  -- telling some entries in turn, after the told versions, gives these lines, and then those are told:
-  -- an entry's own lines, then all that stands below it, then the entries after it
+  -- after lines that cover some versions, these entries have these lines, which cover more:
+  -- an entry's own lines, then those below it, then those of the next entries
   pub data Tells : List S → List (Entry S) → List (MessageLine S) → List S → Type 0 where
     done : (told : List S) → Tells told [] [] told
     next : {told : List S} (e : Entry S) {es : List (Entry S)} {inner rest : List (MessageLine S)} {between after : List S} → Tells (told_after told e.op e.above) (entries_below told e.op e.indent e.above) inner between → Tells between es rest after → Tells told (e ∷ es) (lines_at told e.op e.indent e.above ++ (inner ++ rest)) after

@@ -1,4 +1,4 @@
--- The walk in post-order: depth first, the oldest edge first, a node after all that it leads to.
+-- The walk in post-order: depth first, the oldest edge first, a node after its targets.
 use Rattle.std.specs.Prelude.{◌≡◌, Bool, true, false, List, [], ◌∷◌, ◌++◌}
 use Rattle.std.specs.List.{list_any}
 use Rattle.resolvo_graph.specs.declared.graph.NodeIndex.{NodeIndex}
@@ -8,13 +8,13 @@ use Rattle.resolvo_graph.specs.Graph.{Graph, neighbours, same_node}
 abbrev pub is_among : List NodeIndex → NodeIndex → Bool
 is_among ns n = list_any (same_node n) ns
 
--- visiting some nodes in turn, after the seen ones, gives these, and then those have been seen
+-- from the seen nodes, a visit of some nodes lists these nodes, and these are seen after it
 pub data Visits {S : Type 0} (g : Graph S) : List NodeIndex → List NodeIndex → List NodeIndex → List NodeIndex → Type 0 where
   -- no node is left
   done : (seen : List NodeIndex) → Visits g seen [] [] seen
-  -- a node that was seen isn't visited again
+  -- a seen node isn't visited again
   again : {n : NodeIndex} {ns seen given after : List NodeIndex} → is_among seen n ≡ true → Visits g seen ns given after → Visits g seen (n ∷ ns) given after
-  -- a node is given after its neighbours
+  -- a node is listed after its neighbours
   first : {n : NodeIndex} {ns seen inner between rest after : List NodeIndex} → is_among seen n ≡ false → Visits g (seen ++ n ∷ []) (neighbours g n) inner between → Visits g between ns rest after → Visits g seen (n ∷ ns) (inner ++ n ∷ rest) after
 
 -- the nodes that the root reaches, in post-order

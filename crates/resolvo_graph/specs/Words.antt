@@ -1,4 +1,4 @@
--- How the lines of the message are worded.
+-- The wording of the message's lines.
 use Rattle.std.specs.Prelude.{ℕ, ◌==◌, ◌++◌, Bool, true, false, List, [], codes, length}
 use Rattle.resolvo_pool_core.specs.declared.id.StringId.{StringId}
 use Rattle.resolvo_pool_core.specs.declared.id.VersionSetId.{VersionSetId}
@@ -14,7 +14,7 @@ use Rattle.resolvo_graph.specs.declared.line.Sentence.TheVariants as Says
 use Rattle.resolvo_graph.specs.declared.line.MessageLine.{MessageLine}
 use Rattle.resolvo_graph.specs.Indent.{indent_text}
 
--- what the ids mean, and how they are written
+-- the meaning of ids, and their texts
 pub record Meaning (N S : Type 0) : Type 0 where
   pub name_of : VersionSetId → N
   pub members_of : VersionSetUnionId → List VersionSetId
@@ -49,7 +49,7 @@ words_of Requires = codes " would require"
 words_of Locked = codes " is locked, but another version is required as reported above"
 
 module _ {N S : Type 0} (m : Meaning N S) where
-  -- a version set, as its package's name, a space and what it admits
+  -- a version set: its package's name, a space, and its range
   abbrev pub set_words : VersionSetId → List ℕ
   set_words v = set_text m.name_text m.version_set_text m.name_of v
 

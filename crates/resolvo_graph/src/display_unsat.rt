@@ -1,5 +1,5 @@
-//! The whole message: what misses a candidate, what is incompatible, and the problem's own conflicts.
-//! Its lines are planned when it is made, so that writing it takes no memory.
+//! The whole message: requirements without candidates, incompatible packages, and the conflicts of
+//! the root. Its lines are built by `new`, so that writing them takes no memory.
 ghost use Rattle.std.specs.Prelude.{◌≡◌, ◌++◌, IfOk, OnOk, Some, filter};
 ghost use Rattle.resolvo_graph.specs.Graph.{edges_of};
 ghost use Rattle.resolvo_graph.specs.Message.{IsMessage, AreParts, IsSecondPart, conflict_line, conflict_lines, misses, fits, text_of};
@@ -25,7 +25,7 @@ use std::fmt::Debug;
 use std::hash::Hash;
 use std::rc::Rc;
 
-/// The message of a conflict graph, to be written.
+/// The message of a conflict graph.
 #[derive(Drop)]
 pub struct DisplayUnsat<'a, I: Interner> {
     interner: &'a I,
@@ -33,7 +33,7 @@ pub struct DisplayUnsat<'a, I: Interner> {
 }
 
 impl<'a, I: Interner> DisplayUnsat<'a, I> {
-    /// Plans the message of a graph.
+    /// Builds the message of a graph.
     pub fn new(
         alloc: Global,
         graph: &ConflictGraph<I::SolvableId>,
@@ -90,7 +90,7 @@ fn message_lines<S: SolverId, I: Interner<SolvableId = S>>(
     lines_along(alloc, graph, &order, merged)
 }
 
-/// The lines of the message along a walk, where these versions are merged.
+/// The lines of the message, for this post-order and these merged versions.
 fn lines_along<S: Copy + Exact + Hash + Debug>(
     alloc: Global,
     graph: &ConflictGraph<S>,
@@ -111,7 +111,7 @@ fn lines_along<S: Copy + Exact + Hash + Debug>(
 }
 
 impl<S: Copy + Exact + Hash + Debug> Findings<'_, S> {
-    /// The lines of the message along a walk.
+    /// The lines of the message, for this post-order.
     fn message_along(&self, alloc: Global, order: &[NodeIndex]) -> R<Vec<MessageLine<S>>>
         ensures { IfOk result
             (λ v.
@@ -141,8 +141,8 @@ impl<S: Copy + Exact + Hash + Debug> Findings<'_, S> {
         Ok(lines)
     }
 
-    /// The lines that follow the tree of what misses a candidate: of these edges of the problem, and of
-    /// the conflicts among all its edges.
+    /// The second part of the message: the tree of these edges of the root, and the conflicts among
+    /// all its edges.
     fn second_part(
         &self,
         alloc: Global,
@@ -205,7 +205,7 @@ fn other_edges<S: Copy + Exact + Hash + Debug>(
     Ok(found)
 }
 
-/// The lines of the problem's own conflicts.
+/// The lines of the root's own conflicts.
 fn conflict_lines<S: Copy + Exact + Hash + Debug>(
     alloc: Global,
     edges: &[Edge<S>],
@@ -223,7 +223,7 @@ fn conflict_lines<S: Copy + Exact + Hash + Debug>(
     Ok(lines)
 }
 
-/// Writes a conflict of the problem itself: a constraint, or a lock.
+/// Writes a conflict of the root itself: a constraint, or a lock.
 fn tell_conflict<S: Copy + Exact + Hash + Debug>(
     alloc: Global,
     weight: ConflictEdge<S>,

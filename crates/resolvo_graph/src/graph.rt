@@ -1,7 +1,7 @@
-//! The conflict graph: which versions, wishes and reasons made an answer impossible.
-//! The model is the list of its nodes and the list of its edges, each in the order in which they were
-//! added. The solver builds it from a conflict; the message is written from it. The edges are linked, so
-//! that those at a node are found without a look at the others.
+//! The conflict graph: the versions, requirements and exclusions on which a conflict rests.
+//! The model is the list of nodes and the list of edges, each in the order of insertion. The solver
+//! builds it from a conflict; the message is written from it. The edges of a node are linked, so
+//! that they are found without a search through all edges.
 ghost use Rattle.std.specs.Prelude.{◌≡◌, ◌<◌, ◌++◌, ◌∷◌, [], IfOk, OnOk, OnErr, IsOkUnless, length, map, filter, reverse, slice_get, Some, None, nat_lt};
 ghost use Rattle.std.specs.List.{position_or_len};
 ghost use Rattle.indexmap.specs.IndexSet.{insert_key};
@@ -22,11 +22,11 @@ use std::alloc::Global;
 use std::hash::Hash;
 use std::marker::Model;
 
-/// A node, by its place among the nodes.
+/// The index of a node.
 #[derive(Clone, Copy, Debug, PartialEq, Eq, PartialOrd, Ord, Hash)]
 pub struct NodeIndex(pub usize);
 
-/// An edge, by its place among the edges.
+/// The index of an edge.
 #[derive(Clone, Copy, Debug, PartialEq, Eq, PartialOrd, Ord, Hash)]
 pub struct EdgeIndex(pub usize);
 
@@ -36,22 +36,22 @@ pub enum ConflictNode<S = SolvableId> {
     /// The problem itself.
     Root,
     Solvable(S),
-    /// Where a requirement leads that no candidate matches.
+    /// The target of requirements without candidates.
     UnresolvedDependency,
     /// The reason why some versions are excluded.
     Excluded(StringId),
 }
 
-/// What an edge says of its ends.
+/// The weight of an edge: a requirement or a conflict.
 #[derive(Clone, Copy, Debug, PartialEq, Eq, PartialOrd, Ord, Hash)]
 pub enum ConflictEdge<S = SolvableId> {
-    /// The source needs this; the target is a candidate, or the unresolved node.
+    /// The source requires this; the target is a candidate, or the unresolved node.
     Requires(Requirement),
-    /// The source is in the target's way.
+    /// The source is in conflict with the target.
     Conflict(ConflictCause<S>),
 }
 
-/// Why an edge's source is in the way of its target.
+/// Why an edge's source is in conflict with its target.
 #[derive(Clone, Copy, Debug, PartialEq, Eq, PartialOrd, Ord, Hash)]
 pub enum ConflictCause<S = SolvableId> {
     /// This other version is locked.
@@ -73,7 +73,7 @@ pub struct Edge<S = SolvableId> {
 }
 
 impl<S: Copy> ConflictEdge<S> {
-    /// What the source needs, unless this is a conflict.
+    /// The requirement of the source, unless this is a conflict.
     pub fn requirement(self) -> Option<Requirement>
         ensures { result ≡ requirement_of self }
     {
@@ -119,7 +119,7 @@ impl<S: Copy> ConflictEdge<S> {
 }
 
 impl<S: Copy> ConflictNode<S> {
-    /// Whether requirements without candidates lead here.
+    /// Whether this is the target of requirements without candidates.
     pub fn is_unresolved(self) -> bool
         ensures { result ≡ is_unresolved self }
     {
@@ -153,7 +153,7 @@ impl<S: Eq + Hash> Model for ConflictGraph<S> {
 }
 
 impl<S: Copy + Exact + Hash> ConflictGraph<S> {
-    /// The root alone.
+    /// The graph of the root alone.
     pub fn new(alloc: Global) -> R<ConflictGraph<S>>
         ensures graph { IfOk result (λ g. g ≡ record { nodes = Root ∷ []; edges = [] }) }
         ensures refusal { IsOkUnless result Memory }
@@ -167,7 +167,7 @@ impl<S: Copy + Exact + Hash> ConflictGraph<S> {
         })
     }
 
-    /// Adds a node behind the others, unless an equal one is there, and answers its index.
+    /// Appends a node, unless the graph has an equal one, and returns its index.
     pub fn add_node(&mut self, node: ConflictNode<S>) -> R<NodeIndex>
         ensures index { IfOk result
             (λ i. i.0 ≡ position_or_len (⟦<ConflictNode<S> as PartialEq>⟧.eq node) self.old.nodes) }
@@ -189,7 +189,7 @@ impl<S: Copy + Exact + Hash> ConflictGraph<S> {
         node.0 < self.nodes.len()
     }
 
-    /// Adds an edge behind the others.
+    /// Appends an edge.
     pub fn add_edge(
         &mut self,
         source: NodeIndex,
@@ -224,14 +224,14 @@ impl<S: Copy + Exact + Hash> ConflictGraph<S> {
         Ok(index)
     }
 
-    /// The root: the node of the problem itself.
+    /// The index of the root: the node of the problem itself.
     pub fn root_node(&self) -> NodeIndex
         ensures { result.0 ≡ 0 }
     {
         NodeIndex(0)
     }
 
-    /// The node where requirements without candidates lead, if there is one.
+    /// The unresolved node, if there is one.
     pub fn unresolved_node(&self) -> Option<NodeIndex>
         ensures { result ≡ unresolved_of self.now }
     {
@@ -243,7 +243,7 @@ impl<S: Copy + Exact + Hash> ConflictGraph<S> {
         None
     }
 
-    /// Whether a node is the one where requirements without candidates lead.
+    /// Whether a node is the unresolved one.
     pub fn is_unresolved(&self, node: NodeIndex) -> bool
         ensures { result ≡ is_unresolved_at self.now node }
     {
@@ -345,8 +345,7 @@ impl<S: Copy + Exact + Hash> ConflictGraph<S> {
         leaving.is_some() || entering.is_some()
     }
 
-    /// Removes the node where requirements without candidates lead, unless an edge is at it. The last
-    /// node takes its index.
+    /// Removes the unresolved node, unless an edge is at it. The last node gets its index.
     pub fn remove_unused_unresolved(&mut self)
         ensures { self.new ≡ without_unused_unresolved self.old }
     {
@@ -362,7 +361,7 @@ impl<S: Copy + Exact + Hash> ConflictGraph<S> {
         move_links(&mut self.newest, last, unresolved.0);
     }
 
-    /// The same graph again.
+    /// A copy of the graph.
     pub fn clone(&self, alloc: Global) -> R<ConflictGraph<S>>
     where
         S: Drop,
@@ -377,7 +376,7 @@ impl<S: Copy + Exact + Hash> ConflictGraph<S> {
     }
 }
 
-/// Gives the ends of edges at the node of index `last` the index `place`.
+/// Moves the ends of edges from the index `last` to the index `place`.
 fn move_ends<S: Copy>(edges: &mut Vec<LinkedEdge<S>>, last: usize, place: usize)
     ensures { edges.new.items ≡ map (linked_with_ends_moved last place) edges.old.items }
 {
@@ -389,7 +388,7 @@ fn move_ends<S: Copy>(edges: &mut Vec<LinkedEdge<S>>, last: usize, place: usize)
     }
 }
 
-/// An edge whose ends at the node of index `last` have the index `place`.
+/// The edge with its ends moved from the index `last` to the index `place`.
 fn with_ends_moved<S: Copy>(edge: Edge<S>, last: usize, place: usize) -> Edge<S>
     ensures { result ≡ with_ends_moved last place edge }
 {
@@ -400,7 +399,7 @@ fn with_ends_moved<S: Copy>(edge: Edge<S>, last: usize, place: usize) -> Edge<S>
     }
 }
 
-/// The index of a node, once the one of index `last` has the index `place`.
+/// The index of a node after the node at `last` was moved to `place`.
 fn moved(node: NodeIndex, last: usize, place: usize) -> NodeIndex
     ensures { result ≡ moved last place node }
 {
@@ -411,7 +410,7 @@ fn moved(node: NodeIndex, last: usize, place: usize) -> NodeIndex
     }
 }
 
-/// The same keys in the same order.
+/// A copy of a set, in the same order.
 fn copied<K: Copy + Eq + Hash>(alloc: Global, keys: &IndexSet<K>) -> R<IndexSet<K>>
 where
     K: Drop,

@@ -1,5 +1,5 @@
-//! The indent of a line of the message: which of the entries above it, and whether it itself, have
-//! siblings below. The model is the list of the levels.
+//! The indent of a line of the message. For each level it holds whether the entry there has further
+//! siblings. The model is the list of the levels.
 ghost use Rattle.std.specs.Prelude.{◌≡◌, ◌==◌, [], IfOk, IsOkUnless, length, Some};
 ghost use Rattle.resolvo_pool_core.specs.declared.want.Want.TheVariants.{Memory};
 ghost use Rattle.resolvo_graph.specs.Indent.{own_sign, sign_above, shown_levels, indent_text, level_below};
@@ -71,7 +71,7 @@ impl Indenter {
         self.levels.len() == 1
     }
 
-    /// The same levels again.
+    /// A copy of the indent.
     pub fn clone(&self, alloc: Global) -> R<Indenter>
         ensures same { IfOk result (λ i. i ≡ self.now) }
         ensures refusal { IsOkUnless result Memory }

@@ -1,4 +1,4 @@
-//! Why there is no answer: the conflict graph, merged versions, and the message.
+//! Why a request is unsolvable: the conflict graph, merged versions, and the message.
 #![tactic(auto)]
 
 pub mod display_unsat;

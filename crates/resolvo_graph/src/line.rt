@@ -11,7 +11,7 @@ use resolvo_pool_core::requirement::{DisplayRequirement, Requirement};
 use std::fmt;
 use std::marker::Model;
 
-/// A sentence on a requirement.
+/// The sentence on a requirement.
 #[derive(Clone, Copy, Debug, PartialEq, Eq)]
 pub enum Outlook {
     /// No candidate matches.
@@ -22,7 +22,7 @@ pub enum Outlook {
     Hopeless,
 }
 
-/// A sentence on versions.
+/// The sentence on versions.
 #[derive(Clone, Copy, Debug, PartialEq, Eq)]
 pub enum Verdict {
     /// They can be installed.
@@ -122,7 +122,7 @@ impl<S> Versions<S> {
     }
 }
 
-/// What a line says.
+/// The sentence of a line.
 #[derive(Drop)]
 pub enum Sentence<S = SolvableId> {
     /// The heading of the second tree.
@@ -172,7 +172,7 @@ impl<I: Interner> fmt::Display for DisplayLine<'_, I> {
 }
 
 impl<I: Interner> DisplayLine<'_, I> {
-    /// Writes what the line says.
+    /// Writes the line's sentence.
     fn write_sentence<W: fmt::Write>(&self, f: &mut fmt::Formatter<W>) -> fmt::Result
         ensures { WritesOnOk W.write_str_gives f.old result
             (sentence_words

@@ -1,6 +1,6 @@
-//! How a graph finds the edges at a node. Each edge is linked to the one before it that leaves its source,
-//! and to the one before it that enters its target; for each node the newest edges are known. So who
-//! goes from link to link meets the edges at one node alone, the newest first.
+//! Linked lists of the edges at a node. Each edge is linked to the one before it that leaves its
+//! source, and to the one before it that enters its target. Each node is linked to its newest
+//! edges. A walk over the links visits the edges of one node, the newest first.
 ghost use Rattle.std.specs.Prelude.{◌≡◌, ℕ, ◌<◌, ◌≤◌, cond, Some, OnOk, IsOkUnless, length, vec_len};
 ghost use Rattle.resolvo_pool_core.specs.declared.want.Want.TheVariants.{Memory};
 ghost use Rattle.resolvo_graph.specs.declared.links.Side.{Side};
@@ -12,9 +12,9 @@ use resolvo_pool_core::want::R;
 /// A side of a node.
 #[derive(Clone, Copy)]
 pub(crate) enum Side {
-    /// That of the edges that leave it.
+    /// The edges that leave it.
     Leaving,
-    /// That of the edges that enter it.
+    /// The edges that enter it.
     Entering,
 }
 
@@ -25,8 +25,8 @@ pub(crate) struct Links {
     entering: Option<EdgeIndex>,
 }
 
-/// An edge, with the one before it at its source, among those that leave it, and the one before it at
-/// its target, among those that enter it.
+/// An edge with two links: to the one before it that leaves its source, and to the one before it
+/// that enters its target.
 #[derive(Clone, Copy)]
 pub(crate) struct LinkedEdge<S> {
     pub(crate) edge: Edge<S>,
@@ -45,7 +45,7 @@ impl Links {
     }
 }
 
-/// Gives each node below this number its links; a new one has none.
+/// Adds empty links until each node below this number has an entry.
 pub(crate) fn cover(newest: &mut Vec<Links>, count: usize) -> R<()>
     ensures same { (n : ℕ) → links_of newest.new.items n ≡ links_of newest.old.items n }
     ensures covered { OnOk result (count ≤ vec_len newest.new) }
@@ -96,7 +96,7 @@ pub(crate) fn put_newest<S: Copy>(newest: &mut Vec<Links>, edge: Edge<S>, index:
     newest[edge.target.0].entering = Some(index);
 }
 
-/// Exchanges the links of the node of index `last` with those of an earlier one, which has none.
+/// Swaps the links of the node at `last` with those of an earlier node, which has none.
 pub(crate) fn move_links(newest: &mut Vec<Links>, last: usize, place: usize)
     requires order { place ≤ last }
     requires none { links_of newest.old.items place ≡ no_links }

@@ -1,6 +1,6 @@
 //! Merged versions: versions of one package with the same neighbours on both sides.
-//! `simplify` numbers what versions have in common, the sorted lists of their neighbours among it, each
-//! neighbour with its requirement; versions of one number are merged.
+//! `simplify` numbers the likenesses of versions: the package, and the sorted lists of neighbours,
+//! each with its requirement. Versions of one number are merged.
 ghost use Rattle.std.specs.Prelude.{◌≡◌, ℕ, ◌<◌, ◌==◌, ◌++◌, ◌∷◌, [], IfOk, OnOk, Some, cond, length, map, nat_lt, ◌&&◌, vec_len};
 ghost use Rattle.resolvo_graph.specs.Merge.{before, after, IsInOrder, IsProfile, AreProfiles, AreMembers, numbered, told_together, solvable_of, IsMerged};
 ghost use Rattle.resolvo_graph.specs.Graph.{requirement_of};
@@ -27,7 +27,7 @@ pub struct MergedConflictNode<S = SolvableId> {
     pub ids: Vec<S>,
 }
 
-/// What merged versions have in common.
+/// The package and the neighbours that merged versions share.
 #[derive(PartialEq, Eq, Hash, Drop)]
 struct Likeness<N> {
     name: N,
@@ -35,7 +35,7 @@ struct Likeness<N> {
     after: Vec<(Option<Requirement>, NodeIndex)>,
 }
 
-/// A version, with all that decides with which others it is merged.
+/// A version with its likeness.
 #[derive(Drop)]
 struct Profile<N, S> {
     solvable: S,
@@ -56,7 +56,7 @@ impl<N, S> Model for Profile<N, S> {
         } };
 }
 
-/// A version, with the number of those with which it is merged.
+/// A version, with the number of its group.
 #[derive(Clone, Copy)]
 struct Member<S> {
     solvable: S,
@@ -77,7 +77,7 @@ impl<S: Copy> ConflictNode<S> {
 }
 
 impl<S: SolverId> ConflictGraph<S> {
-    /// The merged versions, under each of them.
+    /// The groups of merged versions, by each of their versions.
     pub fn simplify<I: Interner<SolvableId = S>>(
         &self,
         alloc: Global,
@@ -94,7 +94,7 @@ impl<S: SolverId> ConflictGraph<S> {
     }
 }
 
-/// The versions with their numbers. Merged ones have one number.
+/// The versions with their numbers. Merged versions share one number.
 fn members<N: Copy + Exact + Hash + Debug, S: Copy + Exact + Hash + Debug>(
     alloc: Global,
     profiles: Vec<Profile<N, S>>,
@@ -111,7 +111,7 @@ fn members<N: Copy + Exact + Hash + Debug, S: Copy + Exact + Hash + Debug>(
     Ok(members)
 }
 
-/// The versions of each number, at that number.
+/// The groups, each at its number.
 fn groups<S: Copy + Exact + Hash + Debug>(
     alloc: Global,
     members: &[Member<S>],
@@ -126,7 +126,7 @@ fn groups<S: Copy + Exact + Hash + Debug>(
     Ok(groups)
 }
 
-/// Adds a version to the group of its number.
+/// Appends a version to the group of its number.
 fn add<S: Copy + Exact + Hash + Debug>(
     groups: &mut Vec<MergedConflictNode<S>>,
     member: Member<S>,
@@ -141,7 +141,7 @@ fn add<S: Copy + Exact + Hash + Debug>(
     Ok(())
 }
 
-/// Adds groups without a version until there is one of this number.
+/// Adds empty groups until there is one of this number.
 fn cover<S: Copy + Exact + Hash + Debug>(
     alloc: Global,
     groups: &mut Vec<MergedConflictNode<S>>,
@@ -158,7 +158,7 @@ fn cover<S: Copy + Exact + Hash + Debug>(
     Ok(())
 }
 
-/// The same groups, to be shared.
+/// The groups behind reference counts.
 fn shared<S: Copy + Exact + Hash + Debug>(
     alloc: Global,
     groups: Vec<MergedConflictNode<S>>,
@@ -172,7 +172,7 @@ fn shared<S: Copy + Exact + Hash + Debug>(
     Ok(shared)
 }
 
-/// The groups of two versions or more, under each of their versions.
+/// The groups of two versions or more, by each of their versions.
 fn merged<S: Copy + Exact + Hash + Debug>(
     alloc: Global,
     members: &[Member<S>],
@@ -193,7 +193,7 @@ fn merged<S: Copy + Exact + Hash + Debug>(
     Ok(merged)
 }
 
-/// Keeps a group under one of its versions, unless that is its only one.
+/// Inserts a group under one of its versions, unless that is its only one.
 fn keep<S: Copy + Exact + Hash + Debug>(
     merged: &mut HashMap<S, Rc<MergedConflictNode<S>>>,
     solvable: S,
@@ -228,7 +228,7 @@ fn profiles<S: SolverId, I: Interner<SolvableId = S>>(
     Ok(found)
 }
 
-/// What decides with which others a version is merged.
+/// The profile of a version.
 fn profile_of<S: SolverId, I: Interner<SolvableId = S>>(
     alloc: Global,
     graph: &ConflictGraph<S>,
@@ -260,7 +260,7 @@ fn neighbours_before<S: Copy + Exact + Hash>(
     in_order(alloc, sources(alloc, &edges)?)
 }
 
-/// Where the edges of a node lead, each with its requirement, in the order of neighbours.
+/// The targets of the edges of a node, each with its requirement, in the order of neighbours.
 fn neighbours_after<S: Copy + Exact + Hash>(
     alloc: Global,
     graph: &ConflictGraph<S>,
@@ -284,7 +284,7 @@ fn sources<S: Copy>(alloc: Global, edges: &[Edge<S>]) -> R<Vec<(Option<Requireme
     Ok(found)
 }
 
-/// Where some edges lead, each with its requirement.
+/// The targets of some edges, each with its requirement.
 fn targets<S: Copy>(alloc: Global, edges: &[Edge<S>]) -> R<Vec<(Option<Requirement>, NodeIndex)>>
     ensures { IfOk result (λ v. v.items ≡ map (λ e. (requirement_of e.weight, e.target))
         edges.now) }
@@ -296,7 +296,7 @@ fn targets<S: Copy>(alloc: Global, edges: &[Edge<S>]) -> R<Vec<(Option<Requireme
     Ok(found)
 }
 
-/// The same neighbours in their order.
+/// The neighbours, sorted.
 fn in_order(
     alloc: Global,
     neighbours: Vec<(Option<Requirement>, NodeIndex)>,

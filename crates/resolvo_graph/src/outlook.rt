@@ -1,6 +1,6 @@
-//! Which nodes can be installed, and which miss a candidate, as the message sees it.
-//! Both are sets of nodes, marked along the walk in post-order; the model is the list of the marked
-//! nodes in that order.
+//! The nodes that can be installed, and those that miss a candidate.
+//! Both are sets of nodes, marked along the walk in post-order. The model is the list of marked
+//! nodes, in that order.
 ghost use Rattle.std.specs.Prelude.{◌≡◌, IfOk, OnOk, IsOkUnless};
 ghost use Rattle.std.specs.List.{list_any, list_all};
 ghost use Rattle.resolvo_pool_core.specs.declared.want.Want.TheVariants.{Memory};
@@ -48,7 +48,7 @@ fn mark_installable<S: Copy + Exact + Hash>(
     Ok(())
 }
 
-/// Whether a node can be installed, where those that can be below it are marked.
+/// Whether a node can be installed, where the installable nodes below it are marked.
 fn can_install<S: Copy + Exact + Hash>(
     alloc: Global,
     graph: &ConflictGraph<S>,
@@ -69,14 +69,15 @@ fn can_install<S: Copy + Exact + Hash>(
     Ok(each_has_some(&runs, marked))
 }
 
-/// Whether one of some edges is a conflict.
+/// Whether some edge is a conflict.
 fn has_conflict<S: Copy>(edges: &[Edge<S>]) -> bool
     ensures { result ≡ list_any (λ e. is_conflict e.weight) edges.now }
 {
     edges.iter().any(|edge| edge.weight.is_conflict())
 }
 
-/// The nodes that miss a candidate: the unresolved node, and those with a run all of whose targets do.
+/// The nodes that miss a candidate: the unresolved node, and each node with a run all of whose
+/// targets miss one.
 pub(crate) fn missing<S: Copy + Exact + Hash>(
     alloc: Global,
     graph: &ConflictGraph<S>,
@@ -113,7 +114,7 @@ fn mark_missing<S: Copy + Exact + Hash>(
     Ok(())
 }
 
-/// Whether a node misses a candidate, where those that do below it are marked.
+/// Whether a node misses a candidate, where the nodes below it that miss one are marked.
 fn does_miss<S: Copy + Exact + Hash>(
     alloc: Global,
     graph: &ConflictGraph<S>,

@@ -1,5 +1,5 @@
-//! Runs: stretches of neighbouring edges with one requirement. The message writes a requirement and
-//! its candidates once for each run.
+//! Runs: consecutive edges with one requirement. The message writes a requirement and its
+//! candidates once for each run.
 ghost use Rattle.std.specs.Prelude.{◌≡◌, ◌++◌, ◌∷◌, [], IfOk, OnOk, IsOkUnless};
 ghost use Rattle.resolvo_pool_core.specs.declared.want.Want.TheVariants.{Memory};
 ghost use Rattle.resolvo_graph.specs.Runs.{runs_of, same_requirement, with_last};
@@ -10,7 +10,7 @@ use resolvo_pool_core::want::R;
 use std::alloc::Global;
 use std::marker::Model;
 
-/// A requirement, and where its edges lead.
+/// A requirement, with the targets of its edges.
 #[derive(Drop)]
 pub(crate) struct Run {
     requirement: Requirement,
@@ -61,21 +61,21 @@ impl Run {
         })
     }
 
-    /// What is required.
+    /// The requirement.
     pub(crate) fn requirement(&self) -> Requirement
         ensures { result ≡ self.now.requirement }
     {
         self.requirement
     }
 
-    /// Whether this is what its edges require.
+    /// Whether this is the run's requirement.
     fn is_of(&self, requirement: Requirement) -> bool
         ensures { result ≡ same_requirement self.now.requirement requirement }
     {
         self.requirement == requirement
     }
 
-    /// Where the edges lead, in their order.
+    /// The targets of the edges, in their order.
     pub(crate) fn targets(&self) -> &[NodeIndex]
         ensures { result.now ≡ self.now.targets }
     {
@@ -97,7 +97,7 @@ pub(crate) fn runs<S: Copy>(alloc: Global, edges: &[Edge<S>]) -> R<Vec<Run>>
     Ok(found)
 }
 
-/// Puts a target into the last run, or into a new one where that run has another requirement.
+/// Appends a target to the last run, or to a new one where that run has another requirement.
 fn add_target(
     alloc: Global,
     found: &mut Vec<Run>,

@@ -1,7 +1,7 @@
-//! The trees of the message: runs of a requirement, below these versions, below these what they need.
-//! What is left to write is a stack of entries, taken from its end; an entry puts those one level below
-//! it on top. An entry knows the versions above it, and a version that occurs below itself is passed
-//! over, so a tree ends on graphs with cycles.
+//! The trees of the message: runs of a requirement, below them versions, below these their
+//! requirements. The entries that are left to write are a stack; an entry pushes those one level
+//! below it. An entry has the versions above it, and a version below itself is skipped, so a tree
+//! ends on graphs with cycles.
 ghost use Rattle.std.specs.Prelude.{◌≡◌, ◌++◌, ◌∷◌, [], IfOk, OnOk, cond, filter, reverse, unwrap_or, slice_get};
 ghost use Rattle.std.specs.List.{list_any, dedup};
 ghost use Rattle.resolvo_graph.specs.declared.line.Sentence.TheVariants as Says;
@@ -29,16 +29,16 @@ use std::hash::Hash;
 use std::marker::Model;
 use std::rc::Rc;
 
-/// What is written at a place of a tree.
+/// The content of an entry of a tree.
 #[derive(Drop)]
 pub(crate) enum DisplayOp<S = SolvableId> {
-    /// A requirement, with the candidates to which its edges lead.
+    /// A requirement, with its candidates.
     Requirement(Run),
     /// A version, at its node.
     Candidate(NodeIndex, S),
 }
 
-/// A place of a tree: what is written there, its indent, and the versions above it.
+/// An entry of a tree: its content, its indent, and the versions above it.
 #[derive(Drop)]
 pub(crate) struct Entry<S = SolvableId> {
     op: DisplayOp<S>,
@@ -55,7 +55,7 @@ impl<S> Model for Entry<S> {
     ghost view = { λ e. record { op = e.op; indent = e.indenter; above = e.above.items } };
 }
 
-/// What a message is made from: the graph, which nodes can be installed, which versions are merged.
+/// The input of a message: the graph, the installable nodes, and the merged versions.
 #[derive(Drop)]
 pub(crate) struct Findings<'a, S: Copy + Exact + Hash + Debug> {
     pub(crate) graph: &'a ConflictGraph<S>,
@@ -63,12 +63,12 @@ pub(crate) struct Findings<'a, S: Copy + Exact + Hash + Debug> {
     pub(crate) merged: HashMap<S, Rc<MergedConflictNode<S>>>,
 }
 
-/// A tree while it is written.
+/// The state while a tree is written.
 #[derive(Drop)]
 struct Telling<S: Copy + Exact + Hash + Debug> {
-    /// The versions that were written as parts of merged ones.
+    /// The versions that lines cover, as parts of merged ones.
     told: IndexSet<S>,
-    /// What is left to write, the next one at the end.
+    /// The entries that are left to write, the next one at the end.
     stack: Vec<Entry<S>>,
     lines: Vec<MessageLine<S>>,
 }
@@ -98,7 +98,7 @@ impl<S: Copy + Exact + Hash + Debug> Findings<'_, S> {
         Ok(telling.lines)
     }
 
-    /// Puts the runs of some edges, at the top of their tree, on the stack.
+    /// Pushes the runs of some edges, at the top of their tree.
     fn place_top(
         &self,
         alloc: Global,
@@ -126,7 +126,7 @@ impl<S: Copy + Exact + Hash + Debug> Findings<'_, S> {
         )
     }
 
-    /// Writes an entry's own lines, and puts the entries below it on top of the stack.
+    /// Writes an entry's own lines, and pushes the entries below it.
     fn tell(&self, alloc: Global, entry: Entry<S>, telling: &mut Telling<S>) -> R<()>
         ensures told { OnOk result
             (telling.new.told.keys
@@ -167,7 +167,7 @@ impl<S: Copy + Exact + Hash + Debug> Findings<'_, S> {
         }
     }
 
-    /// Whether a version was written as part of a merged one, or is below itself.
+    /// Whether a line covers a version already, or it is below itself.
     fn is_passed(
         &self,
         told: &IndexSet<S>,
@@ -182,7 +182,7 @@ impl<S: Copy + Exact + Hash + Debug> Findings<'_, S> {
         told.contains(&version) || above.contains(&node)
     }
 
-    /// Writes a run, and puts its candidates on top of the stack.
+    /// Writes a run, and pushes its candidates.
     fn tell_run(
         &self,
         alloc: Global,
@@ -214,7 +214,7 @@ impl<S: Copy + Exact + Hash + Debug> Findings<'_, S> {
         Ok(())
     }
 
-    /// Writes a version with those that are merged with it, and puts what it needs on top of the stack.
+    /// Writes a version with those merged with it, and pushes its requirements.
     fn tell_version(
         &self,
         alloc: Global,
@@ -254,7 +254,7 @@ impl<S: Copy + Exact + Hash + Debug> Findings<'_, S> {
         self.add_lines(alloc, version, &edges, indenter, &mut telling.lines)
     }
 
-    /// Puts what a version with these edges needs on top of the stack, below it and the nodes above it.
+    /// Pushes the requirements of a version with these edges, below it and the nodes above it.
     fn place_needs(
         &self,
         alloc: Global,
@@ -370,7 +370,7 @@ impl<S: Copy + Exact + Hash + Debug> Findings<'_, S> {
         Ok(found)
     }
 
-    /// Those of some nodes that are versions.
+    /// The versions among some nodes.
     fn candidates(&self, alloc: Global, nodes: &[NodeIndex]) -> R<Vec<(NodeIndex, S)>>
         ensures { IfOk result (λ v. v.items ≡ candidates_at self.now.graph.now nodes.now) }
     {
@@ -393,7 +393,7 @@ impl<S: Copy + Exact + Hash + Debug> Findings<'_, S> {
         }
     }
 
-    /// Of versions that are merged only the first.
+    /// The versions, of merged ones only the first.
     fn firsts(&self, alloc: Global, candidates: &[(NodeIndex, S)]) -> R<Vec<DisplayOp<S>>>
         ensures { IfOk result
             (λ v.
@@ -443,7 +443,7 @@ impl<S: Copy + Exact + Hash + Debug> Findings<'_, S> {
         Ok(())
     }
 
-    /// Puts the versions that are merged with one among the written ones.
+    /// Marks the versions that are merged with one as covered.
     fn mark(&self, version: S, told: &mut IndexSet<S>) -> R<()>
         ensures { OnOk result
             (told.new.keys
@@ -489,7 +489,7 @@ impl<S: Copy + Exact + Hash + Debug> Findings<'_, S> {
         }
     }
 
-    /// The reason to which the first of these edges that is an exclusion leads.
+    /// The reason of the first exclusion among these edges.
     fn reason(&self, edges: &[Edge<S>]) -> Option<StringId>
         ensures { result ≡ reason_in self.now.graph.now edges.now }
     {
@@ -518,7 +518,7 @@ impl<S: Copy + Exact + Hash + Debug> Findings<'_, S> {
         }
     }
 
-    /// Runs with a target that can be installed behind the others.
+    /// The runs, those with an installable target last.
     fn in_rank(&self, alloc: Global, runs: Vec<Run>) -> R<Vec<DisplayOp<S>>>
         ensures { IfOk result
             (λ v.
@@ -541,7 +541,7 @@ impl<S: Copy + Exact + Hash + Debug> Findings<'_, S> {
     }
 }
 
-/// Puts siblings one level below an indent on top of the stack, so that the first is written last.
+/// Pushes siblings one level below an indent, so that the first is written last.
 fn place<S: Copy + Exact + Hash + Debug>(
     alloc: Global,
     ops: Vec<DisplayOp<S>>,
@@ -579,7 +579,7 @@ fn sibling<S: Copy + Exact + Hash + Debug>(
     })
 }
 
-/// The lines of its own of a version with this verdict and these edges.
+/// The further lines of a version with this verdict and these edges.
 fn further_lines<S: Copy + Exact + Hash + Debug>(
     alloc: Global,
     verdict: Verdict,
@@ -594,7 +594,7 @@ fn further_lines<S: Copy + Exact + Hash + Debug>(
     }
 }
 
-/// Whether one of these edges says that both ends are versions of one package.
+/// Whether one of these edges is between versions of one package.
 fn has_forbidden<S: Copy + Exact + Hash + Debug>(edges: &[Edge<S>]) -> bool
     ensures { result ≡ list_any (λ e. is_forbidden e.weight) edges.now }
 {
@@ -608,7 +608,7 @@ fn has_admitted<S: Copy + Exact + Hash + Debug>(edges: &[Edge<S>]) -> bool
     edges.iter().any(|edge| edge.weight.admitted().is_some())
 }
 
-/// The version sets that a node with these edges admits alone, of neighbours alike one.
+/// The version sets that a node with these edges admits alone, without consecutive repeats.
 fn admitted<S: Copy + Exact + Hash + Debug>(
     alloc: Global,
     edges: &[Edge<S>],

@@ -1,5 +1,5 @@
-//! The walk of the graph in post-order, from the root: a node is given after the nodes that its edges
-//! lead to, the oldest edge first. It ends on cyclic graphs, since each node is entered once.
+//! The walk of the graph in post-order, from the root. A node is listed after the targets of its
+//! edges, the oldest edge first. It ends on cyclic graphs, since each node is entered once.
 ghost use Rattle.std.specs.Prelude.{◌≡◌, ◌++◌, ◌∷◌, [], IfOk, OnOk, IsOkUnless, cond, map};
 ghost use Rattle.resolvo_pool_core.specs.declared.want.Want.TheVariants.{Memory};
 ghost use Rattle.resolvo_graph.specs.Graph.{edges_of};
@@ -14,21 +14,21 @@ use resolvo_pool_core::want::R;
 use std::alloc::Global;
 use std::hash::Hash;
 
-/// What is left to do on the walk.
+/// A step of the walk.
 #[derive(Clone, Copy)]
 pub(crate) enum Step {
     Enter(NodeIndex),
-    /// All below it was walked.
+    /// All nodes below it were visited.
     Leave(NodeIndex),
 }
 
-/// A walk under way.
+/// The state of a walk.
 #[derive(Drop)]
 struct Walk {
     /// The nodes that were entered.
     seen: IndexSet<NodeIndex>,
     order: Vec<NodeIndex>,
-    /// The steps that are left, the next one at the end.
+    /// The remaining steps, the next one at the end.
     stack: Vec<Step>,
 }
 
@@ -50,7 +50,7 @@ pub(crate) fn post_order<S: Copy + Exact + Hash>(
 }
 
 impl Walk {
-    /// Walks from the root, where nothing was done yet.
+    /// Walks from the root.
     fn run<S: Copy + Exact + Hash>(&mut self, alloc: Global, graph: &ConflictGraph<S>) -> R<()>
         requires seen { self.old.seen.keys ≡ [] }
         requires order { self.old.order.items ≡ [] }
@@ -68,7 +68,7 @@ impl Walk {
         Ok(())
     }
 
-    /// Enters a node: it will be left after its neighbours were entered, unless it was seen.
+    /// Enters a node, unless it was seen: pushes the step that leaves it, then its neighbours.
     fn enter<S: Copy + Exact + Hash>(
         &mut self,
         alloc: Global,
@@ -94,7 +94,7 @@ impl Walk {
     }
 }
 
-/// Puts the nodes that a node's edges lead to on top, that of the oldest edge last.
+/// Pushes the targets of a node's edges, that of the oldest edge last.
 fn enter_neighbours<S: Copy + Exact + Hash>(
     alloc: Global,
     graph: &ConflictGraph<S>,
@@ -109,7 +109,7 @@ fn enter_neighbours<S: Copy + Exact + Hash>(
     enter_targets(&edges, stack)
 }
 
-/// Puts the nodes that some edges lead to on top, in their order.
+/// Pushes the targets of some edges, in their order.
 fn enter_targets<S: Copy>(edges: &[Edge<S>], stack: &mut Vec<Step>) -> R<()>
     ensures put { OnOk result (stack.new.items ≡ stack.old.items ++ map (λ e. Enter e.target)
         edges.now) }

@@ -1,4 +1,4 @@
--- What is kept out of a package is what its lock and its exclusions bar.
+-- The solvables of a package that its lock and its exclusions keep out.
 use Rattle.std.proofs.Common.{◌≡◌, suc, ◌⊎◌, inl, inr, Bool, true, false, not, ◌||◌, List, [], ◌∷◌, ◌++◌, map, filter, cond, refl, sym, ◌∙◌, ap, subst, arith}
 use Rattle.std.specs.Prelude.{Option, Some, None, All, Contains}
 use Rattle.std.specs.List.{list_any, AllByRecursion}
@@ -22,7 +22,7 @@ all_behind P [] ys h k = k
 all_behind P (x ∷ xs) ys (h, hs) k = (h, all_behind P xs ys hs k)
 
 module _ {N S : Type 0} (same : S → S → Bool) (exact : (x y : S) → same x y ≡ true → x ≡ y) (p : Packages N S) where
-  -- what is in either list is in both
+  -- the members of either list are in their concatenation
   in_left : (s : S) (xs ys : List (Barred S)) → is_in same p (barred_solvables xs) s ≡ true → is_in same p (barred_solvables (xs ++ ys)) s ≡ true
   in_left s [] ys h = absurd (both_ways false refl h)
   in_left s (x ∷ xs) ys h = elim (or_cases (same x.solvable s) (is_in same p (barred_solvables xs) s) h) [
@@ -53,7 +53,7 @@ module _ {N S : Type 0} (same : S → S → Bool) (exact : (x y : S) → same x 
     | inr a ↦ or_right _ _ (excluded_in s xs a)
   ]
 
-  -- what bars a solvable of a listing keeps it out
+  -- a lock or an exclusion of a listing keeps its solvable out
   kept_in : (l : Listing S) (s : S) → is_in same p l.candidates s ≡ true → (locks_out same l.locked s || list_any (λ e. same e.0 s) l.excluded) ≡ true → is_in same p (barred_solvables (kept_out same l)) s ≡ true
   kept_in l s there h = elim (or_cases (locks_out same l.locked s) (list_any (λ e. same e.0 s) l.excluded) h) [
     | inl a ↦ in_left s (locked_out same l.locked l.candidates) (map excluded_by l.excluded) (go l.locked a)
@@ -88,7 +88,7 @@ module _ {N S : Type 0} (same : S → S → Bool) (exact : (x y : S) → same x 
     | inr a ↦ named_in n s xs (λ i d below. named (suc i) d (omega arith)) a
   ]
 
-  -- what a package's listing keeps out is what bars its candidates
+  -- a package's listing keeps out exactly the candidates that lock or exclusions rule out
   pub are_barred : IsLawful p → (n : N) → AreBarred same p n (kept_out same (listing_or_empty (p.candidates_of n)))
   are_barred lawful n = go (p.candidates_of n) refl (lawful.named n)
     where

@@ -24,7 +24,7 @@ swap_or true true c = refl
 swap_or true false c = refl
 swap_or false b c = refl
 
--- what is offered are the solvables
+-- the offered solvables are the solvables
 pub offered_back : {N S : Type 0} (f : S → N) (xs : List S) → offered_solvables (map (offer_by f) xs) ≡ xs
 offered_back f [] = refl
 offered_back f (x ∷ xs) = ap (λ ys. x ∷ ys) (offered_back f xs)
@@ -34,7 +34,7 @@ offered_named f [] = tt
 offered_named f (x ∷ xs) = (refl, offered_named f xs)
 
 module _ {S : Type 0} (same : S → S → Bool) (exact : (x y : S) → same x y ≡ true → x ≡ y) where
-  -- the favoured one in front of the others leaves the list's members
+  -- moving the favoured one first keeps the list's members
   favoured_members : (test : S → Bool) (f : S) (xs : List S) → list_any (λ s. same s f) xs ≡ true → (test f || list_any test (remove_key (λ s. same s f) xs)) ≡ list_any test xs
   favoured_members test f [] h = absurd (false≢true h)
   favoured_members test f (x ∷ xs) h = go (same x f) refl (favoured_members test f xs)
@@ -70,7 +70,7 @@ module _ {S : Type 0} (same : S → S → Bool) (exact : (x y : S) → same x y 
   unkept_members m s xs = kept_members (λ x. not (m x)) s xs
 
   module _ {N : Type 0} (p : Packages N S) (sorts : List S → List S → Type 0) (permutes : (xs ys : List S) → sorts xs ys → IsPermutation xs ys) where
-    -- what is tried for a version set are its matches
+    -- the solvables tried for a version set are its matches
     pub tried_members : (favoured : Option S) (v : VersionSetId) (tried : List S) (s : S) → IsTried sorts same favoured (matching_in p.set_package p.candidates_of p.matches false v) tried → is_in same p tried s ≡ is_match same p v s
     tried_members favoured v tried s (ys, sorted, is) =
         ap (λ zs. is_in same p zs s) is
@@ -86,7 +86,7 @@ module _ {S : Type 0} (same : S → S → Bool) (exact : (x y : S) → same x y 
         ∙ (ap (λ b. b || is_in same p (flat_map order vs) s) (tried_members (first v) v (order v) s (h 0 v (omega arith)))
         ∙ ap (λ b. is_match same p v s || b) (all_members first order s vs (λ k d l. h (suc k) d (omega arith))))
 
-    -- what is tried for a requirement is offered
+    -- the solvables tried for a requirement are offered
     pub are_offered : (r : Requirement) (tried : List S)
         → IsTriedFor sorts same (tried_first p.set_package p.candidates_of) (matching_in p.set_package p.candidates_of p.matches false) (alternatives_of p.members_of r) tried
         → AreOffered same p r (map (offer_by p.package_of) tried)

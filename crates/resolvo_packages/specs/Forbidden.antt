@@ -1,4 +1,4 @@
--- What locks and exclusions keep out of a package.
+-- The solvables of a package that locks and exclusions keep out.
 use Rattle.std.specs.Prelude.{◌≡◌, Bool, true, false, not, List, [], ◌++◌, map, filter, Option, None, Some, Contains}
 use Rattle.std.specs.List.{AllByRecursion}
 use Rattle.resolvo_pool_core.specs.declared.id.StringId.{StringId}
@@ -17,8 +17,8 @@ KeepsOut same l s (Excluded reason) = Contains l.excluded (s, reason)
 abbrev pub barred_solvables : {S : Type 0} → List (Barred S) → List S
 barred_solvables list = map (λ b. b.solvable) list
 
--- The list holds each candidate of the package that a lock or an exclusion bars; what it holds is of the package, and kept
--- out for what is told.
+-- The list holds each candidate of the package that a lock or an exclusion keeps out. Each of its
+-- solvables is of the package, and is kept out for the reason beside it.
 pub record AreBarred {N S : Type 0} (same : S → S → Bool) (p : Packages N S) (n : N) (list : List (Barred S)) : Type 0 where
   pub each : (s : S) → is_in same p (listed (p.candidates_of n)) s ≡ true → is_barred same p s ≡ true → is_in same p (barred_solvables list) s ≡ true
   pub all : AllByRecursion (λ b. (p.package_of b.solvable ≡ n) × KeepsOut same (listing_or_empty (p.candidates_of n)) b.solvable b.why) list
@@ -36,6 +36,6 @@ abbrev pub locked_out : {S : Type 0} → (S → S → Bool) → Option S → Lis
 locked_out same None xs = []
 locked_out same (Some l) xs = map (locked_by l) (filter (λ s. not (same l s)) xs)
 
--- what a listing keeps out
+-- the solvables that a listing keeps out
 abbrev pub kept_out : {S : Type 0} → (S → S → Bool) → Listing S → List (Barred S)
 kept_out same l = locked_out same l.locked l.candidates ++ map excluded_by l.excluded

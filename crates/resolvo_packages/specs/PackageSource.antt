@@ -23,8 +23,8 @@ packages_by name_of_solvable name_of_version_set members_of condition_of candida
   dependencies_of = dependencies_of p;
 }
 
--- The orders in which a provider lets the candidates of a requirement be tried: those of its version sets one after the
--- other, each sorted by the provider, and then the favoured one in front.
+-- The orders in which the candidates of a requirement may be tried: those of its version sets in
+-- turn, each sorted by the provider, with the favoured one first.
 abbrev pub orders_by : {P N S : Type 0} → (P → VersionSetId → N) → (P → VersionSetUnionId → List VersionSetId) → (P → N → Option (Listing S)) → (P → VersionSetId → S → Bool) → (P → List S → List S → Type 0) → (S → S → Bool) → P → Requirement → List S → Type 0
 orders_by name_of_version_set members_of candidates_of matches sorts same p r list =
     IsTriedFor (sorts p) same (tried_first (name_of_version_set p) (candidates_of p)) (matching_in (name_of_version_set p) (candidates_of p) (matches p) false) (alternatives_of (members_of p) r) list

@@ -1,4 +1,4 @@
--- The favoured one, taken out of a list and put in front.
+-- The favoured one, moved to the start of a list.
 use Rattle.std.proofs.Common.{◌≡◌, ℕ, zero, suc, ◌+◌, ◌-◌, ◌<◌, Bool, true, false, not, List, [], ◌∷◌, ◌++◌, length, take, drop, get_or, refl, ap, ◌∙◌, cond, arith}
 use Rattle.std.specs.Prelude.{Some, None, ◌||◌}
 use Rattle.std.specs.List.{list_any, position, position_or_len}
@@ -34,7 +34,7 @@ module _ {S : Type 0} (p : S → Bool) (d : S) where
       let n : length (before ++ d ∷ []) - 1 ≡ length before = omega (arith, length-append before (d ∷ [])) in
       rw (r, e, n, drop-append_seam, take-append_seam) refl
 
-  -- the favoured one, which is at i, in front of the others
+  -- the favoured one, which is at i, before the others
   pub in_front : (xs : List S) (i : ℕ) (new : List S) → position p xs ≡ Some i → ((x : S) → p x ≡ true → x ≡ d) → (whole : List S) → whole ≡ take (i + 1) xs → new ≡ drop (length whole - 1) whole ++ take (length whole - 1) whole → new ++ drop (i + 1) xs ≡ cond (list_any p xs) (d ∷ remove_key p xs) xs
   in_front xs i new at exact whole e r =
       let (h, t, f) = position-Some p xs i d at in
@@ -54,7 +54,7 @@ module _ {S : Type 0} (p : S → Bool) (d : S) where
       go true e ih = omega arith
       go false e ih = let i = ih e in omega arith
 
-  -- a list without a place for it is as it is with the favoured one in front
+  -- a list without it is unchanged
   pub no_place : (xs : List S) → position p xs ≡ None → xs ≡ cond (list_any p xs) (d ∷ remove_key p xs) xs
   no_place xs none = go (list_any p xs) refl
     where

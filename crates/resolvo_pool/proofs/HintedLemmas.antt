@@ -16,13 +16,13 @@ hinted_none is_kept hinted has empty none = record {
 }
 
 module _ {N S : Type 0} (same_name : N → N → Bool) (same : S → S → Bool) (name_of : S → N) (candidates_of : N → Option (Listing S)) (exact : (x y : N) → same_name x y ≡ true → x ≡ y) (n : N) (l : Listing S) (is : l ≡ listing_or_empty (candidates_of n)) where
-  -- what a package's candidates hint of the package is hinted
+  -- a solvable that its package's candidates hint is hinted
   own_hinted : (s : S) → hints_own same_name same name_of n l s ≡ true → is_hinted same name_of candidates_of s ≡ true
   own_hinted s h =
       let (hinted, own) = and_parts (hints same l s) (same_name (name_of s) n) h in
       subst (λ m. hints same (listing_or_empty (candidates_of m)) s ≡ true) (sym (exact (name_of s) n own)) (subst (λ k. hints same k s ≡ true) is hinted)
 
-  -- what is hinted of the package its candidates hint
+  -- a hinted solvable of the package is hinted by its candidates
   own_hints : (s : S) → same_name n (name_of s) ≡ true → is_hinted same name_of candidates_of s ≡ true → hints_own same_name same name_of n l s ≡ true
   own_hints s h hinted =
       let here : n ≡ name_of s = exact n (name_of s) h in
@@ -30,7 +30,7 @@ module _ {N S : Type 0} (same_name : N → N → Bool) (same : S → S → Bool)
       let said : hints same l s ≡ true = subst (λ j. hints same j s ≡ true) (sym is) (subst (λ m. hints same (listing_or_empty (candidates_of m)) s ≡ true) (sym here) hinted) in
       rw said own
 
-  -- a set that has got what a package's candidates hint of the package
+  -- a set after the hinted solvables of a package were added
   pub hinted_grows : (is_kept old new : S → Bool) → Grows (hints_own same_name same name_of n l) old new → HoldsHinted is_kept (is_hinted same name_of candidates_of) old → HoldsHinted is_kept (is_hinted same name_of candidates_of) new
   hinted_grows is_kept old new grows holds = record {
     only = λ s h. elim (grows.only s h) [ inl before ↦ holds.only s before | inr got ↦ own_hinted s got ];

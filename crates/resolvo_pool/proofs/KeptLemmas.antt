@@ -1,4 +1,4 @@
--- What is kept stays true, and stays kept, as a key is put in.
+-- Entries of the cache stay true, and stay in it, as a key is inserted.
 use Rattle.std.proofs.Common.{◌≡◌, ℕ, ◌+◌, ◌<◌, length, take, get_or, append-nil, suc, arith, Bool, true, false, List, [], ◌∷◌, ◌++◌, refl, subst, cond, ap, ◌∙◌, sym}
 use Rattle.std.specs.Prelude.{Option, None, Some, ⊤, MatchOption, All, unwrap_or}
 use Rattle.std.specs.Global.{Vec}
@@ -37,7 +37,7 @@ module _ {K V : Type 0} (eq : K → K → Bool) where
       none None i n = cc
       none (Some x) i n = cc
 
-  -- what is found at a key is true of it
+  -- the entry at a key is true of it
   pub kept_at : (P : K → V → Type 0) (es : List (K × V)) (k : K) (w : V) → lookup (eq k) es ≡ Some w → IsKept eq P es → P k w
   kept_at P es k w e kept = rw e at (kept k)
 
@@ -46,7 +46,7 @@ module _ {K V : Type 0} (eq : K → K → Bool) where
     pub among_more : (q : K) → among eq (keys_of es) q ≡ true → among eq (keys_of fs) q ≡ true
     among_more q h = among-lookup fs q ∙ (ap is_some (updates q) ∙ some-cond (eq k q) w (lookup (eq q) es) (sym (among-lookup es q) ∙ h))
 
-    -- what is kept is true of its key, if the new value is
+    -- each entry is true of its key, if the new one is
     pub kept_more : (P : K → V → Type 0) → ((q : K) → eq k q ≡ true → k ≡ q) → P k w → IsKept eq P es → IsKept eq P fs
     kept_more P same p kept q = rw (updates q) (Match-cond (eq k q) (P q) w (lookup (eq q) es) (λ e. subst (λ r. P r w) (same q e) p) (kept q))
 
@@ -56,7 +56,7 @@ same_set_exact v w h = ap (λ n. record { 0 = n }) (eqb-true v.0 w.0 h)
 pub same_union_exact : (u w : VersionSetUnionId) → same_union u w ≡ true → u ≡ w
 same_union_exact u w h = ap (λ n. record { 0 = n }) (eqb-true u.0 w.0 h)
 
--- what is kept through two steps is kept
+-- entries that stay through two steps stay
 pub Extends-trans : {P N S : Type 0} (same_name : N → N → Bool) (same : S → S → Bool) (a b c : Cached P N S) → Extends same_name same a b → Extends same_name same b c → Extends same_name same a c
 Extends-trans same_name same a b c f g = record {
   provider = g.provider ∙ f.provider;
@@ -76,7 +76,7 @@ AddsSorted-trans a b c f g = record {
   solvables = g.solvables ∙ f.solvables;
 }
 
--- what is kept is true in a weaker sense too
+-- entries that are true are true in a weaker sense
 pub kept_weaker : {K V : Type 0} (eq : K → K → Bool) (P Q : K → V → Type 0) (es : List (K × V)) → ((k : K) (w : V) → P k w → Q k w) → IsKept eq P es → IsKept eq Q es
 kept_weaker eq P Q es f kept q = go (lookup (eq q) es) (kept q)
   where
@@ -109,7 +109,7 @@ module _ {S : Type 0} where
   pub not_unsorted : (es : List (VersionSetId × Vec S)) (v : VersionSetId) → is_sorted (lists_of es) v ≡ true → lookup (same_set v) es ≡ None → ⊥
   not_unsorted es v h e = false≢true (ap is_some (sym e) ∙ (sym (is_sorted-lookup es v) ∙ h))
 
-  -- what is true of each kept list is true of the list that a version set has
+  -- a property of each list in the cache is one of a version set's list
   pub sorted_at : (P : VersionSetId → List S → Type 0) (es : List (VersionSetId × Vec S)) (v : VersionSetId) → IsKept same_set (λ q w. P q w.items) es → is_sorted (lists_of es) v ≡ true → P v (sorted_of (lists_of es) v)
   sorted_at P es v kept h = rw (lists-lookup es v) (go (lookup (same_set v) es) (sym (is_sorted-lookup es v) ∙ h) (kept v))
     where

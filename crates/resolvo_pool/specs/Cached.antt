@@ -1,4 +1,4 @@
--- What a cache over a provider holds.
+-- The entries of a cache over a provider.
 use Rattle.std.specs.Prelude.{◌≡◌, ◌==◌, Bool, true, List, [], Option, Some, ⊤, MatchOption, map, unwrap_or, is_some, All}
 use Rattle.std.specs.Map.{lookup}
 use Rattle.std.specs.List.{list_any, flat_map}
@@ -49,7 +49,7 @@ abbrev pub has_sorted : {P N S : Type 0} → Cached P N S → Requirement → Bo
 has_sorted c (Single v) = is_sorted c.sorted v
 has_sorted c (Union u) = among same_union c.unions u
 
--- what is kept at each key is true of it
+-- the entry at each key is true of it
 abbrev pub IsKept : {K V : Type 0} → (K → K → Bool) → (K → V → Type 0) → List (K × V) → Type 0
 IsKept {K} eq P es = (q : K) → MatchOption (lookup (eq q) es) ⊤ (P q)
 
@@ -61,7 +61,7 @@ IsListing candidates_of n c = listing c ≡ listing_or_empty (candidates_of n)
 abbrev pub IsList : {S : Type 0} → (VersionSetId → List S) → VersionSetId → Vec S → Type 0
 IsList list_of v xs = xs.items ≡ list_of v
 
--- a kept sorted list is one that the provider may make of the matching ones, with the favoured one in front
+-- a sorted list in the cache is one that the provider may return, with the favoured one first
 abbrev pub IsSortedList : {S : Type 0} → (List S → List S → Type 0) → (S → S → Bool) → (VersionSetId → Option S) → (VersionSetId → List S) → VersionSetId → Vec S → Type 0
 IsSortedList sorts eq first list_of v xs = IsTried sorts eq (first v) (list_of v) xs.items
 
@@ -73,7 +73,7 @@ IsUnionList members_of es u xs = (xs.items ≡ flat_map (sorted_of es) (members_
 abbrev pub IsNeeds : {S : Type 0} → (S → Needs) → S → Dependencies → Type 0
 IsNeeds dependencies_of s d = needs_of d ≡ dependencies_of s
 
--- the provider stays, and so does what was kept
+-- the provider and the entries stay
 pub record Extends {P N S : Type 0} (same_name : N → N → Bool) (same : S → S → Bool) (old new : Cached P N S) : Type 0 where
   pub provider : new.provider ≡ old.provider
   pub names : (n : N) → among same_name old.names n ≡ true → among same_name new.names n ≡ true

@@ -15,7 +15,7 @@ hints_own same_name same name_of n l s = hints same l s && same_name (name_of s)
 abbrev pub is_hinted : {N S : Type 0} → (S → S → Bool) → (S → N) → (N → Option (Listing S)) → S → Bool
 is_hinted same name_of candidates_of s = hints same (listing_or_empty (candidates_of (name_of s))) s
 
--- a set that has kept what it had, and has got nothing but what passes the test
+-- the new set has all members of the old one, and its new members pass the test
 pub record Grows {S : Type 0} (test old new : S → Bool) : Type 0 where
   pub stays : (s : S) → old s ≡ true → new s ≡ true
   pub only : (s : S) → new s ≡ true → (old s ≡ true) ⊎ (test s ≡ true)

@@ -1,4 +1,4 @@
--- A condition says what its operands say: the bound on the steps down never shows.
+-- The truth of a condition follows from that of its operands, for any depth that is enough.
 use Rattle.std.proofs.Common.{◌≡◌, ℕ, zero, suc, ◌<◌, Bool, List, refl, ap, ◌∙◌, arith}
 use Rattle.std.specs.Prelude.{◌&&◌, ◌||◌}
 use Rattle.resolvo_pool_core.specs.declared.id.ConditionId.{ConditionId}
@@ -9,7 +9,7 @@ use Rattle.resolvo_pool_core.specs.declared.condition.LogicalOperator.TheVariant
 use Rattle.resolvo_pool_core.specs.Provider.{OperandsBelow}
 use Rattle.resolvo_pool_core.specs.RuleKeeping.{Packages, IsLawful, says, is_met, holds_within, holds}
 
--- what is said of operands with smaller ids decides
+-- the truth of operands with smaller ids decides
 says_alike : (met : VersionSetId → Bool) (f g : ConditionId → Bool) (q : Condition) (c : ConditionId) → OperandsBelow q c → ((a : ConditionId) → a.0 < c.0 → f a ≡ g a) → says met f q ≡ says met g q
 says_alike met f g (Requirement v) c below h = refl
 says_alike met f g (Binary And a b) c below h = ap (λ x. x && f b) (h a below.0) ∙ ap (λ x. g a && x) (h b below.1)
@@ -22,7 +22,7 @@ module _ {N S : Type 0} (same : S → S → Bool) (p : Packages N S) (lawful : I
   steps_alike (suc n) (suc m) chosen c h k =
       says_alike (is_met same p chosen) (holds_within same p n chosen) (holds_within same p m chosen) (p.condition_of c) c (lawful.below c) (λ a l. steps_alike n m chosen a (omega arith) (omega arith))
 
-  -- a condition holds by cases on what it is
+  -- a condition holds by cases on its kind
   pub holds_by_cases : (chosen : List S) (c : ConditionId) → holds same p chosen c ≡ says (is_met same p chosen) (holds same p chosen) (p.condition_of c)
   holds_by_cases chosen c =
       says_alike (is_met same p chosen) (holds_within same p c.0 chosen) (holds same p chosen) (p.condition_of c) c (lawful.below c) (λ a l. steps_alike c.0 (suc a.0) chosen a l (omega arith))

@@ -12,7 +12,7 @@ module _ {X Y : Type 0} (f : X → Y) where
   list_any-map p [] = refl
   list_any-map p (x ∷ xs) = ap (λ b. p (f x) || b) (list_any-map p xs)
 
-  -- the first image that passes stands where the first item does whose image passes
+  -- the first image that passes is at the place of the first item whose image passes
   pub position_or_len-map : (p : Y → Bool) (xs : List X) → position_or_len p (map f xs) ≡ position_or_len (λ x. p (f x)) xs
   position_or_len-map p [] = refl
   position_or_len-map p (x ∷ xs) = ap (λ n. cond (not (p (f x))) (1 + n) 0) (position_or_len-map p xs)

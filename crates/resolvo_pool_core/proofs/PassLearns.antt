@@ -1,4 +1,4 @@
--- Resolution keeps one pass: what it takes to learn a clause.
+-- Resolution preserves one pass, so that learnt clauses have hints.
 use Rattle.std.proofs.Common.{◌≡◌, ◌⊎◌, inl, inr, Bool, true, false, List, [], ◌∷◌, Option, Some, None, refl, sym, ap, subst, ◌∙◌, cond}
 use Rattle.std.specs.Prelude.{not, ◌||◌, is_none}
 use Rattle.std.specs.List.{list_all}
@@ -75,7 +75,7 @@ module _ {A : Type 0} (same : A → A → Bool) (exact : (a b : A) → same a b 
       (subst (λ (x : Literal A). same_literal same l x ≡ true) (sym (h m (has_here m ms))) (literal_own l))
       (all_one l ms (λ x i. h x (has_later m ms x i)))
 
-  -- what was known stays known as a literal whose atom has no value is made true
+  -- known values stay when a literal without a value is made true
   stays : (known : A → Option Bool) (p l : Literal A) → known p.atom ≡ None → is_denied (known l.atom) l.positive ≡ true → is_denied (assign same known p l.atom) l.positive ≡ true
   stays known p l none h = go (same l.atom p.atom) refl
     where
@@ -85,7 +85,7 @@ module _ {A : Type 0} (same : A → A → Bool) (exact : (a b : A) → same a b 
           let k : known l.atom ≡ None = ap known (exact l.atom p.atom e) ∙ none in
           absurd (false≢true (sym (ap (λ o. is_denied o l.positive) k) ∙ h))
 
-  -- once the literal was learnt, the other sign is false, and what was false is
+  -- after a literal is made true its negation is false, and false literals stay false
   learnt : (known : A → Option Bool) (p : Literal A) → is_denied (known p.atom) p.positive ≡ false → (is_denied (learn same known (last p) p.atom) (not p.positive) ≡ true) × ((l : Literal A) → is_denied (known l.atom) l.positive ≡ true → is_denied (learn same known (last p) l.atom) l.positive ≡ true)
   learnt known p free = go (known p.atom) refl free
     where
@@ -175,6 +175,6 @@ module _ {A : Type 0} (same : A → A → Bool) (exact : (a b : A) → same a b 
             | inr k ↦ absurd (both _ (apart l h) (has_later x xs (negate l) (subst (λ (y : Literal A). has same xs y ≡ true) k j)))
           ]
 
-  -- what is refuted from whatever makes the clause false is refuted by the pass that denies it
+  -- clauses refuted under all values that falsify the clause are refuted by the pass that denies it
   pub refuted_from : (c : List (Literal A)) (cs : List (List (Literal A))) → HasNoOpposites same c → RefutesFrom same c cs → one_pass same c cs ≡ true
   refuted_from c cs apart r = r (deny same nothing c) (denied_all nothing c apart)

@@ -7,7 +7,7 @@ use Rattle.resolvo_pool_core.specs.OnePass.Rest.{broken, last, more}
 use Rattle.resolvo_pool_core.specs.OnePass.{Literal, Rest, negate, is_denied, same_literal, assign, deny, rest_of, without_false, reading, is_broken, learn, refutes, nothing, one_pass, AreNamed, AreNamedClauses}
 
 module _ {A B : Type 0} (same_a : A → A → Bool) (same_b : B → B → Bool) (names : A → B → Type 0) (tells : (a b : A) (i j : B) → names a i → names b j → same_b i j ≡ same_a a b) where
-  -- what is known of a name is what is known of its atom
+  -- a name and its atom have one value
   pub record Alike (known : B → Option Bool) (said : A → Option Bool) : Type 0 where
     pub at : (a : A) (i : B) → names a i → known i ≡ said a
 
@@ -55,7 +55,7 @@ module _ {A B : Type 0} (same_a : A → A → Bool) (same_b : B → B → Bool) 
       ∙ (ap (λ b. (same_a m.atom y.atom && beq m.positive b) && list_all (same_literal same_b l) ls) h
       ∙ ap (λ b. (same_a m.atom y.atom && beq m.positive y.positive) && b) r))
 
-  -- what is left of both
+  -- the remaining literals of both
   abbrev RestAlike : Rest B → Rest A → Type 0
   RestAlike broken broken = Unit {0}
   RestAlike (last l) (last m) = (names m.atom l.atom) × (l.positive ≡ m.positive)

@@ -35,13 +35,13 @@ left_out : {X : Type 0} (p : X → Bool) (x : X) (kept xs : List X) (b : Bool) �
 left_out p x kept xs true h e = e ∙ sym (ap (λ b. b || list_any p xs) (h refl))
 left_out p x kept xs false h e = ap (λ b. p x || b) e
 
--- what fails the test may be left out
+-- elements that fail the test may be left out
 pub list_any-filter : {X : Type 0} (p d : X → Bool) → ((x : X) → d x ≡ true → p x ≡ false) → (xs : List X) → list_any p (filter (λ x. not (d x)) xs) ≡ list_any p xs
 list_any-filter p d h [] = refl
 list_any-filter p d h (x ∷ xs) = left_out p x (filter (λ y. not (d y)) xs) xs (d x) (h x) (list_any-filter p d h xs)
 
 module _ {A : Type 0} (same : A → A → Bool) (value : A → Bool) (alike : (a b : A) → same a b ≡ true → value a ≡ value b) where
-  -- what is known is so
+  -- the known values are right
   pub record Agrees (known : A → Option Bool) : Type 0 where
     pub so : (a : A) (b : Bool) → known a ≡ Some b → value a ≡ b
 
@@ -104,7 +104,7 @@ module _ {A : Type 0} (same : A → A → Bool) (value : A → Bool) (alike : (a
   not_broken (last l) t = refl
   not_broken more t = refl
 
-  -- true clauses refute nothing that is so
+  -- true clauses refute nothing that is true
   pub refutes_nothing : (known : A → Option Bool) → Agrees known → (clauses : List (List (Literal A))) → list_all (clause_true value) clauses ≡ true → refutes same known clauses ≡ false
   refutes_nothing known agrees [] h = refl
   refutes_nothing known agrees (clause ∷ clauses) h =

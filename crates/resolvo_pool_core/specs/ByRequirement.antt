@@ -26,10 +26,10 @@ abbrev pub with_slot : {V : Type 0} → List (Option V) × List (Option V) → R
 with_slot m (Single v) x = (slice_set m.0 v.0 (Some x), m.1)
 with_slot m (Union u) x = (m.0, slice_set m.1 u.0 (Some x))
 
--- the map ends with the requirement's value, if there is one, set to what is left behind r
+-- the map ends with the final value of r for the requirement, if it has a value there
 abbrev pub lends_requirement : (T : RattleType) → MutBor (List (Option T.Denot) × List (Option T.Denot)) → Requirement → Option (MutBor T.Denot) → Fml
 lends_requirement T s q r = LendsIf (the_row T) T s r (λ w. with_slot s.now q w) s.now
 
--- the map ends with what is left behind r as the requirement's value, and is as it was where the call was refused
+-- the map ends with the final value of r for the requirement; a refused call leaves it unchanged
 abbrev pub lends_made : {E : Type 0} (T : RattleType) → MutBor (List (Option T.Denot) × List (Option T.Denot)) → Requirement → Result (MutBor T.Denot) E → Fml
 lends_made T s q r = LendsSoOk (the_row T) T s r (λ n w. PutsAt s.now n q w) (λ n. n ≡ s.now)

@@ -1,4 +1,4 @@
--- What a pool holds, each list in the order of first interning: a value's place is its id's index.
+-- The lists of a pool, each in the order of first interning: a value's place is its id's index.
 use Rattle.std.specs.Prelude.{◌≡◌, ℕ, List, Some, slice_get}
 use Rattle.resolvo_pool_core.specs.declared.id.DenseId.{DenseId}
 use Rattle.resolvo_pool_core.specs.declared.id.NameTag.{NameTag}

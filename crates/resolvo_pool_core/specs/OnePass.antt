@@ -9,7 +9,7 @@ pub record Literal (A : Type 0) : Type 0 where
   pub atom : A
   pub positive : Bool
 
--- what is left of a clause without its false literals: nothing, one literal (perhaps named twice), or more
+-- a clause without its false literals: empty, one literal (perhaps repeated), or more
 pub data Rest (A : Type 0) : Type 0 where
   broken : Rest A
   last : Literal A → Rest A
@@ -26,7 +26,7 @@ is_true_at value l = beq (value l.atom) l.positive
 abbrev pub clause_true : {A : Type 0} → (A → Bool) → List (Literal A) → Bool
 clause_true value clause = list_any (is_true_at value) clause
 
--- by what is known of its atom, a literal of this sign is false
+-- under this value of its atom, a literal of this sign is false
 abbrev pub is_denied : Option Bool → Bool → Bool
 is_denied None positive = false
 is_denied (Some value) positive = not (beq value positive)
@@ -51,11 +51,11 @@ module _ {A : Type 0} (same : A → A → Bool) where
   abbrev pub has : List (Literal A) → Literal A → Bool
   has clause l = list_any (λ x. same_literal x l) clause
 
-  -- what is known once this literal is made true
+  -- the values after this literal is made true
   abbrev pub assign : (A → Option Bool) → Literal A → A → Option Bool
   assign known l a = if same a l.atom then Some l.positive else known a
 
-  -- what is known once each literal of the clause is made false
+  -- the values after each literal of the clause is made false
   abbrev pub deny : (A → Option Bool) → List (Literal A) → A → Option Bool
   deny known [] = known
   deny known (l ∷ ls) = deny (assign known (negate l)) ls
@@ -83,7 +83,7 @@ module _ {A : Type 0} (same : A → A → Bool) where
   abbrev pub one_pass : List (Literal A) → List (List (Literal A)) → Bool
   one_pass clause causes = refutes (deny nothing clause) causes
 
-  -- each literal of the clause is false by what is known
+  -- each literal of the clause is false under the values
   abbrev pub IsFalseUnder : (A → Option Bool) → List (Literal A) → Type 0
   IsFalseUnder known clause = (l : Literal A) → has clause l ≡ true → is_denied (known l.atom) l.positive ≡ true
 
@@ -102,7 +102,7 @@ AreNamed names [] (m ∷ ms) = ⊥
 AreNamed names (l ∷ ls) [] = ⊥
 AreNamed names (l ∷ ls) (m ∷ ms) = names l.atom m.atom × (m.positive ≡ l.positive) × AreNamed names ls ms
 
--- so have those of each clause
+-- the same for the literals of each clause
 abbrev pub AreNamedClauses : {A B : Type 0} → (A → B → Type 0) → List (List (Literal A)) → List (List (Literal B)) → Type 0
 AreNamedClauses names [] [] = Unit {0}
 AreNamedClauses names [] (d ∷ ds) = ⊥

@@ -1,4 +1,4 @@
--- What a provider's answers mean, as lists.
+-- The answers of a provider as lists.
 use Rattle.std.specs.Prelude.{◌≡◌, ◌<◌, Bool, not, List, [], ◌∷◌, Option, None, Some, cond, All, filter, ⊤, false}
 use Rattle.std.specs.List.{list_any, flat_map}
 use Rattle.std.specs.Set.{remove_key}
@@ -40,7 +40,7 @@ listing c = record { candidates = c.candidates.items; favored = c.favored; locke
 abbrev pub empty_listing : {S : Type 0} → Listing S
 empty_listing = record { candidates = []; favored = None; locked = None; hint = none; excluded = [] }
 
--- what a solvable needs and limits, or why that is unknown
+-- the dependencies of a solvable, or the reason why they are unknown
 pub data Needs : Type 0 where
   known : List ConditionalRequirement → List VersionSetId → Needs
   unknown : StringId → Needs
@@ -90,12 +90,12 @@ matching_in set_name candidates_of matches inverse v = kept (matches v) inverse 
 abbrev pub tried_first : {N S : Type 0} → (VersionSetId → N) → (N → Option (Listing S)) → VersionSetId → Option S
 tried_first set_name candidates_of v = (listing_or_empty (candidates_of (set_name v))).favored
 
--- the favoured one, if it is among them, in front of the others
+-- the favoured one, if it is among them, before the others
 abbrev pub favoured_first : {S : Type 0} → (S → S → Bool) → Option S → List S → List S
 favoured_first eq None xs = xs
 favoured_first eq (Some f) xs = cond (list_any (λ s. eq s f) xs) (f ∷ remove_key (λ s. eq s f) xs) xs
 
--- the order in which the matching ones are tried: sorted, and then the favoured one in front
+-- the order in which the matching ones are tried: sorted, with the favoured one first
 abbrev pub IsTried : {S : Type 0} → (List S → List S → Type 0) → (S → S → Bool) → Option S → List S → List S → Type 0
 IsTried {S} sorts eq favored matching tried = (ys : List S) × sorts matching ys × (tried ≡ favoured_first eq favored ys)
 

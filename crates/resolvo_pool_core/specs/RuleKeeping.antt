@@ -1,4 +1,4 @@
--- Which sets of solvables keep the rules of a provider and of a problem's root, and what of a set is reached.
+-- The sets of solvables that keep the rules of a provider and a root, and their reached parts.
 use Rattle.std.specs.Prelude.{◌≡◌, ℕ, zero, suc, ◌⊎◌, Bool, true, false, not, ◌&&◌, ◌||◌, List, [], Option, None, Some, Contains}
 use Rattle.std.specs.List.{list_any}
 use Rattle.resolvo_pool_core.specs.declared.id.ConditionId.{ConditionId}
@@ -32,7 +32,7 @@ pub record Rules : Type 0 where
   pub requirements : List ConditionalRequirement
   pub constraints : List VersionSetId
 
--- the rules of what a solvable needs; one whose dependencies are unknown has none
+-- the rules of a solvable's dependencies; unknown dependencies have none
 abbrev pub rules_of : Needs → Rules
 rules_of (known requirements constraints) = record { requirements = requirements; constraints = constraints }
 rules_of (unknown why) = record { requirements = []; constraints = [] }
@@ -76,7 +76,8 @@ module _ {N S : Type 0} (same : S → S → Bool) (p : Packages N S) where
   abbrev pub is_met : List S → VersionSetId → Bool
   is_met chosen v = list_any (is_match v) chosen
 
-  -- the condition holds in the set, looked at n steps down; its operands have smaller ids, so its own id and one are enough
+  -- the condition holds in the set, to depth n; operands have smaller ids, so its id and one are
+  -- enough
   abbrev pub holds_within : ℕ → List S → ConditionId → Bool
   holds_within zero chosen c = false
   holds_within (suc n) chosen c = says (is_met chosen) (holds_within n chosen) (p.condition_of c)
@@ -145,14 +146,16 @@ module _ {N S : Type 0} (same : S → S → Bool) (p : Packages N S) where
     abbrev pub IsNamed : List S → N → Type 0
     IsNamed chosen n = IsNamedByConstraint chosen n ⊎ IsNamedByRequirement chosen n
 
-    -- the set keeps all rules, but that a lock or an exclusion may bar an accepted wish whose package is not named
+    -- the set keeps all rules, except that an accepted soft requirement may be locked out or
+    -- excluded where its package isn't named
     pub record IsExemptKeeping (wishes chosen : List S) : Type 0 where
       pub single : IsSingle chosen
       pub obeys : Obeys chosen
       pub exempt : (s : S) → is_in chosen s ≡ true → is_barred s ≡ true → (is_in wishes s ≡ true) × (IsNamed chosen (p.package_of s) → ⊥)
       pub known : (s : S) → is_in chosen s ≡ true → is_unknown (p.dependencies_of s) ≡ false
 
-    -- the part of the chosen set holds its wishes, and with the root or a member each chosen match of a requirement whose condition holds in the part
+    -- the part holds the chosen soft requirements, and each chosen match of a requirement of the
+    -- root or a member whose condition holds in the part
     pub record IsClosed (wishes chosen part : List S) : Type 0 where
       pub inside : (s : S) → is_in part s ≡ true → is_in chosen s ≡ true
       pub wished : (s : S) → is_in wishes s ≡ true → is_in chosen s ≡ true → is_in part s ≡ true

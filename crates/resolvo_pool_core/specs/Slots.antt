@@ -1,7 +1,7 @@
 -- Slots by index, some of which hold a value.
 use Rattle.std.specs.Prelude.{◌≡◌, ℕ, ◌+◌, List, [], ◌∷◌, Option, None, Some, slice_index_or, max, min, ◌*◌, ◌/◌}
 
--- what is at the index i
+-- the value at the index i
 abbrev pub at : {V : Type 0} → List (Option V) → ℕ → Option V
 at xs i = slice_index_or xs i None
 

@@ -23,7 +23,7 @@ abbrev pub root_or : {S : Type 0} → (S → List ℕ) → SolvableIdOrRoot S �
 root_or text Root = codes "root"
 root_or text (Solvable s) = text s
 
--- a version set, as its package's name, a space and what it admits
+-- a version set: its package's name, a space, and its range
 abbrev pub set_text : {N : Type 0} → (N → List ℕ) → (VersionSetId → List ℕ) → (VersionSetId → N) → VersionSetId → List ℕ
 set_text name_text version_set_text name_of v = name_text (name_of v) ++ (codes " " ++ version_set_text v)
 

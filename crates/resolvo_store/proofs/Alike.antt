@@ -1,4 +1,4 @@
--- Stores that are alike answer alike, and stay so.
+-- Stores that are alike have alike answers, and stay alike.
 use Rattle.std.proofs.Common.{◌≡◌, ℕ, ◌+◌, ◌*◌, ◌/◌, ◌&&◌, min, not, cond, nat_lt, Bool, true, false, List, [], ◌∷◌, ◌++◌, length, Option, Some, None, is_some, refl, ◌∙◌, ap, subst}
 use Rattle.std.specs.List.{list_all}
 use Rattle.std.specs.Option.{unwrap_or}
@@ -114,7 +114,7 @@ module _ {N : Type 0} (s t : Stored N) (like : Like s t) where
   pub answer_like : (c : StoreCall N) → answer_of s c ≡ answer_of t c
   answer_like c = ap (λ b. cond b (answer_to s c) Bad) (may_like c) ∙ ap (λ (a : Told). cond (may t c) a Bad) (answer_to_like c)
 
-  -- a number is lacking in both
+  -- both lack an id
   pub lacks_like : (c : StoreCall N) → LacksNumber s c → LacksNumber t c
   lacks_like (call.FixCandidates r groups) h = h
   lacks_like (call.FixDisjunction ls) h = subst (λ (ds : List (List Signed)). length ds ≡ 4294967295) like.disjunctions h

@@ -1,4 +1,4 @@
--- What clauses name, in the lists that are kept by id and in plain lists.
+-- The lists that clauses name, by id and as plain lists.
 use Rattle.std.proofs.Common.{◌≡◌, ℕ, ◌&&◌, Bool, true, nat_lt, ◌∷◌, ◌++◌, Option, Some, None, is_some, option_map, Vec, Global, refl, sym, ◌∙◌, ap, ltb-true}
 use Rattle.std.proofs.lemmas.Bool.{and_parts}
 use Rattle.std.proofs.lemmas.List.{length-map}
@@ -49,7 +49,7 @@ some_mapped : {X Y : Type 0} (f : X → Y) (o : Option X) → is_some o ≡ is_s
 some_mapped f None = refl
 some_mapped f (Some x) = refl
 
--- the lists of a clause are kept where the plain lists have them
+-- the lists of a clause exist where the plain lists have them
 pub lists_plain : {N S : Type 0} (score : S → N → ℕ) (k : Kept N S) (c : Clause N) → has_lists k.lists c ≡ lists_there (has_condition (plain score k)) (has_candidates_for (plain score k)) (has_learnt_in (plain score k)) c
 lists_plain score k c = there_same (has_disjunction k.lists) (has_condition (plain score k)) (has_candidates k.lists) (has_candidates_for (plain score k)) (has_learnt k.lists) (has_learnt_in (plain score k)) condition (λ r. some_mapped (λ v. v.items) (slot_of k.lists.candidates r))
     (λ l. ap (nat_lt l.raw) (sym (length-map k.lists.learnt (λ (v : Vec Signed Global). v.items)))) c
@@ -58,7 +58,7 @@ lists_plain score k c = there_same (has_disjunction k.lists) (has_condition (pla
     condition None = refl
     condition (Some d) = ap (nat_lt d.raw) (sym (length-map k.lists.disjunctions (λ (e : Disjunction). e.literals.items)))
 
--- what passes both tests fits
+-- a clause that passes both tests fits
 pub fits_by_tests : {N : Type 0} (ls : FixedLists N) (c : Clause N) → is_own_in_range c ≡ true → has_lists ls c ≡ true → Fits ls c
 fits_by_tests {N} ls c own there = record { in_range = range c own; lists = lists c there }
   where

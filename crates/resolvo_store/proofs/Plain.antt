@@ -1,4 +1,4 @@
--- What a clause store keeps is what its plain lists say.
+-- The fields of a clause store agree with its plain lists.
 use Rattle.std.proofs.Common.{Result, Ok, Err, OnOk, ◌==◌, eqb, cond, true, false, ◌⊎◌, inl, inr, ◌≡◌, ℕ, zero, suc, List, [], ◌∷◌, map, Option, Some, None, Vec, Global, option_map, refl, sym, ap, subst}
 use Rattle.std.specs.Prelude.{slice_get}
 use Rattle.std.proofs.lemmas.Bool.Decides.{eqb_tells}
@@ -38,7 +38,7 @@ learnt_plain [] i = refl
 learnt_plain (v ∷ vs) zero = refl
 learnt_plain (v ∷ vs) (suc i) = learnt_plain vs i
 
--- ids name what they name in the plain lists
+-- ids name the same lists in the plain lists
 pub names_plain : {N S : Type 0} (score : S → N → ℕ) (k : Kept N S) → SameNames (named_by k.lists) (names_in (plain score k))
 names_plain score k = record { candidates = λ r. items_plain (slot_of k.lists.candidates r); condition = condition; learnt = λ l. learnt_plain k.lists.learnt l.raw }
   where
@@ -46,22 +46,22 @@ names_plain score k = record { candidates = λ r. items_plain (slot_of k.lists.c
     condition None = refl
     condition (Some d) = disjunction_plain k.lists.disjunctions d.raw
 
--- a map that says what the trail does gives its values
+-- a map that agrees with the trail has its values
 pub values_plain : (slots : List (Option Assignment)) (es : List Entry) → ((v : ℕ) → at slots v ≡ assigned es v) → (v : ℕ) → value_at slots v ≡ value_in es v
 values_plain slots es mapped v = ap (λ o. option_map (λ a. a.value) o) (mapped v)
 
--- the broken clause and the pick are those of the plain lists
+-- the falsified clause and the pick are those of the plain lists
 pub broken_plain : {N S : Type 0} (score : S → N → ℕ) (k : Kept N S) (slots : List (Option Assignment)) → ((v : ℕ) → at slots v ≡ assigned k.trail v) → first_broken k.lists (value_at slots) k.needs ≡ broken_in (plain score k)
 broken_plain score k slots mapped = first_broken_same (named_by k.lists) (names_in (plain score k)) (value_at slots) (value_in k.trail) (names_plain score k) (values_plain slots k.trail mapped) k.needs
 
 pub picked_plain : {N S : Type 0} (score : S → N → ℕ) (k : Kept N S) (slots : List (Option Assignment)) → ((v : ℕ) → at slots v ≡ assigned k.trail v) → pick k.lists (value_at slots) (score k.scores) k.needs ≡ picked_in (plain score k)
 picked_plain score k slots mapped = pick_same (named_by k.lists) (names_in (plain score k)) (value_at slots) (value_in k.trail) (names_plain score k) (values_plain slots k.trail mapped) (score k.scores) (score k.scores) (λ p. refl) k.needs
 
--- a store whose trail became another
+-- a store with another trail
 pub trail_like : {N S : Type 0} (score : S → N → ℕ) (k : Kept N S) (es fs : List Entry) → es ≡ fs → Like (plain score (record k { trail = es })) (record (plain score k) { trail = fs })
 trail_like score k es fs e = record { candidates = λ r. refl; disjunctions = refl; learnt = refl; clauses = refl; watched = refl; watchers = λ l. refl; trail = e; needs = refl; score = λ n. refl }
 
--- what follows from what holds of an answer that is no refusal
+-- a consequence of a property of an answer, unless the call is refused
 pub on_ok : {X E P Q : Type 0} (r : Result X E) → OnOk r P → (P → Q) → OnOk r Q
 on_ok (Ok x) h f = f h
 on_ok (Err e) h f = record {}

@@ -1,4 +1,4 @@
--- Lemmas on entries that are taken away from the end of a trail.
+-- Lemmas on entries that are removed from the end of a trail.
 use Rattle.std.proofs.Common.{◌≡◌, ℕ, ◌<◌, ◌≤◌, cond, List, [], ◌∷◌, ◌++◌, Some, option_map, All, refl, ◌∙◌, ap, lt-ltb, le-ltb}
 use Rattle.std.proofs.lemmas.List.Elements.{All-head, All-tail}
 use Rattle.resolvo_store_core.specs.declared.decision.Entry.{Entry}
@@ -15,12 +15,12 @@ last_entry_is [] e = refl
 last_entry_is (d ∷ []) e = refl
 last_entry_is (d ∷ f ∷ es) e = last_entry_is (f ∷ es) e
 
--- entries above the level all go
+-- all entries above the level are removed
 above_go : (level : ℕ) (es : List Entry) → All (λ e. level < e.level) es → down_to level es ≡ []
 above_go level [] h = refl
 above_go level (e ∷ es) h = ap (unless_above level e) (above_go level es (All-tail (λ d. level < d.level) e es h)) ∙ ap (λ b. cond b [] (e ∷ [])) (lt-ltb level e.level (All-head (λ d. level < d.level) e es h))
 
--- what is left ends with an entry that is not above the level
+-- the trail that is left ends with an entry that is not above the level
 pub down_to_is : (level : ℕ) (es gone : List Entry) → last_level es ≤ level → All (λ e. level < e.level) gone → down_to level (es ++ gone) ≡ es
 down_to_is level [] gone h k = above_go level gone k
 down_to_is level (e ∷ []) gone h k = ap (unless_above level e) (above_go level gone k) ∙ ap (λ b. cond b [] (e ∷ [])) (le-ltb level e.level h)

@@ -1,4 +1,4 @@
--- What calls of a clause store answer, and what becomes of the store: one call, and any list of calls.
+-- The answers to calls of a clause store, and the store after them: one call, or a list of calls.
 use Rattle.std.specs.Prelude.{◌≡◌, ℕ, ◌&&◌, nat_lt, not, cond, is_some, Bool, true, List, [], ◌∷◌, length, take, slice_get, Option, Some, None, Vec}
 use Rattle.std.specs.List.{list_all}
 use Rattle.std.specs.declared.alloc.Global.{Global}
@@ -31,11 +31,11 @@ use Rattle.resolvo_store.specs.declared.store_call.StoreAnswer.TheVariants as an
 
 -- ---- conditions
 
--- the requirement has no candidates yet, and literals can have the new ones
+-- the requirement has no candidates yet, and literals can be made of the new ones
 abbrev pub can_fix : {N : Type 0} → Stored N → Requirement → List (N × Vec VariableId Global) → Bool
 can_fix s r groups = not (is_some (s.candidates r)) && list_all (λ g. list_all is_in_range g.1.items) groups
 
--- the condition's case is there, if there is a condition
+-- the condition's case exists, if there is a condition
 abbrev pub has_condition : {N : Type 0} → Stored N → Option (DenseId DisjunctionTag ℕ) → Bool
 has_condition s None = true
 has_condition s (Some d) = nat_lt d.raw (length s.disjunctions)
@@ -49,20 +49,20 @@ has_clause s c = nat_lt c.0 (length s.clauses)
 abbrev pub has_learnt_in : {N : Type 0} → Stored N → DenseId LearntClauseTag ℕ → Bool
 has_learnt_in s l = nat_lt l.raw (length s.learnt)
 
--- they are two different ones of the literals, if anything is watched
+-- the watched literals, if any, are two different ones of the clause
 abbrev pub can_watch : List Signed → Option WatchedLiterals → Bool
 can_watch literals None = true
 can_watch literals (Some p) = has literals p.first && (has literals p.second && not (same_literal p.first p.second))
 
--- what the clause names is there, and it watches literals of its own
+-- the lists that the clause names exist, and it watches literals of its own
 abbrev pub can_add : {N : Type 0} → Stored N → Clause N → Option WatchedLiterals → Bool
 can_add s c w = is_own_in_range c && (lists_there (has_condition s) (has_candidates_for s) (has_learnt_in s) c && can_watch (literals_by (names_in s) c) w)
 
--- what the need clause names is there
+-- the lists that the need clause names exist
 abbrev pub can_register : {N : Type 0} → Stored N → NeedClause → Bool
 can_register s r = has_clause s r.clause && (has_candidates_for s r.requirement && has_condition s r.condition)
 
--- the clause is there, and the level isn't below the last entry's
+-- the clause exists, and the level isn't below the last entry's
 abbrev pub can_assign : {N : Type 0} → Stored N → ClauseId → ℕ → Bool
 can_assign s c level = has_clause s c && not (nat_lt level (last_level s.trail))
 
@@ -94,7 +94,7 @@ told (answer.Next d) = Next d
 told (answer.Broken c) = Broken c
 told answer.Bad = Bad
 
--- the first registered clause whose literals are all false
+-- the first falsified registered clause
 abbrev pub broken_in : {N : Type 0} → Stored N → Option ClauseId
 broken_in s = first_broken_by (names_in s) (value_in s.trail) s.needs
 
@@ -144,7 +144,7 @@ abbrev pub answer_of : {N : Type 0} → Stored N → StoreCall N → Told
 answer_of s c = cond (may s c) (answer_to s c) Bad
 
 module _ {N : Type 0} (eq : N → N → Bool) where
-  -- what becomes of the store by a call whose condition holds
+  -- the store after a call whose condition holds
   abbrev pub changed_by : Stored N → StoreCall N → Stored N
   changed_by s (call.FixCandidates r groups) = with_candidates r (candidates_from groups.items) s
   changed_by s (call.FixDisjunction ls) = with_disjunction ls.items s
@@ -160,7 +160,7 @@ module _ {N : Type 0} (eq : N → N → Bool) where
   changed_by s call.Falsified = s
   changed_by s call.NextDecision = s
 
-  -- and changes nothing
+  -- the store after any call; a call answered `Bad` changes nothing
   abbrev pub step : Stored N → StoreCall N → Stored N
   step s c = cond (may s c) (changed_by s c) s
 
@@ -174,7 +174,7 @@ module _ {N : Type 0} (eq : N → N → Bool) where
   answers_of s [] = []
   answers_of s (c ∷ cs) = answer_of s c ∷ answers_of (step s c) cs
 
--- the call needs a number, and all of them were given
+-- the call needs an id, and all ids are used
 abbrev pub LacksNumber : {N : Type 0} → Stored N → StoreCall N → Type 0
 LacksNumber s (call.FixCandidates r groups) = index_in r ≡ 4294967295
 LacksNumber s (call.FixDisjunction ls) = length s.disjunctions ≡ 4294967295
@@ -190,7 +190,7 @@ LacksNumber s (call.Walk l moves) = ⊥
 LacksNumber s call.Falsified = ⊥
 LacksNumber s call.NextDecision = ⊥
 
--- some call was refused: the store is as after the calls before it, and numbers were wanted only where all were given
+-- some call was refused: the store is that before it, and ids were lacking only where all were used
 pub record StopsAt {N : Type 0} (eq : N → N → Bool) (calls : List (StoreCall N)) (old new : Stored N) (w : Want) : Type 0 where
   pub place : ℕ
   pub call : StoreCall N

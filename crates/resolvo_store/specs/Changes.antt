@@ -1,4 +1,4 @@
--- What becomes of a store by each kind of call.
+-- The store after each kind of call.
 use Rattle.std.specs.Prelude.{ℕ, ◌+◌, ◌*◌, ◌/◌, ◌==◌, nat_lt, min, cond, Bool, false, List, [], ◌∷◌, ◌++◌, length, map, Option, Some, None, Vec}
 use Rattle.std.specs.Option.{option_map}
 use Rattle.std.specs.List.{flat_map}
@@ -48,7 +48,7 @@ with_learnt ls s = record s { learnt = s.learnt ++ ls ∷ [] }
 
 -- ---- clauses
 
--- the clause of this number stands in front in the lists of its two literals, if it watches any
+-- the clause of this number is first in the lists of its two watched literals, if it has any
 abbrev pub watching : ℕ → Option WatchedLiterals → (Signed → List ClauseId) → Signed → List ClauseId
 watching c w view l = cond (watches w l) (record { 0 = c } ∷ view l) (view l)
 
@@ -58,13 +58,13 @@ with_clause c w s = record s { clauses = s.clauses ++ c ∷ []; watched = s.watc
 abbrev pub with_need : {N : Type 0} → NeedClause → Stored N → Stored N
 with_need r s = record s { needs = s.needs ++ r ∷ [] }
 
--- the clauses that watch the literal were met in turn, each with its move
+-- the clauses that watch the literal were visited in turn, each with its move
 abbrev pub walked : {N : Type 0} → Signed → List (Option Signed) → Stored N → Stored N
 walked l moves s = record s { watched = pairs_after l s.watched (s.watchers l) moves; watchers = lists_after l s.watched (s.watchers l) moves s.watchers }
 
 -- ---- the trail
 
--- the decision stands at the end of the trail, unless its variable has a value
+-- the assignment is appended to the trail, unless its variable has a value
 abbrev pub with_decision : {N : Type 0} → Decision → ℕ → Stored N → Stored N
 with_decision d level s = record s { trail = entered (set_for d.value (value_in s.trail d.variable.0)) (record { decision = d; level = level }) s.trail }
 
@@ -78,14 +78,14 @@ last_entry [] = None
 last_entry (e ∷ []) = Some e
 last_entry (e ∷ d ∷ es) = last_entry (d ∷ es)
 
--- the last decision with the level of the entry before it, if there is a decision
+-- the last assignment with the level of the entry before it, if the trail isn't empty
 abbrev pub last_undone : List Entry → Option (Decision × ℕ)
 last_undone es = option_map (λ e. (e.decision, last_level (all_but_last es))) (last_entry es)
 
 abbrev pub undone : {N : Type 0} → Stored N → Stored N
 undone s = record s { trail = all_but_last s.trail }
 
--- an entry in front of others: where none of them is left and it is above the level, it goes too
+-- an entry with those left behind it; it is removed where none is left and it is above the level
 abbrev pub unless_above : ℕ → Entry → List Entry → List Entry
 unless_above level e [] = cond (nat_lt level e.level) [] (e ∷ [])
 unless_above level e (d ∷ es) = e ∷ d ∷ es
@@ -104,10 +104,10 @@ undone_until level s = record s { trail = down_to level s.trail }
 abbrev pub highest : ℕ
 highest = 18446744073709551615
 
--- the package's score is raised, not past the highest
+-- the package's score is bumped, to the highest number at most
 abbrev pub bumped : {N : Type 0} → (N → N → Bool) → N → ℕ → Stored N → Stored N
 bumped eq n add s = record s { score = λ m. cond (eq n m) (min (s.score n + add) highest) (s.score m) }
 
--- each score is so many millionths of what it was, rounded down
+-- each score decays to this number of millionths, rounded down
 abbrev pub decayed : {N : Type 0} → ℕ → Stored N → Stored N
 decayed per_million s = record s { score = λ m. (s.score m * per_million) / 1000000 }

@@ -1,4 +1,4 @@
--- How variables and clauses are written.
+-- The texts of variables and clauses.
 use Rattle.std.specs.Prelude.{ℕ, ◌++◌, Bool, true, false, List, [], codes, slice_get, Option, Some, None}
 use Rattle.std.specs.Fmt.{decimal}
 use Rattle.resolvo_pool_core.specs.declared.id.DenseId.{DenseId}
@@ -15,7 +15,7 @@ use Rattle.resolvo_store_core.specs.declared.clause.Clause.TheVariants.{InstallR
 use Rattle.resolvo_store.specs.declared.variable_map.VariableOrigin.{VariableOrigin}
 use Rattle.resolvo_store.specs.declared.variable_map.VariableOrigin.TheVariants.{Root, Solvable, ForbidMultiple, AtLeastOne, ConstrainsViolation, RequiresGate}
 
--- what the ids mean, and how they are written
+-- the meaning of ids, and their texts
 pub record Meaning (N S : Type 0) : Type 0 where
   pub name_of : VersionSetId → N
   pub members_of : VersionSetUnionId → List VersionSetId
@@ -30,14 +30,14 @@ case_words None = []
 case_words (Some d) = codes ", DisjunctionId(" ++ (decimal d.raw ++ codes ")")
 
 module _ {N S : Type 0} (m : Meaning N S) where
-  -- a version set, as its package's name, a space and what it admits
+  -- a version set: its package's name, a space, and its range
   abbrev pub set_words : VersionSetId → List ℕ
   set_words v = set_text m.name_text m.version_set_text m.name_of v
 
   abbrev pub requirement_words : Requirement → List ℕ
   requirement_words r = requirement_text set_words m.members_of r
 
-  -- what a variable was made for, if it is there
+  -- the origin of a variable, if there is one
   abbrev pub origin_words : Option (VariableOrigin N S) → List ℕ
   origin_words None = codes "unknown"
   origin_words (Some Root) = codes "root"
@@ -48,7 +48,7 @@ module _ {N S : Type 0} (m : Meaning N S) where
   origin_words (Some (RequiresGate r)) = codes "requires-gate(" ++ (requirement_words r ++ codes ")")
 
   module _ (origins : List (VariableOrigin N S)) where
-    -- what the variable was made for, and its number
+    -- the origin of the variable, and its number
     abbrev pub variable_words : VariableId → List ℕ
     variable_words v = origin_words (slice_get origins v.0) ++ (codes "(VariableId(" ++ (decimal v.0 ++ codes "))"))
 
@@ -57,7 +57,7 @@ module _ {N S : Type 0} (m : Meaning N S) where
     sign_words true = codes ""
     sign_words false = codes "not "
 
-    -- a parent, its requirement, and the case in which it has it
+    -- a parent, its requirement, and the case of its condition
     abbrev pub need_words : VariableId → Option (DenseId DisjunctionTag ℕ) → Requirement → List ℕ
     need_words p d r = codes "Requires(" ++ (variable_words p ++ (codes ", " ++ (requirement_words r ++ (case_words d ++ codes ")"))))
 
@@ -76,7 +76,7 @@ module _ {N S : Type 0} (m : Meaning N S) where
     abbrev pub excluded_words : VariableId → StringId → List ℕ
     excluded_words v s = codes "Excluded(" ++ (variable_words v ++ (codes ", " ++ (m.string_text s ++ codes ")")))
 
-    -- the kind of the clause, and what it names, in brackets
+    -- the kind of the clause, and its arguments in brackets
     abbrev pub clause_words : Clause N → List ℕ
     clause_words InstallRoot = codes "InstallRoot"
     clause_words (Requires p d r) = need_words p d r

@@ -1,4 +1,4 @@
--- What variables were made for.
+-- The origins of variables.
 use Rattle.std.specs.Prelude.{◌≡◌, ℕ, ◌+◌, Bool, false, List, [], ◌∷◌, ◌++◌, length, Option, Some, None, cond}
 use Rattle.resolvo_pool_core.specs.declared.id.VariableId.{VariableId}
 use Rattle.resolvo_pool_core.specs.declared.id_map.OptionalNumber.{OptionalNumber}
@@ -8,7 +8,7 @@ use Rattle.resolvo_store.specs.declared.variable_map.VariableOrigin.{VariableOri
 use Rattle.resolvo_store.specs.declared.variable_map.VariableOrigin.TheVariants.{Root, Solvable, ForbidMultiple, AtLeastOne, ConstrainsViolation, RequiresGate}
 
 module _ {N S : Type 0} (eq : S → S → Bool) where
-  -- the variable was made for this solvable
+  -- the origin is this solvable
   abbrev pub is_of : S → VariableOrigin N S → Bool
   is_of s Root = false
   is_of s (Solvable t) = eq s t
@@ -25,7 +25,7 @@ module _ {N S : Type 0} (eq : S → S → Bool) where
   abbrev pub place_of : S → List (VariableOrigin N S) → Option ℕ
   place_of s os = place_from 0 s os
 
-  -- the variable at the place was made for the solvable before, or is the next one, made for it now
+  -- the solvable is the origin of the variable at the place, which is an old one or the next one
   abbrev pub InternsAt : Option ℕ → S → VariableId → List (VariableOrigin N S) → List (VariableOrigin N S) → Type 0
   InternsAt None s v old new = (v.0 ≡ length old) × (new ≡ old ++ Solvable s ∷ [])
   InternsAt (Some i) s v old new = (v.0 ≡ i) × (new ≡ old)
@@ -38,10 +38,10 @@ module _ {N S : Type 0} (eq : S → S → Bool) where
   InternsOrRoot Ids.Root v old new = (v.0 ≡ 0) × (new ≡ old)
   InternsOrRoot (Ids.Solvable s) v old new = Interns s v old new
 
-  -- the number kept for each solvable is the place of its variable
+  -- the number of each solvable in the map is the place of its variable
   abbrev pub AreNumbers : List (VariableOrigin N S) → (S → OptionalNumber) → Type 0
   AreNumbers os number = (s : S) → (number s).0 ≡ place_of s os
 
--- the variable was made for no solvable
+-- the origin is no solvable
 abbrev pub IsHelper : {N S : Type 0} → VariableOrigin N S → Type 0
 IsHelper {N} {S} o = (eq : S → S → Bool) (s : S) → is_of eq s o ≡ false

@@ -1,4 +1,4 @@
--- A store of clauses as plain lists and functions.
+-- A clause store as plain lists and functions.
 use Rattle.std.specs.Prelude.{◌≡◌, ℕ, List, [], ◌∷◌, map, Option, Some, None, slice_get}
 use Rattle.std.specs.Option.{option_map, unwrap_or}
 use Rattle.resolvo_pool_core.specs.declared.id.ClauseId.{ClauseId}
@@ -18,7 +18,7 @@ use Rattle.resolvo_store_core.specs.declared.watched_literals.WatchedLiterals.{W
 use Rattle.resolvo_store_core.specs.declared.watch_map.WatchMap.{WatchMap}
 use Rattle.resolvo_store_core.specs.Watches.{watchers}
 
--- the lists that clauses name; clauses, with what each watches; for each literal the clauses that watch it; the trail; the registered need clauses; the scores
+-- the lists that clauses name; clauses, watched literals, watch lists, trail, need clauses, scores
 pub record Stored (N : Type 0) : Type 0 where
   pub candidates : Requirement → Option (List (Candidate N))
   pub disjunctions : List (List Signed)
@@ -30,7 +30,7 @@ pub record Stored (N : Type 0) : Type 0 where
   pub needs : List NeedClause
   pub score : N → ℕ
 
--- both are one store: equal lists, and functions that agree everywhere
+-- the stores are equal: equal lists, and functions that agree everywhere
 pub record Like {N : Type 0} (s t : Stored N) : Type 0 where
   pub candidates : (r : Requirement) → s.candidates r ≡ t.candidates r
   pub disjunctions : s.disjunctions ≡ t.disjunctions
@@ -42,7 +42,7 @@ pub record Like {N : Type 0} (s t : Stored N) : Type 0 where
   pub needs : s.needs ≡ t.needs
   pub score : (n : N) → s.score n ≡ t.score n
 
--- a store that holds the clause of the root alone
+-- a store of the root's clause alone
 abbrev pub new_store : {N : Type 0} → Stored N
 new_store = record {
   candidates = λ r. None;
@@ -61,7 +61,7 @@ abbrev pub condition_among : List (List Signed) → Option (DenseId DisjunctionT
 condition_among ds None = []
 condition_among ds (Some d) = unwrap_or (slice_get ds d.raw) []
 
--- what the ids of lists name in the store
+-- the lists of ids in the store
 abbrev pub names_in : {N : Type 0} → Stored N → Named N
 names_in s = record {
   candidates = λ r. unwrap_or (s.candidates r) [];
@@ -69,7 +69,7 @@ names_in s = record {
   learnt = λ l. unwrap_or (slice_get s.learnt l.raw) [];
 }
 
--- what a clause store keeps
+-- the fields of a clause store
 pub record Kept (N S : Type 0) : Type 0 where
   pub lists : FixedLists N
   pub clauses : List (Clause N)
@@ -79,7 +79,7 @@ pub record Kept (N S : Type 0) : Type 0 where
   pub needs : List NeedClause
   pub scores : S
 
--- what is kept, as plain lists
+-- the fields as plain lists
 abbrev pub plain : {N S : Type 0} → (S → N → ℕ) → Kept N S → Stored N
 plain score_of k = record {
   candidates = λ r. option_map (λ v. v.items) (slot_of k.lists.candidates r);

@@ -1,6 +1,6 @@
 //! Clauses and variables as texts, with the names of the variables' origins.
-//! The texts are for those who follow a search. A variable has its number too, since helpers share
-//! names.
+//! The texts are for traces of a search. A variable has its number too, since auxiliary variables
+//! share names.
 ghost use Rattle.std.specs.Prelude.{◌≡◌, ◌++◌, Some, codes};
 ghost use Rattle.std.specs.Fmt.{WritesOnOk};
 ghost use Rattle.resolvo_store.specs.ClauseText.{origin_words, variable_words, case_words, need_words, forbid_words, limit_words, pair_words, excluded_words, clause_words};
@@ -13,8 +13,8 @@ use resolvo_store_core::clause::Clause;
 use resolvo_store_core::literal::Literal;
 use std::fmt;
 
-/// A clause, to be written: its kind, and what it names, in brackets. Of a condition's case and of what
-/// was learnt the number is written.
+/// A clause, to be written: its kind, and its arguments in brackets. A condition's case and a
+/// learnt clause are written as numbers.
 #[derive(Drop)]
 pub struct ClauseDisplay<'a, I: Interner> {
     pub clause: Clause<I::NameId>,
@@ -22,8 +22,7 @@ pub struct ClauseDisplay<'a, I: Interner> {
     pub interner: &'a I,
 }
 
-/// A variable, to be written: what it was made for, and its number. One that the map doesn't have is
-/// `unknown`.
+/// A variable, to be written: its origin and its number. One that isn't in the map is `unknown`.
 #[derive(Drop)]
 pub struct VariableDisplay<'a, I: Interner> {
     pub variable: VariableId,
@@ -88,7 +87,7 @@ impl<I: Interner> ClauseDisplay<'_, I> {
         }
     }
 
-    /// Writes a need: its parent, its requirement, and the case in which it is one.
+    /// Writes a need: its parent, its requirement, and the case of its condition.
     fn write_need<W: fmt::Write>(
         &self,
         parent: VariableId,
@@ -118,7 +117,7 @@ impl<I: Interner> ClauseDisplay<'_, I> {
         write!(f, "Requires({parent}, {requirement}{case})")
     }
 
-    /// Writes a variable with the helper of its package, or its negation.
+    /// Writes a variable with the literal of a digit, and their package.
     fn write_forbid<W: fmt::Write>(
         &self,
         variable: VariableId,
@@ -262,7 +261,7 @@ impl<I: Interner> fmt::Display for VariableDisplay<'_, I> {
     }
 }
 
-/// What a variable was made for, if it is there, to be written.
+/// The origin of a variable, if there is one, to be written.
 #[derive(Drop)]
 struct OriginDisplay<'a, I: Interner> {
     origin: Option<VariableOrigin<I::NameId, I::SolvableId>>,

@@ -1,7 +1,7 @@
-//! A store of clauses: the lists that clauses name, the clauses with what they watch, the trail, the
-//! registered need clauses and the packages' scores.
-//! Its model is plain lists and functions (`plain`). Each call's contract says how it changes them, up to
-//! `Like`, which calls functions the same where they agree everywhere. `run` takes a list of calls.
+//! A clause store: the lists that clauses name, the clauses with their watched literals, the trail,
+//! the registered need clauses and the packages' scores.
+//! Its model is plain lists and functions (`plain`). Contracts describe its changes up to `Like`:
+//! equal lists, and functions that agree everywhere. `run` takes a list of calls.
 ghost use Rattle.std.specs.Prelude.{◌≡◌, ◌++◌, ◌∷◌, [], List, Option, Some, false, OnOk, OnErr, IfOk, IsErrOf, IsOkUnless, length, true, None};
 ghost use Rattle.std.specs.List.{list_all};
 ghost use Rattle.resolvo_pool_core.specs.declared.want.Want.TheVariants.{Memory, Ids};
@@ -32,10 +32,10 @@ use resolvo_store_core::watched_literals::WatchedLiterals;
 use std::alloc::Global;
 use std::marker::Model;
 
-/// How many clauses there can be.
+/// The most clauses.
 const CLAUSES: usize = 4_294_967_295;
 
-/// Clauses with all that a decision rests on. `N` is the type of package names.
+/// Clauses with the input of decisions. `N` is the type of package names.
 pub struct ClauseStore<N: SolverId> {
     lists: FixedLists<N>,
     clauses: Vec<Clause<N>>,
@@ -88,7 +88,7 @@ impl<N: SolverId> Model for ClauseStore<N> {
 }
 
 impl<N: SolverId + Drop> ClauseStore<N> {
-    /// A store that holds the clause of the root alone, which is clause 0.
+    /// A store of the root's clause alone, which is clause 0.
     pub fn new(alloc: Global) -> R<ClauseStore<N>>
         ensures store { IfOk result (λ s. Like (plain N.Scores.score_of s) new_store) }
         ensures refusal { IsOkUnless result Memory }
@@ -109,7 +109,7 @@ impl<N: SolverId + Drop> ClauseStore<N> {
         })
     }
 
-    /// Whether a requirement has no candidates yet, and literals can have these new ones.
+    /// Whether a requirement has no candidates yet, and literals can be made of these.
     pub fn can_fix(&self, requirement: Requirement, groups: &[(N, Vec<VariableId>)]) -> bool
         ensures { result ≡ can_fix (plain N.Scores.score_of self.now) requirement groups.now }
     {
@@ -117,7 +117,7 @@ impl<N: SolverId + Drop> ClauseStore<N> {
         is_new && are_in_range(groups)
     }
 
-    /// Gives a requirement its candidates: packages, each with versions.
+    /// Sets the candidates of a requirement: packages, each with versions.
     pub fn fix_candidates(
         &mut self,
         requirement: Requirement,
@@ -136,7 +136,7 @@ impl<N: SolverId + Drop> ClauseStore<N> {
         self.lists.fix_candidates(requirement, candidates)
     }
 
-    /// Adds the literals of a condition's case. The first has number 0.
+    /// Adds the literals of a condition's case. The first case has number 0.
     pub fn fix_disjunction(&mut self, literals: Vec<Literal>) -> R<DisjunctionId>
         ensures number { IfOk result (λ id. id.raw ≡ length (plain N.Scores.score_of
             self.old).disjunctions) }
@@ -151,7 +151,7 @@ impl<N: SolverId + Drop> ClauseStore<N> {
         self.lists.fix_disjunction(Disjunction { literals })
     }
 
-    /// Adds the literals of a learnt clause. The first has number 0.
+    /// Adds the literals of a learnt clause. The first clause has number 0.
     pub fn fix_learnt(&mut self, literals: Vec<Literal>) -> R<LearntClauseId>
         ensures number { IfOk result (λ id. id.raw ≡ length (plain N.Scores.score_of
             self.old).learnt) }
@@ -166,7 +166,8 @@ impl<N: SolverId + Drop> ClauseStore<N> {
         self.lists.fix_learnt(literals)
     }
 
-    /// Whether what a clause names is there, and it watches two different literals of its own, or none.
+    /// Whether the lists that a clause names exist, and it watches two different literals of its
+    /// own or none.
     pub fn can_add(&self, clause: &Clause<N>, watched: Option<WatchedLiterals>) -> bool
         ensures { result ≡ can_add (plain N.Scores.score_of self.now) clause.now watched }
     {
@@ -179,7 +180,7 @@ impl<N: SolverId + Drop> ClauseStore<N> {
         is_watchable(clause, &self.lists, watched)
     }
 
-    /// Adds a clause with what it watches. Clause 0 is that of the root.
+    /// Adds a clause with its watched literals. Clause 0 is that of the root.
     pub fn add_clause(&mut self, clause: Clause<N>, watched: Option<WatchedLiterals>) -> R<ClauseId>
         requires { can_add (plain N.Scores.score_of self.old) clause watched ≡ true }
         ensures number { IfOk result (λ id. id.0 ≡ length (plain N.Scores.score_of
@@ -204,7 +205,7 @@ impl<N: SolverId + Drop> ClauseStore<N> {
         Ok(id)
     }
 
-    /// Whether the clause, the candidates and the condition that a need clause names are there.
+    /// Whether the clause, the candidates and the condition that a need clause names exist.
     pub fn can_register(&self, need: &NeedClause) -> bool
         ensures { result ≡ can_register (plain N.Scores.score_of self.now) need.now }
     {
@@ -213,7 +214,7 @@ impl<N: SolverId + Drop> ClauseStore<N> {
             && self.lists.has_condition(need.condition)
     }
 
-    /// Registers a need clause behind the others.
+    /// Registers a need clause after the others.
     pub fn register(&mut self, need: NeedClause) -> R<()>
         requires { can_register (plain N.Scores.score_of self.old) need ≡ true }
         ensures store { OnOk result
@@ -226,8 +227,8 @@ impl<N: SolverId + Drop> ClauseStore<N> {
         self.queue.register_clause(need)
     }
 
-    /// Lets the clauses that watch a literal watch others: the i-th that is met watches the i-th of
-    /// `moves` from then on, unless there is none or it watches that one already.
+    /// Visits the clauses that watch a literal. The i-th visited one watches the i-th of `moves`
+    /// instead, unless there is none or it watches that one already.
     pub fn walk(&mut self, literal: Literal, moves: &[Option<Literal>]) -> R<Vec<ClauseId>>
         ensures met { IfOk result (λ v. v.items ≡ (plain N.Scores.score_of self.old).watchers
             literal) }
@@ -242,22 +243,22 @@ impl<N: SolverId + Drop> ClauseStore<N> {
             .walk(self.alloc, &mut self.watched, literal, moves)
     }
 
-    /// Whether a clause is there.
+    /// Whether the store has a clause.
     fn has_clause(&self, clause: ClauseId) -> bool
         ensures { result ≡ has_clause (plain N.Scores.score_of self.now) clause }
     {
         clause.to_index() < self.clauses.len()
     }
 
-    /// Whether a decision can have a clause as its reason at a level: the clause is there, and the level isn't
-    /// below that of the last decision.
+    /// Whether a clause can be the reason of an assignment at a level: it exists, and the level
+    /// isn't below that of the last assignment.
     pub fn can_assign(&self, clause: ClauseId, level: u32) -> bool
         ensures { result ≡ can_assign (plain N.Scores.score_of self.now) clause level }
     {
         self.has_clause(clause) && level >= self.tracker.last_level()
     }
 
-    /// Adds a decision at the end of the trail, unless its variable has a value.
+    /// Appends an assignment to the trail, unless its variable has a value.
     pub fn assign(&mut self, decision: Decision, level: u32) -> R<Set>
         requires { can_assign (plain N.Scores.score_of self.old) decision.derived_from level
             ≡ true }
@@ -276,14 +277,14 @@ impl<N: SolverId + Drop> ClauseStore<N> {
         self.tracker.try_add_decision(decision, level)
     }
 
-    /// The clause of a decision's need whose literals are all false: the first one by position.
+    /// The first registered clause that is falsified, by position.
     pub fn falsified(&self) -> Option<ClauseId>
         ensures { result ≡ broken_in (plain N.Scores.score_of self.now) }
     {
         self.queue.falsified(&self.lists, self.tracker.map())
     }
 
-    /// What is to be decided next, or none where no clause is eligible.
+    /// The next decision, or none where no clause is eligible.
     pub fn next_decision(&mut self) -> R<Option<NextDecision>>
         requires { broken_in (plain N.Scores.score_of self.old) ≡ None }
         ensures answer { IfOk result (λ d. d ≡ picked_in (plain N.Scores.score_of self.old)) }
@@ -297,14 +298,14 @@ impl<N: SolverId + Drop> ClauseStore<N> {
         )
     }
 
-    /// Says whether scores are raised at all. No answer rests on it.
+    /// Sets whether scores are bumped at all. No answer depends on it.
     pub fn set_standard_activity_params(&mut self, is_standard: bool)
         ensures { Like (plain N.Scores.score_of self.new) (plain N.Scores.score_of self.old) }
     {
         self.queue.set_standard_activity_params(is_standard);
     }
 
-    /// Raises a package's score, not past the highest.
+    /// Bumps a package's score, to the highest number at most.
     pub fn bump_name(&mut self, name: N, add: u64) -> R<()>
         ensures store { OnOk result
             (Like (plain N.Scores.score_of self.new)
@@ -321,7 +322,7 @@ impl<N: SolverId + Drop> ClauseStore<N> {
         }
     }
 
-    /// Scales each score by this number of millionths, rounding down.
+    /// Decays each score to this number of millionths, rounded down.
     pub fn decay(&mut self, per_million: u64)
         requires { can_decay per_million ≡ true }
         ensures { Like (plain N.Scores.score_of self.new)
@@ -330,8 +331,8 @@ impl<N: SolverId + Drop> ClauseStore<N> {
         self.scores.scale(per_million);
     }
 
-    /// Takes the last decision away; answers it with the level of the one before it, or 0. None where
-    /// there is no decision.
+    /// Removes the last assignment. Returns it with the level of the one before it, or 0. None
+    /// where the trail is empty.
     pub fn undo_last(&mut self) -> Option<(Decision, u32)>
         ensures answer { result ≡ last_undone (plain N.Scores.score_of self.old).trail }
         ensures store { Like (plain N.Scores.score_of self.new)
@@ -343,7 +344,7 @@ impl<N: SolverId + Drop> ClauseStore<N> {
         Some(self.tracker.undo_last())
     }
 
-    /// Takes the decisions above a level away, from the end to the first that is not above it.
+    /// Removes assignments from the end of the trail, up to the first that is not above a level.
     pub fn undo_until(&mut self, level: u32)
         ensures { Like (plain N.Scores.score_of self.new)
             (undone_until level (plain N.Scores.score_of self.old)) }
@@ -368,7 +369,7 @@ fn candidates_of<N: Copy + Drop>(
     Ok(candidates)
 }
 
-/// Adds the versions of a package behind the candidates.
+/// Appends the versions of a package to the candidates.
 fn push_versions<N: Copy + Drop>(
     candidates: &mut Vec<Candidate<N>>,
     name: N,
@@ -389,7 +390,7 @@ fn push_versions<N: Copy + Drop>(
     Ok(())
 }
 
-/// Whether literals can have all these variables.
+/// Whether all these variables fit into literals.
 fn are_in_range<N>(groups: &[(N, Vec<VariableId>)]) -> bool
     ensures { result ≡ list_all (λ g. list_all is_in_range g.1.items) groups.now }
 {
@@ -421,7 +422,7 @@ fn is_watchable<N: Copy>(
     }
 }
 
-/// Lets a new clause watch its two literals, if it watches any.
+/// Adds a new clause to the lists of its two watched literals, if it has any.
 fn begin(watches: &mut WatchMap, watched: &Option<WatchedLiterals>, clause: ClauseId) -> R<()>
     requires { (p : WatchedLiterals) → watched.now ≡ Some p
         → same_literal p.first p.second ≡ false }

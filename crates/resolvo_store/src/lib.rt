@@ -1,5 +1,4 @@
-//! A store of clauses, with the calls that it takes, and the origin of each variable, and clauses as
-//! texts.
+//! A clause store with its calls, the origins of variables, and the texts of clauses.
 #![tactic(auto)]
 
 pub mod clause_display;

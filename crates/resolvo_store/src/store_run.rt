@@ -25,10 +25,11 @@ use std::alloc::Global;
 const MILLION: u64 = 1_000_000;
 
 impl<N: SolverId + Drop> ClauseStore<N> {
-    /// Does the calls in turn, and answers each. A call whose condition doesn't hold is answered `Bad`
-    /// and changes nothing: a requirement gets its candidates once; what a call names is there; watches
-    /// are two different literals of the added clause; no assignment is below the last one's level; no
-    /// score grows by a decay. After a refusal the store is as after the calls before the refused one.
+    /// Carries out the calls in turn. A call whose condition doesn't hold has the answer `Bad` and
+    /// changes nothing. The conditions: a requirement gets candidates once; the lists that a call
+    /// names exist; the watched literals of a clause are two of its own; no assignment is below the
+    /// last one's level; no decay raises a score. After a refusal the store is that before the
+    /// refused call.
     pub fn run(&mut self, alloc: Global, calls: &[StoreCall<N>]) -> R<Vec<StoreAnswer>>
         ensures answers { IfOk result
             (λ v. map told v.items ≡ answers_of N.eq (plain N.Scores.score_of self.old) calls.now) }
@@ -47,7 +48,7 @@ impl<N: SolverId + Drop> ClauseStore<N> {
         Ok(answers)
     }
 
-    /// Does a call, and answers it.
+    /// Carries out a call.
     fn do_call(&mut self, alloc: Global, call: &StoreCall<N>) -> R<StoreAnswer>
         ensures answer { IfOk result (λ a. told a ≡ answer_of (plain N.Scores.score_of self.old)
             call.now) }
@@ -105,7 +106,7 @@ impl<N: SolverId + Drop> ClauseStore<N> {
         }
     }
 
-    /// Gives a requirement its candidates, if it may get these.
+    /// Sets the candidates of a requirement, if that is allowed.
     fn try_fix(
         &mut self,
         requirement: Requirement,
@@ -163,7 +164,7 @@ impl<N: SolverId + Drop> ClauseStore<N> {
         Ok(StoreAnswer::Done)
     }
 
-    /// Adds a clause, if what it names is there and it watches literals of its own.
+    /// Adds a clause, if the lists that it names exist and it watches literals of its own.
     fn try_add(&mut self, clause: Clause<N>, watched: Option<WatchedLiterals>) -> R<StoreAnswer>
         ensures answer { IfOk result
             (λ a.
@@ -186,7 +187,7 @@ impl<N: SolverId + Drop> ClauseStore<N> {
         Ok(StoreAnswer::Added(self.add_clause(clause, watched)?))
     }
 
-    /// Registers a need clause, if what it names is there.
+    /// Registers a need clause, if the lists that it names exist.
     fn try_register(&mut self, need: NeedClause) -> R<StoreAnswer>
         ensures answer { IfOk result
             (λ a. told a ≡ cond (can_register (plain N.Scores.score_of self.old) need) (Done) Bad) }
@@ -206,7 +207,7 @@ impl<N: SolverId + Drop> ClauseStore<N> {
         Ok(StoreAnswer::Done)
     }
 
-    /// Adds a decision, if its clause is there and no decision is at a higher level.
+    /// Adds an assignment, if its reason exists and no assignment is at a higher level.
     fn try_assign(&mut self, decision: Decision, level: u32) -> R<StoreAnswer>
         ensures answer { IfOk result
             (λ a.
@@ -231,7 +232,7 @@ impl<N: SolverId + Drop> ClauseStore<N> {
         Ok(StoreAnswer::Set(self.assign(decision, level)?))
     }
 
-    /// Scales each score, if none grows by it.
+    /// Decays each score, if none grows by it.
     fn try_decay(&mut self, per_million: u64) -> StoreAnswer
         ensures answer { told result ≡ cond (can_decay per_million) Done Bad }
         ensures store { Like (plain N.Scores.score_of self.new)
@@ -245,7 +246,7 @@ impl<N: SolverId + Drop> ClauseStore<N> {
         StoreAnswer::Done
     }
 
-    /// The next decision, or in its place a clause whose literals are all false.
+    /// The next decision, or a falsified clause in its place.
     fn decide(&mut self) -> R<StoreAnswer>
         ensures answer { IfOk result
             (λ a.

@@ -1,6 +1,6 @@
 //! The origin of each variable.
-//! Its model is the list of what each variable was made for, from the root on; a variable's place is
-//! its index. Solvables get theirs once, helpers get a new one each time.
+//! Its model is the list of origins, from the root on; a variable is the index of its origin. A
+//! solvable gets one variable; each auxiliary variable is new.
 ghost use Rattle.std.specs.Prelude.{◌≡◌, ◌<◌, ◌++◌, ◌∷◌, [], ◌≤◌, ◌+◌, length, slice_get, Some, IfOk, OnErr, IsErrOf, IsOkUnless};
 ghost use Rattle.std.specs.Option.{option_map};
 ghost use Rattle.resolvo_pool_core.specs.declared.want.Want.TheVariants.{Ids};
@@ -15,23 +15,23 @@ use resolvo_pool_core::want::{R, Want};
 use std::alloc::Global;
 use std::marker::Model;
 
-/// How many variables there can be beside the root.
+/// The most variables, without the root's.
 const OTHERS: usize = 2_147_483_646;
 
-/// What a variable was made for.
+/// The origin of a variable.
 #[derive(Clone, Copy, Debug, Drop)]
 pub enum VariableOrigin<N, S> {
     /// The problem itself.
     Root,
     /// A solvable.
     Solvable(S),
-    /// A digit of the places of a package's versions.
+    /// A digit of the at-most-one encoding of a package.
     ForbidMultiple(N),
     /// Some version of the package is chosen.
     AtLeastOne(N),
     /// Some version outside the version set is chosen.
     ConstrainsViolation(VersionSetId),
-    /// Some parent has this requirement.
+    /// The gate of a requirement that several parents share.
     RequiresGate(Requirement),
 }
 
@@ -58,7 +58,7 @@ impl<N, S: SolverId> Model for VariableMap<N, S> {
 }
 
 impl<N: Copy + Drop, S: SolverId> VariableMap<N, S> {
-    /// A map that has the root alone.
+    /// A map of the root alone.
     pub fn new(alloc: Global) -> VariableMap<N, S>
         ensures { result ≡ Root ∷ [] }
     {
@@ -68,14 +68,14 @@ impl<N: Copy + Drop, S: SolverId> VariableMap<N, S> {
         }
     }
 
-    /// How many variables there are, the root among them.
+    /// The number of variables, with the root's.
     pub fn count(&self) -> usize
         ensures { result ≡ length self.now }
     {
         self.origins.len() + 1
     }
 
-    /// What a variable was made for.
+    /// The origin of a variable.
     pub fn origin(&self, variable: VariableId) -> VariableOrigin<N, S>
         requires { variable.0 < length self.now }
         ensures { slice_get self.now variable.0 ≡ Some result }
@@ -86,7 +86,7 @@ impl<N: Copy + Drop, S: SolverId> VariableMap<N, S> {
         }
     }
 
-    /// What a variable was made for, if it is there.
+    /// The origin of a variable, if the map has it.
     pub fn find_origin(&self, variable: VariableId) -> Option<VariableOrigin<N, S>>
         ensures { result ≡ slice_get self.now variable.0 }
     {
@@ -107,7 +107,7 @@ impl<N: Copy + Drop, S: SolverId> VariableMap<N, S> {
         }
     }
 
-    /// The variable of a solvable, which gets a new one where it has none.
+    /// The variable of a solvable, allocated where it has none.
     pub fn intern_solvable(&mut self, solvable: S) -> R<VariableId>
         ensures interned { IfOk result (λ v. Interns S.eq solvable v self.old self.new) }
         ensures err { OnErr result (self.new ≡ self.old) }
@@ -141,7 +141,7 @@ impl<N: Copy + Drop, S: SolverId> VariableMap<N, S> {
         }
     }
 
-    /// A new variable for a digit of the places of a package's versions.
+    /// A new variable for a digit of the at-most-one encoding of a package.
     pub fn alloc_forbid_multiple_variable(&mut self, name: N) -> R<VariableId>
         ensures new { IfOk result
             (λ v. (v.0 ≡ length self.old) × (self.new ≡ self.old ++ ForbidMultiple name ∷ [])) }
@@ -151,7 +151,7 @@ impl<N: Copy + Drop, S: SolverId> VariableMap<N, S> {
         self.alloc(VariableOrigin::ForbidMultiple(name))
     }
 
-    /// A new variable that says that some version of a package is chosen.
+    /// A new variable that is true where some version of a package is chosen.
     pub fn alloc_at_least_one_variable(&mut self, name: N) -> R<VariableId>
         ensures new { IfOk result
             (λ v. (v.0 ≡ length self.old) × (self.new ≡ self.old ++ AtLeastOne name ∷ [])) }
@@ -161,7 +161,7 @@ impl<N: Copy + Drop, S: SolverId> VariableMap<N, S> {
         self.alloc(VariableOrigin::AtLeastOne(name))
     }
 
-    /// A new variable that says that some version outside a version set is chosen.
+    /// A new variable that is true where some version outside a version set is chosen.
     pub fn alloc_constrains_violation_variable(&mut self, via: VersionSetId) -> R<VariableId>
         ensures new { IfOk result
             (λ v. (v.0 ≡ length self.old) × (self.new ≡ self.old ++ ConstrainsViolation via ∷ [])) }
@@ -171,7 +171,7 @@ impl<N: Copy + Drop, S: SolverId> VariableMap<N, S> {
         self.alloc(VariableOrigin::ConstrainsViolation(via))
     }
 
-    /// A new variable between a requirement and its candidates.
+    /// A new gate between the parents of a requirement and its candidates.
     pub fn alloc_requires_gate_variable(&mut self, requirement: Requirement) -> R<VariableId>
         ensures new { IfOk result
             (λ v.
@@ -200,7 +200,7 @@ impl<N: Copy + Drop, S: SolverId> VariableMap<N, S> {
     }
 }
 
-/// The variable that follows the root and this number of others, unless all were given.
+/// The variable after the root and this number of others, unless all ids are used.
 fn next_variable(count: usize) -> R<VariableId>
     ensures next { IfOk result (λ v. (v.0 ≡ count + 1) × (count < 2147483646)) }
     ensures ids { IsErrOf result Ids → 2147483646 ≤ count }

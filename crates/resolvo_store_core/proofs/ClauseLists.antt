@@ -64,7 +64,7 @@ nothing_left [] (suc place) e = refl
 nothing_left (x ∷ xs) zero e = cc
 nothing_left (x ∷ xs) (suc place) e = nothing_left xs place e
 
--- what is left after the clause at the place was taken out
+-- the list without the clause at the place
 pub drop_taken : (xs : List ClauseId) (place : ℕ) → place < length xs → drop place (take place xs ++ drop (suc place) xs) ≡ drop (suc place) xs
 drop_taken xs place h = drop_at (take place xs) (drop (suc place) xs) place (length-take-le place xs (omega arith))
 
@@ -117,7 +117,7 @@ list_past (x ∷ ls) (suc i) h = list_past ls i (omega arith)
 pub get_past_all : (ls : List (Vec ClauseId Global)) (i place : ℕ) → length ls ≤ i → slice_get (list_at ls i) place ≡ None
 get_past_all ls i place h = ap (λ (xs : List ClauseId). slice_get xs place) (list_past ls i h)
 
--- the list at an index is as long as what is read there
+-- the list at an index is as long as its vector
 pub read_length : (ls : List (Vec ClauseId Global)) (i j place : ℕ) (v : Vec ClauseId Global) → i ≡ j → place < length (list_at ls j) → v ≡ get_or ls i v → place < length v.items
 read_length ls i j place v at h read =
     let within : j < length ls = list_in_range ls j place h in
@@ -132,7 +132,7 @@ some_within [] place h e = absurd (omega arith)
 some_within (x ∷ xs) zero h e = cc
 some_within (x ∷ xs) (suc place) h e = some_within xs place (omega arith) e
 
--- a clause at the end of a vector is at the front of the list
+-- a clause at the end of a vector is the first of the list
 pub reverse_push : (xs : List ClauseId) (c : ClauseId) → reverse (xs ++ c ∷ []) ≡ c ∷ reverse xs
 reverse_push xs c = reverse-append xs (c ∷ [])
 
@@ -145,7 +145,7 @@ taken_between (x ∷ xs) ys c = ap (λ (zs : List ClauseId). x ∷ zs) (taken_be
 reverse_around : (xs ys : List ClauseId) (c : ClauseId) → reverse (xs ++ c ∷ ys) ≡ reverse ys ++ c ∷ reverse xs
 reverse_around xs ys c = reverse-append xs (c ∷ ys) ∙ ap (λ (zs : List ClauseId). zs ++ reverse xs) (reverse-append (c ∷ []) ys) ∙ append_assoc (reverse ys) (c ∷ []) (reverse xs)
 
--- what is taken out so far from the end of a vector goes from that place of the list
+-- removing at a distance from the end of a vector removes at that place of the list
 pub reverse_taken : (xs : List ClauseId) (place at : ℕ) → place < length xs → at ≡ length xs - 1 - place → reverse (take at xs ++ drop (suc at) xs) ≡ take place (reverse xs) ++ drop (suc place) (reverse xs)
 reverse_taken xs place at below is = go (slice_get xs at) refl
   where

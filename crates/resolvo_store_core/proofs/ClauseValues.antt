@@ -5,11 +5,11 @@ use Rattle.std.proofs.lemmas.List.Elements.{All-push, Contains-push, Contains-ap
 use Rattle.resolvo_store_core.specs.Signed.{Signed}
 use Rattle.resolvo_store_core.specs.Clauses.{IsValueOf}
 
--- one more of a list that is read from the front
+-- one more element of a list that is read in order
 pub one_more : {X : Type 0} (xs ys zs all : List X) (x : X) → xs ++ ys ≡ all → ys ≡ x ∷ zs → (xs ++ x ∷ []) ++ zs ≡ all
 one_more xs ys zs all x whole e = append_assoc xs (x ∷ []) zs ∙ ap (λ w. xs ++ w) (sym e) ∙ whole
 
--- what is read next from a list is in it
+-- the element read next is in the list
 pub is_among : {X : Type 0} (xs ys zs all : List X) (x : X) → xs ++ ys ≡ all → ys ≡ x ∷ zs → Contains all x
 is_among xs ys zs all x whole e =
     let first : Contains (x ∷ zs) x = (0, omega arith, refl) in

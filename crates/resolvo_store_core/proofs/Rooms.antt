@@ -58,7 +58,7 @@ room_reserved ls mid i j v u more h e len cap =
     let b = room_set mid i j 0 v u h e (omega arith) in
     omega arith
 
--- a list that one clause came to, with the others
+-- a list with one clause more, and the other lists
 pub room_filled : (ls mid : List (Vec ClauseId Global)) (i j : ℕ) (v u : Vec ClauseId Global) → ((k : ℕ) → room_at ls k ≤ room_at mid k) → i < length mid → v ≡ get_or mid i v → vec_len u ≡ vec_len v + 1 → vec_capacity v ≤ vec_capacity u → room_at ls j ≤ room_at (set mid i u) j + 1
 room_filled ls mid i j v u more h e len cap =
     let a = more j in
@@ -82,7 +82,7 @@ first_has_room w (Some m ∷ os) l h e =
     let b : 1 ≤ room w m = omega arith in
     subst (λ (x : Signed). 1 ≤ room w x) same b
 
--- what is left of the literals has room for as many as are left
+-- the remaining literals have room for as many
 pub rest_has_room : (old new : WatchMap) (os : List (Option Signed)) → ((l : Signed) → room old l ≤ room new l + 1) → HasRoom (length os) old os → HasRoom (length (drop 1 os)) new (drop 1 os)
 rest_has_room old new [] less h = record {}
 rest_has_room old new (None ∷ os) less h = less_room (length os) 1 old new os less (smaller_room (length os + 1) (suc (length os)) old os (omega arith) h)

@@ -87,7 +87,7 @@ at_most_one_is_met t value one = (λ i. digit (position_or_len value t.variables
         let at : position_or_len value t.variables ≤ k = before k d p in
         one (position_or_len value t.variables) k d (omega arith) a (passes_at_first value t.variables d (omega arith)) p
 
--- the clauses that come with a variable, and those before, are those of the tracker with it
+-- the clauses of a new variable and the older clauses are those of the tracker with it
 pub come_all : {V : Type 0} (eq : V → V → Bool) (t : Tracking V) (x : V) (o : Option V) → is_some o ≡ needs_helper eq t x → (p : V × V × Bool → Bool) → count_by p (all_ties (tracked eq t x o)) ≡ count_by p (all_ties t) + count_by p (new_ties eq t x o)
 come_all {V} eq t x o need p = go (among eq t x) o need
   where

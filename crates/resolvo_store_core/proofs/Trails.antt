@@ -27,7 +27,7 @@ pub last_level_none : (es : List Entry) → 0 < last_level es → 0 < length es
 last_level_none [] h = absurd (omega arith)
 last_level_none (e ∷ es) h = omega arith
 
--- an entry at the end says something of its own variable alone, where that had none
+-- an appended entry assigns its own variable alone, where that has no value
 pub assigned_end_same : (es : List Entry) (e : Entry) → assigned es e.decision.variable.0 ≡ None → assigned (es ++ e ∷ []) e.decision.variable.0 ≡ Some (assignment_of e)
 assigned_end_same [] e h = ap (λ b. cond b (Some (assignment_of e)) None) (eq-eqb e.decision.variable.0 e.decision.variable.0 refl)
 assigned_end_same (d ∷ es) e h = go (d.decision.variable.0 == e.decision.variable.0) h (assigned_end_same es e)
@@ -44,7 +44,7 @@ assigned_end_other [] e v h = go (e.decision.variable.0 == v) refl
     go false q = refl
 assigned_end_other (d ∷ es) e v h = ap (λ o. cond (d.decision.variable.0 == v) (Some (assignment_of d)) o) (assigned_end_other es e v h)
 
--- what the front of a trail leaves open, an entry before it does too
+-- a variable without a value in a trail has none in a prefix of it
 assigned_front : (es : List Entry) (e : Entry) (v : ℕ) → assigned (es ++ e ∷ []) v ≡ None → assigned es v ≡ None
 assigned_front [] e v h = refl
 assigned_front (d ∷ es) e v h = go (d.decision.variable.0 == v) h (assigned_front es e v)

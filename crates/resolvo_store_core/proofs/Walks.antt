@@ -45,7 +45,7 @@ lists_after_same from pairs (c ∷ cs) moves v u same l =
     moved_same None m = same m
     moved_same (Some to) m = ap (λ (xs : List ClauseId). cond (same_literal from m) (without c.0 xs) (cond (same_literal to m) (c ∷ xs) xs)) (same m)
 
--- the lists after a move are those that the move is said to give
+-- the lists after a move are those of its definition
 pub moved_is : (c : ClauseId) (from : Signed) (place : ℕ) (to : Signed) (v u : Signed → List ClauseId) → count c.0 (v from) ≡ 1 → MovesIn c from place to v u → SameLists (moved_view from c (Some to) v) u
 moved_is c from place to v u once moved m = go (cases_literal from m) (cases_literal to m)
   where
@@ -133,7 +133,7 @@ pub lists_all : (from : Signed) (met : List ClauseId) (moves : List (Option Sign
 lists_all from met moves pairs view place rest now v walk end l =
     sym (ap (λ (xs : List ClauseId). lists_after from pairs xs moves view l) (met_all from met moves pairs view place rest now v walk end) ∙ walk.lists l ∙ ap (λ (xs : List ClauseId). lists_after from now xs rest v l) (nothing_left (v from) place end))
 
--- what was met is less than the list, where a clause is left
+-- the visited clauses are fewer than the list, where a clause is left
 pub met_fewer : (from : Signed) (met : List ClauseId) (moves : List (Option Signed)) (pairs : List (Option WatchedLiterals)) (view : Signed → List ClauseId) (place : ℕ) (rest : List (Option Signed)) (now : List (Option WatchedLiterals)) (v : Signed → List ClauseId) (c : ClauseId) → IsWalking from met moves pairs view place rest now v → slice_get (v from) place ≡ Some c → length met < length (view from)
 met_fewer from met moves pairs view place rest now v c walk at =
     let whole : length (view from) ≡ length (met ++ c ∷ drop (suc place) (v from)) = ap length (walk.split ∙ ap (λ (xs : List ClauseId). met ++ xs) (drop_here (v from) place c at)) in
@@ -149,6 +149,6 @@ new_watch_is p (Some t) to e = go (watches p t) e
     go true r = cc
     go false r = r
 
--- what holds of an answer that is no refusal
+-- a property of an answer, unless the call is refused
 pub ok_gives : {X E : Type 0} (P : Type 0) (r : Result X E) (x : X) → OnOk r P → r ≡ Ok x → P
 ok_gives P r x h e = subst (λ q. OnOk q P) e h

@@ -29,7 +29,7 @@ took_out ls new l i place at v v' index within read below from_end taken is =
       others = λ m n. ap (λ (xs : List (Vec ClauseId Global)). list_at xs (index_in m)) is ∙ list_at-set_other ls i (index_in m) v' (λ e. index_differs l m n (sym index ∙ e));
     }
 
--- a clause that was put to the front of two lists
+-- a clause that was inserted first into two lists
 pub starts_in : (c : ClauseId) (p : WatchedLiterals) (a b d : Signed → List ClauseId) → same_literal p.first p.second ≡ false → PutsFirst c p.first a b → PutsFirst c p.second b d → StartsIn c p a d
 starts_in c p a b d differ one two = record {
   first = two.others p.first (differs_sym p.first p.second differ) ∙ one.put;
@@ -37,7 +37,7 @@ starts_in c p a b d differ one two = record {
   others = λ l n. two.others l (both_false _ _ n).1 ∙ one.others l (both_false _ _ n).0;
 }
 
--- a clause that was put to a front and taken out again
+-- a clause that was inserted first and removed again
 pub put_and_taken : (c : ClauseId) (l : Signed) (a b b' d : Signed → List ClauseId) → PutsFirst c l a b → SameLists b b' → TakesOut l 0 b' d → SameLists a d
 put_and_taken c l a b b' d put same out m = go (cases_literal l m)
   where

@@ -1,4 +1,4 @@
--- Lemmas on what clauses watch.
+-- Lemmas on the watched literals of clauses.
 use Rattle.std.proofs.Common.{◌≡◌, ℕ, zero, suc, ◌+◌, ◌<◌, ◌≤◌, ◌⊎◌, inl, inr, Bool, true, false, ◌||◌, List, [], ◌∷◌, ◌++◌, take, drop, length, get_or, set, cond, Option, Some, None, refl, sym, ◌∙◌, ap, subst, arith, eqb}
 use Rattle.std.specs.Prelude.{slice_get}
 use Rattle.std.proofs.lemmas.Bool.{both_ways, or_cases, or_left, or_right, cases_Bool}
@@ -71,7 +71,7 @@ pair_before_end [] x (suc c) h = refl
 pair_before_end (p ∷ ps) x zero h = refl
 pair_before_end (p ∷ ps) x (suc c) h = pair_before_end ps x c (λ e. h (ap suc e))
 
--- what a watched literal of a clause in the list comes to
+-- the watched literals of a clause that watches the literal
 pub watched_at : (ps : List (Option WatchedLiterals)) (c : ℕ) (l : Signed) → watches (pair_at ps c) l ≡ true → (p : WatchedLiterals) × (pair_at ps c ≡ Some p) × (watches (Some p) l ≡ true)
 watched_at ps c l h = go (pair_at ps c) refl h
   where
@@ -241,7 +241,7 @@ started_well ps old new cl p number well differ starts = record { once = λ l d.
         subst (λ (x : WatchedLiterals). same_literal x.first x.second ≡ false) same differ
     differs d r e (inr k) = well.differ d r (sym (pair_before_end ps (Some p) d k.1) ∙ e)
 
--- a clause that watches nothing came
+-- a clause without watched literals was added
 pub unwatched_well : (ps : List (Option WatchedLiterals)) (view : Signed → List ClauseId) → IsWatched ps view → IsWatched (ps ++ None ∷ []) view
 unwatched_well ps view well = record { once = λ l c. well.once l c ∙ ap (λ (o : Option WatchedLiterals). one_if (watches o l)) (sym (none_more ps c)); differ = λ c p e. well.differ c p (sym (none_more ps c) ∙ e) }
   where

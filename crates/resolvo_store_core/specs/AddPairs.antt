@@ -1,4 +1,4 @@
--- What becomes of a decision that is added.
+-- The outcome of an added assignment.
 use Rattle.std.specs.Prelude.{Bool, true, false, List, [], ◌∷◌, ◌++◌, Option, Some, None}
 use Rattle.resolvo_store_core.specs.declared.decision.Entry.{Entry}
 use Rattle.resolvo_store_core.specs.declared.decision_tracker.Set.{Set}

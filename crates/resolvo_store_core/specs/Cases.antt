@@ -27,7 +27,7 @@ cases_within condition_of (suc n) c = cases_by (cases_within condition_of n) (co
 abbrev pub cases : (ConditionId → Condition) → ConditionId → List (List VersionSetId)
 cases condition_of c = cases_within condition_of (suc c.0) c
 
--- the truth of a condition where these version sets are met, looked at n steps down
+-- the truth of a condition to depth n, where these version sets are met
 abbrev pub says_within : (VersionSetId → Bool) → (ConditionId → Condition) → ℕ → ConditionId → Bool
 says_within met condition_of zero c = false
 says_within met condition_of (suc n) c = says met (says_within met condition_of n) (condition_of c)

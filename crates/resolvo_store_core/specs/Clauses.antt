@@ -1,4 +1,4 @@
--- What clauses say, as lists of literals.
+-- The clauses as lists of literals.
 use Rattle.std.specs.Prelude.{◌≡◌, ℕ, ◌<◌, ◌&&◌, nat_lt, ⊤, Bool, true, false, List, [], ◌∷◌, ◌++◌, map, Option, Some, None, All, Contains}
 use Rattle.resolvo_pool_core.specs.declared.id.VariableId.{VariableId}
 use Rattle.resolvo_pool_core.specs.declared.id.DenseId.{DenseId}
@@ -28,7 +28,7 @@ root = record { 0 = 0 }
 abbrev pub candidate_literals : {N : Type 0} → List (Candidate N) → List Signed
 candidate_literals cs = map (λ c. c.literal) cs
 
--- the literals of a clause over what its ids name
+-- the literals of a clause, over the lists that its ids name
 abbrev pub literals_by : {N : Type 0} → Named N → Clause N → List Signed
 literals_by ls InstallRoot = yes root ∷ []
 literals_by ls (Requires p d r) = no p ∷ (ls.condition d ++ candidate_literals (ls.candidates r))
@@ -121,7 +121,7 @@ lists_there condition candidates learnt (AnyOf x v) = true
 abbrev pub has_lists : {N : Type 0} → FixedLists N → Clause N → Bool
 has_lists ls c = lists_there (has_disjunction ls) (has_candidates ls) (has_learnt ls) c
 
--- what the clause names is there
+-- the lists that the clause names exist
 pub record Fits {N : Type 0} (ls : FixedLists N) (c : Clause N) : Type 0 where
   pub in_range : OwnInRange c
   pub lists : HasLists ls c

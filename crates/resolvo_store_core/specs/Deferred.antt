@@ -1,4 +1,4 @@
--- What a deferred version set shows.
+-- The texts of a deferred version set.
 use Rattle.std.specs.Prelude.{List}
 use Rattle.resolvo_pool_core.specs.declared.id.VersionSetId.{VersionSetId}
 use Rattle.resolvo_store_core.specs.declared.conditions.DeferredConjunct.{DeferredConjunct}

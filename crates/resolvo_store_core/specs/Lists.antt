@@ -20,11 +20,11 @@ abbrev pub literals_or_none : Option Disjunction → List Signed
 literals_or_none None = []
 literals_or_none (Some d) = d.literals.items
 
--- the requirement has got its candidates
+-- the requirement has candidates
 abbrev pub has_candidates : {N : Type 0} → FixedLists N → Requirement → Bool
 has_candidates ls r = is_some (slot_of ls.candidates r)
 
--- the candidates of a requirement, in order; none before it has got them
+-- the candidates of a requirement, in order; none before they are set
 abbrev pub candidates_in : {N : Type 0} → FixedLists N → Requirement → List (Candidate N)
 candidates_in ls r = items_or_none (slot_of ls.candidates r)
 
@@ -65,7 +65,7 @@ names_disjunction ls (Some d) = nat_lt d.raw (disjunction_count ls)
 abbrev pub has_learnt : {N : Type 0} → FixedLists N → DenseId LearntClauseTag ℕ → Bool
 has_learnt ls l = nat_lt l.raw (learnt_count ls)
 
--- what the ids of lists name, however the lists are kept
+-- the lists that ids name, however the lists are stored
 pub record Named (N : Type 0) : Type 0 where
   pub candidates : Requirement → List (Candidate N)
   pub condition : Option (DenseId DisjunctionTag ℕ) → List Signed
@@ -80,7 +80,7 @@ pub record IsEmpty {N : Type 0} (ls : FixedLists N) : Type 0 where
   pub disjunctions : ls.disjunctions ≡ []
   pub learnt : ls.learnt ≡ []
 
--- the requirement got these candidates
+-- the requirement has these candidates now
 pub record FixesCandidates {N : Type 0} (r : Requirement) (given : Vec (Candidate N) Global) (old new : FixedLists N) : Type 0 where
   pub put : PutsAt old.candidates new.candidates r given
   pub disjunctions : new.disjunctions ≡ old.disjunctions

@@ -49,7 +49,7 @@ module _ {N : Type 0} (names : Named N) (values : ℕ → Option Bool) where
     abbrev pub offer_of : NeedClause → List (Candidate N) → Option NextDecision
     offer_of r cs = cond (list_any (λ c. is_true (value_under values c.literal)) cs) None (option_map (decision_for r cs) (find (λ c. is_open (value_under values c.literal)) cs))
 
-    -- what the clause has to decide: nothing, unless it is eligible
+    -- the decision that the clause offers; none, unless it is eligible
     abbrev pub offer_by : NeedClause → Option NextDecision
     offer_by r = cond (is_eligible_by r) (offer_of r (names.candidates r.requirement)) None
 

@@ -1,4 +1,4 @@
--- What a walk over a clause's literals has left.
+-- The remaining literals of a walk over a clause.
 use Rattle.std.specs.Prelude.{◌≡◌, List, [], ◌∷◌, ◌++◌, map, Option, Some, None}
 use Rattle.std.specs.Option.{option_to_list}
 use Rattle.std.specs.Borrow.{Bor}

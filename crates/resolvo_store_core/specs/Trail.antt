@@ -46,7 +46,7 @@ last_level [] = 0
 last_level (e ∷ []) = e.level
 last_level (e ∷ d ∷ es) = last_level (d ∷ es)
 
--- the trail, how many of its entries were propagated, and its least length since it was last asked for
+-- the trail, the number of propagated entries, and the trail's least length since the last reset
 pub record Tracked : Type 0 where
   pub trail : List Entry
   pub front : ℕ

@@ -16,13 +16,13 @@ abbrev pub first_target : List (Option Signed) → Option Signed
 first_target [] = None
 first_target (o ∷ os) = o
 
--- what the clause watches once it was met with this new literal
+-- the watched literals of the clause after its visit with this new literal
 abbrev pub with_watch : Signed → Option WatchedLiterals → Option Signed → Option WatchedLiterals
 with_watch from p None = p
 with_watch from None (Some to) = None
 with_watch from (Some p) (Some to) = Some (moved_pair p from to)
 
--- what the clauses watch once these were met in turn, the i-th with the i-th literal
+-- the watched literals after these clauses were visited in turn, the i-th with the i-th literal
 abbrev pub pairs_after : Signed → List (Option WatchedLiterals) → List ClauseId → List (Option Signed) → List (Option WatchedLiterals)
 pairs_after from pairs [] moves = pairs
 pairs_after from pairs (c ∷ cs) moves = pairs_after from (slice_set pairs c.0 (with_watch from (pair_at pairs c.0) (new_watch (pair_at pairs c.0) (first_target moves)))) cs (drop 1 moves)
@@ -31,7 +31,7 @@ pairs_after from pairs (c ∷ cs) moves = pairs_after from (slice_set pairs c.0 
 abbrev pub without : ℕ → List ClauseId → List ClauseId
 without c xs = filter (λ x. not (c == x.0)) xs
 
--- the lists once the clause went from the one literal's list to the front of the other's, if it moves
+-- the lists after the clause, if it moves, was moved from the one list to the start of the other
 abbrev pub moved_view : Signed → ClauseId → Option Signed → (Signed → List ClauseId) → Signed → List ClauseId
 moved_view from c None view l = view l
 moved_view from c (Some to) view l = cond (same_literal from l) (without c.0 (view l)) (cond (same_literal to l) (c ∷ view l) (view l))

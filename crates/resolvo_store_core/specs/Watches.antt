@@ -8,7 +8,7 @@ use Rattle.resolvo_store_core.specs.Pairs.{watches, moved_pair}
 use Rattle.resolvo_store_core.specs.declared.watched_literals.WatchedLiterals.{WatchedLiterals}
 use Rattle.resolvo_store_core.specs.declared.watch_map.WatchMap.{WatchMap}
 
--- the list of an index, whose front is the end of its vector; there is none beyond the lists
+-- the list of an index, which is its vector reversed; empty past the lists
 abbrev pub list_at : List (Vec ClauseId Global) → ℕ → List ClauseId
 list_at [] n = []
 list_at (v ∷ vs) zero = reverse v.items
@@ -38,7 +38,7 @@ HasRoom n m (Some l ∷ os) = (n ≤ room m l) × HasRoom n m os
 abbrev pub watched_count : WatchMap → ℕ
 watched_count m = count_by (λ (v : Vec ClauseId Global). not (length v.items == 0)) m.lists.items
 
--- what the clause of this number watches, if anything
+-- the watched literals of the clause of this number, if any
 abbrev pub pair_at : List (Option WatchedLiterals) → ℕ → Option WatchedLiterals
 pair_at ps n = slice_index_or ps n None
 
@@ -56,7 +56,7 @@ pub record IsWatched (pairs : List (Option WatchedLiterals)) (view : Signed → 
   pub once : (l : Signed) (c : ℕ) → count c (view l) ≡ one_if (watches (pair_at pairs c) l)
   pub differ : (c : ℕ) (p : WatchedLiterals) → pair_at pairs c ≡ Some p → same_literal p.first p.second ≡ false
 
--- the clause was added at the front of the list
+-- the clause was inserted first into the list
 pub record PutsFirst (c : ClauseId) (l : Signed) (old new : Signed → List ClauseId) : Type 0 where
   pub put : new l ≡ c ∷ old l
   pub others : (m : Signed) → same_literal l m ≡ false → new m ≡ old m
@@ -66,13 +66,13 @@ pub record TakesOut (l : Signed) (place : ℕ) (old new : Signed → List Clause
   pub taken : new l ≡ take place (old l) ++ drop (suc place) (old l)
   pub others : (m : Signed) → same_literal l m ≡ false → new m ≡ old m
 
--- the clause is at the front of the lists of its two literals
+-- the clause was inserted first into the lists of its two literals
 pub record StartsIn (c : ClauseId) (p : WatchedLiterals) (old new : Signed → List ClauseId) : Type 0 where
   pub first : new p.first ≡ c ∷ old p.first
   pub second : new p.second ≡ c ∷ old p.second
   pub others : (l : Signed) → watches (Some p) l ≡ false → new l ≡ old l
 
--- the clause at the place went from the one list to the front of the other
+-- the clause at the place was moved from the one list, to be the first of the other
 pub record MovesIn (c : ClauseId) (from : Signed) (place : ℕ) (to : Signed) (old new : Signed → List ClauseId) : Type 0 where
   pub stood : slice_get (old from) place ≡ Some c
   pub taken : new from ≡ take place (old from) ++ drop (suc place) (old from)

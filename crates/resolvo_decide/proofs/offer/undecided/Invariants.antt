@@ -5,7 +5,7 @@ use Rattle.resolvo_store_core.specs.Values.{value_at}
 use Rattle.resolvo_decide.proofs.OfferLemmas.{first_of}
 use Rattle.resolvo_decide.proofs.offer.undecided.Given as goal
 
--- what is left to walk over tells the rest
+-- the answer for the remaining candidates is that for all
 abbrev pub invariant-loop-candidate : goal.invariant-loop-candidate
 invariant-loop-candidate g l = record {
   none : list_any (λ c. is_true (value_under (value_at l.values) c.literal)) l.candidates ≡ list_any (λ c. is_true (value_under (value_at l.values) c.literal)) (drop l.candidate-index l.candidates);

@@ -4,6 +4,6 @@ use Rattle.resolvo_graph.specs.Kept.{kept_with, ids_at}
 use Rattle.resolvo_graph.specs.Merge.{told_together}
 use Rattle.resolvo_graph.proofs.merge.merged.Given as goal
 
--- the group of a version is found among the members that are left, or is kept
+-- the group of a version is that of a remaining member, or is in the map
 abbrev pub invariant-loop-member : goal.invariant-loop-member
 invariant-loop-member g l = (s : g.row.S.Denot) → told_together g.S.PartialEq.eq (ids_at (map (λ r. r.value) l.groups)) l.members s ≡ option_or (told_together g.S.PartialEq.eq (ids_at (map (λ r. r.value) l.groups)) (drop l.member-index l.members) s) (kept_with g.S.PartialEq.eq l.merged s)

@@ -2,7 +2,7 @@ use Rattle.std.proofs.Common.{take}
 use Rattle.resolvo_pool.specs.Hinted.{among_own, Grows, HasEach}
 use Rattle.resolvo_pool.proofs.hinted.put_own.Given as goal
 
--- what was put in is of the package and among the solvables, and each so far that is of the package was
+-- the added solvables are those of the package, among the ones so far
 abbrev pub invariant-loop-solvable : goal.invariant-loop-solvable
 invariant-loop-solvable g l =
     Grows (among_own g.D.NameId.PartialEq.eq g.D.SolvableId.PartialEq.eq (g.D.Interner.name_of_solvable l.provider) l.name l.solvables) (g.D.SolvableId.Set.IdSet.has l.initial.set) (g.D.SolvableId.Set.IdSet.has l.set)

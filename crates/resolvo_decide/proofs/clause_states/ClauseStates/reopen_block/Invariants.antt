@@ -2,7 +2,7 @@ use Rattle.std.proofs.Common.{◌≡◌, ℕ, ◌<◌, ◌≤◌, length}
 use Rattle.resolvo_decide.specs.States.{state_at, reopened}
 use Rattle.resolvo_decide.proofs.clause_states.ClauseStates.reopen_block.Given as goal
 
--- the states so far are changed, and the others are as they were
+-- the states so far are changed, the others aren't
 abbrev pub invariant-loop-position : goal.invariant-loop-position
 invariant-loop-position l = record {
   changed : (i : ℕ) → l.start ≤ i → i < l.position → state_at l.self i ≡ reopened l.common (state_at l.initial.self i);

@@ -4,7 +4,7 @@ use Rattle.resolvo_store_core.specs.Pick.{pick, pick_after}
 use Rattle.resolvo_decide.specs.Needs.{literals_in, Fits}
 use Rattle.resolvo_decide.proofs.undecided_clauses.UndecidedClauses.pick.Given as goal
 
--- the pick of all is the pick of what is left, after the decision so far
+-- the pick over all is the pick over the remaining clauses, after the decision so far
 abbrev pub invariant-loop-position : goal.invariant-loop-position
 invariant-loop-position g l = record {
   fits : Fits (literals_in l.lists) l.self l.queue;

@@ -4,7 +4,7 @@ use Rattle.resolvo_graph.specs.Links.{is_at, edges_in, up_to}
 use Rattle.resolvo_graph.proofs.LinkLemmas.{IsOn}
 use Rattle.resolvo_graph.proofs.graph.ConflictGraph.edges_at.Given as goal
 
--- those found, with those from the next one on, are all
+-- the edges found, with those from the next one on, are all
 abbrev pub invariant-loop-next : goal.invariant-loop-next
 invariant-loop-next g l = (reverse (filter (is_at l.side l.fn.node) (edges_in l.self-inside.edges.items)) ≡ l.found.items ++ reverse (filter (is_at l.side l.fn.node) (up_to l.next (edges_in l.self-inside.edges.items)))) × IsOn (is_at l.side l.fn.node) (edges_in l.self-inside.edges.items) l.next (length (edges_in l.self-inside.edges.items))
 

@@ -3,6 +3,6 @@ use Rattle.resolvo_graph.specs.Kept.{findings}
 use Rattle.resolvo_graph.specs.Tree.{firsts_after}
 use Rattle.resolvo_graph.proofs.tree.Findings.firsts.Given as goal
 
--- what was found, and then the firsts of what is left
+-- the versions found, then the firsts of the remaining ones
 abbrev pub invariant-loop-node : goal.invariant-loop-node
 invariant-loop-node g l = firsts_after (findings g.S.PartialEq.eq l.self.graph.now l.self.installable.keys l.self.merged) [] l.candidates ≡ l.found.items ++ firsts_after (findings g.S.PartialEq.eq l.self.graph.now l.self.installable.keys l.self.merged) l.told.keys (drop l.node-index l.candidates)

@@ -5,13 +5,13 @@ use Rattle.resolvo_graph.specs.Tree.{siblings, in_rank}
 use Rattle.resolvo_graph.proofs.TreeLemmas.{Gives, IsKnown, weights, reached}
 use Rattle.resolvo_graph.proofs.tree.Findings.tree.Given as goal
 
--- what the stack has yet to tell follows what was told
+-- the lines of the stack's entries follow the lines so far
 abbrev pub invariant-loop-entry : goal.invariant-loop-entry
 invariant-loop-entry g l = record {
   known : All (λ e. IsKnown (findings g.S.PartialEq.eq l.self.graph.now l.self.installable.keys l.self.merged) (reached l.self.graph.now l.edges) e.op) l.telling.stack.items;
   gives : Gives (findings g.S.PartialEq.eq l.self.graph.now l.self.installable.keys l.self.merged) (siblings (record { levels = []; top_level_indent = l.top_level_indent }) [] (reverse (in_rank (findings g.S.PartialEq.eq l.self.graph.now l.self.installable.keys l.self.merged) (runs_of l.edges)))) l.telling.stack.items l.telling.told.keys l.telling.lines.items;
 }
 
--- what is left to tell weighs less
+-- the weight of the remaining entries falls
 abbrev pub decreases-loop-entry : goal.decreases-loop-entry
 decreases-loop-entry g l = weights l.self.graph.now (reached l.self.graph.now l.edges) (reverse l.telling.stack.items)

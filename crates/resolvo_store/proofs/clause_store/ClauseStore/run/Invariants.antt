@@ -3,7 +3,7 @@ use Rattle.resolvo_store.specs.Stored.{plain, Like}
 use Rattle.resolvo_store.specs.Calls.{told, after, answers_of}
 use Rattle.resolvo_store.proofs.clause_store.ClauseStore.run.Given as goal
 
--- the answers and the store are those after the calls so far
+-- the answers and the store after the calls so far
 abbrev pub invariant-loop-call : goal.invariant-loop-call
 invariant-loop-call g l = record {
   answers : map told l.answers.items ≡ answers_of g.N.PartialEq.eq (plain g.N.Scores.ScoreMap.score_of l.initial.self) (take l.call-index l.calls);

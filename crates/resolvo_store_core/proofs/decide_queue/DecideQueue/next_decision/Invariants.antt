@@ -3,6 +3,6 @@ use Rattle.resolvo_store_core.specs.Values.{value_at}
 use Rattle.resolvo_store_core.specs.Pick.{pick, pick_after}
 use Rattle.resolvo_store_core.proofs.decide_queue.DecideQueue.next_decision.Given as goal
 
--- the pick of all is the pick of what is left, after the decision so far
+-- the pick over all is the pick over the remaining clauses, after the decision so far
 abbrev pub invariant-loop-need : goal.invariant-loop-need
 invariant-loop-need g l = pick l.lists (value_at l.values) (g.N.Scores.ScoreMap.score_of l.scores) l.self ≡ pick_after l.lists (value_at l.values) (g.N.Scores.ScoreMap.score_of l.scores) l.best (drop l.need-index l.need-items)
